@@ -1,5 +1,5 @@
-//! The program: `hippo run` reads lines from standard input and writes their replies to standard output; the history is
-//! in a SQLite file, or in memory.
+//! The program: `hippo run` reads lines from standard input and writes their replies to standard
+//! output; the history is in a SQLite file, or in memory.
 #![tactic(auto)]
 
 ghost use Rattle.std.specs.Prelude.{◌≡◌, ◌≢◌, ◌⊎◌, ◌<◌, None, false};
@@ -17,8 +17,8 @@ use std::alloc::Global;
 use std::marker::Brand;
 use std::sync::ledger::{Blank, Ledger};
 
-// Runs the program on a ledger that nobody uses. The status is that of `hippo_top`: 2 for words that ask for nothing, and
-// for no others; 3, 4 and 5 just where keeper, source or sink failed.
+// Runs the program on a ledger that nobody uses. The status is that of `hippo_top`: 2 for words
+// that ask for nothing, and for no others; 3, 4 and 5 just where keeper, source or sink failed.
 fn serve<S: Source, K: Sink, P: Keeper, L: Ledger>(
     alloc: Global,
     words: &[Txt],
@@ -33,8 +33,10 @@ fn serve<S: Source, K: Sink, P: Keeper, L: Ledger>(
     requires some { 0 < blank.parts }
     ensures refused { call_of words.now ≡ None → (result ≡ 2) ⊎ (result ≡ 5) ⊎ (result ≡ 7) }
     ensures accepted { call_of words.now ≢ None → result ≢ 2 }
-    ensures keeper_fault { result ≡ 3 → HasRisen (P.state keeper.old).faults (P.state keeper.new).faults }
-    ensures unfailed_keeper { result ≢ 3 → (P.state keeper.new).faults ≡ (P.state keeper.old).faults }
+    ensures keeper_fault { result ≡ 3 → HasRisen (P.state keeper.old).faults
+        (P.state keeper.new).faults }
+    ensures unfailed_keeper { result ≢ 3
+        → (P.state keeper.new).faults ≡ (P.state keeper.old).faults }
     ensures read_fault { result ≡ 4 → HasRisen (S.faults source.old) (S.faults source.new) }
     ensures unfailed_read { result ≢ 4 → S.faults source.new ≡ S.faults source.old }
     ensures write_fault { result ≡ 5 → HasRisen (K.faults sink.old) (K.faults sink.new) }

@@ -16,7 +16,8 @@ use Rattle.hippo_tables.specs.Standing as standing
 
 -- the context of a pair at a moment
 abbrev pub context_of : Pair → Moment → Context
-context_of pair moment = record { purpose = pair.purpose; recipient = pair.recipient; moment = moment }
+context_of pair moment =
+    record { purpose = pair.purpose; recipient = pair.recipient; moment = moment }
 
 -- whether each of some tables is created
 abbrev pub are_created : History → List Name → Bool
@@ -27,15 +28,16 @@ abbrev pub schemas_at : History → List Name → List Schema
 schemas_at history names = filter_map (schema_at history) names
 
 -- tables with these names are kept: they are created in some history that what is kept stands for
-pub record AreKept (tables : Tables) (names : List Name) : Type 0 where
+pub record AreKeptTables (tables : Tables) (names : List Name) : Type 0 where
   pub history : History
-  pub stands : standing.StandsFor tables history
+  pub stands : standing.TablesStandFor tables history
   pub created : are_created history names ≡ true
 
 -- a book and tables stand for a valid history of so many entries
 pub record AreStateOf
-    (meaning : Meaning) (policy : PolicyBook) (kept : Tables) (count : ℕ) (history : History) : Type 0 where
+    (meaning : Meaning) (policy : PolicyBook) (kept : Tables) (count : ℕ) (history : History)
+    : Type 0 where
   pub valid : is_valid meaning history ≡ true
-  pub book : books.StandsFor policy history
-  pub tables : standing.StandsFor kept history
+  pub book : books.BookStandsFor policy history
+  pub tables : standing.TablesStandFor kept history
   pub entries : count ≡ length history

@@ -1,16 +1,16 @@
 //! The answer of a query over the state of a history.
 ghost use Rattle.std.specs.Prelude.{◌≡◌, take, length, IfOk};
 ghost use Rattle.hippo_model.specs.Terms.{History, Meaning};
-ghost use Rattle.hippo_model.specs.Forms.{formed};
+ghost use Rattle.hippo_model.specs.Forms.{rows_by_form};
 ghost use Rattle.hippo_model.specs.Answers.{answer};
 ghost use Rattle.hippo_model.specs.Masking.{masked_answer};
-ghost use Rattle.hippo_policy.specs.Books.{StandsFor as BookStandsFor};
-ghost use Rattle.hippo_tables.specs.Standing.{StandsFor as TablesStandFor};
+ghost use Rattle.hippo_policy.specs.Books.{BookStandsFor};
+ghost use Rattle.hippo_tables.specs.Standing.{TablesStandFor};
 ghost use Rattle.hippo_eval.specs.Walks.{rows_of};
 ghost use Rattle.hippo_eval.specs.Answering.{IsAnswered};
-ghost use Rattle.hippo_rewrite.specs.Rewriting.{rewritten};
+ghost use Rattle.hippo_rewrite.specs.Rewriting.{rewritten_query};
 ghost use Rattle.hippo_rewrite.specs.RewritingLaws.{rules_at};
-ghost use Rattle.hippo_answering.specs.States.{AreKept, AreStateOf, context_of, schemas_at};
+ghost use Rattle.hippo_answering.specs.States.{AreKeptTables, AreStateOf, context_of, schemas_at};
 
 use crate::asked::{schemas_of, sets_of, sizes_of};
 use hippo_distinct::distinct;
@@ -34,10 +34,11 @@ fn rules_of(
     pair: &Pair,
     names: &Names,
 ) -> Result<RulesInForce, Memory>
-    requires { AreKept tables.now names.now }
+    requires { AreKeptTables tables.now names.now }
     ensures { IfOk result (λ rules. (history : History)
         → BookStandsFor book.now history → TablesStandFor tables.now history
-        → rules ≡ rules_at (take n history) (context_of pair.now moment) (schemas_at history names.now)) }
+        → rules ≡ rules_at (take n history) (context_of pair.now moment)
+        (schemas_at history names.now)) }
 {
     let schemas = schemas_of(alloc, tables, names)?;
     book.rules_in_force(alloc, n, moment, &pair.purpose, &pair.recipient, &schemas)
@@ -53,12 +54,13 @@ fn masked_query(
     pair: &Pair,
     query: &Query,
 ) -> Result<Masked, Memory>
-    requires { AreKept tables.now query.now.tables }
+    requires { AreKeptTables tables.now query.now.tables }
     ensures tables { IfOk result (λ masked. masked.tables ≡ query.now.tables) }
     ensures rules { IfOk result (λ masked. (history : History)
         → BookStandsFor book.now history → TablesStandFor tables.now history
-        → let rules = rules_at (take n history) (context_of pair.now moment) (schemas_at history query.now.tables) in
-        masked ≡ rewritten rules query.now) }
+        → let rules = rules_at (take n history) (context_of pair.now moment)
+        (schemas_at history query.now.tables) in
+        masked ≡ rewritten_query rules query.now) }
 {
     let rules = rules_of(alloc, book, tables, n, moment, pair, &query.tables)?;
     rewrite(alloc, query, &rules)
@@ -72,7 +74,8 @@ fn joined<C: ChoiceView>(
     choices: &C,
 ) -> Result<Answer, EvalFault>
     requires { length sets.now ≡ length query.now.tables }
-    ensures { IsAnswered ANSWER_LIMIT (masked_answer (C.choices choices.now) query.now (rows_of sets.now)) result }
+    ensures { IsAnswered ANSWER_LIMIT (masked_answer (C.choices choices.now) query.now
+        (rows_of sets.now)) result }
 {
     let sizes = sizes_of(alloc, sets)?;
     let plan = plan(alloc, query, &sizes)?;
@@ -89,7 +92,7 @@ fn formed<C: ChoiceView>(
 ) -> Result<Answer, EvalFault>
     requires { length sets.now ≡ length query.now.tables }
     ensures { let rows = masked_answer (C.choices choices.now) query.now (rows_of sets.now) in
-        IsAnswered ANSWER_LIMIT (formed form.now rows) result }
+        IsAnswered ANSWER_LIMIT (rows_by_form form.now rows) result }
 {
     match form {
         Form::Plain => joined(alloc, query, sets, choices),
@@ -98,13 +101,14 @@ fn formed<C: ChoiceView>(
     }
 }
 
-/// The answer of a query for a purpose and recipient at a moment: what it answers over the views of its tables, after
-/// the `n` entries that the book and the tables stand for. The rules in force are written into the query (LeFevre and
-/// others, Limiting Disclosure in Hippocratic Databases, VLDB 2004), and it is answered over the rows as they are.
-/// Wants a query whose tables are created. TooManyRows exactly where the answer has more than 100,000 rows.
+/// The answer of a query for a purpose and recipient at a moment: what it answers over the views of
+/// its tables, after the `n` entries that the book and the tables stand for. The rules in force are
+/// written into the query (LeFevre and others, Limiting Disclosure in Hippocratic Databases, VLDB
+/// 2004), and it is answered over the rows as they are. Wants a query whose tables are created.
+/// TooManyRows exactly where the answer has more than 100,000 rows.
 ///
-/// Over `patient (pid, name, phone)` with the row `1, 'Ada', '555-1'`, where `pid` and `name` are allowed and no rule
-/// names `phone`:
+/// Over `patient (pid, name, phone)` with the row `1, 'Ada', '555-1'`, where `pid` and `name` are
+/// allowed and no rule names `phone`:
 ///
 /// ```text
 /// SELECT name, phone FROM patient                   'Ada', DENIED(0)
@@ -120,8 +124,9 @@ pub fn answer(
     pair: &Pair,
     query: &Query,
 ) -> Result<Answer, EvalFault>
-    requires { AreKept tables.now query.now.tables }
-    ensures { (meaning : Meaning) (history : History) → AreStateOf meaning book.now tables.now n history
+    requires { AreKeptTables tables.now query.now.tables }
+    ensures { (meaning : Meaning) (history : History)
+        → AreStateOf meaning book.now tables.now n history
         → IsAnswered ANSWER_LIMIT (answer history (context_of pair.now moment) query.now) result }
 {
     let sets = sets_of(alloc, tables, &query.tables)?;

@@ -3,8 +3,8 @@ ghost use Rattle.std.specs.Prelude.{◌≡◌, ◌∷◌, [], IfOk, Some, length
 ghost use Rattle.hippo_model.specs.Terms.{History};
 ghost use Rattle.hippo_model.specs.Histories.{schema_at};
 ghost use Rattle.hippo_model.specs.RowSets.{kept_at};
-ghost use Rattle.hippo_tables.specs.Standing.{StandsFor};
-ghost use Rattle.hippo_answering.specs.States.{AreKept, schemas_at};
+ghost use Rattle.hippo_tables.specs.Standing.{TablesStandFor};
+ghost use Rattle.hippo_answering.specs.States.{AreKeptTables, schemas_at};
 
 use hippo_model::{Lent, LentSchemas, Names, RowSet, Schema, Sets, Sizes};
 use hippo_tables::Tables;
@@ -12,16 +12,18 @@ use hippo_values::{Memory, Name, Sequence};
 use std::alloc::Global;
 
 fn schema_of<'a>(tables: &'a Tables, name: &Name) -> &'a Schema
-    requires { AreKept tables.now (name.now ∷ []) }
-    ensures { (history : History) → StandsFor tables.now history → schema_at history name.now ≡ Some result.now }
+    requires { AreKeptTables tables.now (name.now ∷ []) }
+    ensures { (history : History) → TablesStandFor tables.now history
+        → schema_at history name.now ≡ Some result.now }
 {
     tables.schema(name).unwrap()
 }
 
 fn rows_of<'a>(tables: &'a Tables, name: &Name) -> &'a RowSet
-    requires { AreKept tables.now (name.now ∷ []) }
-    ensures { (history : History) → StandsFor tables.now history
-        → option_map (λ schema. kept_at schema history) (schema_at history name.now) ≡ Some result.now }
+    requires { AreKeptTables tables.now (name.now ∷ []) }
+    ensures { (history : History) → TablesStandFor tables.now history
+        → option_map (λ schema. kept_at schema history) (schema_at history name.now)
+        ≡ Some result.now }
 {
     tables.rows(name).unwrap()
 }
@@ -32,8 +34,8 @@ pub fn schemas_of<'a>(
     tables: &'a Tables,
     names: &Names,
 ) -> Result<LentSchemas<'a>, Memory>
-    requires { AreKept tables.now names.now }
-    ensures { IfOk result (λ schemas. (history : History) → StandsFor tables.now history
+    requires { AreKeptTables tables.now names.now }
+    ensures { IfOk result (λ schemas. (history : History) → TablesStandFor tables.now history
         → schemas ≡ schemas_at history names.now) }
 {
     let mut schemas = Lent::new(alloc);
@@ -45,9 +47,9 @@ pub fn schemas_of<'a>(
 
 /// The rows of tables that are there.
 pub fn sets_of<'a>(alloc: Global, tables: &'a Tables, names: &Names) -> Result<Sets<'a>, Memory>
-    requires { AreKept tables.now names.now }
+    requires { AreKeptTables tables.now names.now }
     ensures each { IfOk result (λ sets. length sets ≡ length names.now) }
-    ensures rows { IfOk result (λ sets. (history : History) → StandsFor tables.now history
+    ensures rows { IfOk result (λ sets. (history : History) → TablesStandFor tables.now history
         → sets ≡ map (λ schema. kept_at schema history) (schemas_at history names.now)) }
 {
     let mut sets = Lent::new(alloc);

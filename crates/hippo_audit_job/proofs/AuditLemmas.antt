@@ -20,7 +20,7 @@ use Rattle.hippo_model.specs.Validity.{is_valid}
 use Rattle.hippo_catalog.specs.declared.period.Period.{Period}
 use Rattle.hippo_catalog.specs.AuditExpressions.{audit_refused, audit_of}
 use Rattle.hippo_catalog.specs.Catalogs.{KnownNames, known_at, table_of, schemas_of}
-use Rattle.hippo_catalog.specs.Refusals.{refused, unknown_table, repeated_after, repeated_names}
+use Rattle.hippo_catalog.specs.Refusals.{fault_if, unknown_table, repeated_after, repeated_names}
 use Rattle.hippo_catalog.specs.WrittenColumns.{place_of, may_stand_in, home_in, homes, homes_refused, column_refused, column_of}
 use Rattle.hippo_typing.specs.ResolutionLaws.{NamesAreThoseOf}
 use Rattle.hippo_typing.specs.Meanings.{meaning}
@@ -32,7 +32,7 @@ both_none : {A : Type 0} (first second : List A) → first ++ second ≡ [] → 
 both_none [] second none = (refl, none)
 both_none (x ∷ rest) second none = absurd cc
 
-not_refused : (test : Bool) (fault : NameFault) → refused test fault ≡ [] → test ≡ false
+not_refused : (test : Bool) (fault : NameFault) → fault_if test fault ≡ [] → test ≡ false
 not_refused true fault none = absurd cc
 not_refused false fault none = refl
 
@@ -55,7 +55,7 @@ names_after : (before names : List Name) → repeated_after before names ≡ [] 
 unfolding IsDistinct
 names_after before [] none = (tt, tt)
 names_after before (name ∷ rest) none =
-    let both = both_none (refused (list_any (bytes_eq name) before) (RepeatedName name)) (repeated_after (before ++ name ∷ []) rest) none in
+    let both = both_none (fault_if (list_any (bytes_eq name) before) (RepeatedName name)) (repeated_after (before ++ name ∷ []) rest) none in
     let new = not_refused (list_any (bytes_eq name) before) (RepeatedName name) both.0 in
     let later = names_after (before ++ name ∷ []) rest both.1 in
     let parts = apart before name rest later.0 in
@@ -126,7 +126,7 @@ module _ (known : KnownNames) where
     where
       by : (found : Option Schema) → table_of known table ≡ found → ((schema : Schema) × (table_of known table ≡ Some schema))
       by None is =
-          let some = sym (ap (λ (o : Option Schema). refused (is_none o) (UnknownTable table)) is) ∙ none in
+          let some = sym (ap (λ (o : Option Schema). fault_if (is_none o) (UnknownTable table)) is) ∙ none in
           absurd cc
       by (Some schema) is = (schema, is)
 

@@ -16,14 +16,14 @@ use Rattle.hippo_model.specs.Keepable.{is_keepable}
 use Rattle.hippo_model.specs.StoredForms.{stored}
 use Rattle.hippo_model.specs.Validity.{is_valid}
 use Rattle.hippo_model.specs.Versions.{versions}
-use Rattle.hippo_model.specs.Audits.{flag_by, flag_of, flags_between, shared}
+use Rattle.hippo_model.specs.Audits.{flag_by, flag_of, flags_between, shared_tuple}
 use Rattle.hippo_laws.proofs.ValidFronts.{entry_has_its_number}
 use Rattle.hippo_entry.specs.Forms.{IsEntryOf}
 use Rattle.hippo_keeper.specs.Keeping.{Store, KeeperState, RisesAbove, last_number}
 use Rattle.hippo_typing.specs.Meanings.{meaning}
 use Rattle.hippo_backlog.specs.declared.faults.ReadFault.{ReadFault}
 use Rattle.hippo_backlog.specs.declared.faults.ReadFault.TheVariants.{Damaged}
-use Rattle.hippo_backlog.specs.Calls.{as_call}
+use Rattle.hippo_backlog.specs.Calls.{reading_as_call}
 use Rattle.hippo_keeper.specs.Answering.{has_failed}
 use Rattle.hippo_keeper.proofs.CallLemmas.{IsAfterCall-as}
 use Rattle.hippo_backlog.specs.ReadingAhead.{ReadAhead, without_first, BeginsAbove, has_read, IsAhead}
@@ -33,8 +33,8 @@ use Rattle.hippo_backlog.proofs.VersionsTheorem.{StandsAt, stands_at, may_there}
 use Rattle.hippo_audit_job.specs.declared.jobs.Job.{Job}
 use Rattle.hippo_audit_job.specs.declared.past.Past.{Past}
 use Rattle.hippo_audit_job.specs.Examining.{RisesWith, Examination}
-use Rattle.hippo_audit_job.specs.Looking.{was_asked, IsQuestionOf, LooksAtKept, LooksAt}
-use Rattle.hippo_audit_job.specs.Jobs.{with_flag, IsSound, JobFits, LooksOn}
+use Rattle.hippo_audit_job.specs.Looking.{is_question_in_period, IsQuestionOf, LooksAtKept, LooksAt}
+use Rattle.hippo_audit_job.specs.Jobs.{with_flag, IsSoundJob, JobFits, LooksOn}
 use Rattle.hippo_audit_job.proofs.CountLemmas.{AreWithin-then}
 use Rattle.hippo_audit_job.proofs.StepLemmas.{flags_parted}
 use Rattle.hippo_audit_job.proofs.StretchLemmas.{no_questions}
@@ -56,9 +56,9 @@ nothing_more (first ∷ front) more same = nothing_more front more (ap (drop 1) 
 
 -- the flags between two places with the same questions before them
 pub skipped : (history : History) (audit : Audit) (ahead : ReadAhead) (low high : ℕ) → is_valid meaning history ≡ true → low ≤ high
-    → (split : IsAhead (was_asked audit) low ahead history) (moved : IsAhead (was_asked audit) high ahead history) → moved.used ≡ split.used → flags_between meaning history audit low high ≡ []
+    → (split : IsAhead (is_question_in_period audit) low ahead history) (moved : IsAhead (is_question_in_period audit) high ahead history) → moved.used ≡ split.used → flags_between meaning history audit low high ≡ []
 skipped history audit ahead low high valid le split moved same =
-    let test : Entry → Bool = was_asked audit in
+    let test : Entry → Bool = is_question_in_period audit in
     let more : List Entry = take (high - low) (drop low history) in
     let whole : high ≡ low + (high - low) = omega (arith, le) in
     let one = passed_at meaning history test low split.used (split.waiting ++ split.later) valid split.parts split.used_up_to split.left_above in
@@ -143,9 +143,9 @@ module _ {X : Type 0} (terms : Examination X) where
     abbrev waits : FirstWaits fits.split.waiting kept
     waits = first_waits fits.split.waiting job.questions.waiting kept fits.split.forms first
 
-    there : StandsAt (was_asked job.audit) history fits.split.used waits.entry
+    there : StandsAt (is_question_in_period job.audit) history fits.split.used waits.entry
     there =
-        stands_at (was_asked job.audit) history fits.split.used (waits.rest ++ fits.split.later) waits.entry
+        stands_at (is_question_in_period job.audit) history fits.split.used (waits.rest ++ fits.split.later) waits.entry
         (fits.split.parts ∙ ap (λ (w : History). fits.split.used ++ (w ++ fits.split.later)) waits.parts)
 
     -- it is a question of the history
@@ -170,7 +170,7 @@ module _ {X : Type 0} (terms : Examination X) where
     pub is_entry : (entry : Entry) → IsEntryOf kept (Some entry) → entry ≡ waits.entry
     is_entry entry found = some_is entry waits.entry (found.only waits.entry (is_kept, waits.form))
 
-    module _ (sound : IsSound terms job) (entry : Entry) (found : IsEntryOf kept (Some entry)) (new : X) where
+    module _ (sound : IsSoundJob terms job) (entry : Entry) (found : IsEntryOf kept (Some entry)) (new : X) where
       below : job.place < kept.seq
       below = above_place job.questions.waiting kept job.place first sound.ahead
 
@@ -178,10 +178,10 @@ module _ {X : Type 0} (terms : Examination X) where
       number_is = ap (λ (k : StoredEntry). k.seq) found.sound.1
 
       -- the questions up to the number before it are used
-      moved : (now : IsAhead (was_asked job.audit) (kept.seq - 1) job.questions history) × (now.used ≡ fits.split.used)
+      moved : (now : IsAhead (is_question_in_period job.audit) (kept.seq - 1) job.questions history) × (now.used ≡ fits.split.used)
       moved =
           let under = below in
-          IsAhead-moved (was_asked job.audit) job.place job.questions history fits.split (kept.seq - 1) (omega (arith, under)) (begins_before job.questions.waiting kept (kept.seq - 1) first (omega (arith, under))) (reads_so (kept.seq - 1) job.questions kept first)
+          IsAhead-moved (is_question_in_period job.audit) job.place job.questions history fits.split (kept.seq - 1) (omega (arith, under)) (begins_before job.questions.waiting kept (kept.seq - 1) first (omega (arith, under))) (reads_so (kept.seq - 1) job.questions kept first)
 
       none_between : flags_between meaning history job.audit job.place (kept.seq - 1) ≡ []
       none_between =
@@ -216,7 +216,7 @@ module _ {X : Type 0} (terms : Examination X) where
       flags_before = sym (append-nil job.waiting) ∙ ap (λ (l : List Flag). job.waiting ++ l) (sym none_between)
 
       -- the entry's own flag
-      own : (shares : Option (List SharedRow)) → shares ≡ shared meaning history job.audit entry → flags_between meaning history job.audit (kept.seq - 1) kept.seq ≡ option_to_list (option_and_then (flag_by entry entry.act) shares)
+      own : (shares : Option (List SharedRow)) → shares ≡ shared_tuple meaning history job.audit entry → flags_between meaning history job.audit (kept.seq - 1) kept.seq ≡ option_to_list (option_and_then (flag_by entry entry.act) shares)
       own shares is =
           let under = below in
           let number = number_is in
@@ -231,7 +231,7 @@ module _ {X : Type 0} (terms : Examination X) where
           ∙ own_flag history job.audit (kept.seq - 1) entry stands
           ∙ ap (λ (o : Option (List SharedRow)). option_to_list (option_and_then (flag_by entry entry.act) o)) (sym is)
 
-      module _ (shares : Option (List SharedRow)) (is : shares ≡ shared meaning history job.audit entry) where
+      module _ (shares : Option (List SharedRow)) (is : shares ≡ shared_tuple meaning history job.audit entry) where
         abbrev flag : Option Flag
         flag = option_and_then (flag_by entry entry.act) shares
 
@@ -256,18 +256,18 @@ module _ {X : Type 0} (terms : Examination X) where
               flags =
                   ap (λ (n : ℕ). n + length (option_to_list flag)) fits.flags ∙ sym (length-append front (option_to_list flag))
                   ∙ ap (λ (l : List Flag). length l) (ap (λ (l : List Flag). front ++ l) (sym both) ∙ sym (flags_parted history job.audit 0 job.place kept.seq (omega arith) (omega (arith, under))));
-              split = subst (λ (n : ℕ). IsAhead (was_asked job.audit) n (without_first job.questions) history) seq (IsAhead-used (was_asked job.audit) job.place job.questions history fits.split waits.entry waits.rest waits.parts).0;
+              split = subst (λ (n : ℕ). IsAhead (is_question_in_period job.audit) n (without_first job.questions) history) seq (IsAhead-used (is_question_in_period job.audit) job.place job.questions history fits.split waits.entry waits.rest waits.parts).0;
               examiner_fits = terms.onward new history (kept.seq - 1 + 1) (kept.seq + 1) (omega (arith, next)) before.examiner_fits;
               once = before.once;
             }
 
   -- the job before the number of a question, whatever was found of it
-  module _ (job : Job X) (sound : IsSound terms job) (kept : StoredEntry) (first : slice_get job.questions.waiting 0 ≡ Some kept) (within : kept.seq ≤ job.length) where
+  module _ (job : Job X) (sound : IsSoundJob terms job) (kept : StoredEntry) (first : slice_get job.questions.waiting 0 ≡ Some kept) (within : kept.seq ≤ job.length) where
     under : job.place < kept.seq
     under = above_place job.questions.waiting kept job.place first sound.ahead
 
-    pub IsSound-before : (new : X) → terms.sound new → terms.upto new ≤ kept.seq → IsSound terms (looked_before (kept.seq - 1) new job)
-    IsSound-before new good order =
+    pub IsSoundJob-before : (new : X) → terms.sound new → terms.upto new ≤ kept.seq → IsSoundJob terms (looked_before (kept.seq - 1) new job)
+    IsSoundJob-before new good order =
         let below = under in
         let counted = sound.counted in
         let read = sound.read in
@@ -286,8 +286,8 @@ module _ {X : Type 0} (terms : Examination X) where
     one_at_most None = omega arith
     one_at_most (Some flag) = omega arith
 
-    pub IsSound-after : (new : X) (flag : Option Flag) → terms.sound new → terms.upto new ≤ kept.seq → IsSound terms (with_flag kept.seq flag (looked_before (kept.seq - 1) new job))
-    IsSound-after new flag good order =
+    pub IsSoundJob-after : (new : X) (flag : Option Flag) → terms.sound new → terms.upto new ≤ kept.seq → IsSoundJob terms (with_flag kept.seq flag (looked_before (kept.seq - 1) new job))
+    IsSoundJob-after new flag good order =
         let below = under in
         let counted = sound.counted in
         let read = sound.read in
@@ -309,7 +309,7 @@ module _ {X : Type 0} (terms : Examination X) where
 
       -- an answer that is no Damaged of a question leaves the job there
       pub LooksOn-before : {A : Type 0} (shares : Result (Option (List SharedRow)) ReadFault) → LooksAt terms past job.audit entry shares job.examiner new before after steps_old steps_new
-          → (result : Result A ReadFault) → has_failed (as_call result) ≡ has_failed (as_call shares) → ((number : ℕ) → shares ≢ Err (Damaged number) → result ≢ Err (Damaged number))
+          → (result : Result A ReadFault) → has_failed (reading_as_call result) ≡ has_failed (reading_as_call shares) → ((number : ℕ) → shares ≢ Err (Damaged number) → result ≢ Err (Damaged number))
           → LooksOn terms upto past result job (looked_before (kept.seq - 1) new job) before after steps_old steps_new
       LooksOn-before shares looks result same undamaged =
           let below = under in
@@ -318,13 +318,13 @@ module _ {X : Type 0} (terms : Examination X) where
           let order : terms.upto new ≤ kept.seq = omega (arith, limit, number) in
           record {
             moves = record {
-              is_after = IsAfterCall-as true false (as_call shares) (as_call result) before after same looks.moves.is_after;
+              is_after = IsAfterCall-as true false (reading_as_call shares) (reading_as_call result) before after same looks.moves.is_after;
               stays = looks.moves.stays;
               is_sound = looks.moves.is_sound;
               limit = omega (arith, order, below);
               ledger = looks.moves.ledger;
             };
-            is_sound = IsSound-before new looks.moves.is_sound order;
+            is_sound = IsSoundJob-before new looks.moves.is_sound order;
             same_audit = refl;
             same_length = refl;
             forward = omega (arith, below);
@@ -355,7 +355,7 @@ module _ {X : Type 0} (terms : Examination X) where
               limit = omega (arith, order);
               ledger = looks.moves.ledger;
             };
-            is_sound = IsSound-after new (option_and_then (flag_by entry entry.act) shares) looks.moves.is_sound order;
+            is_sound = IsSoundJob-after new (option_and_then (flag_by entry entry.act) shares) looks.moves.is_sound order;
             same_audit = refl;
             same_length = refl;
             forward = omega (arith, below);

@@ -14,16 +14,16 @@ use Rattle.hippo_keeper.specs.Answering.{has_failed}
 use Rattle.hippo_keeper.specs.Keeping.{KeeperState, IsReady}
 use Rattle.hippo_backlog.specs.declared.faults.ReadFault.{ReadFault}
 use Rattle.hippo_backlog.specs.declared.faults.ReadFault.TheVariants.{Keeper, Damaged, Memory}
-use Rattle.hippo_backlog.specs.Calls.{as_call}
-use Rattle.hippo_backlog.proofs.CallLemmas.{same_Err, as_call-fault}
+use Rattle.hippo_backlog.specs.Calls.{reading_as_call}
+use Rattle.hippo_backlog.proofs.CallLemmas.{same_Err, reading_as_call-fault}
 use Rattle.hippo_keeper.proofs.CallLemmas.{IsAfterCall-as}
 use Rattle.hippo_keeper.proofs.Results.{err_of}
 use Rattle.hippo_audit_job.specs.declared.jobs.Job.{Job}
 use Rattle.hippo_audit_job.specs.declared.past.Past.{Past}
 use Rattle.hippo_audit_job.specs.Examining.{Examination}
 use Rattle.hippo_audit_job.specs.Looking.{IsDecoded, LooksAt}
-use Rattle.hippo_audit_job.specs.Flagging.{IsFirst, FindsFlag}
-use Rattle.hippo_audit_job.specs.Jobs.{with_flag, IsSound, LooksOn}
+use Rattle.hippo_audit_job.specs.Flagging.{IsFirstWaiting, FindsFlag}
+use Rattle.hippo_audit_job.specs.Jobs.{with_flag, IsSoundJob, LooksOn}
 use Rattle.hippo_audit_job.proofs.StepLemmas.{LooksOn-none}
 use Rattle.hippo_audit_job.proofs.FirstLemmas.{above_place, looked_before, has_entry, LooksOn-before, LooksOn-after}
 
@@ -36,13 +36,13 @@ same_Ok x y e = cc
 module _ {X : Type 0} (terms : Examination X) where
   -- a look that is said of another answer, and as one of more numbers
   pub LooksOn-as : {A B : Type 0} (low high : ℕ) (past : Past) (one : Result A ReadFault) (other : Result B ReadFault) (old new : Job X) (before after : KeeperState) (steps_old steps_new : ℕ) → low ≤ high
-      → has_failed (as_call other) ≡ has_failed (as_call one) → ((number : ℕ) → one ≢ Err (Damaged number) → other ≢ Err (Damaged number))
+      → has_failed (reading_as_call other) ≡ has_failed (reading_as_call one) → ((number : ℕ) → one ≢ Err (Damaged number) → other ≢ Err (Damaged number))
       → LooksOn terms low past one old new before after steps_old steps_new → LooksOn terms high past other old new before after steps_old steps_new
   LooksOn-as low high past one other old new before after steps_old steps_new up same undamaged looks =
       let limit = looks.limit in
       record {
         moves = record {
-          is_after = IsAfterCall-as true false (as_call one) (as_call other) before after same looks.moves.is_after;
+          is_after = IsAfterCall-as true false (reading_as_call one) (reading_as_call other) before after same looks.moves.is_after;
           stays = looks.moves.stays;
           is_sound = looks.moves.is_sound;
           limit = looks.moves.limit;
@@ -62,11 +62,11 @@ module _ {X : Type 0} (terms : Examination X) where
   pub LooksOn-fault : (A B : Type 0) (low high : ℕ) (past : Past) (fault : ReadFault) (old new : Job X) (before after : KeeperState) (steps_old steps_new : ℕ) → low ≤ high
       → LooksOn terms low past (err_of A fault) old new before after steps_old steps_new → LooksOn terms high past (err_of B fault) old new before after steps_old steps_new
   LooksOn-fault A B low high past fault old new before after steps_old steps_new up looks =
-      LooksOn-as low high past (err_of A fault) (err_of B fault) old new before after steps_old steps_new up (ap (λ (r : Result (Unit {0}) KeeperFault). has_failed r) (as_call-fault B A fault))
+      LooksOn-as low high past (err_of A fault) (err_of B fault) old new before after steps_old steps_new up (ap (λ (r : Result (Unit {0}) KeeperFault). has_failed r) (reading_as_call-fault B A fault))
       (λ number not e. not (ap (err_of A) (same_Err fault (Damaged number) e))) looks
 
   -- a first stored form that is not decoded leaves the job as it is
-  pub LooksOn-undecoded : (A : Type 0) (job : Job X) (sound : IsSound terms job) (upto : ℕ) (past : Past) (keeper : KeeperState) (steps : ℕ) → job.place ≤ upto → IsReady true keeper → (kept : StoredEntry) → slice_get job.questions.waiting 0 ≡ Some kept
+  pub LooksOn-undecoded : (A : Type 0) (job : Job X) (sound : IsSoundJob terms job) (upto : ℕ) (past : Past) (keeper : KeeperState) (steps : ℕ) → job.place ≤ upto → IsReady true keeper → (kept : StoredEntry) → slice_get job.questions.waiting 0 ≡ Some kept
       → (fault : ReadFault) → IsDecoded kept (err_of Entry fault) → LooksOn terms upto past (err_of A fault) job job keeper keeper steps steps
   LooksOn-undecoded A job sound upto past keeper steps up ready kept first Keeper decoded = absurd decoded
   LooksOn-undecoded A job sound upto past keeper steps up ready kept first (Damaged number) decoded =
@@ -74,7 +74,7 @@ module _ {X : Type 0} (terms : Examination X) where
   LooksOn-undecoded A job sound upto past keeper steps up ready kept first Memory decoded =
       LooksOn-none terms upto past job keeper steps ready sound up (err_of A Memory) (λ e. absurd cc) (λ history forms stands fits other e. absurd cc)
 
-  module _ (job : Job X) (sound : IsSound terms job) (entry : Entry) (first : IsFirst job.questions entry) where
+  module _ (job : Job X) (sound : IsSoundJob terms job) (entry : Entry) (first : IsFirstWaiting job.questions entry) where
     is_stored : first.kept ≡ stored entry
     is_stored = sym first.form.sound.1
 
@@ -118,7 +118,7 @@ module _ {X : Type 0} (terms : Examination X) where
       failed_so (Err other) fault looks is =
           subst (λ (f : ReadFault). LooksOn terms entry.seq past (err_of (Unit {0}) f) job (looked_before (entry.seq - 1) new job) before after steps_old steps_new) (sym (same_Err fault other is))
           (LooksOn-before terms job sound (stored entry) at_first within past entry.seq (omega arith) entry own_form new before after steps_old steps_new {A = Unit {0}} (err_of (Option (List SharedRow)) other) looks (err_of (Unit {0}) other)
-          (ap (λ (r : Result (Unit {0}) KeeperFault). has_failed r) (as_call-fault (Unit {0}) (Option (List SharedRow)) other)) (λ number not e. not (ap (err_of (Option (List SharedRow))) (same_Err other (Damaged number) e))))
+          (ap (λ (r : Result (Unit {0}) KeeperFault). has_failed r) (reading_as_call-fault (Unit {0}) (Option (List SharedRow)) other)) (λ number not e. not (ap (err_of (Option (List SharedRow))) (same_Err other (Damaged number) e))))
 
       -- and where what it shares is not found
       pub LooksOn-failed : (fault : ReadFault) → FindsFlag terms past job.audit entry (err_of (Option Flag) fault) job.examiner new before after steps_old steps_new

@@ -20,8 +20,8 @@ use Rattle.hippo_backlog.proofs.AheadLemmas.{IsAhead-first, IsAhead-grown}
 use Rattle.hippo_backlog.proofs.VersionsTheorem.{schemas_last}
 use Rattle.hippo_audit_job.specs.declared.jobs.Job.{Job}
 use Rattle.hippo_audit_job.specs.Examining.{AreWithin, IsColumnOf, IsAuditOf, Examination, IsNew}
-use Rattle.hippo_audit_job.specs.Looking.{was_asked}
-use Rattle.hippo_audit_job.specs.Jobs.{new_job, IsSound, JobFits}
+use Rattle.hippo_audit_job.specs.Looking.{is_question_in_period}
+use Rattle.hippo_audit_job.specs.Jobs.{new_job, IsSoundJob, JobFits}
 use Rattle.hippo_audit_job.proofs.CountLemmas.{AreWithin-more, handed_within}
 use Rattle.hippo_audit_job.proofs.StretchLemmas.{stretch_lasts}
 
@@ -57,8 +57,8 @@ versions-one history entry = sum_by-append (λ (e : Entry). cond (is_version e.a
 
 module _ {X : Type 0} (terms : Examination X) where
   -- a new job is sound
-  pub IsSound-new : (audit : Audit) (length : ℕ) (examiner : X) → IsDistinct bytes_eq audit.tables → IsNew terms examiner → IsSound terms (new_job audit length examiner)
-  IsSound-new audit length examiner differ is_new =
+  pub IsSoundJob-new : (audit : Audit) (length : ℕ) (examiner : X) → IsDistinct bytes_eq audit.tables → IsNew terms examiner → IsSoundJob terms (new_job audit length examiner)
+  IsSoundJob-new audit length examiner differ is_new =
       let unasked = is_new.unasked in
       record {
         tables = differ;
@@ -76,13 +76,13 @@ module _ {X : Type 0} (terms : Examination X) where
     begun = omega arith;
     audit_is = is_audit;
     flags = refl;
-    split = (IsAhead-first (was_asked audit) meaning history valid).0;
+    split = (IsAhead-first (is_question_in_period audit) meaning history valid).0;
     examiner_fits = is_new.fits_each history 1 valid;
     once = is_new.counted history valid;
   }
 
   -- a job that fits a history fits it with one entry more
-  pub JobFits-grown : (job : Job X) (history : History) (entry : Entry) → is_valid meaning (history ++ entry ∷ []) ≡ true → IsSound terms job → JobFits terms job history → JobFits terms job (history ++ entry ∷ [])
+  pub JobFits-grown : (job : Job X) (history : History) (entry : Entry) → is_valid meaning (history ++ entry ∷ []) ≡ true → IsSoundJob terms job → JobFits terms job history → JobFits terms job (history ++ entry ∷ [])
   JobFits-grown job history entry valid sound fits =
       let longer = length-append history (entry ∷ []) in
       let begun = fits.begun in
@@ -91,7 +91,7 @@ module _ {X : Type 0} (terms : Examination X) where
         begun = omega (arith, longer, begun);
         audit_is = IsAuditOf-longer history (entry ∷ []) valid job.audit fits.audit_is;
         flags = fits.flags ∙ ap (λ (l : List Flag). length l) (sym (stretch_lasts meaning job.audit (entry ∷ []) history 0 job.place valid (omega (arith, begun, within))));
-        split = (IsAhead-grown (was_asked job.audit) job.place job.questions history fits.split meaning entry valid).0;
+        split = (IsAhead-grown (is_question_in_period job.audit) job.place job.questions history fits.split meaning entry valid).0;
         examiner_fits = terms.longer job.examiner history entry (job.place + 1) valid fits.examiner_fits;
         once = subst (AreWithin (terms.handed job.examiner) (terms.unread job.examiner (history ++ entry ∷ []))) (sym (versions-one history entry)) (AreWithin-more (terms.handed job.examiner) (terms.unread job.examiner history) (terms.unread job.examiner (history ++ entry ∷ [])) (versions history) (versions (entry ∷ [])) (terms.grows job.examiner history entry (job.place + 1) valid fits.examiner_fits) fits.once);
       }

@@ -6,14 +6,14 @@ use Rattle.hippo_model.specs.declared.stored.StoredEntry.{StoredEntry}
 use Rattle.hippo_entry.specs.Forms.{IsEntryOf}
 use Rattle.hippo_keeper.specs.Keeping.{Store, KeeperState, IsReady}
 use Rattle.hippo_backlog.specs.declared.faults.ReadFault.{ReadFault}
-use Rattle.hippo_backlog.specs.Calls.{as_call}
+use Rattle.hippo_backlog.specs.Calls.{reading_as_call}
 use Rattle.hippo_backlog.specs.ReadingAhead.{BeginsAbove}
 use Rattle.hippo_keeper.proofs.CallLemmas.{IsReady-after}
 use Rattle.hippo_keeper.proofs.Results.{err_of, well}
 use Rattle.hippo_audit_job.specs.declared.jobs.Job.{Job}
 use Rattle.hippo_audit_job.specs.declared.past.Past.{Past}
 use Rattle.hippo_audit_job.specs.Examining.{Examination}
-use Rattle.hippo_audit_job.specs.Jobs.{IsSound, IsAsFar, LooksOn}
+use Rattle.hippo_audit_job.specs.Jobs.{IsSoundJob, IsAsFar, LooksOn}
 use Rattle.hippo_audit_job.proofs.StepLemmas.{LooksOn-none, LooksOn-then}
 use Rattle.hippo_audit_job.proofs.FlagLemmas.{LooksOn-as, LooksOn-fault}
 
@@ -48,13 +48,13 @@ module _ {X : Type 0} where
 
 module _ {X : Type 0} (terms : Examination X) (upto : ℕ) (past : Past) where
   -- a job that has looked at nothing more yet
-  pub LooksOn-start : (job : Job X) (keeper : KeeperState) (steps : ℕ) → IsReady true keeper → IsSound terms job → job.place ≤ upto → LooksOn terms upto past (well ReadFault) job job keeper keeper steps steps
+  pub LooksOn-start : (job : Job X) (keeper : KeeperState) (steps : ℕ) → IsReady true keeper → IsSoundJob terms job → job.place ≤ upto → LooksOn terms upto past (well ReadFault) job job keeper keeper steps steps
   LooksOn-start job keeper steps ready sound forward =
       LooksOn-none terms upto past job keeper steps ready sound forward (well ReadFault) (λ e. absurd cc) (λ history kept stands fits number e. absurd cc)
 
   -- a keeper is ready after a look that did not fail
   pub ready_after : (old new : Job X) (before after : KeeperState) (one two : ℕ) → LooksOn terms upto past (well ReadFault) old new before after one two → IsReady true after
-  ready_after old new before after one two looks = IsReady-after (as_call (well ReadFault)) before after refl looks.moves.is_after
+  ready_after old new before after one two looks = IsReady-after (reading_as_call (well ReadFault)) before after refl looks.moves.is_after
 
   module _ (old mid new : Job X) (before now after : KeeperState) (one two three : ℕ) (first : LooksOn terms upto past (well ReadFault) old mid before now one two) where
     -- and one more that did not fail, whatever it answered

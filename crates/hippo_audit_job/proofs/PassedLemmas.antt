@@ -9,7 +9,7 @@ use Rattle.hippo_model.specs.Audits.{flags_between}
 use Rattle.hippo_keeper.specs.Keeping.{Store, KeeperState, IsReady, RisesAbove, last_number}
 use Rattle.hippo_typing.specs.Meanings.{meaning}
 use Rattle.hippo_backlog.specs.declared.faults.ReadFault.{ReadFault}
-use Rattle.hippo_backlog.specs.Calls.{as_call}
+use Rattle.hippo_backlog.specs.Calls.{reading_as_call}
 use Rattle.hippo_backlog.specs.ReadingAhead.{ReadAhead, BeginsAbove, has_read}
 use Rattle.hippo_backlog.proofs.AheadLemmas.{IsAhead-moved}
 use Rattle.hippo_keeper.proofs.CallLemmas.{KeepsSame-here, IsAfterCall-none}
@@ -17,8 +17,8 @@ use Rattle.hippo_keeper.proofs.Results.{well}
 use Rattle.hippo_audit_job.specs.declared.jobs.Job.{Job}
 use Rattle.hippo_audit_job.specs.declared.past.Past.{Past}
 use Rattle.hippo_audit_job.specs.Examining.{Examination}
-use Rattle.hippo_audit_job.specs.Looking.{was_asked}
-use Rattle.hippo_audit_job.specs.Jobs.{IsSound, LooksOn}
+use Rattle.hippo_audit_job.specs.Looking.{is_question_in_period}
+use Rattle.hippo_audit_job.specs.Jobs.{IsSoundJob, LooksOn}
 use Rattle.hippo_audit_job.proofs.CountLemmas.{RisesWith-none}
 use Rattle.hippo_audit_job.proofs.StepLemmas.{flags_parted}
 use Rattle.hippo_audit_job.proofs.FirstLemmas.{skipped}
@@ -62,14 +62,14 @@ less_read number ahead read = below (is_some (slice_get ahead.waiting 0)) read
         ]) refl e
 
 module _ {X : Type 0} (terms : Examination X) where
-  pub LooksOn-passed : (upto : ℕ) (past : Past) (job : Job X) (keeper : KeeperState) (steps : ℕ) → IsReady true keeper → IsSound terms job → job.place ≤ upto → upto ≤ job.length → BeginsAbove upto job.questions.waiting → has_read upto job.questions ≡ true
+  pub LooksOn-passed : (upto : ℕ) (past : Past) (job : Job X) (keeper : KeeperState) (steps : ℕ) → IsReady true keeper → IsSoundJob terms job → job.place ≤ upto → upto ≤ job.length → BeginsAbove upto job.questions.waiting → has_read upto job.questions ≡ true
       → LooksOn terms upto past (well ReadFault) job (record job { place = upto }) keeper keeper steps steps
   LooksOn-passed upto past job keeper steps ready sound forward within begins read =
       let counted = sound.counted in
       let order = sound.asked in
       record {
         moves = record {
-          is_after = IsAfterCall-none (as_call (well ReadFault)) keeper refl ready;
+          is_after = IsAfterCall-none (reading_as_call (well ReadFault)) keeper refl ready;
           stays = λ tells. KeepsSame-here keeper;
           is_sound = sound.examiner_is;
           limit = omega (arith, order, forward);
@@ -89,7 +89,7 @@ module _ {X : Type 0} (terms : Examination X) where
         forward = forward;
         limit = omega arith;
         told = λ tells history kept stands fits.
-            let moved = IsAhead-moved (was_asked job.audit) job.place job.questions history fits.split upto forward begins read in
+            let moved = IsAhead-moved (is_question_in_period job.audit) job.place job.questions history fits.split upto forward begins read in
             let nothing : flags_between meaning history job.audit job.place upto ≡ [] = skipped history job.audit job.questions job.place upto stands.valid forward fits.split moved.0 moved.1 in
             let front : List Flag = flags_between meaning history job.audit 0 job.place in
             record {

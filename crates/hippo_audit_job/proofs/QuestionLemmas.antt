@@ -15,17 +15,17 @@ use Rattle.hippo_model.specs.HandedOver.{is_question}
 use Rattle.hippo_model.specs.Histories.{before_entry}
 use Rattle.hippo_model.specs.Verdicts.{Context}
 use Rattle.hippo_model.specs.Columns.{names_all}
-use Rattle.hippo_model.specs.Audits.{in_period, is_exempt, shared_by, shared_in, shared, first_serving}
+use Rattle.hippo_model.specs.Audits.{in_period, is_exempt, shared_by, shared_in, shared_tuple, first_serving}
 use Rattle.hippo_keeper.specs.Keeping.{KeeperState, IsReady}
 use Rattle.hippo_typing.specs.Meanings.{meaning_in, meaning}
 use Rattle.hippo_backlog.specs.declared.faults.ReadFault.{ReadFault}
 use Rattle.hippo_backlog.specs.declared.faults.ReadFault.TheVariants.{Keeper, Damaged, Memory}
-use Rattle.hippo_backlog.specs.Calls.{as_call}
-use Rattle.hippo_backlog.proofs.CallLemmas.{as_call-unfailed}
+use Rattle.hippo_backlog.specs.Calls.{reading_as_call}
+use Rattle.hippo_backlog.proofs.CallLemmas.{reading_as_call-unfailed}
 use Rattle.hippo_keeper.proofs.CallLemmas.{KeepsSame-here, IsAfterCall-none}
 use Rattle.hippo_audit_job.specs.declared.past.Past.{Past}
 use Rattle.hippo_audit_job.specs.Examining.{IsPastOf, Examination, Examines}
-use Rattle.hippo_audit_job.specs.Looking.{question_in, IsMeant, IsAskedFor, IsQuestionOf, LooksAt}
+use Rattle.hippo_audit_job.specs.Looking.{question_parts, IsMeant, IsAskedFor, IsQuestionOf, LooksAt}
 use Rattle.hippo_audit_job.proofs.CountLemmas.{RisesWith-none, FallsWith-none}
 use Rattle.hippo_audit_job.proofs.StretchLemmas.{question_means}
 
@@ -40,24 +40,24 @@ record IsAsking (act : Act) (asking : Name × Name × Txt) : Type 0 where
 some_is : {A : Type 0} (x y : A) → Some x ≡ Some y → x ≡ y
 some_is x y e = cc
 
-asking : (act : Act) (found : Name × Name × Txt) → question_in act ≡ Some found → IsAsking act found
+asking : (act : Act) (found : Name × Name × Txt) → question_parts act ≡ Some found → IsAsking act found
 asking (Asked user purpose recipient text) found is =
     subst (λ (f : Name × Name × Txt). IsAsking (Asked user purpose recipient text) f) (some_is (purpose, recipient, text) found is) (record { user = user; is = refl })
 asking act found is = absurd cc
 
-not_asked : (act : Act) → question_in act ≡ None → is_question act ≡ false
+not_asked : (act : Act) → question_parts act ≡ None → is_question act ≡ false
 not_asked (Asked user purpose recipient text) is = absurd cc
 not_asked act is = refl
 
 module _ (history : History) (audit : Audit) (entry : Entry) (question : IsQuestionOf history audit entry) where
   -- each question is one
-  pub must_be_question : question_in entry.act ≡ None → ⊥
+  pub must_be_question : question_parts entry.act ≡ None → ⊥
   must_be_question none = false≢true (sym (not_asked entry.act none) ∙ (and_parts (is_question entry.act) (in_period audit entry.moment) question.asked).0)
 
   pub is_inside : in_period audit entry.moment ≡ false → ⊥
   is_inside outside = false≢true (sym outside ∙ (and_parts (is_question entry.act) (in_period audit entry.moment) question.asked).1)
 
-  module _ (past : Past) (stands : IsPastOf past history) (found : Name × Name × Txt) (is : question_in entry.act ≡ Some found) where
+  module _ (past : Past) (stands : IsPastOf past history) (found : Name × Name × Txt) (is : question_parts entry.act ≡ Some found) where
     asked_so : IsAsking entry.act found
     asked_so = asking entry.act found is
 
@@ -81,10 +81,10 @@ module _ (history : History) (audit : Audit) (entry : Entry) (question : IsQuest
     abbrev asked_context : Context
     asked_context = record { purpose = found.0; recipient = found.1; moment = entry.moment }
 
-    shared_is : shared meaning history audit entry ≡ option_and_then (λ query. shared_by (before_entry entry history) asked_context query audit) (meaning (before_entry entry history) found.2)
+    shared_is : shared_tuple meaning history audit entry ≡ option_and_then (λ query. shared_by (before_entry entry history) asked_context query audit) (meaning (before_entry entry history) found.2)
     shared_is = ap (shared_in meaning (before_entry entry history) audit entry.moment) asked_so.is
 
-    shared_then : (query : Query) → meaning_in past.catalog.now.names found.2 ≡ Some query → shared meaning history audit entry ≡ shared_by (before_entry entry history) asked_context query audit
+    shared_then : (query : Query) → meaning_in past.catalog.now.names found.2 ≡ Some query → shared_tuple meaning history audit entry ≡ shared_by (before_entry entry history) asked_context query audit
     shared_then query same = shared_is ∙ ap (option_and_then (λ query. shared_by (before_entry entry history) asked_context query audit)) (meant_then query same)
 
     exempted : (period named : Bool) (first : Option (List SharedRow)) → (if period && not true && named then first else None) ≡ None
@@ -97,20 +97,20 @@ module _ (history : History) (audit : Audit) (entry : Entry) (question : IsQuest
     unnamed false exempt first = refl
 
     -- what is exempt shares nothing
-    pub shares_exempt : is_exempt audit found.0 found.1 ≡ true → None ≡ shared meaning history audit entry
+    pub shares_exempt : is_exempt audit found.0 found.1 ≡ true → None ≡ shared_tuple meaning history audit entry
     unfolding means
     shares_exempt exempt =
         let before = before_entry entry history in
         sym (shared_then means.0 now_means ∙ ap (λ (b : Bool). if in_period audit entry.moment && not b && names_all means.0 audit then first_serving before asked_context means.0 audit else None) exempt ∙ exempted (in_period audit entry.moment) (names_all means.0 audit) (first_serving before asked_context means.0 audit))
 
     -- nor what does not name each column
-    pub shares_unnamed : (query : Query) → meaning_in past.catalog.now.names found.2 ≡ Some query → names_all query audit ≡ false → None ≡ shared meaning history audit entry
+    pub shares_unnamed : (query : Query) → meaning_in past.catalog.now.names found.2 ≡ Some query → names_all query audit ≡ false → None ≡ shared_tuple meaning history audit entry
     shares_unnamed query same names =
         let before = before_entry entry history in
         sym (shared_then query same ∙ ap (λ (b : Bool). if in_period audit entry.moment && not (is_exempt audit found.0 found.1) && b then first_serving before asked_context query audit else None) names ∙ unnamed (in_period audit entry.moment) (is_exempt audit found.0 found.1) (first_serving before asked_context query audit))
 
     -- a candidate shares what serves first
-    pub shares_first : (query : Query) → meaning_in past.catalog.now.names found.2 ≡ Some query → is_exempt audit found.0 found.1 ≡ false → names_all query audit ≡ true → shared meaning history audit entry ≡ first_serving (before_entry entry history) asked_context query audit
+    pub shares_first : (query : Query) → meaning_in past.catalog.now.names found.2 ≡ Some query → is_exempt audit found.0 found.1 ≡ false → names_all query audit ≡ true → shared_tuple meaning history audit entry ≡ first_serving (before_entry entry history) asked_context query audit
     shares_first query same exempt names =
         let before = before_entry entry history in
         let inside = (and_parts (is_question entry.act) (in_period audit entry.moment) question.asked).1 in
@@ -124,11 +124,11 @@ module _ {X : Type 0} (terms : Examination X) (past : Past) (audit : Audit) (ent
   -- where the examiner is not asked
   pub LooksAt-unasked : (examiner : X) (keeper : KeeperState) (steps : ℕ) → IsReady true keeper → terms.sound examiner → terms.upto examiner ≤ entry.seq
       → (result : Shares) → result ≢ Err Keeper → ((history : History) → IsPastOf past history → IsQuestionOf history audit entry → (number : ℕ) → result ≢ Err (Damaged number))
-      → ((history : History) → IsPastOf past history → IsQuestionOf history audit entry → IfOk result (λ found. found ≡ shared meaning history audit entry))
+      → ((history : History) → IsPastOf past history → IsQuestionOf history audit entry → IfOk result (λ found. found ≡ shared_tuple meaning history audit entry))
       → LooksAt terms past audit entry result examiner examiner keeper keeper steps steps
   LooksAt-unasked examiner keeper steps ready sound order result unfailed undamaged finds = record {
     moves = record {
-      is_after = IsAfterCall-none (as_call result) keeper (as_call-unfailed result unfailed) ready;
+      is_after = IsAfterCall-none (reading_as_call result) keeper (reading_as_call-unfailed result unfailed) ready;
       stays = λ tells. KeepsSame-here keeper;
       is_sound = sound;
       limit = order;
@@ -143,7 +143,7 @@ module _ {X : Type 0} (terms : Examination X) (past : Past) (audit : Audit) (ent
   }
 
   -- where it is asked
-  pub LooksAt-examined : (query : Query) (result : Shares) (old new : X) (before after : KeeperState) (steps_old steps_new : ℕ) (found : Name × Name × Txt) → question_in entry.act ≡ Some found
+  pub LooksAt-examined : (query : Query) (result : Shares) (old new : X) (before after : KeeperState) (steps_old steps_new : ℕ) (found : Name × Name × Txt) → question_parts entry.act ≡ Some found
       → meaning_in past.catalog.now.names found.2 ≡ Some query → is_exempt audit found.0 found.1 ≡ false → names_all query audit ≡ true
       → Examines terms past audit entry query result old new before after steps_old steps_new
       → LooksAt terms past audit entry result old new before after steps_old steps_new
@@ -157,7 +157,7 @@ module _ {X : Type 0} (terms : Examination X) (past : Past) (audit : Audit) (ent
           undamaged = λ question. examined.undamaged;
           finds = λ question.
               let asked = asked_so history audit entry question past stands found is in
-              if_ok result _ (shared meaning history audit entry) (sym (shares_first history audit entry question past stands found is query meant exempt names))
+              if_ok result _ (shared_tuple meaning history audit entry) (sym (shares_first history audit entry question past stands found is query meant exempt names))
               (examined.finds question.stands asked.user found.0 found.1 found.2 asked.is (meant_then history audit entry question past stands found is query meant));
         };
   }
@@ -170,13 +170,13 @@ module _ {X : Type 0} (terms : Examination X) (past : Past) (audit : Audit) (ent
         (λ history stands question. shares_unnamed history audit entry question past stands (asked.purpose, asked.recipient, asked.text) asked.asked query asked.means names)
 
     -- nor a question that is exempt
-    pub LooksAt-exempt : (found : Name × Name × Txt) → question_in entry.act ≡ Some found → is_exempt audit found.0 found.1 ≡ true → LooksAt terms past audit entry (Ok None) examiner examiner keeper keeper steps steps
+    pub LooksAt-exempt : (found : Name × Name × Txt) → question_parts entry.act ≡ Some found → is_exempt audit found.0 found.1 ≡ true → LooksAt terms past audit entry (Ok None) examiner examiner keeper keeper steps steps
     LooksAt-exempt found is exempt =
         LooksAt-unasked examiner keeper steps ready sound order (Ok None) (λ e. absurd cc) (λ history stands question number e. absurd cc)
         (λ history stands question. shares_exempt history audit entry question past stands found is exempt)
 
     -- an entry that is no question of the period
-    pub LooksAt-other : (place : ℕ) → question_in entry.act ≡ None → LooksAt terms past audit entry (Err (Damaged place)) examiner examiner keeper keeper steps steps
+    pub LooksAt-other : (place : ℕ) → question_parts entry.act ≡ None → LooksAt terms past audit entry (Err (Damaged place)) examiner examiner keeper keeper steps steps
     LooksAt-other place none =
         LooksAt-unasked examiner keeper steps ready sound order (Err (Damaged place)) (λ e. absurd cc) (λ history stands question number e. absurd (must_be_question history audit entry question none)) (λ history stands question. tt)
 
@@ -185,7 +185,7 @@ module _ {X : Type 0} (terms : Examination X) (past : Past) (audit : Audit) (ent
         LooksAt-unasked examiner keeper steps ready sound order (Err (Damaged place)) (λ e. absurd cc) (λ history stands question number e. absurd (is_inside history audit entry question outside)) (λ history stands question. tt)
 
     -- a question whose text means nothing now
-    pub LooksAt-meant : (found : Name × Name × Txt) → question_in entry.act ≡ Some found → (fault : ReadFault) → IsMeant past found.2 (Err fault) → LooksAt terms past audit entry (Err fault) examiner examiner keeper keeper steps steps
+    pub LooksAt-meant : (found : Name × Name × Txt) → question_parts entry.act ≡ Some found → (fault : ReadFault) → IsMeant past found.2 (Err fault) → LooksAt terms past audit entry (Err fault) examiner examiner keeper keeper steps steps
     LooksAt-meant found is Keeper meant = absurd meant
     LooksAt-meant found is Memory meant =
         LooksAt-unasked examiner keeper steps ready sound order (Err Memory) (λ e. absurd cc) (λ history stands question number e. absurd cc) (λ history stands question. tt)

@@ -9,16 +9,16 @@ use Rattle.hippo_model.specs.HandedOver.{is_question}
 use Rattle.hippo_model.specs.StoredForms.{act_kind, stored}
 use Rattle.hippo_keeper.specs.declared.faults.KeeperFault.{KeeperFault}
 use Rattle.hippo_keeper.specs.Keeping.{Store, KeeperState}
-use Rattle.hippo_keeper.specs.Selecting.{was_asked_in, handed_over, Reads}
+use Rattle.hippo_keeper.specs.Selecting.{was_asked_in, handed_over, ReadsEntries}
 use Rattle.hippo_typing.specs.Meanings.{meaning}
 use Rattle.hippo_backlog.specs.declared.faults.ReadFault.{ReadFault}
-use Rattle.hippo_backlog.specs.Calls.{fault_of, as_call}
+use Rattle.hippo_backlog.specs.Calls.{read_fault, reading_as_call}
 use Rattle.hippo_backlog.specs.ReadingAhead.{ReadAhead, with_piece}
 use Rattle.hippo_backlog.proofs.AheadLemmas.{IsAhead-read, reached_by-least, reached_by-further}
-use Rattle.hippo_backlog.proofs.CallLemmas.{undamaged_by, as_call-fault_of}
+use Rattle.hippo_backlog.proofs.CallLemmas.{undamaged_by, reading_as_call-read_fault}
 use Rattle.hippo_keeper.proofs.CallLemmas.{KeepsSame-Stays, IsAfterCall-as}
 use Rattle.hippo_keeper.proofs.Results.{err_of, well}
-use Rattle.hippo_audit_job.specs.Looking.{was_asked, ReadsAhead}
+use Rattle.hippo_audit_job.specs.Looking.{is_question_in_period, ReadsAhead}
 
 and_assoc : (a b c : Bool) → (a && b && c) ≡ (a && (b && c))
 and_assoc true b c = refl
@@ -40,7 +40,7 @@ kind_of_questions (Choice subject item agreed) = refl
 kind_of_questions (Asked user purpose recipient text) = refl
 
 -- the stored form of an entry tells whether it is a question of the period
-pub same_test : (audit : Audit) (entry : Entry) → was_asked_in audit.from audit.to (stored entry) ≡ was_asked audit entry
+pub same_test : (audit : Audit) (entry : Entry) → was_asked_in audit.from audit.to (stored entry) ≡ is_question_in_period audit entry
 same_test audit entry =
     ap (λ (kind : Bool). kind && int_le audit.from entry.moment && int_le entry.moment audit.to) (kind_of_questions entry.act)
     ∙ and_assoc (is_question entry.act) (int_le audit.from entry.moment) (int_le entry.moment audit.to)
@@ -50,12 +50,12 @@ reads_ok piece = Ok piece
 
 module _ (audit : Audit) (max end : ℕ) (old : ReadAhead) (before after : KeeperState) (reached : ℕ) (used : old.waiting ≡ []) (reached_is : reached ≡ old.reached) where
   -- a piece is read
-  pub ReadsAhead-piece : (piece : Store) (new : ReadAhead) → new ≡ with_piece max end piece old → 0 < max → Reads (was_asked_in audit.from audit.to) reached max (Ok piece) before after → ReadsAhead audit end (well ReadFault) old new before after
+  pub ReadsAhead-piece : (piece : Store) (new : ReadAhead) → new ≡ with_piece max end piece old → 0 < max → ReadsEntries (was_asked_in audit.from audit.to) reached max (Ok piece) before after → ReadsAhead audit end (well ReadFault) old new before after
   ReadsAhead-piece piece new new_is some reads_so =
-      let reads = subst (λ (n : ℕ). Reads (was_asked_in audit.from audit.to) n max (Ok piece) before after) reached_is reads_so in
+      let reads = subst (λ (n : ℕ). ReadsEntries (was_asked_in audit.from audit.to) n max (Ok piece) before after) reached_is reads_so in
       let least = reached_by-least max end piece old.reached in
       subst (λ (a : ReadAhead). ReadsAhead audit end (well ReadFault) old a before after) (sym new_is) (record {
-        is_after = IsAfterCall-as true false (reads_ok piece) (as_call (well ReadFault)) before after refl reads.call;
+        is_after = IsAfterCall-as true false (reads_ok piece) (reading_as_call (well ReadFault)) before after refl reads.call;
         stays = λ tells. KeepsSame-Stays before after (reads.stays tells);
         order = reads.ok.order;
         last = least;
@@ -63,13 +63,13 @@ module _ (audit : Audit) (max end : ℕ) (old : ReadAhead) (before after : Keepe
         undamaged = λ number e. absurd cc;
         told = λ tells history store within place split.
             let handed = reads.ok.told tells ∙ ap (λ (s : Store). handed_over (was_asked_in audit.from audit.to) old.reached max s) (sym store.forms) in
-            (IsAhead-read (was_asked audit) place old history split (was_asked_in audit.from audit.to) (same_test audit) meaning store.valid max end piece used handed within).0;
+            (IsAhead-read (is_question_in_period audit) place old history split (was_asked_in audit.from audit.to) (same_test audit) meaning store.valid max end piece used handed within).0;
       })
 
   -- or the read failed
-  pub ReadsAhead-fault : (fault : KeeperFault) → Reads (was_asked_in audit.from audit.to) reached max (Err fault) before after → ReadsAhead audit end (err_of (Unit {0}) (fault_of fault)) old old before after
+  pub ReadsAhead-fault : (fault : KeeperFault) → ReadsEntries (was_asked_in audit.from audit.to) reached max (Err fault) before after → ReadsAhead audit end (err_of (Unit {0}) (read_fault fault)) old old before after
   ReadsAhead-fault fault reads = record {
-    is_after = IsAfterCall-as true false (err_of Store fault) (as_call (err_of (Unit {0}) (fault_of fault))) before after (as_call-fault_of (Unit {0}) Store fault) reads.call;
+    is_after = IsAfterCall-as true false (err_of Store fault) (reading_as_call (err_of (Unit {0}) (read_fault fault))) before after (reading_as_call-read_fault (Unit {0}) Store fault) reads.call;
     stays = λ tells. KeepsSame-Stays before after (reads.stays tells);
     order = rw used tt;
     last = rw used (omega arith);

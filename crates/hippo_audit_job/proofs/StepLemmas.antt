@@ -14,16 +14,16 @@ use Rattle.hippo_keeper.proofs.RisingLemmas.{RisesAbove-lower}
 use Rattle.hippo_typing.specs.Meanings.{meaning}
 use Rattle.hippo_backlog.specs.declared.faults.ReadFault.{ReadFault}
 use Rattle.hippo_backlog.specs.declared.faults.ReadFault.TheVariants.{Keeper, Damaged}
-use Rattle.hippo_backlog.specs.Calls.{as_call}
+use Rattle.hippo_backlog.specs.Calls.{reading_as_call}
 use Rattle.hippo_backlog.specs.ReadingAhead.{ReadAhead}
 use Rattle.hippo_backlog.proofs.NumberLemmas.{last-higher}
-use Rattle.hippo_backlog.proofs.CallLemmas.{as_call-unfailed}
+use Rattle.hippo_backlog.proofs.CallLemmas.{reading_as_call-unfailed}
 use Rattle.hippo_keeper.proofs.CallLemmas.{KeepsSame-here, KeepsSame-then, IsAfterCall-none, IsAfterCall-then}
 use Rattle.hippo_audit_job.specs.declared.jobs.Job.{Job}
 use Rattle.hippo_audit_job.specs.declared.past.Past.{Past}
 use Rattle.hippo_audit_job.specs.Examining.{IsPastOf, Examination}
 use Rattle.hippo_audit_job.specs.Looking.{ReadsAhead}
-use Rattle.hippo_audit_job.specs.Jobs.{IsSound, JobFits, LooksOn}
+use Rattle.hippo_audit_job.specs.Jobs.{IsSoundJob, JobFits, LooksOn}
 use Rattle.hippo_audit_job.proofs.CountLemmas.{RisesWith-none, RisesWith-then}
 
 -- a stretch of no numbers has no flags
@@ -47,12 +47,12 @@ flags_parted history audit above cut upto low high =
 
 module _ {X : Type 0} (terms : Examination X) (upto : ℕ) (past : Past) where
   -- at nothing more
-  pub LooksOn-none : {A : Type 0} (job : Job X) (keeper : KeeperState) (steps : ℕ) → IsReady true keeper → IsSound terms job → job.place ≤ upto → (result : Result A ReadFault) → result ≢ Err Keeper
+  pub LooksOn-none : {A : Type 0} (job : Job X) (keeper : KeeperState) (steps : ℕ) → IsReady true keeper → IsSoundJob terms job → job.place ≤ upto → (result : Result A ReadFault) → result ≢ Err Keeper
       → ((history : History) → map stored history ≡ keeper.kept → IsPastOf past history → JobFits terms job history → (number : ℕ) → result ≢ Err (Damaged number))
       → LooksOn terms upto past result job job keeper keeper steps steps
   LooksOn-none job keeper steps ready sound within result unfailed undamaged = record {
     moves = record {
-      is_after = IsAfterCall-none (as_call result) keeper (as_call-unfailed result unfailed) ready;
+      is_after = IsAfterCall-none (reading_as_call result) keeper (reading_as_call-unfailed result unfailed) ready;
       stays = λ tells. KeepsSame-here keeper;
       is_sound = sound.examiner_is;
       limit = sound.asked;
@@ -79,7 +79,7 @@ module _ {X : Type 0} (terms : Examination X) (upto : ℕ) (past : Past) where
       let further = second.forward in
       record {
         moves = record {
-          is_after = IsAfterCall-then false (as_call (Ok value)) (as_call result) before now after refl first.moves.is_after second.moves.is_after;
+          is_after = IsAfterCall-then false (reading_as_call (Ok value)) (reading_as_call result) before now after refl first.moves.is_after second.moves.is_after;
           stays = λ tells. KeepsSame-then before now after (first.moves.stays (second.moves.is_after.told tells)) (second.moves.stays tells);
           is_sound = second.moves.is_sound;
           limit = second.moves.limit;
@@ -107,7 +107,7 @@ module _ {X : Type 0} (terms : Examination X) (upto : ℕ) (past : Past) where
       }
 
   -- at the same numbers, where questions of the period are read ahead
-  pub LooksOn-read : {A : Type 0} (job : Job X) (result : Result A ReadFault) (questions : ReadAhead) (before after : KeeperState) (steps : ℕ) → IsSound terms job → job.place ≤ upto → job.questions.waiting ≡ []
+  pub LooksOn-read : {A : Type 0} (job : Job X) (result : Result A ReadFault) (questions : ReadAhead) (before after : KeeperState) (steps : ℕ) → IsSoundJob terms job → job.place ≤ upto → job.questions.waiting ≡ []
       → ReadsAhead job.audit job.length result job.questions questions before after → LooksOn terms upto past result job (record job { questions = questions }) before after steps steps
   LooksOn-read job result questions before after steps sound within used reads =
       let here : job.place ≤ job.questions.reached = subst (λ (s : Store). last_number job.place s ≤ job.questions.reached) used sound.read in

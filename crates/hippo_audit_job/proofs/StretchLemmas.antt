@@ -29,7 +29,7 @@ use Rattle.hippo_typing.specs.Meanings.{meaning}
 use Rattle.hippo_typing.proofs.LastingNames.{extends_later, select_lasts}
 use Rattle.hippo_typing.proofs.MeaningTheorem.{Means-found, found-Means}
 use Rattle.hippo_backlog.proofs.VersionsTheorem.{may_there}
-use Rattle.hippo_audit_job.specs.Looking.{was_asked}
+use Rattle.hippo_audit_job.specs.Looking.{is_question_in_period}
 
 -- a text keeps its meaning
 pub meaning_lasts : (front later : History) (text : Txt) (query : Query) → meaning front text ≡ Some query → meaning (front ++ later) text ≡ Some query
@@ -158,12 +158,12 @@ none_shared meaning history audit moment (Asked user purpose recipient text) is 
     unshared (meaning history text) (λ query. shared_by history context query audit) (λ query. outside (in_period audit moment) (is_exempt audit purpose recipient) (names_all query audit) _ is)
 none_shared m history audit moment act is = refl
 
-pub unflagged : (meaning : Meaning) (history : History) (audit : Audit) (entry : Entry) → was_asked audit entry ≡ false → flag_of meaning history audit entry ≡ None
+pub unflagged : (meaning : Meaning) (history : History) (audit : Audit) (entry : Entry) → is_question_in_period audit entry ≡ false → flag_of meaning history audit entry ≡ None
 unflagged meaning history audit entry is = ap (option_and_then (flag_by entry entry.act)) (none_shared meaning (before_entry entry history) audit entry.moment entry.act is)
 
-pub no_questions : (meaning : Meaning) (history : History) (audit : Audit) (list : List Entry) → AllByRecursion (λ entry. was_asked audit entry ≡ false) list → filter_map (flag_of meaning history audit) list ≡ []
+pub no_questions : (meaning : Meaning) (history : History) (audit : Audit) (list : List Entry) → AllByRecursion (λ entry. is_question_in_period audit entry ≡ false) list → filter_map (flag_of meaning history audit) list ≡ []
 no_questions meaning history audit list all = no_flags (flag_of meaning history audit) list (each list all)
   where
-    each : (list : List Entry) → AllByRecursion (λ entry. was_asked audit entry ≡ false) list → AllByRecursion (λ entry. flag_of meaning history audit entry ≡ None) list
+    each : (list : List Entry) → AllByRecursion (λ entry. is_question_in_period audit entry ≡ false) list → AllByRecursion (λ entry. flag_of meaning history audit entry ≡ None) list
     each [] all = tt
     each (entry ∷ rest) all = (unflagged meaning history audit entry all.0, each rest all.1)

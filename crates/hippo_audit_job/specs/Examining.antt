@@ -19,18 +19,18 @@ use Rattle.hippo_model.specs.Audits.{first_serving}
 use Rattle.hippo_laws.specs.Audits.{StandsIn}
 use Rattle.hippo_keeper.specs.Keeping.{KeeperState, IsAfterCall, KeepsSame}
 use Rattle.hippo_catalog.specs.Catalogs.{known_at}
-use Rattle.hippo_policy.specs.Books.{StandsFor}
+use Rattle.hippo_policy.specs.Books.{BookStandsFor}
 use Rattle.hippo_typing.specs.Meanings.{meaning}
 use Rattle.hippo_backlog.specs.declared.faults.ReadFault.{ReadFault}
 use Rattle.hippo_backlog.specs.declared.faults.ReadFault.TheVariants.{Damaged}
-use Rattle.hippo_backlog.specs.Calls.{as_call}
+use Rattle.hippo_backlog.specs.Calls.{reading_as_call}
 use Rattle.hippo_audit_job.specs.declared.past.Past.{Past}
 
 -- the history is valid; its names, its rules and choices, and its length
 pub record IsPastOf (past : Past) (history : History) : Type 0 where
   pub valid : is_valid meaning history ≡ true
   pub names : past.catalog.now.names ≡ known_at history
-  pub book : StandsFor past.book.now history
+  pub book : BookStandsFor past.book.now history
   pub count : past.count ≡ length history
 
 -- a column of one of these tables, which is created
@@ -69,8 +69,9 @@ AreWithin (Some first) (Some second) number = first + second ≤ number
 AreWithin None None number = ⊤
 AreWithin first second number = ⊥
 
--- what is said of an examiner: what fits a history and a number fits each higher number and each longer valid history,
--- and what it has not read of the history grows by the versions that are added
+-- what is said of an examiner: what fits a history and a number fits each higher number and each
+-- longer valid history, and what it has not read of the history grows by the versions that are
+-- added
 pub record Examination (X : Type 0) : Type 1 where
   pub sound : X → Type 0
   -- up to which entry number it was asked
@@ -81,14 +82,16 @@ pub record Examination (X : Type 0) : Type 1 where
   pub handed : X → Option ℕ
   -- how many versions of a history it may still be handed, where it counts them
   pub unread : X → History → Option ℕ
-  pub onward : (examiner : X) (history : History) (low high : ℕ) → low ≤ high → fits examiner history low
+  pub onward : (examiner : X) (history : History) (low high : ℕ) → low ≤ high
+      → fits examiner history low
       → fits examiner history high
   pub longer : (examiner : X) (history : History) (entry : Entry) (number : ℕ)
       → is_valid meaning (history ++ entry ∷ []) ≡ true → fits examiner history number
       → fits examiner (history ++ entry ∷ []) number
   pub grows : (examiner : X) (history : History) (entry : Entry) (number : ℕ)
       → is_valid meaning (history ++ entry ∷ []) ≡ true → fits examiner history number
-      → RisesWithin (unread examiner history) (unread examiner (history ++ entry ∷ [])) (versions (entry ∷ []))
+      → RisesWithin (unread examiner history) (unread examiner (history ++ entry ∷ []))
+      (versions (entry ∷ []))
 
 -- an examiner that was asked nothing
 pub record IsNew {X : Type 0} (terms : Examination X) (examiner : X) : Type 0 where
@@ -101,16 +104,22 @@ pub record IsNew {X : Type 0} (terms : Examination X) (examiner : X) : Type 0 wh
       → AreWithin (terms.handed examiner) (terms.unread examiner history) (versions history)
 
 -- the first virtual tuple that serves is found, at the entry's own time
-abbrev pub FindsServing : History → Audit → Entry → Query → Result (Option (List SharedRow)) ReadFault → Type 0
+abbrev pub FindsServing : History → Audit → Entry → Query
+    → Result (Option (List SharedRow)) ReadFault → Type 0
 FindsServing history audit entry query result =
     (user purpose recipient : Name) (text : Txt) → entry.act ≡ Asked user purpose recipient text
     → meaning (before_entry entry history) text ≡ Some query
-    → let context : Context = record { purpose = purpose; recipient = recipient; moment = entry.moment } in
+    → let context : Context = record {
+      purpose = purpose;
+      recipient = recipient;
+      moment = entry.moment;
+    } in
     IfOk result (λ shared. shared ≡ first_serving (before_entry entry history) context query audit)
 
--- of a history that is kept: the examiner fits it still, no entry of it is damaged, what is read of it is not read
--- again, and what serves is found
-pub record ExaminesKept {X : Type 0} (terms : Examination X) (history : History) (audit : Audit) (entry : Entry)
+-- of a history that is kept: the examiner fits it still, no entry of it is damaged, what is read of
+-- it is not read again, and what serves is found
+pub record ExaminesKept {X : Type 0} (terms : Examination X) (history : History) (audit : Audit)
+    (entry : Entry)
     (query : Query) (result : Result (Option (List SharedRow)) ReadFault) (old new : X)
     (steps_old steps_new : ℕ) : Type 0 where
   pub fits_still : terms.fits new history entry.seq
@@ -119,20 +128,23 @@ pub record ExaminesKept {X : Type 0} (terms : Examination X) (history : History)
   pub finds : StandsIn meaning history entry → FindsServing history audit entry query result
 
 -- what each call of an examiner does, whatever the keeper tells: it was asked up to a number
-pub record MovesOn {A X : Type 0} (terms : Examination X) (number : ℕ) (result : Result A ReadFault) (old new : X)
+pub record MovesOn {A X : Type 0} (terms : Examination X) (number : ℕ) (result : Result A ReadFault)
+    (old new : X)
     (before after : KeeperState) (steps_old steps_new : ℕ) : Type 0 where
-  pub is_after : IsAfterCall true false (as_call result) before after
+  pub is_after : IsAfterCall true false (reading_as_call result) before after
   pub stays : after.tells → KeepsSame before after
   pub is_sound : terms.sound new
   pub limit : terms.upto new ≤ number
   pub ledger : RisesWith (terms.handed old) (terms.handed new) steps_old steps_new
 
 -- what examining a question does
-pub record Examines {X : Type 0} (terms : Examination X) (past : Past) (audit : Audit) (entry : Entry) (query : Query)
+pub record Examines {X : Type 0} (terms : Examination X) (past : Past) (audit : Audit)
+    (entry : Entry) (query : Query)
     (result : Result (Option (List SharedRow)) ReadFault) (old new : X) (before after : KeeperState)
     (steps_old steps_new : ℕ) : Type 0 where
   pub moves : MovesOn terms entry.seq result old new before after steps_old steps_new
-  pub told : after.tells → (history : History) → map stored history ≡ before.kept → IsPastOf past history
+  pub told : after.tells → (history : History) → map stored history ≡ before.kept
+      → IsPastOf past history
       → IsAuditOf history audit → terms.fits old history entry.seq
       → ExaminesKept terms history audit entry query result old new steps_old steps_new
 

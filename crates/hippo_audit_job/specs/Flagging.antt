@@ -16,15 +16,17 @@ use Rattle.hippo_audit_job.specs.Examining.{Examination}
 use Rattle.hippo_audit_job.specs.Looking.{LooksAt}
 
 -- the first stored form that waits is that of an entry
-pub record IsFirst (ahead : ReadAhead) (entry : Entry) : Type 0 where
+pub record IsFirstWaiting (ahead : ReadAhead) (entry : Entry) : Type 0 where
   pub kept : StoredEntry
   pub stands : slice_get ahead.waiting 0 ≡ Some kept
   pub form : IsEntryOf kept (Some entry)
 
 -- an entry is looked at, and where it shares something its flag is found
-pub record FindsFlag {X : Type 0} (terms : Examination X) (past : Past) (audit : Audit) (entry : Entry)
+pub record FindsFlag {X : Type 0} (terms : Examination X) (past : Past) (audit : Audit)
+    (entry : Entry)
     (result : Result (Option Flag) ReadFault) (old new : X) (before after : KeeperState)
     (steps_old steps_new : ℕ) : Type 0 where
   pub shares : Result (Option (List SharedRow)) ReadFault
   pub looks : LooksAt terms past audit entry shares old new before after steps_old steps_new
-  pub found : result ≡ result_map_both (option_and_then (flag_by entry entry.act)) (λ fault. fault) shares
+  pub found : result ≡ result_map_both (option_and_then (flag_by entry entry.act))
+      (λ fault. fault) shares

@@ -18,7 +18,7 @@ use Rattle.hippo_catalog.specs.Catalogs.{known_at}
 use Rattle.hippo_catalog.specs.AuditExpressions.{audit_refused, audit_of}
 use Rattle.hippo_typing.specs.Meanings.{meaning}
 use Rattle.hippo_audit_job.specs.Examining.{IsAuditOf}
-use Rattle.hippo_audit_job.specs.Looking.{was_asked}
+use Rattle.hippo_audit_job.specs.Looking.{is_question_in_period}
 
 -- a text that means a query means it still when entries are added
 abbrev pub MeaningsLast : Type 0
@@ -29,27 +29,33 @@ MeaningsLast =
 -- a logged question meant at its own time what it means now, which is something
 abbrev pub QuestionsMean : Type 0
 QuestionsMean =
-    (history : History) (entry : Entry) → StandsIn meaning history entry → (user purpose recipient : Name) (text : Txt)
+    (history : History) (entry : Entry) → StandsIn meaning history entry
+    → (user purpose recipient : Name) (text : Txt)
     → entry.act ≡ Asked user purpose recipient text
-    → (query : Query) × (meaning (before_entry entry history) text ≡ Some query) × (meaning history text ≡ Some query)
+    → (query : Query) × (meaning (before_entry entry history) text ≡ Some query)
+    × (meaning history text ≡ Some query)
 
 -- the flags of a stretch of entry numbers stay the same when entries are added
 abbrev pub StretchesLast : Type 0
 StretchesLast =
     (meaning : Meaning) (history later : History) (audit : Audit) (above upto : ℕ)
     → is_valid meaning (history ++ later) ≡ true → upto ≤ length history
-    → flags_between meaning (history ++ later) audit above upto ≡ flags_between meaning history audit above upto
+    → flags_between meaning (history ++ later) audit above upto
+    ≡ flags_between meaning history audit above upto
 
 -- a stretch of entry numbers without questions of the period has no flags
 abbrev pub NoQuestionsNoFlags : Type 0
 NoQuestionsNoFlags =
     (meaning : Meaning) (history : History) (audit : Audit) (above upto : ℕ)
-    → AllByRecursion (λ entry. was_asked audit entry ≡ false) (take (upto - above) (drop above history))
+    → AllByRecursion (λ entry. is_question_in_period audit entry ≡ false)
+    (take (upto - above) (drop above history))
     → flags_between meaning history audit above upto ≡ []
 
--- an audit expression of which nothing is refused means an audit of the history, and of each longer valid one
+-- an audit expression of which nothing is refused means an audit of the history, and of each longer
+-- valid one
 abbrev pub UnrefusedAreAudits : Type 0
 UnrefusedAreAudits =
-    (history later : History) (period : Period) (audit : RawAudit) → is_valid meaning (history ++ later) ≡ true
+    (history later : History) (period : Period) (audit : RawAudit)
+    → is_valid meaning (history ++ later) ≡ true
     → audit_refused (known_at history) period audit ≡ []
     → IsAuditOf (history ++ later) (audit_of (known_at history) period audit)

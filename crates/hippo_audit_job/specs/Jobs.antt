@@ -14,11 +14,11 @@ use Rattle.hippo_backlog.specs.declared.faults.ReadFault.TheVariants.{Damaged}
 use Rattle.hippo_backlog.specs.ReadingAhead.{nothing_read, without_first, IsAhead}
 use Rattle.hippo_audit_job.specs.declared.past.Past.{Past}
 use Rattle.hippo_audit_job.specs.declared.jobs.Job.{Job}
-use Rattle.hippo_audit_job.specs.Looking.{was_asked}
+use Rattle.hippo_audit_job.specs.Looking.{is_question_in_period}
 use Rattle.hippo_audit_job.specs.Examining.{Examination, MovesOn, AreWithin, IsPastOf, IsAuditOf}
 
--- an audit job as a world has it: its audit, the history's length at its beginning, the last number looked at, and flags
--- not yet written
+-- an audit job as a world has it: its audit, the history's length at its beginning, the last number
+-- looked at, and flags not yet written
 pub record OpenAudit : Type 0 where
   pub audit : Audit
   pub length : ℕ
@@ -56,7 +56,7 @@ with_flag number flag job = record job {
 }
 
 -- what holds of a job over any keeper
-pub record IsSound {X : Type 0} (terms : Examination X) (job : Job X) : Type 0 where
+pub record IsSoundJob {X : Type 0} (terms : Examination X) (job : Job X) : Type 0 where
   pub tables : IsDistinct bytes_eq job.audit.tables
   pub within : job.place ≤ job.length
   pub counted : job.found ≤ job.place
@@ -65,34 +65,42 @@ pub record IsSound {X : Type 0} (terms : Examination X) (job : Job X) : Type 0 w
   pub examiner_is : terms.sound job.examiner
   pub asked : terms.upto job.examiner ≤ job.place + 1
 
--- a job that looks at a history: it began when the history was no longer, it found the flags up to its place, its
--- questions are those of the history, and its examiner may be asked about the entries behind the place
-pub record JobFits {X : Type 0} (terms : Examination X) (job : Job X) (history : History) : Type 0 where
+-- a job that looks at a history: it began when the history was no longer, it found the flags up to
+-- its place, its questions are those of the history, and its examiner may be asked about the
+-- entries behind the place
+pub record JobFits {X : Type 0} (terms : Examination X) (job : Job X) (history : History)
+    : Type 0 where
   pub begun : job.length ≤ length history
   pub audit_is : IsAuditOf history job.audit
   pub flags : job.found ≡ length (flags_between meaning history job.audit 0 job.place)
-  pub split : IsAhead (was_asked job.audit) job.place job.questions history
+  pub split : IsAhead (is_question_in_period job.audit) job.place job.questions history
   pub examiner_fits : terms.fits job.examiner history (job.place + 1)
-  pub once : AreWithin (terms.handed job.examiner) (terms.unread job.examiner history) (versions history)
+  pub once : AreWithin (terms.handed job.examiner) (terms.unread job.examiner history)
+      (versions history)
 
--- of a history that is kept: the job fits it still, the flags of the numbers that it looked at wait behind the others,
--- and no entry is damaged
-pub record LooksOver {A X : Type 0} (terms : Examination X) (history : History) (result : Result A ReadFault)
+-- of a history that is kept: the job fits it still, the flags of the numbers that it looked at wait
+-- behind the others, and no entry is damaged
+pub record LooksOver {A X : Type 0} (terms : Examination X) (history : History)
+    (result : Result A ReadFault)
     (old new : Job X) : Type 0 where
   pub fits_still : JobFits terms new history
-  pub flags : new.waiting ≡ old.waiting ++ flags_between meaning history old.audit old.place new.place
+  pub flags : new.waiting ≡ old.waiting ++ flags_between meaning history old.audit old.place
+      new.place
   pub undamaged : (number : ℕ) → result ≢ Err (Damaged number)
 
 -- a job looks at the next numbers, at most up to this one
-pub record LooksOn {A X : Type 0} (terms : Examination X) (upto : ℕ) (past : Past) (result : Result A ReadFault)
+pub record LooksOn {A X : Type 0} (terms : Examination X) (upto : ℕ) (past : Past)
+    (result : Result A ReadFault)
     (old new : Job X) (before after : KeeperState) (steps_old steps_new : ℕ) : Type 0 where
-  pub moves : MovesOn terms (new.place + 1) result old.examiner new.examiner before after steps_old steps_new
-  pub is_sound : IsSound terms new
+  pub moves : MovesOn terms (new.place + 1) result old.examiner new.examiner before after steps_old
+      steps_new
+  pub is_sound : IsSoundJob terms new
   pub same_audit : new.audit ≡ old.audit
   pub same_length : new.length ≡ old.length
   pub forward : old.place ≤ new.place
   pub limit : new.place ≤ upto
-  pub told : after.tells → (history : History) → map stored history ≡ before.kept → IsPastOf past history
+  pub told : after.tells → (history : History) → map stored history ≡ before.kept
+      → IsPastOf past history
       → JobFits terms old history → LooksOver terms history result old new
 
 -- nothing more was read, and no step ended
@@ -100,10 +108,12 @@ pub record IsAsFar {X : Type 0} (old new : Job X) : Type 0 where
   pub reached_is : new.questions.reached ≡ old.questions.reached
   pub unbroken_is : new.unbroken ≡ old.unbroken
 
--- a step: where it answers Ok, the job has looked at just as many numbers as it was told, or at all that were left
+-- a step: where it answers Ok, the job has looked at just as many numbers as it was told, or at all
+-- that were left
 pub record HasStepped {X : Type 0} (terms : Examination X) (count : ℕ) (past : Past)
     (result : Result (Unit {0}) ReadFault) (old new : Job X) (before after : KeeperState)
     (steps_old steps_new : ℕ) : Type 0 where
-  pub looks : LooksOn terms (step_end (open_audit old) count) past result old new before after steps_old steps_new
+  pub looks : LooksOn terms (step_end (open_audit old) count) past result old new before after
+      steps_old steps_new
   pub place_is : OnOk result (new.place ≡ step_end (open_audit old) count)
   pub unbroken_is : new.unbroken ≡ (old.unbroken && is_ok result)

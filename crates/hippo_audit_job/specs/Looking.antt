@@ -13,22 +13,22 @@ use Rattle.hippo_model.specs.Terms.{History}
 use Rattle.hippo_model.specs.HandedOver.{is_question}
 use Rattle.hippo_model.specs.StoredForms.{stored}
 use Rattle.hippo_model.specs.Stores.{IsStoreOf}
-use Rattle.hippo_model.specs.Audits.{in_period, is_exempt, shared}
+use Rattle.hippo_model.specs.Audits.{in_period, is_exempt, shared_tuple}
 use Rattle.hippo_laws.specs.Audits.{StandsIn}
 use Rattle.hippo_entry.specs.Forms.{IsEntryOf}
 use Rattle.hippo_keeper.specs.Keeping.{KeeperState, IsAfterCall, RisesAbove, last_number, KeepsSame}
 use Rattle.hippo_typing.specs.Meanings.{meaning_in, meaning}
 use Rattle.hippo_backlog.specs.declared.faults.ReadFault.{ReadFault}
 use Rattle.hippo_backlog.specs.declared.faults.ReadFault.TheVariants.{Keeper, Damaged, Memory}
-use Rattle.hippo_backlog.specs.Calls.{as_call}
+use Rattle.hippo_backlog.specs.Calls.{reading_as_call}
 use Rattle.hippo_backlog.specs.ReadingAhead.{ReadAhead, IsAhead}
 use Rattle.hippo_audit_job.specs.declared.past.Past.{Past}
 use Rattle.hippo_audit_job.specs.Examining.{Examination, MovesOn, FallsWith, IsPastOf, IsAuditOf}
 
 -- for which purpose and recipient was asked, and the text, where an act is a question
-abbrev pub question_in : Act → Option (Name × Name × Txt)
-question_in (Asked user purpose recipient text) = Some (purpose, recipient, text)
-question_in act = None
+abbrev pub question_parts : Act → Option (Name × Name × Txt)
+question_parts (Asked user purpose recipient text) = Some (purpose, recipient, text)
+question_parts act = None
 
 -- the entry of a stored form is found, or there is none
 abbrev pub IsDecoded : StoredEntry → Result Entry ReadFault → Type 0
@@ -49,45 +49,53 @@ pub record IsAskedFor (past : Past) (audit : Audit) (entry : Entry) (query : Que
   pub purpose : Name
   pub recipient : Name
   pub text : Txt
-  pub asked : question_in entry.act ≡ Some (purpose, recipient, text)
+  pub asked : question_parts entry.act ≡ Some (purpose, recipient, text)
   pub means : meaning_in past.catalog.now.names text ≡ Some query
   pub counts : is_exempt audit purpose recipient ≡ false
 
 -- whether an entry is a question of an audit's period
-abbrev pub was_asked : Audit → Entry → Bool
-was_asked audit entry = is_question entry.act && in_period audit entry.moment
+abbrev pub is_question_in_period : Audit → Entry → Bool
+is_question_in_period audit entry = is_question entry.act && in_period audit entry.moment
 
 -- an entry of a valid history that is a question of the audit's period
 pub record IsQuestionOf (history : History) (audit : Audit) (entry : Entry) : Type 0 where
   pub stands : StandsIn meaning history entry
-  pub asked : was_asked audit entry ≡ true
+  pub asked : is_question_in_period audit entry ≡ true
 
--- of a history that is kept: the examiner fits it still, what is read of it is not read again, and of a question what it
--- shares is found
-pub record LooksAtKept {X : Type 0} (terms : Examination X) (history : History) (audit : Audit) (entry : Entry)
-    (result : Result (Option (List SharedRow)) ReadFault) (old new : X) (steps_old steps_new : ℕ) : Type 0 where
+-- of a history that is kept: the examiner fits it still, what is read of it is not read again, and
+-- of a question what it shares is found
+pub record LooksAtKept {X : Type 0} (terms : Examination X) (history : History) (audit : Audit)
+    (entry : Entry)
+    (result : Result (Option (List SharedRow)) ReadFault) (old new : X) (steps_old steps_new : ℕ)
+    : Type 0 where
   pub fits_still : terms.fits new history entry.seq
   pub once : FallsWith (terms.unread old history) (terms.unread new history) steps_old steps_new
   pub undamaged : IsQuestionOf history audit entry → (number : ℕ) → result ≢ Err (Damaged number)
-  pub finds : IsQuestionOf history audit entry → IfOk result (λ found. found ≡ shared meaning history audit entry)
+  pub finds : IsQuestionOf history audit entry
+      → IfOk result (λ found. found ≡ shared_tuple meaning history audit entry)
 
 -- what looking at a question does
-pub record LooksAt {X : Type 0} (terms : Examination X) (past : Past) (audit : Audit) (entry : Entry)
+pub record LooksAt {X : Type 0} (terms : Examination X) (past : Past) (audit : Audit)
+    (entry : Entry)
     (result : Result (Option (List SharedRow)) ReadFault) (old new : X) (before after : KeeperState)
     (steps_old steps_new : ℕ) : Type 0 where
   pub moves : MovesOn terms entry.seq result old new before after steps_old steps_new
-  pub told : after.tells → (history : History) → map stored history ≡ before.kept → IsPastOf past history
+  pub told : after.tells → (history : History) → map stored history ≡ before.kept
+      → IsPastOf past history
       → IsAuditOf history audit → terms.fits old history entry.seq
       → LooksAtKept terms history audit entry result old new steps_old steps_new
 
 -- a piece of the questions of an audit's period is read, where nothing waits
-pub record ReadsAhead {A : Type 0} (audit : Audit) (end : ℕ) (result : Result A ReadFault) (old new : ReadAhead)
+pub record ReadsAhead {A : Type 0} (audit : Audit) (end : ℕ) (result : Result A ReadFault)
+    (old new : ReadAhead)
     (before after : KeeperState) : Type 0 where
-  pub is_after : IsAfterCall true false (as_call result) before after
+  pub is_after : IsAfterCall true false (reading_as_call result) before after
   pub stays : after.tells → KeepsSame before after
   pub order : RisesAbove old.reached new.waiting
   pub last : last_number old.reached new.waiting ≤ new.reached
   pub onward : OnOk result (old.reached < end → old.reached < new.reached)
   pub undamaged : (number : ℕ) → result ≢ Err (Damaged number)
-  pub told : after.tells → (history : History) → IsStoreOf meaning before.kept history → end ≤ length history
-      → (place : ℕ) → IsAhead (was_asked audit) place old history → IsAhead (was_asked audit) place new history
+  pub told : after.tells → (history : History) → IsStoreOf meaning before.kept history
+      → end ≤ length history
+      → (place : ℕ) → IsAhead (is_question_in_period audit) place old history
+      → IsAhead (is_question_in_period audit) place new history

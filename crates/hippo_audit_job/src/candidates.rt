@@ -46,14 +46,16 @@ fn table_name(tables: &Names, place: usize) -> &str
 
 // Whether a column of a statement's tables is this one.
 fn is_same(wanted: Named<'_>, tables: &Names, column: &Ref) -> bool
-    ensures { result ≡ same_column (wanted.entry.table.now, wanted.entry.column) (named_column tables.now column.now) }
+    ensures { result ≡ same_column (wanted.entry.table.now, wanted.entry.column)
+        (named_column tables.now column.now) }
 {
     wanted.table == table_name(tables, column.table) && wanted.column == column.column
 }
 
 // Whether an operand is this column.
 fn operand_names(wanted: Named<'_>, tables: &Names, operand: &Operand) -> bool
-    ensures { result ≡ is_named (wanted.entry.table.now, wanted.entry.column) tables.now (columns_in operand.now) }
+    ensures { result ≡ is_named (wanted.entry.table.now, wanted.entry.column) tables.now
+        (columns_in operand.now) }
 {
     match operand {
         Operand::Column(column) => is_same(wanted, tables, column),
@@ -62,7 +64,8 @@ fn operand_names(wanted: Named<'_>, tables: &Names, operand: &Operand) -> bool
 }
 
 fn any_operand_names(wanted: Named<'_>, tables: &Names, operands: &Operands) -> bool
-    ensures { result ≡ list_any (λ operand. is_named (wanted.entry.table.now, wanted.entry.column) tables.now
+    ensures { result ≡ list_any (λ operand. is_named (wanted.entry.table.now, wanted.entry.column)
+        tables.now
         (columns_in operand)) operands.now }
 {
     for operand in operands.as_slice() {
@@ -101,7 +104,8 @@ fn condition_names(wanted: Named<'_>, tables: &Names, condition: &CondOf<Operand
 
 #[cycle(condition_names)]
 fn any_condition_names(wanted: Named<'_>, tables: &Names, parts: &Sequence<CondOf<Operand>>) -> bool
-    ensures { result ≡ list_any (λ part. is_named (wanted.entry.table.now, wanted.entry.column) tables.now
+    ensures { result ≡ list_any (λ part. is_named (wanted.entry.table.now, wanted.entry.column)
+        tables.now
         (condition_columns part)) parts.now }
 {
     for part in parts.as_slice() {
@@ -113,7 +117,8 @@ fn any_condition_names(wanted: Named<'_>, tables: &Names, parts: &Sequence<CondO
 }
 
 fn items_name(wanted: Named<'_>, query: &Query) -> bool
-    ensures { result ≡ is_named (wanted.entry.table.now, wanted.entry.column) query.now.tables query.now.items }
+    ensures { result ≡ is_named (wanted.entry.table.now, wanted.entry.column) query.now.tables
+        query.now.items }
 {
     for item in query.items.as_slice() {
         if is_same(wanted, &query.tables, item) {
@@ -132,7 +137,8 @@ fn names(wanted: Named<'_>, query: &Query) -> bool
     items_name(wanted, query) || condition_names(wanted, &query.tables, &query.cond)
 }
 
-/// Whether a query names every audited column: in its items, as an argument, in GROUP BY, in ON or in WHERE.
+/// Whether a query names every audited column: in its items, as an argument, in GROUP BY, in ON or
+/// in WHERE.
 pub fn names_all(query: &Query, audit: &Audit) -> bool
     ensures { result ≡ names_all query.now audit.now }
 {

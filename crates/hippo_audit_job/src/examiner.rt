@@ -17,12 +17,12 @@ pub trait Examiner<P: Keeper> {
     // What clauses say of an examiner.
     ghost terms: { Examination Self };
 
-    /// The first virtual tuple that serves, of a question whose text means this query at its own time, and an audit
-    /// whose columns it names. Entry numbers do not fall from call to call.
+    /// The first virtual tuple that serves, of a question whose text means this query at its own
+    /// time, and an audit whose columns it names. Entry numbers do not fall from call to call.
     ///
-    /// That is said where the keeper tells a valid history of which this is the past, and the examiner fits it at the
-    /// entry's number; then `Damaged` never comes. `Keeper` comes only where the keeper's count of faults rose. Each
-    /// version that is handed over is a step.
+    /// That is said where the keeper tells a valid history of which this is the past, and the
+    /// examiner fits it at the entry's number; then `Damaged` never comes. `Keeper` comes only
+    /// where the keeper's count of faults rose. Each version that is handed over is a step.
     fn examine<L: Ledger>(
         &mut self,
         keeper: &mut P,
@@ -38,10 +38,12 @@ pub trait Examiner<P: Keeper> {
         requires order { terms.upto self.old ≤ entry.now.seq }
         requires tables { IsDistinct bytes_eq audit.now.tables }
         requires names { names_all query.now audit.now ≡ true }
-        ensures examines { Examines terms past.now audit.now entry.now query.now result self.old self.new
+        ensures examines { Examines terms past.now audit.now entry.now query.now result self.old
+            self.new
             (P.state keeper.old) (P.state keeper.new) steps.old steps.new };
 
-    /// How many versions it was handed, where it counts them: at most 2^64 - 1, at which the count stands still.
+    /// How many versions it was handed, where it counts them: at most 2^64 - 1, at which the count
+    /// stands still.
     fn taken(&self) -> Option<u64>
         ensures { result ≡ option_map shown_count (terms.handed self.now) };
 }

@@ -21,8 +21,8 @@ fn step_end(place: u64, count: u64, length: u64) -> u64
     place.saturating_add(count).min(length)
 }
 
-/// An audit of the first entries of a history, which looks at the questions of its period in steps, however they are
-/// cut.
+/// An audit of the first entries of a history, which looks at the questions of its period in steps,
+/// however they are cut.
 #[derive(Drop)]
 pub struct Job<X> {
     audit: Audit,
@@ -43,7 +43,8 @@ pub struct Job<X> {
 impl<X> Job<X> {
     ghost use Rattle.hippo_audit_job.specs.Jobs.{new_job};
 
-    /// A job over the first `length` entries, with an examiner that was asked nothing; takes no memory.
+    /// A job over the first `length` entries, with an examiner that was asked nothing; takes no
+    /// memory.
     pub fn begin(alloc: Global, audit: Audit, length: u64, examiner: X) -> Job<X>
         ensures { result ≡ new_job audit length examiner }
     {
@@ -101,8 +102,8 @@ impl<X> Job<X> {
         self.waiting.clear();
     }
 
-    /// How many versions its examiner was handed, where it counts them: at most 2^64 - 1, at which the count stands
-    /// still.
+    /// How many versions its examiner was handed, where it counts them: at most 2^64 - 1, at which
+    /// the count stands still.
     pub fn taken<P: Keeper>(&self) -> Option<u64>
     where
         X: Examiner<P>,
@@ -113,8 +114,8 @@ impl<X> Job<X> {
 }
 
 impl<X> Job<X> {
-    ghost use Rattle.hippo_audit_job.specs.Jobs.{with_flag, IsSound, IsAsFar, LooksOn, HasStepped};
-    ghost use Rattle.hippo_audit_job.specs.Flagging.{IsFirst};
+    ghost use Rattle.hippo_audit_job.specs.Jobs.{with_flag, IsSoundJob, IsAsFar, LooksOn, HasStepped};
+    ghost use Rattle.hippo_audit_job.specs.Flagging.{IsFirstWaiting};
     ghost use Rattle.hippo_backlog.specs.ReadingAhead.{BeginsAbove, without_first};
 
     // A flag waits behind the others, and the first question is used.
@@ -144,8 +145,8 @@ impl<X> Job<X> {
     where
         X: Examiner<P>,
         requires ready { IsReady true (P.state keeper.old) }
-        requires sound { IsSound X.terms self.old }
-        requires first { IsFirst self.old.questions entry }
+        requires sound { IsSoundJob X.terms self.old }
+        requires first { IsFirstWaiting self.old.questions entry }
         requires within { entry.seq ≤ self.old.length }
         ensures looks { LooksOn X.terms entry.seq past.now result self.old self.new
             (P.state keeper.old) (P.state keeper.new) steps.old steps.new }
@@ -171,7 +172,8 @@ impl<X> Job<X> {
         }
     }
 
-    // Looks at the first question that was read ahead, if its number is at most this; whether there was one.
+    // Looks at the first question that was read ahead, if its number is at most this; whether there
+    // was one.
     fn look_at_first<P: Keeper, L: Ledger>(
         &mut self,
         keeper: &mut P,
@@ -183,13 +185,14 @@ impl<X> Job<X> {
     where
         X: Examiner<P>,
         requires ready { IsReady true (P.state keeper.old) }
-        requires sound { IsSound X.terms self.old }
+        requires sound { IsSoundJob X.terms self.old }
         requires forward { self.old.place ≤ upto }
         requires within { upto ≤ self.old.length }
         ensures looks { LooksOn X.terms upto past.now result self.old self.new
             (P.state keeper.old) (P.state keeper.new) steps.old steps.new }
         ensures past { result ≡ Ok false → BeginsAbove upto self.new.questions.waiting }
-        ensures fewer { result ≡ Ok true → length self.new.questions.waiting < length self.old.questions.waiting }
+        ensures fewer { result ≡ Ok true
+            → length self.new.questions.waiting < length self.old.questions.waiting }
         ensures others { IsAsFar self.old self.new }
     {
         let Some(kept) = self.questions.first() else {
@@ -219,7 +222,7 @@ impl<X> Job<X> {
     where
         X: Examiner<P>,
         requires ready { IsReady true (P.state keeper.old) }
-        requires sound { IsSound X.terms self.old }
+        requires sound { IsSoundJob X.terms self.old }
         requires forward { self.old.place ≤ upto }
         requires within { upto ≤ self.old.length }
         ensures looks { LooksOn X.terms upto past.now result self.old self.new
@@ -248,7 +251,7 @@ impl<X> Job<X> {
     where
         X: Examiner<P>,
         requires ready { IsReady true (P.state keeper.old) }
-        requires sound { IsSound X.terms self.old }
+        requires sound { IsSoundJob X.terms self.old }
         requires forward { self.old.place ≤ upto }
         requires within { upto ≤ self.old.length }
         ensures looks { LooksOn X.terms upto past.now result self.old self.new
@@ -272,11 +275,13 @@ impl<X> Job<X> {
         }
     }
 
-    /// Looks at the next `count` numbers, up to the job's end; the flags that it finds wait behind the others.
+    /// Looks at the next `count` numbers, up to the job's end; the flags that it finds wait behind
+    /// the others.
     ///
-    /// Where it fails, it has looked up to a number between, and the flags up to there wait. That is said where the
-    /// keeper tells a valid history of which this is the past, and which the job fits; then `Damaged` never comes.
-    /// `Keeper` comes only where the keeper's count of faults rose. Steps and what is taken rise by the same.
+    /// Where it fails, it has looked up to a number between, and the flags up to there wait. That
+    /// is said where the keeper tells a valid history of which this is the past, and which the job
+    /// fits; then `Damaged` never comes. `Keeper` comes only where the keeper's count of faults
+    /// rose. Steps and what is taken rise by the same.
     pub fn step<P: Keeper, L: Ledger>(
         &mut self,
         keeper: &mut P,
@@ -288,7 +293,7 @@ impl<X> Job<X> {
     where
         X: Examiner<P>,
         requires ready { IsReady true (P.state keeper.old) }
-        requires sound { IsSound X.terms self.old }
+        requires sound { IsSoundJob X.terms self.old }
         ensures stepped { HasStepped X.terms count past.now result self.old self.new
             (P.state keeper.old) (P.state keeper.new) steps.old steps.new }
     {

@@ -7,7 +7,8 @@ pub fn meanings_last()
     ensures { MeaningsLast }
 {}
 
-/// In a valid history the text of a logged question meant at its own time what it means now, which is some query.
+/// In a valid history the text of a logged question meant at its own time what it means now, which
+/// is some query.
 pub fn questions_mean()
     ensures { QuestionsMean }
 {}
@@ -22,8 +23,8 @@ pub fn no_questions_no_flags()
     ensures { NoQuestionsNoFlags }
 {}
 
-/// An audit expression of which nothing is refused means an audit whose tables differ and are created, and whose columns
-/// are theirs; and so it does in each longer valid history.
+/// An audit expression of which nothing is refused means an audit whose tables differ and are
+/// created, and whose columns are theirs; and so it does in each longer valid history.
 pub fn unrefused_are_audits()
     ensures { UnrefusedAreAudits }
 {}

@@ -2,8 +2,8 @@
 use hippo_catalog::Catalog;
 use hippo_policy::PolicyBook;
 
-/// The names, the rules and choices, and the length of the history as it stands now: whoever looks at its past reads
-/// the rest from the keeper.
+/// The names, the rules and choices, and the length of the history as it stands now: whoever looks
+/// at its past reads the rest from the keeper.
 #[derive(Clone, Copy)]
 pub struct Past<'a> {
     pub catalog: &'a Catalog,

@@ -3,7 +3,7 @@ ghost use Rattle.std.specs.Prelude.{◌≡◌, ◌≤◌, true, bytes_eq, option
 ghost use Rattle.std.specs.List.{IsDistinct};
 ghost use Rattle.hippo_model.specs.Audits.{flag_by};
 ghost use Rattle.hippo_keeper.specs.Keeping.{IsReady};
-ghost use Rattle.hippo_audit_job.specs.Looking.{question_in, IsMeant, IsAskedFor, LooksAt};
+ghost use Rattle.hippo_audit_job.specs.Looking.{question_parts, IsMeant, IsAskedFor, LooksAt};
 ghost use Rattle.hippo_audit_job.specs.Flagging.{FindsFlag};
 
 use crate::candidates::{in_period, is_exempt, names_all};
@@ -26,7 +26,8 @@ struct Question<'a> {
 }
 
 fn question_in(act: &Act) -> Option<Question<'_>>
-    ensures { option_map (λ q. (q.purpose.now, q.recipient.now, q.text.now)) result ≡ question_in act.now }
+    ensures { option_map (λ q. (q.purpose.now, q.recipient.now, q.text.now)) result
+        ≡ question_parts act.now }
 {
     match act {
         Act::Asked {
@@ -107,8 +108,10 @@ fn shared_by<P: Keeper, L: Ledger, X: Examiner<P>>(
     requires sound { X.terms.sound examiner.old }
     requires order { X.terms.upto examiner.old ≤ entry.now.seq }
     requires tables { IsDistinct bytes_eq audit.now.tables }
-    ensures looks { IsAskedFor past.now audit.now entry.now query.now → LooksAt X.terms past.now audit.now entry.now
-        result examiner.old examiner.new (P.state keeper.old) (P.state keeper.new) steps.old steps.new }
+    ensures looks { IsAskedFor past.now audit.now entry.now query.now
+        → LooksAt X.terms past.now audit.now entry.now
+        result examiner.old examiner.new (P.state keeper.old) (P.state keeper.new) steps.old
+        steps.new }
 {
     if names_all(query, audit) {
         examiner.examine(keeper, alloc, past, entry, query, audit, steps)
@@ -117,8 +120,8 @@ fn shared_by<P: Keeper, L: Ledger, X: Examiner<P>>(
     }
 }
 
-/// What a question shares with an audit: nothing where it is no candidate. `Damaged` where the entry is no question of
-/// the audit's period, or its text means nothing.
+/// What a question shares with an audit: nothing where it is no candidate. `Damaged` where the
+/// entry is no question of the audit's period, or its text means nothing.
 pub(crate) fn shared_with<P: Keeper, L: Ledger, X: Examiner<P>>(
     examiner: &mut X,
     keeper: &mut P,

@@ -32,8 +32,8 @@ pub(crate) fn decoded(alloc: Global, kept: &StoredEntry) -> Result<Entry, ReadFa
     }
 }
 
-/// Reads the next piece of the questions of an audit's period, where nothing waits; `end` says up to which number the
-/// history is looked at.
+/// Reads the next piece of the questions of an audit's period, where nothing waits; `end` says up
+/// to which number the history is looked at.
 pub(crate) fn read_ahead<P: Keeper>(
     questions: &mut Ahead,
     keeper: &mut P,

@@ -21,7 +21,7 @@ use Rattle.hippo_spj_reader.proofs.NameTheorem.{names_found, names_complete, col
 use Rattle.hippo_spj_reader.proofs.SelectTheorem.{where_found, where_complete}
 use Rattle.hippo_spj_reader.proofs.ConditionTheorem.{Ends}
 use Rattle.hippo_audit_reader.specs.declared.audits.Period.{Period}
-use Rattle.hippo_audit_reader.specs.AuditGrammar.{IsPair, pair, AreExempt, none_exempt, otherthan, IsShown, all_cells, shown_cells, IsAudit, audit}
+use Rattle.hippo_audit_reader.specs.AuditGrammar.{IsPair, pair, AreExempt, none_exempt, otherthan, IsShown, all_cells, shown_cells, IsAudit, audit_expression}
 use Rattle.hippo_audit_reader.specs.AuditFinder.{leading_quoted, leading_pair, leading_exempt, period_of, leading_period, leading_shown, leading_audit}
 
 leading_quoted-some : (tokens rest : List TokenKind) (text : List ℕ) → leading_quoted tokens ≡ Some (text, rest) → tokens ≡ Quoted text ∷ rest
@@ -105,7 +105,7 @@ found tokens a rest e =
     let are_exempt : AreExempt period.1 exempt.0 (Keyword KAudit ∷ audited) = rw is_audit at (exempt_found period.1 exempt.0 exempt.1 exempt_is) in
     let are_columns : IsListOf IsColumn (Symbol Comma) shown.1 columns.0 (Keyword KFrom ∷ named) = rw is_from at (columns_found shown.1 columns.0 columns.1 columns_is) in
     rw is_during (read_as IsAudit _ _ _ _ _ e
-    (audit are_exempt (shown_found audited shown.0 shown.1 shown_is) are_columns (names_found named tables.0 tables.1 tables_is) (where_found tables.1 last.0 last.1 last_is) refl)))))))))))
+    (audit_expression are_exempt (shown_found audited shown.0 shown.1 shown_is) are_columns (names_found named tables.0 tables.1 tables_is) (where_found tables.1 last.0 last.1 last_is) refl)))))))))))
 
 -- what a whole audit expression is not followed by
 pub record AuditEnds (rest : List TokenKind) : Type 0 where
@@ -127,7 +127,7 @@ ends-semicolon rest = record { condition_ends = record { no_dot = refl; no_and =
 -- the audit expression is found, whole, where nothing behind it goes on with it
 pub complete : (tokens : List TokenKind) (a : RawAudit) (rest : List TokenKind) → IsAudit tokens a rest → AuditEnds rest → leading_audit tokens ≡ Some (a, rest)
 unfolding leading_audit leading_period
-complete _ _ rest (audit {exempt = exempt} {shown = shown} {columns = columns} {tables = tables} {last = last} {tokens = tokens} {audited = audited} {listed = listed} {named = named} {behind = behind}
+complete _ _ rest (audit_expression {exempt = exempt} {shown = shown} {columns = columns} {tables = tables} {last = last} {tokens = tokens} {audited = audited} {listed = listed} {named = named} {behind = behind}
     are_exempt is_shown are_columns are_tables is_where is_whole) ends =
     rw (
       exempt_complete tokens exempt (Keyword KAudit ∷ audited) are_exempt refl refl,

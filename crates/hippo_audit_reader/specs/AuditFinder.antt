@@ -1,4 +1,5 @@
--- The audit expression that can be found at the front of a list of tokens, part by part: the longest one.
+-- The audit expression that can be found at the front of a list of tokens, part by part: the
+-- longest one.
 use Rattle.std.specs.Prelude.{Bool, true, false, List, [], ◌∷◌, Option, option_to_list, Some, None}
 use Rattle.hippo_values.specs.Texts.{Txt}
 use Rattle.hippo_values.specs.declared.names.Name.{Name}
@@ -12,17 +13,17 @@ use Rattle.hippo_audit_reader.specs.declared.audits.Period.{Period}
 use Rattle.hippo_spj_reader.specs.Promises.{◌>>=◌, either}
 use Rattle.hippo_spj_reader.specs.ConditionGrammar.{RawCond}
 use Rattle.hippo_spj_reader.specs.ConditionFinder.{leading_column}
-use Rattle.hippo_spj_reader.specs.Front.{Finds, after_keyword, after_symbol, leading_name}
+use Rattle.hippo_spj_reader.specs.Front.{Finder, after_keyword, after_symbol, leading_name}
 use Rattle.hippo_spj_reader.specs.ListFinder.{leading_list}
 use Rattle.hippo_spj_reader.specs.SelectFinder.{leading_where}
 use Rattle.hippo_spj_reader.specs.SelectGrammar.{whole_condition}
 
 -- the quoted text that stands first
-abbrev pub leading_quoted : Finds Txt
+abbrev pub leading_quoted : Finder Txt
 leading_quoted (Quoted text ∷ rest) = Some (text, rest)
 leading_quoted tokens = None
 
-unfoldable pub leading_pair : Finds Pair
+unfoldable pub leading_pair : Finder Pair
 leading_pair tokens = do
   inside ← after_symbol LeftParen tokens
   purpose ← leading_name inside
@@ -31,14 +32,15 @@ leading_pair tokens = do
   rest ← after_symbol RightParen recipient.1
   Some (record { purpose = purpose.0; recipient = recipient.0 }, rest)
 
-unfoldable pub leading_exempt : Finds (List Pair)
+unfoldable pub leading_exempt : Finder (List Pair)
 leading_exempt tokens =
-    either (after_keyword KOtherthan tokens) (leading_list leading_pair (after_symbol Comma)) (Some ([], tokens))
+    either (after_keyword KOtherthan tokens) (leading_list leading_pair (after_symbol Comma))
+    (Some ([], tokens))
 
 abbrev pub period_of : Txt → Txt → Period
 period_of from to = record { from = from; to = to }
 
-unfoldable pub leading_period : Finds Period
+unfoldable pub leading_period : Finder Period
 leading_period tokens = do
   first ← after_keyword KDuring tokens
   start ← leading_quoted first
@@ -47,12 +49,14 @@ leading_period tokens = do
   Some (period_of start.0 end.0, end.1)
 
 -- whether SHOWN stands first, and what follows it
-unfoldable pub leading_shown : Finds Bool
-leading_shown tokens = either (after_keyword KShown tokens) (λ rest. Some (true, rest)) (Some (false, tokens))
+unfoldable pub leading_shown : Finder Bool
+leading_shown tokens =
+    either (after_keyword KShown tokens) (λ rest. Some (true, rest)) (Some (false, tokens))
 
 -- an audit by its parts, where a condition may be the last of them
-abbrev pub audit_of : Period → List Pair → Bool → List RawColumn → List Name → Option RawCond → RawAudit
-audit_of period exempt shown columns tables last = record {
+abbrev pub audit_with : Period → List Pair → Bool → List RawColumn → List Name → Option RawCond
+    → RawAudit
+audit_with period exempt shown columns tables last = record {
   from = period.from;
   to = period.to;
   exempt = exempt;
@@ -63,7 +67,7 @@ audit_of period exempt shown columns tables last = record {
 }
 
 -- the longest audit expression that stands first
-unfoldable pub leading_audit : Finds RawAudit
+unfoldable pub leading_audit : Finder RawAudit
 leading_audit tokens = do
   period ← leading_period tokens
   exempt ← leading_exempt period.1
@@ -73,4 +77,4 @@ leading_audit tokens = do
   named ← after_keyword KFrom columns.1
   tables ← leading_list leading_name (after_symbol Comma) named
   last ← leading_where tables.1
-  Some (audit_of period.0 exempt.0 shown.0 columns.0 tables.0 last.0, last.1)
+  Some (audit_with period.0 exempt.0 shown.0 columns.0 tables.0 last.0, last.1)

@@ -1,5 +1,5 @@
--- The grammar of audit expressions. Each relation says that the tokens begin with such a part, how it reads, and what
--- follows it.
+-- The grammar of audit expressions. Each relation says that the tokens begin with such a part, how
+-- it reads, and what follows it.
 use Rattle.std.specs.Prelude.{◌≡◌, Bool, true, false, List, [], ◌∷◌, Option, option_to_list}
 use Rattle.hippo_values.specs.declared.names.Name.{Name}
 use Rattle.hippo_values.specs.Texts.{Txt}
@@ -17,14 +17,16 @@ use Rattle.hippo_spj_reader.specs.SelectGrammar.{IsWhere, whole_condition}
 -- pair = "(" p "," r ")"
 pub data IsPair : Kinds → Pair → Kinds → Type 0 where
   pair : {purpose recipient : Name} {rest : Kinds} →
-      IsPair (Symbol LeftParen ∷ Word purpose ∷ Symbol Comma ∷ Word recipient ∷ Symbol RightParen ∷ rest)
+      IsPair (Symbol LeftParen ∷ Word purpose ∷ Symbol Comma ∷ Word recipient ∷ Symbol RightParen
+      ∷ rest)
       (record { purpose = purpose; recipient = recipient }) rest
 
 -- [OTHERTHAN pair {"," pair}]
 pub data AreExempt : Kinds → List Pair → Kinds → Type 0 where
   none_exempt : {rest : Kinds} → AreExempt rest [] rest
   otherthan : {pairs : List Pair} {tokens rest : Kinds} →
-      IsListOf IsPair (Symbol Comma) tokens pairs rest → AreExempt (Keyword KOtherthan ∷ tokens) pairs rest
+      IsListOf IsPair (Symbol Comma) tokens pairs rest
+      → AreExempt (Keyword KOtherthan ∷ tokens) pairs rest
 
 -- [SHOWN]
 pub data IsShown : Kinds → Bool → Kinds → Type 0 where
@@ -34,7 +36,8 @@ pub data IsShown : Kinds → Bool → Kinds → Type 0 where
 -- audit = DURING quoted TO quoted [OTHERTHAN pair {"," pair}]
 --         AUDIT [SHOWN] column {"," column} FROM t {"," t} [WHERE cond]
 pub data IsAudit : Kinds → RawAudit → Kinds → Type 0 where
-  audit : {start end : Txt} {exempt : List Pair} {shown : Bool} {columns : List RawColumn} {tables : List Name}
+  audit_expression : {start end : Txt} {exempt : List Pair} {shown : Bool}
+      {columns : List RawColumn} {tables : List Name}
       {whole : RawCond} {last : Option RawCond} {tokens audited listed named behind rest : Kinds} →
       AreExempt tokens exempt (Keyword KAudit ∷ audited) →
       IsShown audited shown listed →

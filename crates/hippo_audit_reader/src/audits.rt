@@ -148,8 +148,9 @@ impl Part for AuditPart {
     }
 }
 
-/// The audit expression that the tokens from place `first` to the place before `last` are; BadSyntax exactly where they
-/// are no audit expression, but for want of memory. The depth of the recursion is that of NOT and of parentheses.
+/// The audit expression that the tokens from place `first` to the place before `last` are;
+/// BadSyntax exactly where they are no audit expression, but for want of memory. The depth of the
+/// recursion is that of NOT and of parentheses.
 pub fn read_audit(
     alloc: Global,
     t: &Tokens,

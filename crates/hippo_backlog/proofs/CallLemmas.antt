@@ -7,28 +7,28 @@ use Rattle.hippo_keeper.specs.Answering.{has_failed}
 use Rattle.hippo_keeper.proofs.Results.{err_of}
 use Rattle.hippo_backlog.specs.declared.faults.ReadFault.{ReadFault}
 use Rattle.hippo_backlog.specs.declared.faults.ReadFault.TheVariants.{Keeper, Damaged, Memory}
-use Rattle.hippo_backlog.specs.Calls.{fault_of, as_call}
+use Rattle.hippo_backlog.specs.Calls.{read_fault, reading_as_call}
 
 -- no keeper's fault is none of its calls' failures
-pub as_call-unfailed : {A : Type 0} (result : Result A ReadFault) → result ≢ Err Keeper → has_failed (as_call result) ≡ false
-as_call-unfailed (Ok value) other = refl
-as_call-unfailed (Err Keeper) other = absurd (other refl)
-as_call-unfailed (Err (Damaged number)) other = refl
-as_call-unfailed (Err Memory) other = refl
+pub reading_as_call-unfailed : {A : Type 0} (result : Result A ReadFault) → result ≢ Err Keeper → has_failed (reading_as_call result) ≡ false
+reading_as_call-unfailed (Ok value) other = refl
+reading_as_call-unfailed (Err Keeper) other = absurd (other refl)
+reading_as_call-unfailed (Err (Damaged number)) other = refl
+reading_as_call-unfailed (Err Memory) other = refl
 
 pub same_Err : {A B : Type 0} (x y : B) → err_of A x ≡ Err y → x ≡ y
 same_Err x y e = cc
 
 -- a fault of one call is the same call's fault whatever it was to answer
-pub as_call-fault : (A B : Type 0) (fault : ReadFault) → as_call (err_of A fault) ≡ as_call (err_of B fault)
-as_call-fault A B Keeper = refl
-as_call-fault A B (Damaged number) = refl
-as_call-fault A B Memory = refl
+pub reading_as_call-fault : (A B : Type 0) (fault : ReadFault) → reading_as_call (err_of A fault) ≡ reading_as_call (err_of B fault)
+reading_as_call-fault A B Keeper = refl
+reading_as_call-fault A B (Damaged number) = refl
+reading_as_call-fault A B Memory = refl
 
-pub as_call-fault_of : (A B : Type 0) (fault : KeeperFault) → has_failed (as_call (err_of A (fault_of fault))) ≡ has_failed (err_of B fault)
-as_call-fault_of A B keeper_faults.Failed = refl
-as_call-fault_of A B keeper_faults.Memory = refl
+pub reading_as_call-read_fault : (A B : Type 0) (fault : KeeperFault) → has_failed (reading_as_call (err_of A (read_fault fault))) ≡ has_failed (err_of B fault)
+reading_as_call-read_fault A B keeper_faults.Failed = refl
+reading_as_call-read_fault A B keeper_faults.Memory = refl
 
-pub undamaged_by : {A : Type 0} (fault : KeeperFault) (number : ℕ) → err_of A (fault_of fault) ≢ Err (Damaged number)
+pub undamaged_by : {A : Type 0} (fault : KeeperFault) (number : ℕ) → err_of A (read_fault fault) ≢ Err (Damaged number)
 undamaged_by keeper_faults.Failed number e = cc
 undamaged_by keeper_faults.Memory number e = cc

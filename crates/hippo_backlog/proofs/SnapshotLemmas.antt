@@ -15,11 +15,11 @@ use Rattle.hippo_keeper.specs.Keeping.{KeeperState, IsReady, IsAfterCall}
 use Rattle.hippo_keeper.specs.declared.faults.KeeperFault.{KeeperFault}
 use Rattle.hippo_backlog.specs.declared.faults.ReadFault.{ReadFault}
 use Rattle.hippo_backlog.specs.declared.faults.ReadFault.TheVariants.{Damaged, Memory}
-use Rattle.hippo_backlog.specs.Calls.{as_call}
+use Rattle.hippo_backlog.specs.Calls.{reading_as_call}
 use Rattle.hippo_backlog.specs.ReadingAhead.{AreUpTo}
 use Rattle.hippo_backlog.specs.Backlogs.{is_version_of, versions_of, HeldVersions, no_versions, AreAt, BringsUp, Snapshots}
 use Rattle.hippo_backlog.proofs.AheadLemmas.{IsAhead-first, IsAhead-grown}
-use Rattle.hippo_backlog.proofs.CallLemmas.{same_Err, as_call-fault}
+use Rattle.hippo_backlog.proofs.CallLemmas.{same_Err, reading_as_call-fault}
 use Rattle.hippo_keeper.proofs.CallLemmas.{KeepsSame-here, IsAfterCall-none}
 use Rattle.hippo_keeper.proofs.Results.{err_of, well}
 use Rattle.hippo_backlog.proofs.NumberLemmas.{AreUpTo-higher, passed_at}
@@ -116,7 +116,7 @@ module _ (schema : Schema) (number : ℕ) (before after : KeeperState) (steps_ol
     -- or a fault
     pub Snapshots-err : (fault : ReadFault) → BringsUp {A = Unit {0}} schema number number (Err fault) (no_versions schema.key) new before after steps_old steps_new → Snapshots schema number (Err fault) before after steps_old steps_new
     Snapshots-err fault brings = record {
-      is_after = subst (λ (r : Result (Unit {0}) KeeperFault). IsAfterCall true false r before after) (as_call-fault (Unit {0}) KeyedRows fault) brings.reads.is_after;
+      is_after = subst (λ (r : Result (Unit {0}) KeeperFault). IsAfterCall true false r before after) (reading_as_call-fault (Unit {0}) KeyedRows fault) brings.reads.is_after;
       stays = brings.reads.stays;
       handed = brings.reads.handed;
       steps = brings.reads.steps;
@@ -147,7 +147,7 @@ module _ (schema : Schema) (number : ℕ) (before after : KeeperState) (steps_ol
 -- memory was short before anything was read
 pub Snapshots-none : (schema : Schema) (number : ℕ) (keeper : KeeperState) (steps : ℕ) → IsReady true keeper → Snapshots schema number (Err Memory) keeper keeper steps steps
 Snapshots-none schema number keeper steps ready = record {
-  is_after = IsAfterCall-none (as_call (err_of KeyedRows Memory)) keeper refl ready;
+  is_after = IsAfterCall-none (reading_as_call (err_of KeyedRows Memory)) keeper refl ready;
   stays = λ tells. KeepsSame-here keeper;
   handed = [];
   steps = omega arith;

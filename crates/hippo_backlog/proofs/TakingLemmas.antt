@@ -11,14 +11,14 @@ use Rattle.hippo_model.specs.declared.entry.Entry.{Entry}
 use Rattle.hippo_model.specs.declared.schema.Schema.{Schema}
 use Rattle.hippo_model.specs.declared.stored.StoredEntry.{StoredEntry}
 use Rattle.hippo_model.specs.Terms.{Row, Key, Place}
-use Rattle.hippo_model.specs.Changes.{renewed, changed}
+use Rattle.hippo_model.specs.Changes.{with_renewed_row, changed}
 use Rattle.hippo_model.specs.Rows.{key_of}
 use Rattle.hippo_model.specs.RowSets.{KeyedRows, with_row, without_row, find_row, row_with}
 use Rattle.hippo_model.specs.Versions.{row_fits, key_fits}
 use Rattle.hippo_model.proofs.KeptRows.{slice_get-find_row, is_some-find_row}
 use Rattle.hippo_entry.specs.Forms.{IsEntryOf}
 use Rattle.hippo_backlog.specs.declared.faults.ReadFault.TheVariants.{Damaged}
-use Rattle.hippo_backlog.specs.Taking.{Becomes, judged, Takes}
+use Rattle.hippo_backlog.specs.Taking.{Becomes, result_of_fit, TakesVersion}
 use Rattle.hippo_keeper.proofs.Results.{err_of}
 
 -- a place is found where a row is
@@ -46,7 +46,7 @@ module _ (schema : Schema) (moment : Moment) (table : Name) (old : KeyedRows) (k
   deleted key fits lives fits_is lives_is = λ i. then_some (sym fits_is i && sym lives_is i) (without_row key old)
 
   -- an update, by the birth of the row that has its key
-  by_birth : (row : Row) (named : Bool) (found : Option BornRow) → option_and_then (λ (was : BornRow). then_some named (renewed row old was)) found ≡ option_and_then (λ (born : Moment). then_some named (with_row (record { row = row; born = born }) old)) (option_map (λ (kept : BornRow). kept.born) found)
+  by_birth : (row : Row) (named : Bool) (found : Option BornRow) → option_and_then (λ (was : BornRow). then_some named (with_renewed_row row old was)) found ≡ option_and_then (λ (born : Moment). then_some named (with_row (record { row = row; born = born }) old)) (option_map (λ (kept : BornRow). kept.born) found)
   by_birth row named None = refl
   by_birth row named (Some was) = refl
 
@@ -62,7 +62,7 @@ becomes_put after old put new (Ok done) is made e = is ∙ ap Some (sym made)
 becomes_put after old put new (Err memory) is made e = absurd cc
 
 -- what taking in an entry comes to
-pub taken_by : (schema : Schema) (kept : StoredEntry) (entry : Entry) (change : Result Bool Memory) (old new : KeyedRows) → IsEntryOf kept (Some entry) → Becomes (changed schema entry.moment entry.act old) change old new → Takes {A = Unit {0}} schema kept (judged kept.seq change) old new
+pub taken_by : (schema : Schema) (kept : StoredEntry) (entry : Entry) (change : Result Bool Memory) (old new : KeyedRows) → IsEntryOf kept (Some entry) → Becomes (changed schema entry.moment entry.act old) change old new → TakesVersion {A = Unit {0}} schema kept (result_of_fit kept.seq change) old new
 taken_by schema kept entry (Ok true) old new found becomes = record {
   ok = record { entry = entry; form = found.sound; change = becomes };
   err = tt;
@@ -94,7 +94,7 @@ taken_by schema kept entry (Err memory) old new found becomes = record {
 }
 
 -- no entry has the form
-pub none_has : (schema : Schema) (kept : StoredEntry) (rows : KeyedRows) → IsEntryOf kept None → Takes {A = Unit {0}} schema kept (Err (Damaged kept.seq)) rows rows
+pub none_has : (schema : Schema) (kept : StoredEntry) (rows : KeyedRows) → IsEntryOf kept None → TakesVersion {A = Unit {0}} schema kept (Err (Damaged kept.seq)) rows rows
 none_has schema kept rows found = record {
   ok = tt;
   err = refl;

@@ -15,8 +15,8 @@ use Rattle.hippo_model.specs.declared.entry.Entry.{Entry}
 use Rattle.hippo_model.specs.declared.schema.Schema.{Schema}
 use Rattle.hippo_model.specs.declared.stored.StoredEntry.{StoredEntry}
 use Rattle.hippo_model.specs.Terms.{History, Meaning}
-use Rattle.hippo_model.specs.Changes.{renewed, changed}
-use Rattle.hippo_model.specs.HandedOver.{version_was_asked, IsFit}
+use Rattle.hippo_model.specs.Changes.{with_renewed_row, changed}
+use Rattle.hippo_model.specs.HandedOver.{is_sought_version, IsFit}
 use Rattle.hippo_model.specs.Keepable.{is_keepable}
 use Rattle.hippo_model.specs.Rows.{key_of}
 use Rattle.hippo_model.specs.RowSets.{KeyedRows, kept_at, with_row, without_row, row_with}
@@ -29,17 +29,17 @@ use Rattle.hippo_laws.proofs.ActCodes.{stored_again}
 use Rattle.hippo_entry.specs.Forms.{HasForm}
 use Rattle.hippo_keeper.specs.declared.faults.KeeperFault.{KeeperFault}
 use Rattle.hippo_keeper.specs.Keeping.{Store, RisesAbove, KeeperState, IsReady}
-use Rattle.hippo_keeper.specs.Selecting.{is_stored_version, stored_versions, handed_over, Reads, is_version_of as is_stored_version_of}
+use Rattle.hippo_keeper.specs.Selecting.{is_stored_version, stored_versions, handed_over, ReadsEntries, is_stored_version_of}
 use Rattle.hippo_keeper.proofs.StoredLemmas.{is_stored_version-stored}
 use Rattle.hippo_backlog.specs.declared.faults.ReadFault.{ReadFault}
 use Rattle.hippo_backlog.specs.declared.faults.ReadFault.TheVariants.{Keeper, Damaged}
-use Rattle.hippo_backlog.specs.Calls.{fault_of, as_call}
+use Rattle.hippo_backlog.specs.Calls.{read_fault, reading_as_call}
 use Rattle.hippo_backlog.specs.ReadingAhead.{ReadAhead, without_first, with_piece, BeginsAbove, has_read, IsAhead}
-use Rattle.hippo_backlog.specs.Taking.{HasTaken, Takes}
-use Rattle.hippo_backlog.specs.Backlogs.{is_version_of, HeldVersions, raised, AreAt, KeepsFit, TakesIn, HasUnfit, NamesUnfit, TakesWaiting, ReadsOn, BringsUp}
+use Rattle.hippo_backlog.specs.Taking.{HasTaken, TakesVersion}
+use Rattle.hippo_backlog.specs.Backlogs.{is_version_of, HeldVersions, higher_of, AreAt, KeepsFit, TakesInVersions, HasUnfit, NamesUnfit, TakesWaiting, ReadsOn, BringsUp}
 use Rattle.hippo_backlog.proofs.AheadLemmas.{IsAhead-used, IsAhead-moved, IsAhead-read, reached_by-least, reached_by-further}
 use Rattle.hippo_backlog.proofs.NumberLemmas.{last-above}
-use Rattle.hippo_backlog.proofs.CallLemmas.{as_call-unfailed, same_Err, as_call-fault_of}
+use Rattle.hippo_backlog.proofs.CallLemmas.{reading_as_call-unfailed, same_Err, reading_as_call-read_fault}
 use Rattle.hippo_keeper.proofs.CallLemmas.{KeepsSame-here, KeepsSame-then, KeepsSame-Stays, IsAfterCall-then, IsAfterCall-as, IsAfterCall-none}
 use Rattle.hippo_keeper.proofs.Results.{err_of, well}
 use Rattle.hippo_backlog.proofs.VersionsTheorem.{stands_at, may_there, versions_fit}
@@ -55,16 +55,16 @@ then_some-Some false word other e = cc
 changed_key : (schema : Schema) (moment : Moment) (act : Act) (old new : KeyedRows) → changed schema moment act old ≡ Some new → new.key ≡ old.key
 changed_key schema moment (Insert table row) old new is = sym (ap (λ (k : KeyedRows). k.key) (then_some-Some _ (with_row (record { row = row; born = moment }) old) new is))
 changed_key schema moment (Update table row) old new is =
-    (elim (row_with (key_of schema.key row) old) as (λ found. option_and_then (λ (was : BornRow). then_some (bytes_eq table schema.name && row_fits schema row) (renewed row old was)) found ≡ Some new → new.key ≡ old.key) [
+    (elim (row_with (key_of schema.key row) old) as (λ found. option_and_then (λ (was : BornRow). then_some (bytes_eq table schema.name && row_fits schema row) (with_renewed_row row old was)) found ≡ Some new → new.key ≡ old.key) [
       | None ↦ λ e. absurd cc
-      | Some was ↦ λ e. sym (ap (λ (k : KeyedRows). k.key) (then_some-Some _ (renewed row old was) new e))
+      | Some was ↦ λ e. sym (ap (λ (k : KeyedRows). k.key) (then_some-Some _ (with_renewed_row row old was) new e))
     ]) is
 changed_key schema moment (Delete table key) old new is = sym (ap (λ (k : KeyedRows). k.key) (then_some-Some _ (without_row key old) new is))
 changed_key schema moment act old new is = absurd cc
 
 -- what was handed over is taken in step by step
-pub TakesIn-here : (schema : Schema) (number : ℕ) (held : HeldVersions) → TakesIn schema number [] held held
-TakesIn-here schema number held = record {
+pub TakesInVersions-here : (schema : Schema) (number : ℕ) (held : HeldVersions) → TakesInVersions schema number [] held held
+TakesInVersions-here schema number held = record {
   taken = [];
   parts = append-nil held.ahead.waiting;
   rows = λ earlier is. is ∙ ap (kept_at schema) (sym (append-nil earlier));
@@ -76,8 +76,8 @@ TakesIn-here schema number held = record {
 }
 
 module _ (schema : Schema) (number : ℕ) where
-  pub TakesIn-then : (front rest : Store) (old mid new : HeldVersions) → TakesIn schema number front old mid → TakesIn schema number rest mid new → TakesIn schema number (front ++ rest) old new
-  TakesIn-then front rest old mid new one other = record {
+  pub TakesInVersions-then : (front rest : Store) (old mid new : HeldVersions) → TakesInVersions schema number front old mid → TakesInVersions schema number rest mid new → TakesInVersions schema number (front ++ rest) old new
+  TakesInVersions-then front rest old mid new one other = record {
     taken = one.taken ++ other.taken;
     parts =
         sym (append_assoc old.ahead.waiting front rest) ∙ ap (λ (s : Store). s ++ rest) one.parts ∙ append_assoc (map stored one.taken) mid.ahead.waiting rest
@@ -91,11 +91,11 @@ module _ (schema : Schema) (number : ℕ) where
     limit = λ within. other.limit (one.limit within);
   }
 
-  pub TakesIn-more : (handed : Store) (old mid new : HeldVersions) → TakesIn schema number handed old mid → TakesIn schema number [] mid new → TakesIn schema number handed old new
-  TakesIn-more handed old mid new one other = subst (λ (s : Store). TakesIn schema number s old new) (append-nil handed) (TakesIn-then handed [] old mid new one other)
+  pub TakesInVersions-more : (handed : Store) (old mid new : HeldVersions) → TakesInVersions schema number handed old mid → TakesInVersions schema number [] mid new → TakesInVersions schema number handed old new
+  TakesInVersions-more handed old mid new one other = subst (λ (s : Store). TakesInVersions schema number s old new) (append-nil handed) (TakesInVersions-then handed [] old mid new one other)
 
   -- what is unfit then was handed over behind what is taken in
-  HasUnfit-then : (handed : Store) (old mid : HeldVersions) (one : TakesIn schema number handed old mid) (earlier : History) (place : ℕ) → HasUnfit schema (earlier ++ one.taken) mid.ahead.waiting place → HasUnfit schema earlier (old.ahead.waiting ++ handed) place
+  HasUnfit-then : (handed : Store) (old mid : HeldVersions) (one : TakesInVersions schema number handed old mid) (earlier : History) (place : ℕ) → HasUnfit schema (earlier ++ one.taken) mid.ahead.waiting place → HasUnfit schema earlier (old.ahead.waiting ++ handed) place
   HasUnfit-then handed old mid one earlier place there = record {
     taken = one.taken ++ there.taken;
     entry = there.entry;
@@ -104,16 +104,16 @@ module _ (schema : Schema) (number : ℕ) where
         one.parts ∙ ap (λ (s : Store). map stored one.taken ++ s) there.parts ∙ sym (append_assoc (map stored one.taken) (map stored there.taken) (there.entry ∷ there.rest))
         ∙ ap (λ (s : Store). s ++ there.entry ∷ there.rest) (sym (map-append stored one.taken there.taken));
     number_is = there.number_is;
-    unfit = subst (λ (h : History). ¬ (IsFit (version_was_asked schema 0 h) there.entry)) (append_assoc earlier one.taken there.taken) there.unfit;
+    unfit = subst (λ (h : History). ¬ (IsFit (is_sought_version schema 0 h) there.entry)) (append_assoc earlier one.taken there.taken) there.unfit;
   }
 
-  pub NamesUnfit-then : {A : Type 0} (result : Result A ReadFault) (handed : Store) (old mid : HeldVersions) → TakesIn schema number handed old mid → NamesUnfit schema result mid.ahead.waiting mid → NamesUnfit schema result (old.ahead.waiting ++ handed) old
+  pub NamesUnfit-then : {A : Type 0} (result : Result A ReadFault) (handed : Store) (old mid : HeldVersions) → TakesInVersions schema number handed old mid → NamesUnfit schema result mid.ahead.waiting mid → NamesUnfit schema result (old.ahead.waiting ++ handed) old
   NamesUnfit-then result handed old mid one names place is earlier same = HasUnfit-then handed old mid one earlier place (names place is (earlier ++ one.taken) (one.rows earlier same))
 
   -- what waits is taken in, and then more of it
   pub TakesWaiting-here : (held : HeldVersions) → TakesWaiting schema number (well ReadFault) held held
   TakesWaiting-here held = record {
-    taken = TakesIn-here schema number held;
+    taken = TakesInVersions-here schema number held;
     keeps = λ meaning history valid there. there;
     reached_is = refl;
     damaged = λ place is. absurd cc;
@@ -123,7 +123,7 @@ module _ (schema : Schema) (number : ℕ) where
 
   pub TakesWaiting-then : {A : Type 0} (result : Result A ReadFault) (old mid new : HeldVersions) → TakesWaiting schema number (well ReadFault) old mid → TakesWaiting schema number result mid new → TakesWaiting schema number result old new
   TakesWaiting-then result old mid new one other = record {
-    taken = TakesIn-more [] old mid new one.taken other.taken;
+    taken = TakesInVersions-more [] old mid new one.taken other.taken;
     keeps = λ meaning history valid there. other.keeps meaning history valid (one.keeps meaning history valid there);
     reached_is = other.reached_is ∙ one.reached_is;
     damaged = subst (λ (s : Store). NamesUnfit schema result s old) (append-nil old.ahead.waiting) (NamesUnfit-then result [] old mid one.taken other.damaged);
@@ -192,17 +192,17 @@ first_stored (entry ∷ rest) kept is = record { entry = entry; rest = rest; wai
 below_is : (low number : ℕ) → low < number → nat_lt low number ≡ true
 below_is low number below = grind (arith, nat_tests)
 
-raised_above : (place number : ℕ) → place < number → raised place number ≡ number
+raised_above : (place number : ℕ) → place < number → higher_of place number ≡ number
 raised_above place number below = let is = below_is place number below in rw is
 
-raised_least : (place number : ℕ) → place ≤ raised place number
+raised_least : (place number : ℕ) → place ≤ higher_of place number
 raised_least place number =
     elim (nat_lt place number) as (λ below. nat_lt place number ≡ below → place ≤ cond below number place) [
       | true ↦ λ is. grind (arith, nat_tests)
       | false ↦ λ is. omega arith
     ] refl
 
-raised_most : (place number limit : ℕ) → place ≤ limit → number ≤ limit → raised place number ≤ limit
+raised_most : (place number limit : ℕ) → place ≤ limit → number ≤ limit → higher_of place number ≤ limit
 raised_most place number limit one other =
     elim (nat_lt place number) as (λ below. cond below number place ≤ limit) [
       | true ↦ other
@@ -245,12 +245,12 @@ module _ (schema : Schema) (old : HeldVersions) (kept : StoredEntry) (first : sl
 
   module _ (number : ℕ) (rows : KeyedRows) (within : kept.seq ≤ number) (taken : HasTaken schema kept old.rows rows) where
     abbrev after : HeldVersions
-    after = record { rows = rows; ahead = without_first old.ahead; place = raised old.place kept.seq }
+    after = record { rows = rows; ahead = without_first old.ahead; place = higher_of old.place kept.seq }
 
     rows_after : (earlier : History) → old.rows ≡ kept_at schema earlier → rows ≡ kept_at schema (earlier ++ taken.entry ∷ [])
     rows_after earlier same = sym (then_some-Some _ (kept_at schema (earlier ++ taken.entry ∷ [])) rows (sym (change_at earlier taken.entry same) ∙ taken.change))
 
-    takes_one : TakesIn schema number [] old after
+    takes_one : TakesInVersions schema number [] old after
     takes_one = record {
       taken = taken.entry ∷ [];
       parts = append-nil old.ahead.waiting ∙ first_rest old.ahead.waiting kept first ∙ (λ i. sym taken.form.1 i ∷ drop 1 old.ahead.waiting);
@@ -267,7 +267,7 @@ module _ (schema : Schema) (old : HeldVersions) (kept : StoredEntry) (first : sl
         let next = next_of meaning history valid there in
         let same : taken.entry ≡ next.next = stored_again taken.entry next.next taken.form.0 next.form.0 (taken.form.1 ∙ sym next.form.1) in
         let moved = IsAhead-used (is_version_of schema.name) old.place old.ahead history there.split next.next next.rest next.waiting_is in
-        let place_is : next.next.seq ≡ raised old.place kept.seq = ap (λ (e : StoredEntry). e.seq) next.form.1 ∙ sym (raised_above old.place kept.seq next.above) in
+        let place_is : next.next.seq ≡ higher_of old.place kept.seq = ap (λ (e : StoredEntry). e.seq) next.form.1 ∙ sym (raised_above old.place kept.seq next.above) in
         let there_now = subst (λ (p : ℕ). ((new : IsAhead (is_version_of schema.name) p (without_first old.ahead) history) × (new.used ≡ there.split.used ++ next.next ∷ []))) place_is moved in
         record {
           created = there.created;
@@ -292,9 +292,9 @@ module _ (schema : Schema) (old : HeldVersions) (kept : StoredEntry) (first : sl
       none-some after (sym none ∙ change_at earlier entry same ∙ ap (λ (b : Bool). then_some b after) fits)
 
   -- or it is unfit, or memory was short
-  pub takes_first-err : (number : ℕ) (fault : ReadFault) (rows : KeyedRows) → Takes {A = Unit {0}} schema kept (Err fault) old.rows rows → TakesWaiting {A = Bool} schema number (Err fault) old old
+  pub takes_first-err : (number : ℕ) (fault : ReadFault) (rows : KeyedRows) → TakesVersion {A = Unit {0}} schema kept (Err fault) old.rows rows → TakesWaiting {A = Bool} schema number (Err fault) old old
   takes_first-err number fault rows takes = record {
-    taken = TakesIn-here schema number old;
+    taken = TakesInVersions-here schema number old;
     keeps = λ meaning history valid there. there;
     reached_is = refl;
     damaged = λ place is earlier same.
@@ -317,13 +317,13 @@ module _ (schema : Schema) (old : HeldVersions) (kept : StoredEntry) (first : sl
   }
 
 -- the first is taken in, by what each part then is
-pub first_taken : (schema : Schema) (inside old : HeldVersions) → inside ≡ old → (number : ℕ) (kept : StoredEntry) (rows : KeyedRows) (ahead : ReadAhead) (place : ℕ) → slice_get inside.ahead.waiting 0 ≡ Some kept → kept.seq ≤ number → HasTaken schema kept inside.rows rows → ahead ≡ without_first inside.ahead → place ≡ raised inside.place kept.seq → TakesWaiting {A = Bool} schema number (Ok true) old (record { rows = rows; ahead = ahead; place = place })
+pub first_taken : (schema : Schema) (inside old : HeldVersions) → inside ≡ old → (number : ℕ) (kept : StoredEntry) (rows : KeyedRows) (ahead : ReadAhead) (place : ℕ) → slice_get inside.ahead.waiting 0 ≡ Some kept → kept.seq ≤ number → HasTaken schema kept inside.rows rows → ahead ≡ without_first inside.ahead → place ≡ higher_of inside.place kept.seq → TakesWaiting {A = Bool} schema number (Ok true) old (record { rows = rows; ahead = ahead; place = place })
 first_taken schema inside old same number kept rows ahead place first within taken ahead_is place_is =
     subst (λ (held : HeldVersions). TakesWaiting {A = Bool} schema number (Ok true) held (record { rows = rows; ahead = ahead; place = place })) same
     (subst (λ (held : HeldVersions). TakesWaiting {A = Bool} schema number (Ok true) inside held) (λ i. record { rows = rows; ahead = sym ahead_is i; place = sym place_is i }) (takes_first-ok schema inside kept first number rows within taken))
 
 -- or it is not
-pub first_untaken : (schema : Schema) (inside old : HeldVersions) → inside ≡ old → (number : ℕ) (kept : StoredEntry) (fault : ReadFault) (rows : KeyedRows) → slice_get inside.ahead.waiting 0 ≡ Some kept → Takes {A = Unit {0}} schema kept (Err fault) inside.rows rows → TakesWaiting {A = Bool} schema number (Err fault) old (record { rows = rows; ahead = inside.ahead; place = inside.place })
+pub first_untaken : (schema : Schema) (inside old : HeldVersions) → inside ≡ old → (number : ℕ) (kept : StoredEntry) (fault : ReadFault) (rows : KeyedRows) → slice_get inside.ahead.waiting 0 ≡ Some kept → TakesVersion {A = Unit {0}} schema kept (Err fault) inside.rows rows → TakesWaiting {A = Bool} schema number (Err fault) old (record { rows = rows; ahead = inside.ahead; place = inside.place })
 first_untaken schema inside old same number kept fault rows first takes =
     subst (λ (held : HeldVersions). TakesWaiting {A = Bool} schema number (Err fault) held (record { rows = rows; ahead = inside.ahead; place = inside.place })) same
     (subst (λ (held : HeldVersions). TakesWaiting {A = Bool} schema number (Err fault) inside held) (λ i. record { rows = sym takes.err i; ahead = inside.ahead; place = inside.place }) (takes_first-err schema inside kept first number fault rows takes))
@@ -333,7 +333,7 @@ same_test table entry = ap (λ passes. passes && bytes_eq (table_changed entry.a
 
 module _ (schema : Schema) (max end : ℕ) (old : HeldVersions) (before after : KeeperState) (steps_old steps_new : ℕ) (used : old.ahead.waiting ≡ []) where
   -- a piece is read
-  pub reads_piece : (piece : Store) → Reads (is_stored_version_of schema.name) old.ahead.reached max (Ok piece) before after → steps_new ≡ steps_old + stored_versions piece → (number : ℕ) → ReadsOn schema number end (as_call (well ReadFault)) old (record { rows = old.rows; ahead = with_piece max end piece old.ahead; place = old.place }) before after steps_old steps_new
+  pub reads_piece : (piece : Store) → ReadsEntries (is_stored_version_of schema.name) old.ahead.reached max (Ok piece) before after → steps_new ≡ steps_old + stored_versions piece → (number : ℕ) → ReadsOn schema number end (reading_as_call (well ReadFault)) old (record { rows = old.rows; ahead = with_piece max end piece old.ahead; place = old.place }) before after steps_old steps_new
   reads_piece piece reads steps number = record {
     is_after = IsAfterCall-as true false (Ok piece) (well KeeperFault) before after refl reads.call;
     stays = λ tells. KeepsSame-Stays before after (reads.stays tells);
@@ -356,34 +356,34 @@ module _ (schema : Schema) (max end : ℕ) (old : HeldVersions) (before after : 
   }
 
   -- or the read failed
-  pub reads_fault : (fault : KeeperFault) → Reads (is_stored_version_of schema.name) old.ahead.reached max (Err fault) before after → steps_new ≡ steps_old + 0 → (number : ℕ) → ReadsOn schema number end (as_call (err_of (Unit {0}) (fault_of fault))) old old before after steps_old steps_new
+  pub reads_fault : (fault : KeeperFault) → ReadsEntries (is_stored_version_of schema.name) old.ahead.reached max (Err fault) before after → steps_new ≡ steps_old + 0 → (number : ℕ) → ReadsOn schema number end (reading_as_call (err_of (Unit {0}) (read_fault fault))) old old before after steps_old steps_new
   reads_fault fault reads steps number = record {
-    is_after = IsAfterCall-as true false (err_of Store fault) (as_call (err_of (Unit {0}) (fault_of fault))) before after (as_call-fault_of (Unit {0}) Store fault) reads.call;
+    is_after = IsAfterCall-as true false (err_of Store fault) (reading_as_call (err_of (Unit {0}) (read_fault fault))) before after (reading_as_call-read_fault (Unit {0}) Store fault) reads.call;
     stays = λ tells. KeepsSame-Stays before after (reads.stays tells);
     handed = [];
     steps = steps;
-    taken = TakesIn-here schema number old;
+    taken = TakesInVersions-here schema number old;
     keeps = λ tells meaning history store within there. there;
   }
 
 -- the same, by what each part is
 module _ (schema : Schema) (max end : ℕ) (old : HeldVersions) (before after : KeeperState) (steps_old steps_new reached : ℕ) (used : old.ahead.waiting ≡ []) (reached_is : reached ≡ old.ahead.reached) where
-  pub read_ok : (inside : HeldVersions) → inside ≡ old → (piece : Store) (ahead : ReadAhead) → ahead ≡ with_piece max end piece inside.ahead → Reads (is_stored_version_of schema.name) reached max (Ok piece) before after → steps_new ≡ steps_old + stored_versions piece → (number : ℕ) → ReadsOn schema number end (well KeeperFault) old (record { rows = inside.rows; ahead = ahead; place = inside.place }) before after steps_old steps_new
+  pub read_ok : (inside : HeldVersions) → inside ≡ old → (piece : Store) (ahead : ReadAhead) → ahead ≡ with_piece max end piece inside.ahead → ReadsEntries (is_stored_version_of schema.name) reached max (Ok piece) before after → steps_new ≡ steps_old + stored_versions piece → (number : ℕ) → ReadsOn schema number end (well KeeperFault) old (record { rows = inside.rows; ahead = ahead; place = inside.place }) before after steps_old steps_new
   read_ok inside same piece ahead ahead_is reads steps number =
       let path : with_piece max end piece old.ahead ≡ ahead = ap (λ (held : HeldVersions). with_piece max end piece held.ahead) (sym same) ∙ sym ahead_is in
       subst (λ (held : HeldVersions). ReadsOn schema number end (well KeeperFault) old held before after steps_old steps_new)
       (λ i. record { rows = (sym same i).rows; ahead = path i; place = (sym same i).place })
-      (reads_piece schema max end old before after steps_old steps_new used piece (subst (λ (n : ℕ). Reads (is_stored_version_of schema.name) n max (Ok piece) before after) reached_is reads) steps number)
+      (reads_piece schema max end old before after steps_old steps_new used piece (subst (λ (n : ℕ). ReadsEntries (is_stored_version_of schema.name) n max (Ok piece) before after) reached_is reads) steps number)
 
-  pub read_further : (inside : HeldVersions) → inside ≡ old → (piece : Store) (ahead : ReadAhead) → ahead ≡ with_piece max end piece inside.ahead → Reads (is_stored_version_of schema.name) reached max (Ok piece) before after → 0 < max → old.ahead.reached < end → old.ahead.reached < ahead.reached
+  pub read_further : (inside : HeldVersions) → inside ≡ old → (piece : Store) (ahead : ReadAhead) → ahead ≡ with_piece max end piece inside.ahead → ReadsEntries (is_stored_version_of schema.name) reached max (Ok piece) before after → 0 < max → old.ahead.reached < end → old.ahead.reached < ahead.reached
   read_further inside same piece ahead ahead_is reads some below =
       let path : ahead ≡ with_piece max end piece old.ahead = ahead_is ∙ ap (λ (held : HeldVersions). with_piece max end piece held.ahead) same in
       let further = reached_by-further max end piece old.ahead.reached some (subst (λ (n : ℕ). RisesAbove n piece) reached_is reads.ok.order) below in
       let there = ap (λ (a : ReadAhead). a.reached) path in
       omega (arith, further, there)
 
-  pub read_err : (fault : KeeperFault) → Reads (is_stored_version_of schema.name) reached max (Err fault) before after → steps_new ≡ steps_old + 0 → (number : ℕ) → ReadsOn schema number end (as_call (err_of (Unit {0}) (fault_of fault))) old old before after steps_old steps_new
-  read_err fault reads steps number = reads_fault schema max end old before after steps_old steps_new used fault (subst (λ (n : ℕ). Reads (is_stored_version_of schema.name) n max (Err fault) before after) reached_is reads) steps number
+  pub read_err : (fault : KeeperFault) → ReadsEntries (is_stored_version_of schema.name) reached max (Err fault) before after → steps_new ≡ steps_old + 0 → (number : ℕ) → ReadsOn schema number end (reading_as_call (err_of (Unit {0}) (read_fault fault))) old old before after steps_old steps_new
+  read_err fault reads steps number = reads_fault schema max end old before after steps_old steps_new used fault (subst (λ (n : ℕ). ReadsEntries (is_stored_version_of schema.name) n max (Err fault) before after) reached_is reads) steps number
 
 -- the place is moved to a number
 abbrev pub placed : ℕ → HeldVersions → HeldVersions
@@ -397,19 +397,19 @@ module _ (schema : Schema) (number end : ℕ) where
     stays = λ tells. KeepsSame-here keeper;
     handed = [];
     steps = omega arith;
-    taken = TakesIn-here schema number held;
+    taken = TakesInVersions-here schema number held;
     keeps = λ tells meaning history store within there. there;
   }
 
   module _ (old mid new : HeldVersions) (before now : KeeperState) (steps_old steps_now : ℕ) (so_far : ReadsOn schema number end (well KeeperFault) old mid before now steps_old steps_now) where
     -- then what waits is taken in
-    abbrev pub ReadsOn-waiting : {A : Type 0} (result : Result A ReadFault) → TakesWaiting schema number result mid new → ReadsOn schema number end (as_call result) old new before now steps_old steps_now
+    abbrev pub ReadsOn-waiting : {A : Type 0} (result : Result A ReadFault) → TakesWaiting schema number result mid new → ReadsOn schema number end (reading_as_call result) old new before now steps_old steps_now
     ReadsOn-waiting result takes = record {
-      is_after = IsAfterCall-as true false (well KeeperFault) (as_call result) before now (as_call-unfailed result takes.unfailed) so_far.is_after;
+      is_after = IsAfterCall-as true false (well KeeperFault) (reading_as_call result) before now (reading_as_call-unfailed result takes.unfailed) so_far.is_after;
       stays = so_far.stays;
       handed = so_far.handed;
       steps = so_far.steps;
-      taken = TakesIn-more schema number so_far.handed old mid new so_far.taken takes.taken;
+      taken = TakesInVersions-more schema number so_far.handed old mid new so_far.taken takes.taken;
       keeps = λ tells meaning history store within there. takes.keeps meaning history store.valid (so_far.keeps tells meaning history store within there);
     }
 
@@ -430,15 +430,15 @@ module _ (schema : Schema) (number end : ℕ) where
         stays = λ tells. KeepsSame-then before now after (so_far.stays (reads.is_after.told tells)) (reads.stays tells);
         handed = so_far.handed ++ reads.handed;
         steps = omega (arith, so_far.steps, reads.steps, stored_versions-append so_far.handed reads.handed);
-        taken = TakesIn-then schema number so_far.handed reads.handed old mid new so_far.taken reads.taken;
+        taken = TakesInVersions-then schema number so_far.handed reads.handed old mid new so_far.taken reads.taken;
         keeps = λ tells meaning history store within there.
             let tells_now = reads.is_after.told tells in
             reads.keeps tells meaning history (subst (λ (s : Store). IsStoreOf meaning s history) (sym (so_far.stays tells_now).same) store) within (so_far.keeps tells_now meaning history store within there);
       }
 
-      pub BringsUp-fault : (fault : ReadFault) → ReadsOn schema number end (as_call (err_of (Unit {0}) fault)) mid new now after steps_now steps_new → ((place : ℕ) → err_of (Unit {0}) fault ≢ Err (Damaged place)) → BringsUp {A = Unit {0}} schema number end (Err fault) old new before after steps_old steps_new
+      pub BringsUp-fault : (fault : ReadFault) → ReadsOn schema number end (reading_as_call (err_of (Unit {0}) fault)) mid new now after steps_now steps_new → ((place : ℕ) → err_of (Unit {0}) fault ≢ Err (Damaged place)) → BringsUp {A = Unit {0}} schema number end (Err fault) old new before after steps_old steps_new
       BringsUp-fault fault reads undamaged = record {
-        reads = ReadsOn-then (as_call (err_of (Unit {0}) fault)) reads;
+        reads = ReadsOn-then (reading_as_call (err_of (Unit {0}) fault)) reads;
         place_is = tt;
         damaged = λ place is. absurd (undamaged place is);
         undamaged = λ tells meaning history store within there. undamaged;

@@ -15,7 +15,7 @@ use Rattle.hippo_model.specs.declared.entry.Act.{Act}
 use Rattle.hippo_model.specs.declared.entry.Act.TheVariants.{Create, Insert, Update, Delete}
 use Rattle.hippo_model.specs.declared.entry.Entry.{Entry}
 use Rattle.hippo_model.specs.Terms.{History, Meaning, Key}
-use Rattle.hippo_model.specs.Histories.{last_word, created, schema_at}
+use Rattle.hippo_model.specs.Histories.{last_word, schema_created, schema_at}
 use Rattle.hippo_model.specs.Rows.{key_of, key_named, names_key, row_left, row_at, is_insert, born_at, born_row_at, with_key, keys_named, table_rows}
 use Rattle.hippo_model.specs.RowSets.{kept_at}
 use Rattle.hippo_model.specs.StoredForms.{table_changed}
@@ -107,7 +107,7 @@ module _ (meaning : Meaning) where
   acceptable history entry may = (and_parts _ _ may).1
 
   -- a table that is created is not created again
-  created_none : (history : History) (table : Name) (schema : Schema) (act : Act) → is_acceptable meaning history act ≡ true → schema_at history table ≡ Some schema → created table act ≡ None
+  created_none : (history : History) (table : Name) (schema : Schema) (act : Act) → is_acceptable meaning history act ≡ true → schema_at history table ≡ Some schema → schema_created table act ≡ None
   created_none history table schema (Create other) fits is =
       let fresh = (and_parts _ _ (and_parts _ _ fits).0).1 in
       elim (bytes_eq other.name table) as (λ same. bytes_eq other.name table ≡ same → then_some same other ≡ None) [
@@ -118,7 +118,7 @@ module _ (meaning : Meaning) where
 
   schema_lasts : (history : History) (entry : Entry) (table : Name) (schema : Schema) → may_follow meaning history entry ≡ true → schema_at history table ≡ Some schema → schema_at (history ++ entry ∷ []) table ≡ Some schema
   schema_lasts history entry table schema may is =
-      last_word-append (λ e. created table e.act) history entry
+      last_word-append (λ e. schema_created table e.act) history entry
       ∙ ap (λ word. option_or word (schema_at history table)) (created_none history table schema entry.act (acceptable history entry may) is) ∙ is
 
   -- an entry of a valid history may follow those before it

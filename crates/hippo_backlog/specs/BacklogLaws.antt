@@ -13,7 +13,8 @@ use Rattle.hippo_backlog.specs.Backlogs.{versions_of}
 -- the rows of a table after some entries are those after its versions among them
 abbrev pub RowsAreThoseOfVersions : Type 0
 RowsAreThoseOfVersions =
-    (schema : Schema) (history : History) → kept_at schema history ≡ kept_at schema (versions_of schema.name history)
+    (schema : Schema) (history : History)
+    → kept_at schema history ≡ kept_at schema (versions_of schema.name history)
 
 -- in a valid history a table keeps its schema
 abbrev pub SchemasLast : Type 0
@@ -27,4 +28,5 @@ abbrev pub VersionsFit : Type 0
 VersionsFit =
     (meaning : Meaning) (history : History) (schema : Schema) → is_valid meaning history ≡ true
     → schema_at history schema.name ≡ Some schema → (earlier later : History) (entry : Entry)
-    → versions_of schema.name history ≡ earlier ++ entry ∷ later → version_fits schema earlier entry.act ≡ true
+    → versions_of schema.name history ≡ earlier ++ entry ∷ later
+    → version_fits schema earlier entry.act ≡ true

@@ -6,7 +6,7 @@ use Rattle.hippo_model.specs.declared.schema.Schema.{Schema}
 use Rattle.hippo_model.specs.declared.stored.StoredEntry.{StoredEntry}
 use Rattle.hippo_model.specs.Terms.{History, Meaning, Place}
 use Rattle.hippo_model.specs.Histories.{schema_at}
-use Rattle.hippo_model.specs.HandedOver.{version_was_asked, IsFit}
+use Rattle.hippo_model.specs.HandedOver.{is_sought_version, IsFit}
 use Rattle.hippo_model.specs.RowSets.{KeyedRows, kept_at}
 use Rattle.hippo_model.specs.StoredForms.{table_changed, stored}
 use Rattle.hippo_model.specs.Stores.{IsStoreOf}
@@ -15,7 +15,7 @@ use Rattle.hippo_model.specs.Versions.{is_version}
 use Rattle.hippo_keeper.specs.Keeping.{Store, KeeperState, IsAfterCall, KeepsSame}
 use Rattle.hippo_keeper.specs.Selecting.{stored_versions}
 use Rattle.hippo_keeper.specs.declared.faults.KeeperFault.{KeeperFault}
-use Rattle.hippo_backlog.specs.Calls.{as_call}
+use Rattle.hippo_backlog.specs.Calls.{reading_as_call}
 use Rattle.hippo_backlog.specs.ReadingAhead.{ReadAhead, nothing_read, IsAhead}
 use Rattle.hippo_backlog.specs.declared.faults.ReadFault.{ReadFault}
 use Rattle.hippo_backlog.specs.declared.faults.ReadFault.TheVariants.{Keeper, Damaged}
@@ -37,10 +37,11 @@ abbrev pub no_versions : List Place → HeldVersions
 no_versions key = record { rows = record { key = key; rows = [] }; ahead = nothing_read; place = 0 }
 
 -- the higher of a place and a number
-abbrev pub raised : ℕ → ℕ → ℕ
-raised place number = if nat_lt place number then number else place
+abbrev pub higher_of : ℕ → ℕ → ℕ
+higher_of place number = if nat_lt place number then number else place
 
--- what is held is that of a history: the rows are those of the versions up to the place, and the next ones wait
+-- what is held is that of a history: the rows are those of the versions up to the place, and the
+-- next ones wait
 pub record AreAt (schema : Schema) (history : History) (held : HeldVersions) : Type 0 where
   pub created : schema_at history schema.name ≡ Some schema
   pub split : IsAhead (is_version_of schema.name) held.place held.ahead history
@@ -49,39 +50,46 @@ pub record AreAt (schema : Schema) (history : History) (held : HeldVersions) : T
 -- what is held of each valid history stays that of the history
 abbrev pub KeepsFit : Schema → HeldVersions → HeldVersions → Type 0
 KeepsFit schema old new =
-    (meaning : Meaning) (history : History) → is_valid meaning history ≡ true → AreAt schema history old
+    (meaning : Meaning) (history : History) → is_valid meaning history ≡ true
+    → AreAt schema history old
     → AreAt schema history new
 
--- of what waited and of what was handed over the first ones were taken in, up to a number, and the others wait
-pub record TakesIn (schema : Schema) (number : ℕ) (handed : Store) (old new : HeldVersions) : Type 0 where
+-- of what waited and of what was handed over the first ones were taken in, up to a number, and the
+-- others wait
+pub record TakesInVersions (schema : Schema) (number : ℕ) (handed : Store) (old new : HeldVersions)
+    : Type 0 where
   pub taken : History
   pub parts : old.ahead.waiting ++ handed ≡ map stored taken ++ new.ahead.waiting
-  pub rows : (earlier : History) → old.rows ≡ kept_at schema earlier → new.rows ≡ kept_at schema (earlier ++ taken)
+  pub rows : (earlier : History) → old.rows ≡ kept_at schema earlier
+      → new.rows ≡ kept_at schema (earlier ++ taken)
   pub key : new.rows.key ≡ old.rows.key
   pub counted : new.ahead.handed ≡ old.ahead.handed + stored_versions handed
   pub further : old.ahead.reached ≤ new.ahead.reached
   pub rises : old.place ≤ new.place
   pub limit : old.place ≤ number → new.place ≤ number
 
--- among entries that were handed over one with this number is unfit, behind others that were taken in
-pub record HasUnfit (schema : Schema) (earlier : History) (entries : Store) (place : ℕ) : Type 0 where
+-- among entries that were handed over one with this number is unfit, behind others that were taken
+-- in
+pub record HasUnfit (schema : Schema) (earlier : History) (entries : Store) (place : ℕ)
+    : Type 0 where
   pub taken : History
   pub entry : StoredEntry
   pub rest : Store
   pub parts : entries ≡ map stored taken ++ entry ∷ rest
   pub number_is : entry.seq ≡ place
-  pub unfit : ¬ (IsFit (version_was_asked schema 0 (earlier ++ taken)) entry)
+  pub unfit : ¬ (IsFit (is_sought_version schema 0 (earlier ++ taken)) entry)
 
 -- Damaged names an unfit entry of these
 abbrev pub NamesUnfit : {A : Type 0} → Schema → Result A ReadFault → Store → HeldVersions → Type 0
 NamesUnfit schema result entries old =
-    (number : ℕ) → result ≡ Err (Damaged number) → (earlier : History) → old.rows ≡ kept_at schema earlier
+    (number : ℕ) → result ≡ Err (Damaged number) → (earlier : History)
+    → old.rows ≡ kept_at schema earlier
     → HasUnfit schema earlier entries number
 
 -- what waits is taken in up to a number, or up to an entry that is unfit
 pub record TakesWaiting {A : Type 0} (schema : Schema) (number : ℕ) (result : Result A ReadFault)
     (old new : HeldVersions) : Type 0 where
-  pub taken : TakesIn schema number [] old new
+  pub taken : TakesInVersions schema number [] old new
   pub keeps : KeepsFit schema old new
   pub reached_is : new.ahead.reached ≡ old.ahead.reached
   pub damaged : NamesUnfit schema result old.ahead.waiting old
@@ -89,43 +97,52 @@ pub record TakesWaiting {A : Type 0} (schema : Schema) (number : ℕ) (result : 
       → AreAt schema history old → (number : ℕ) → result ≢ Err (Damaged number)
   pub unfailed : result ≢ Err Keeper
 
--- pieces are read and taken in: one step for each version that is handed over; and what is held stays that of the kept
--- history, where the keeper tells it and it is as long as was said
-pub record ReadsOn {A : Type 0} (schema : Schema) (number end : ℕ) (call : Result A KeeperFault) (old new : HeldVersions)
+-- pieces are read and taken in: one step for each version that is handed over; and what is held
+-- stays that of the kept history, where the keeper tells it and it is as long as was said
+pub record ReadsOn {A : Type 0} (schema : Schema) (number end : ℕ) (call : Result A KeeperFault)
+    (old new : HeldVersions)
     (before after : KeeperState) (steps_old steps_new : ℕ) : Type 0 where
   pub is_after : IsAfterCall true false call before after
   pub stays : after.tells → KeepsSame before after
   pub handed : Store
   pub steps : steps_new ≡ steps_old + stored_versions handed
-  pub taken : TakesIn schema number handed old new
-  pub keeps : after.tells → (meaning : Meaning) (history : History) → IsStoreOf meaning before.kept history
+  pub taken : TakesInVersions schema number handed old new
+  pub keeps : after.tells → (meaning : Meaning) (history : History)
+      → IsStoreOf meaning before.kept history
       → end ≤ length history → AreAt schema history old → AreAt schema history new
 
--- what is held is brought up to a number; or Damaged names an entry that is unfit, which is never one of a valid history
--- that the keeper tells
-pub record BringsUp {A : Type 0} (schema : Schema) (number end : ℕ) (result : Result A ReadFault) (old new : HeldVersions)
+-- what is held is brought up to a number; or Damaged names an entry that is unfit, which is never
+-- one of a valid history that the keeper tells
+pub record BringsUp {A : Type 0} (schema : Schema) (number end : ℕ) (result : Result A ReadFault)
+    (old new : HeldVersions)
     (before after : KeeperState) (steps_old steps_new : ℕ) : Type 0 where
-  pub reads : ReadsOn schema number end (as_call result) old new before after steps_old steps_new
+  pub reads : ReadsOn schema number end (reading_as_call result) old new before after steps_old
+      steps_new
   pub place_is : OnOk result (new.place ≡ number)
   pub damaged : NamesUnfit schema result (old.ahead.waiting ++ reads.handed) old
-  pub undamaged : after.tells → (meaning : Meaning) (history : History) → IsStoreOf meaning before.kept history
-      → end ≤ length history → AreAt schema history old → (number : ℕ) → result ≢ Err (Damaged number)
+  pub undamaged : after.tells → (meaning : Meaning) (history : History)
+      → IsStoreOf meaning before.kept history
+      → end ≤ length history → AreAt schema history old → (number : ℕ)
+      → result ≢ Err (Damaged number)
 
 -- the rows of a table after the first entries of the kept history, and steps
-pub record IsSnapshot (schema : Schema) (number : ℕ) (result : Result KeyedRows ReadFault) (history : History)
+pub record IsSnapshot (schema : Schema) (number : ℕ) (result : Result KeyedRows ReadFault)
+    (history : History)
     (steps_old steps_new : ℕ) : Type 0 where
   pub rows : IfOk result (λ rows. rows ≡ kept_at schema (take number history))
   pub steps : steps_new ≤ steps_old + length (versions_of schema.name history)
   pub undamaged : (place : ℕ) → result ≢ Err (Damaged place)
 
 -- what a snapshot reads and answers
-pub record Snapshots (schema : Schema) (number : ℕ) (result : Result KeyedRows ReadFault) (before after : KeeperState)
+pub record Snapshots (schema : Schema) (number : ℕ) (result : Result KeyedRows ReadFault)
+    (before after : KeeperState)
     (steps_old steps_new : ℕ) : Type 0 where
-  pub is_after : IsAfterCall true false (as_call result) before after
+  pub is_after : IsAfterCall true false (reading_as_call result) before after
   pub stays : after.tells → KeepsSame before after
   pub handed : Store
   pub steps : steps_new ≡ steps_old + stored_versions handed
   pub damaged : (place : ℕ) → result ≡ Err (Damaged place) → HasUnfit schema [] handed place
-  pub told : after.tells → (meaning : Meaning) (history : History) → IsStoreOf meaning before.kept history
+  pub told : after.tells → (meaning : Meaning) (history : History)
+      → IsStoreOf meaning before.kept history
       → schema_at history schema.name ≡ Some schema → number ≤ length history
       → IsSnapshot schema number result history steps_old steps_new

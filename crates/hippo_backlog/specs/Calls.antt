@@ -7,13 +7,13 @@ use Rattle.hippo_backlog.specs.declared.faults.ReadFault.{ReadFault}
 use Rattle.hippo_backlog.specs.declared.faults.ReadFault.TheVariants.{Keeper, Damaged, Memory}
 
 -- a keeper's fault, as that of a read
-abbrev pub fault_of : KeeperFault → ReadFault
-fault_of keeper_faults.Failed = Keeper
-fault_of keeper_faults.Memory = Memory
+abbrev pub read_fault : KeeperFault → ReadFault
+read_fault keeper_faults.Failed = Keeper
+read_fault keeper_faults.Memory = Memory
 
 -- reads one after the other, as one call of their keeper
-abbrev pub as_call : {A : Type 0} → Result A ReadFault → Result (Unit {0}) KeeperFault
-as_call (Ok value) = Ok tt
-as_call (Err Keeper) = Err keeper_faults.Failed
-as_call (Err (Damaged number)) = Ok tt
-as_call (Err Memory) = Err keeper_faults.Memory
+abbrev pub reading_as_call : {A : Type 0} → Result A ReadFault → Result (Unit {0}) KeeperFault
+reading_as_call (Ok value) = Ok tt
+reading_as_call (Err Keeper) = Err keeper_faults.Failed
+reading_as_call (Err (Damaged number)) = Ok tt
+reading_as_call (Err Memory) = Err keeper_faults.Memory

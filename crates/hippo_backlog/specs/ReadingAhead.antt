@@ -22,7 +22,8 @@ nothing_read = record { waiting = []; reached = 0; handed = 0 }
 abbrev pub without_first : ReadAhead → ReadAhead
 without_first ahead = record ahead { waiting = drop 1 ahead.waiting }
 
--- up to which number all is read after a piece: to its last one, and where it is shorter than was asked for, to the end
+-- up to which number all is read after a piece: to its last one, and where it is shorter than was
+-- asked for, to the end
 abbrev pub reached_by : ℕ → ℕ → Store → ℕ → ℕ
 reached_by max end piece reached =
     let last = last_number reached piece in
@@ -50,9 +51,10 @@ BeginsAbove number (entry ∷ rest) = number < entry.seq
 abbrev pub has_read : ℕ → ReadAhead → Bool
 has_read number ahead = nat_le number ahead.reached || is_some (slice_get ahead.waiting 0)
 
--- what was read ahead of a history: of its entries that pass a test, those up to a place are used, some wait, and those
--- above the number that is reached are still to be read
-pub record IsAhead (test : Entry → Bool) (place : ℕ) (ahead : ReadAhead) (history : History) : Type 0 where
+-- what was read ahead of a history: of its entries that pass a test, those up to a place are used,
+-- some wait, and those above the number that is reached are still to be read
+pub record IsAhead (test : Entry → Bool) (place : ℕ) (ahead : ReadAhead) (history : History)
+    : Type 0 where
   pub used : History
   pub waiting : History
   pub later : History

@@ -11,17 +11,18 @@ use Rattle.hippo_backlog.specs.declared.faults.ReadFault.{ReadFault}
 use Rattle.hippo_backlog.specs.declared.faults.ReadFault.TheVariants.{Keeper, Damaged}
 use Rattle.hippo_backlog.specs.declared.faults.ReadFault.TheVariants as read_faults
 
--- rows become what a change makes of them; or there is no such change, or memory was short, and they stay
+-- rows become what a change makes of them; or there is no such change, or memory was short, and
+-- they stay
 abbrev pub Becomes : Option KeyedRows → Result Bool Memory → KeyedRows → KeyedRows → Type 0
 Becomes after (Ok true) old new = after ≡ Some new
 Becomes after (Ok false) old new = (after ≡ None) × (new ≡ old)
 Becomes after (Err memory) old new = new ≡ old
 
 -- what taking in the entry with a number comes to, by whether it fits
-abbrev pub judged : ℕ → Result Bool Memory → Result (Unit {0}) ReadFault
-judged number (Ok true) = Ok tt
-judged number (Ok false) = Err (Damaged number)
-judged number (Err memory) = Err read_faults.Memory
+abbrev pub result_of_fit : ℕ → Result Bool Memory → Result (Unit {0}) ReadFault
+result_of_fit number (Ok true) = Ok tt
+result_of_fit number (Ok false) = Err (Damaged number)
+result_of_fit number (Err memory) = Err read_faults.Memory
 
 -- the entry of a stored form has changed the rows
 pub record HasTaken (schema : Schema) (kept : StoredEntry) (old new : KeyedRows) : Type 0 where
@@ -30,7 +31,8 @@ pub record HasTaken (schema : Schema) (kept : StoredEntry) (old new : KeyedRows)
   pub change : changed schema entry.moment entry.act old ≡ Some new
 
 -- a stored form is taken into rows; or no entry of this form changes them
-pub record Takes {A : Type 0} (schema : Schema) (kept : StoredEntry) (result : Result A ReadFault)
+pub record TakesVersion {A : Type 0} (schema : Schema) (kept : StoredEntry)
+    (result : Result A ReadFault)
     (old new : KeyedRows) : Type 0 where
   pub ok : OnOk result (HasTaken schema kept old new)
   pub err : OnErr result (new ≡ old)

@@ -57,10 +57,11 @@ fn reached_by(max: u64, end: u64, piece: &[StoredEntry], reached: u64) -> u64
     }
 }
 
-/// Entries of one kind that a keeper handed over, read ahead of where they are used, piece by piece.
+/// Entries of one kind that a keeper handed over, read ahead of where they are used, piece by
+/// piece.
 ///
-/// Each is used once, in the order of their numbers. It knows up to which number all such entries were read, so that
-/// nothing is asked for twice.
+/// Each is used once, in the order of their numbers. It knows up to which number all such entries
+/// were read, so that nothing is asked for twice.
 #[derive(Debug, Drop)]
 pub struct Ahead {
     piece: StoredList,
@@ -82,7 +83,8 @@ impl Model for Ahead {
       handed = ahead.handed;
     } };
 
-    ghost invariant = { λ ahead. (ahead.next ≤ length ahead.piece) × (ahead.handed ≤ ahead.reached) };
+    ghost invariant = { λ ahead. (ahead.next ≤ length ahead.piece)
+        × (ahead.handed ≤ ahead.reached) };
 }
 
 impl Ahead {
@@ -128,8 +130,9 @@ impl Ahead {
         }
     }
 
-    /// Puts a piece of at most `max` entries, handed over above the number that is reached, in the place of the one
-    /// before. `end` says how long the history is: a piece of fewer entries reaches up to there.
+    /// Puts a piece of at most `max` entries, handed over above the number that is reached, in the
+    /// place of the one before. `end` says how long the history is: a piece of fewer entries
+    /// reaches up to there.
     pub fn put(&mut self, piece: StoredList, max: u64, end: u64)
         requires order { RisesAbove self.old.reached piece }
         ensures { self.new ≡ with_piece max end piece self.old }

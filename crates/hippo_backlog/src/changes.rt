@@ -5,7 +5,7 @@ ghost use Rattle.hippo_model.specs.Changes.{changed};
 ghost use Rattle.hippo_model.specs.Rows.{key_of};
 ghost use Rattle.hippo_model.specs.RowSets.{row_with};
 ghost use Rattle.hippo_model.specs.Versions.{row_fits, key_fits};
-ghost use Rattle.hippo_backlog.specs.Taking.{Becomes, judged, Takes};
+ghost use Rattle.hippo_backlog.specs.Taking.{Becomes, result_of_fit, TakesVersion};
 
 use crate::faults::ReadFault;
 use hippo_entry::decode;
@@ -44,7 +44,8 @@ fn is_live_like(rows: &RowSet, row: &Cells) -> bool
 
 // The birth of the row that has the key of this one.
 fn birth_like(rows: &RowSet, row: &Cells) -> Option<Moment>
-    ensures { result ≡ option_map (λ kept. kept.born) (row_with (key_of rows.now.key row.now) rows.now) }
+    ensures { result ≡ option_map (λ kept. kept.born)
+        (row_with (key_of rows.now.key row.now) rows.now) }
 {
     match rows.find_like(row) {
         None => None,
@@ -61,7 +62,8 @@ fn insert(
     rows: &mut RowSet,
 ) -> Result<bool, Memory>
     requires key { rows.old.key ≡ schema.now.key }
-    ensures { Becomes (changed schema.now moment (Insert table.now row) rows.old) result rows.old rows.new }
+    ensures { Becomes (changed schema.now moment (Insert table.now row) rows.old) result rows.old
+        rows.new }
 {
     let is_new = !is_live_like(rows, &row);
     if fits(schema, table, &row) && is_new {
@@ -80,7 +82,8 @@ fn update(
     rows: &mut RowSet,
 ) -> Result<bool, Memory>
     requires key { rows.old.key ≡ schema.now.key }
-    ensures { Becomes (changed schema.now moment (Update table.now row) rows.old) result rows.old rows.new }
+    ensures { Becomes (changed schema.now moment (Update table.now row) rows.old) result rows.old
+        rows.new }
 {
     let Some(born) = birth_like(rows, &row) else {
         return Ok(false);
@@ -95,7 +98,8 @@ fn update(
 // Takes away the row of a key that is live; whether it fits.
 fn delete(schema: &Schema, table: &Name, key: &Cells, _moment: Moment, rows: &mut RowSet) -> bool
     requires key { rows.old.key ≡ schema.now.key }
-    ensures { Becomes (changed schema.now _moment (Delete table.now key.now) rows.old) (Ok result) rows.old rows.new }
+    ensures { Becomes (changed schema.now _moment (Delete table.now key.now) rows.old) (Ok result)
+        rows.old rows.new }
 {
     let lives = is_live(rows, key);
     if fits_key(schema, table, key) && lives {
@@ -123,7 +127,7 @@ fn change(schema: &Schema, moment: Moment, act: Act, rows: &mut RowSet) -> Resul
 
 // What taking in the entry with a number comes to.
 fn judged(number: u64, change: Result<bool, Memory>) -> Result<(), ReadFault>
-    ensures { result ≡ judged number change }
+    ensures { result ≡ result_of_fit number change }
 {
     match change {
         Ok(true) => Ok(()),
@@ -132,8 +136,8 @@ fn judged(number: u64, change: Result<bool, Memory>) -> Result<(), ReadFault>
     }
 }
 
-/// Takes the entry of a stored form into a table's rows: `Damaged` with its number where no entry of this form is a
-/// version of the table that fits the rows.
+/// Takes the entry of a stored form into a table's rows: `Damaged` with its number where no entry
+/// of this form is a version of the table that fits the rows.
 pub(crate) fn take(
     alloc: Global,
     schema: &Schema,
@@ -141,7 +145,7 @@ pub(crate) fn take(
     rows: &mut RowSet,
 ) -> Result<(), ReadFault>
     requires key { rows.old.key ≡ schema.now.key }
-    ensures takes { Takes schema.now kept.now result rows.old rows.new }
+    ensures takes { TakesVersion schema.now kept.now result rows.old rows.new }
 {
     match decode(alloc, kept) {
         Ok(Some(entry)) => {

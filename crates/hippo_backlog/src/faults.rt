@@ -1,6 +1,6 @@
 //! Why the past is not read.
 ghost use Rattle.std.specs.Prelude.{◌≡◌};
-ghost use Rattle.hippo_backlog.specs.Calls.{fault_of};
+ghost use Rattle.hippo_backlog.specs.Calls.{read_fault};
 
 use hippo_keeper::KeeperFault;
 use thiserror::Error;
@@ -21,7 +21,7 @@ pub enum ReadFault {
 
 /// A keeper's fault, as that of a read.
 pub fn fault_of(fault: KeeperFault) -> ReadFault
-    ensures { result ≡ fault_of fault }
+    ensures { result ≡ read_fault fault }
 {
     match fault {
         KeeperFault::Failed => ReadFault::Keeper,

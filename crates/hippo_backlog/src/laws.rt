@@ -1,8 +1,8 @@
 //! Laws on the versions of a table.
 ghost use Rattle.hippo_backlog.specs.BacklogLaws.{RowsAreThoseOfVersions, SchemasLast, VersionsFit};
 
-/// The rows of a table after some entries, births included, are those after the versions of the table among them:
-/// inserts, updates and deletes of its rows.
+/// The rows of a table after some entries, births included, are those after the versions of the
+/// table among them: inserts, updates and deletes of its rows.
 pub fn rows_are_those_of_versions()
     ensures { RowsAreThoseOfVersions }
 {}

@@ -11,11 +11,13 @@ use hippo_values::{Duplicate, Memory};
 use std::alloc::Global;
 use std::sync::ledger::Ledger;
 
-/// The rows of a table, with their births, as they were after the first `number` entries of the history that is kept.
+/// The rows of a table, with their births, as they were after the first `number` entries of the
+/// history that is kept.
 ///
-/// That is said where the keeper tells a valid history of at least so many entries, in which the table has this schema;
-/// then `Damaged` never comes. Over other keepers `Damaged` has the number of an entry that was handed over and does not
-/// fit. `Keeper` comes only where the keeper's count of faults rose. Each version that is handed over is one step.
+/// That is said where the keeper tells a valid history of at least so many entries, in which the
+/// table has this schema; then `Damaged` never comes. Over other keepers `Damaged` has the number
+/// of an entry that was handed over and does not fit. `Keeper` comes only where the keeper's count
+/// of faults rose. Each version that is handed over is one step.
 pub fn snapshot<P: Keeper, L: Ledger>(
     keeper: &mut P,
     alloc: Global,
@@ -24,7 +26,8 @@ pub fn snapshot<P: Keeper, L: Ledger>(
     steps: &mut Steps<L>,
 ) -> Result<RowSet, ReadFault>
     requires ready { IsReady true (P.state keeper.old) }
-    ensures snapshots { Snapshots schema.now number result (P.state keeper.old) (P.state keeper.new) steps.old steps.new }
+    ensures snapshots { Snapshots schema.now number result (P.state keeper.old) (P.state keeper.new)
+        steps.old steps.new }
 {
     let mut versions = match schema.key.copy(alloc) {
         Ok(key) => Versions::new(alloc, key),

@@ -1,9 +1,9 @@
 //! The rows of a table at a place in the history, and the versions that were read ahead of it.
 ghost use Rattle.std.specs.Prelude.{◌≡◌, ◌≢◌, ℕ, ◌≤◌, ◌<◌, true, false, [], length, Ok, Err, IfOk, OnOk};
 ghost use Rattle.hippo_keeper.specs.Keeping.{IsReady};
-ghost use Rattle.hippo_backlog.specs.Calls.{as_call};
+ghost use Rattle.hippo_backlog.specs.Calls.{reading_as_call};
 ghost use Rattle.hippo_backlog.specs.ReadingAhead.{BeginsAbove, has_read};
-ghost use Rattle.hippo_backlog.specs.Backlogs.{no_versions, raised, TakesWaiting, ReadsOn, BringsUp};
+ghost use Rattle.hippo_backlog.specs.Backlogs.{no_versions, higher_of, TakesWaiting, ReadsOn, BringsUp};
 ghost use Rattle.hippo_backlog.specs.declared.faults.ReadFault.TheVariants.{Damaged};
 
 use crate::ahead::Ahead;
@@ -19,12 +19,13 @@ use std::sync::ledger::Ledger;
 const PIECE: u64 = 1000;
 
 fn raised(place: u64, number: u64) -> u64
-    ensures { result ≡ raised place number }
+    ensures { result ≡ higher_of place number }
 {
     if place < number { number } else { place }
 }
 
-/// The rows of a table as they were after the entries up to a place, and the versions behind it that wait.
+/// The rows of a table as they were after the entries up to a place, and the versions behind it
+/// that wait.
 #[derive(Debug, Drop)]
 pub struct Versions {
     rows: RowSet,
@@ -77,7 +78,8 @@ impl Versions {
         rows
     }
 
-    /// Keeps, from now on, an order of the rows by a column, so that rows are found by it; they stay what they are.
+    /// Keeps, from now on, an order of the rows by a column, so that rows are found by it; they
+    /// stay what they are.
     pub fn order_by(&mut self, alloc: Global, column: usize)
         ensures { self.new ≡ self.old }
     {
@@ -96,7 +98,8 @@ impl Versions {
         requires key { self.old.rows.key ≡ schema.now.key }
         ensures takes { TakesWaiting schema.now number result self.old self.new }
         ensures past { result ≡ Ok false → BeginsAbove number self.new.ahead.waiting }
-        ensures fewer { result ≡ Ok true → length self.new.ahead.waiting < length self.old.ahead.waiting }
+        ensures fewer { result ≡ Ok true
+            → length self.new.ahead.waiting < length self.old.ahead.waiting }
     {
         let Some(kept) = self.ahead.first() else {
             return Ok(false);
@@ -141,7 +144,8 @@ impl Versions {
     ) -> Result<(), ReadFault>
         requires ready { IsReady true (P.state keeper.old) }
         requires used { self.old.ahead.waiting ≡ [] }
-        ensures reads { (number : ℕ) → ReadsOn schema.now number end (as_call result) self.old self.new
+        ensures reads { (number : ℕ) → ReadsOn schema.now number end (reading_as_call result)
+            self.old self.new
             (P.state keeper.old) (P.state keeper.new) steps.old steps.new }
         ensures undamaged { (number : ℕ) → result ≢ Err (Damaged number) }
         ensures further { OnOk result (self.old.ahead.reached < end
@@ -163,12 +167,13 @@ impl Versions {
         number <= self.ahead.reached() || self.ahead.first().is_some()
     }
 
-    /// Brings the rows up to a number, reading from a keeper what is not read yet. `end` says how long the history is
-    /// that is kept.
+    /// Brings the rows up to a number, reading from a keeper what is not read yet. `end` says how
+    /// long the history is that is kept.
     ///
-    /// Ok: the rows are those after the first `number` entries. Where it fails, the place lies between. `Keeper` comes
-    /// only where the keeper's count of faults rose, and `Damaged` with the number of an entry that was handed over and
-    /// does not fit: never where the keeper tells a valid history. Each version is read once, and is then one step.
+    /// Ok: the rows are those after the first `number` entries. Where it fails, the place lies
+    /// between. `Keeper` comes only where the keeper's count of faults rose, and `Damaged` with the
+    /// number of an entry that was handed over and does not fit: never where the keeper tells a
+    /// valid history. Each version is read once, and is then one step.
     pub fn bring_up<P: Keeper, L: Ledger>(
         &mut self,
         keeper: &mut P,

@@ -6,17 +6,17 @@ use Rattle.std.proofs.lemmas.List.{take_more}
 use Rattle.hippo_values.specs.declared.names.Name.{Name}
 use Rattle.hippo_model.specs.declared.name_fault.NameFault.{NameFault}
 use Rattle.hippo_model.specs.declared.name_fault.NameFault.TheVariants.{RepeatedName}
-use Rattle.hippo_catalog.specs.Refusals.{refused, repeated_after, repeated_names, IsFirstOf}
+use Rattle.hippo_catalog.specs.Refusals.{fault_if, repeated_after, repeated_names, IsFirstOf}
 use Rattle.hippo_catalog.proofs.ListLemmas.{drop_at_get_or, list_any-lent, lent-push}
 use Rattle.hippo_catalog.proofs.Refused.{first_with_more}
 
 module _ (names : List Name) (i : ℕ) (name : Name) (within : i < length names) (read : name ≡ get_or names i name) where
   -- what is refused at a name and behind it
-  at_name : repeated_after (take i names) (drop i names) ≡ refused (list_any (bytes_eq name) (take i names)) (RepeatedName name) ++ repeated_after (take (i + 1) names) (drop (i + 1) names)
+  at_name : repeated_after (take i names) (drop i names) ≡ fault_if (list_any (bytes_eq name) (take i names)) (RepeatedName name) ++ repeated_after (take (i + 1) names) (drop (i + 1) names)
   at_name =
       let more : take i names ++ name ∷ [] ≡ take (i + 1) names = sym (take_more names i name within ∙ ap (λ x. take i names ++ x ∷ []) (sym read)) in
       ap (repeated_after (take i names)) (drop_at_get_or names i name within read)
-      ∙ ap (λ front. refused (list_any (bytes_eq name) (take i names)) (RepeatedName name) ++ repeated_after front (drop (i + 1) names)) more
+      ∙ ap (λ front. fault_if (list_any (bytes_eq name) (take i names)) (RepeatedName name) ++ repeated_after front (drop (i + 1) names)) more
 
   pub repeated_here : list_any (bytes_eq name) (take i names) ≡ true → (fault : NameFault) → IsFirstOf (RepeatedName name ∷ []) fault → IsFirstOf (repeated_after (take i names) (drop i names)) fault
   repeated_here there fault first = rw (at_name, there) (first_with_more (RepeatedName name ∷ []) (repeated_after (take (i + 1) names) (drop (i + 1) names)) fault first)

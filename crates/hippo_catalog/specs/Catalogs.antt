@@ -1,4 +1,5 @@
--- What a catalog knows: the tables, purposes, recipients and items of a history, in the order of their creation.
+-- What a catalog knows: the tables, purposes, recipients and items of a history, in the order of
+-- their creation.
 use Rattle.std.specs.Prelude.{Bool, true, not, List, [], ◌∷◌, ◌++◌, filter_map, Option, None, Some, is_none, bytes_eq}
 use Rattle.std.specs.List.{list_any}
 use Rattle.std.specs.Map.{lookup}
@@ -45,9 +46,11 @@ known_at history =
 
 -- the names after one act more
 abbrev pub known_after : KnownNames → Act → KnownNames
-known_after known (Create schema) = record known { tables = known.tables ++ (schema.name, schema) ∷ [] }
+known_after known (Create schema) =
+    record known { tables = known.tables ++ (schema.name, schema) ∷ [] }
 known_after known (Purpose purpose) = record known { purposes = known.purposes ++ purpose ∷ [] }
-known_after known (Recipient recipient) = record known { recipients = known.recipients ++ recipient ∷ [] }
+known_after known (Recipient recipient) =
+    record known { recipients = known.recipients ++ recipient ∷ [] }
 known_after known (Item item kind) = record known { items = known.items ++ (item, kind) ∷ [] }
 known_after known act = known
 

@@ -17,14 +17,17 @@ use Rattle.hippo_model.specs.Rows.{key_of}
 use Rattle.hippo_model.specs.Terms.{Key}
 use Rattle.hippo_catalog.specs.Catalogs.{KnownNames, table_of}
 use Rattle.hippo_catalog.specs.WrittenColumns.{place_of}
-use Rattle.hippo_catalog.specs.ChangesRefused.{places_of, draft_of}
+use Rattle.hippo_catalog.specs.ChangesRefused.{places_named, keyless_table}
 use Rattle.hippo_catalog.specs.Refusals.{IsFirstOf}
 
 -- a column of the key, and the SUBJECT, is NOT NULL whether that is written or not
 abbrev pub with_not_null : List Name → Option Name → Column → Column
 with_not_null key subject column =
     let is_column : Name → Bool = λ name. bytes_eq name column.name in
-    record column { not_null = column.not_null || list_any is_column key || option_map_or is_column subject false }
+    record column {
+      not_null = column.not_null || list_any is_column key
+          || option_map_or is_column subject false;
+    }
 
 -- the table that CREATE TABLE makes
 abbrev pub table_made : Name → List Column → List Name → Option Name → Schema
@@ -32,14 +35,14 @@ table_made table columns key subject =
     record {
       name = table;
       columns = map (with_not_null key subject) columns;
-      key = places_of (draft_of table columns) key;
-      subject = option_and_then (place_of (draft_of table columns)) subject;
+      key = places_named (keyless_table table columns) key;
+      subject = option_and_then (place_of (keyless_table table columns)) subject;
     }
 
 -- the values of WHERE in the key's order
 abbrev pub key_written : Schema → List Name → List Value → Key
 key_written schema names values =
-    filter_map (λ place. lookup (nat_eq place) (zip (places_of schema names) values)) schema.key
+    filter_map (λ place. lookup (nat_eq place) (zip (places_named schema names) values)) schema.key
 
 -- what a statement asks for, where its table is there; one that changes nothing asks for nothing
 abbrev pub wanted_by : KnownNames → Stmt → Option Wanted
@@ -48,18 +51,23 @@ wanted_by known (CreateTable table columns key subject) =
 wanted_by known (CreatePurpose purpose) = Some (Ready (acts.Purpose purpose))
 wanted_by known (CreateRecipient recipient) = Some (Ready (acts.Recipient recipient))
 wanted_by known (CreateItem item kind) = Some (Ready (acts.Item item kind))
-wanted_by known (Authorize user purpose recipient) = Some (Ready (acts.Authorize user purpose recipient))
-wanted_by known (Deauthorize user purpose recipient) = Some (Ready (acts.Deauthorize user purpose recipient))
+wanted_by known (Authorize user purpose recipient) =
+    Some (Ready (acts.Authorize user purpose recipient))
+wanted_by known (Deauthorize user purpose recipient) =
+    Some (Ready (acts.Deauthorize user purpose recipient))
 wanted_by known (Allow purpose recipient table columns item days) =
-    option_map (λ schema. Ready (acts.Allow purpose recipient table (places_of schema columns) item days))
+    option_map (λ schema. Ready (acts.Allow purpose recipient table (places_named schema columns)
+    item days))
     (table_of known table)
 wanted_by known (Revoke purpose recipient table columns) =
-    option_map (λ schema. Ready (acts.Revoke purpose recipient table (places_of schema columns))) (table_of known table)
+    option_map (λ schema. Ready (acts.Revoke purpose recipient table (places_named schema columns)))
+    (table_of known table)
 wanted_by known (Choice subject item agreed) = Some (Ready (acts.Choice subject item agreed))
 wanted_by known (Insert table values) =
     option_map (λ schema. Add table values (key_of schema.key values)) (table_of known table)
 wanted_by known (Update table columns values keys key_values) =
-    option_map (λ schema. Set table (key_written schema keys key_values) (places_of schema columns) values)
+    option_map (λ schema. Set table (key_written schema keys key_values)
+    (places_named schema columns) values)
     (table_of known table)
 wanted_by known (Delete table keys values) =
     option_map (λ schema. Remove table (key_written schema keys values)) (table_of known table)
@@ -68,7 +76,8 @@ wanted_by known statement = None
 -- nothing is refused and this is asked for, or the fault is the first refusal, or want of memory
 abbrev pub Grants : List NameFault → Option Wanted → Result Wanted NameFault → Type 0
 Grants refusals wanted result =
-    MatchResult result (λ made. (refusals ≡ []) × (wanted ≡ Some made)) (λ fault. IsFirstOf refusals fault)
+    MatchResult result (λ made. (refusals ≡ []) × (wanted ≡ Some made))
+    (λ fault. IsFirstOf refusals fault)
 
 -- EXPLAIN, audits and selects change nothing
 abbrev pub changes_something : Stmt → Bool

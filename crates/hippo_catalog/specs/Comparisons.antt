@@ -13,7 +13,7 @@ use Rattle.hippo_model.specs.declared.statement.RawOperand.{RawOperand}
 use Rattle.hippo_model.specs.declared.statement.RawOperand.TheVariants.{Column as WrittenColumn, Literal as WrittenLiteral}
 use Rattle.hippo_model.specs.Conditions.{changed_operands}
 use Rattle.hippo_catalog.specs.Kinds.{kind_of, same_kind, is_bad_text}
-use Rattle.hippo_catalog.specs.Refusals.{refused}
+use Rattle.hippo_catalog.specs.Refusals.{fault_if}
 use Rattle.hippo_catalog.specs.WrittenColumns.{column_refused, column_of, column_at}
 
 -- the operands that a condition compares with one another, where those of its parts are known
@@ -26,7 +26,8 @@ comparisons_layer (Between operand low high) = (operand ∷ low ∷ high ∷ [])
 comparisons_layer (Among operand list) = (operand ∷ list) ∷ []
 comparisons_layer (Missing operand) = (operand ∷ []) ∷ []
 
--- the operands that a condition compares with one another, in text order; the operand of IS NULL stands alone
+-- the operands that a condition compares with one another, in text order; the operand of IS NULL
+-- stands alone
 abbrev pub comparisons : {O : Type 0} → CondOf O → List (List O)
 comparisons {O} condition = fold-CondOf O (List (List O)) comparisons_layer condition
 
@@ -36,7 +37,8 @@ operand_refused schemas (WrittenLiteral value) = []
 
 -- the columns of a condition that are none of the statement's, or more than one
 abbrev pub operands_refused : List Schema → CondOf RawOperand → List NameFault
-operands_refused schemas condition = flat_map (flat_map (operand_refused schemas)) (comparisons condition)
+operands_refused schemas condition =
+    flat_map (flat_map (operand_refused schemas)) (comparisons condition)
 
 abbrev pub operand_of : List Schema → RawOperand → Operand
 operand_of schemas (WrittenColumn written) = ColumnOperand (column_of schemas written)
@@ -48,7 +50,8 @@ condition_of schemas condition = changed_operands (operand_of schemas) condition
 
 -- NULL has no kind
 abbrev pub operand_kind : List Schema → Operand → Option ColumnKind
-operand_kind schemas (ColumnOperand reference) = option_map (λ column. column.kind) (column_at schemas reference)
+operand_kind schemas (ColumnOperand reference) =
+    option_map (λ column. column.kind) (column_at schemas reference)
 operand_kind schemas (Literal value) = kind_of value
 
 abbrev pub are_alike : List ColumnKind → Bool
@@ -60,11 +63,13 @@ abbrev pub mixes_kinds : List Schema → List Operand → Bool
 mixes_kinds schemas compared = not (are_alike (filter_map (operand_kind schemas) compared))
 
 abbrev pub kinds_refused : List Schema → CondOf Operand → List NameFault
-kinds_refused schemas condition = refused (list_any (mixes_kinds schemas) (comparisons condition)) TypeMismatch
+kinds_refused schemas condition =
+    fault_if (list_any (mixes_kinds schemas) (comparisons condition)) TypeMismatch
 
 abbrev pub has_bad_text : Operand → Bool
 has_bad_text (ColumnOperand reference) = false
 has_bad_text (Literal value) = is_bad_text value
 
 abbrev pub texts_refused : CondOf Operand → List NameFault
-texts_refused condition = refused (list_any (list_any has_bad_text) (comparisons condition)) BadText
+texts_refused condition =
+    fault_if (list_any (list_any has_bad_text) (comparisons condition)) BadText

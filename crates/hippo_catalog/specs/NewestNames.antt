@@ -14,8 +14,8 @@ created_by (Recipient recipient) = newest.Recipient
 created_by (Item item kind) = newest.Item
 created_by act = newest.Nothing
 
-abbrev pub Remembers : Newest → Act → Type 0
-Remembers kept act = kept ≡ created_by act
+abbrev pub RemembersNames : Newest → Act → Type 0
+RemembersNames kept act = kept ≡ created_by act
 
 abbrev pub creates_nothing : Act → Bool
 creates_nothing (Create schema) = false

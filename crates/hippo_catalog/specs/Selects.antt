@@ -21,7 +21,7 @@ use Rattle.hippo_model.specs.declared.statement.RawOut.TheVariants.{Column, Min,
 use Rattle.hippo_model.specs.declared.statement.RawSelect.{RawSelect}
 use Rattle.hippo_model.specs.Terms.{Place}
 use Rattle.hippo_catalog.specs.Catalogs.{KnownNames, schemas_of}
-use Rattle.hippo_catalog.specs.Refusals.{refused, unknown_table, repeated_names}
+use Rattle.hippo_catalog.specs.Refusals.{fault_if, unknown_table, repeated_names}
 use Rattle.hippo_catalog.specs.WrittenColumns.{may_stand_in, column_refused, column_of}
 use Rattle.hippo_catalog.specs.Comparisons.{operands_refused, condition_of, kinds_refused, texts_refused}
 use Rattle.hippo_values.specs.Limits.{from_limit, item_limit}
@@ -54,7 +54,8 @@ argument_in out = Some (column_in out)
 -- `t.*` of a table that is none of the statement's
 abbrev pub star_refused : List Schema → Name → List NameFault
 star_refused schemas table =
-    refused (not (list_any (λ schema. bytes_eq table schema.name) schemas)) (UnknownColumn (table ++ codes ".*"))
+    fault_if (not (list_any (λ schema. bytes_eq table schema.name) schemas))
+    (UnknownColumn (table ++ codes ".*"))
 
 abbrev pub item_refused : List Schema → RawItem → List NameFault
 item_refused schemas All = []
@@ -63,7 +64,8 @@ item_refused schemas (One written) = column_refused schemas written
 
 -- of the list's columns, those that are none of the statement's, or more than one
 abbrev pub list_refused : List Schema → List RawItem → RawForm → List NameFault
-list_refused schemas items (forms.Grouped outs by) = flat_map (λ out. column_refused schemas (column_in out)) outs
+list_refused schemas items (forms.Grouped outs by) =
+    flat_map (λ out. column_refused schemas (column_in out)) outs
 list_refused schemas items form = flat_map (item_refused schemas) items
 
 -- those of the list, of ON and WHERE, and of GROUP BY
@@ -78,7 +80,8 @@ same_reference a b = a.table == b.table && a.column == b.column
 -- a column that is not among others
 abbrev pub lone_column : List Schema → List RawColumn → RawColumn → List NameFault
 lone_column schemas others written =
-    refused (not (list_any (same_reference (column_of schemas written)) (map (column_of schemas) others)))
+    fault_if (not (list_any (same_reference (column_of schemas written))
+    (map (column_of schemas) others)))
     (NotGrouped written.column)
 
 -- the list's columns and those of GROUP BY are the same
@@ -91,26 +94,30 @@ groups_refused schemas outs by =
 abbrev pub select_parts_refused : RawSelect → List NameFault
 select_parts_refused select =
     too_many from_limit (length select.tables) ++ too_many item_limit (length select.items)
-    ++ too_many item_limit (length (outs_of select.form)) ++ too_many item_limit (length (by_of select.form))
+    ++ too_many item_limit (length (outs_of select.form))
+    ++ too_many item_limit (length (by_of select.form))
 
 -- tables that are not there, or stand twice; columns; grouping; kinds; texts; the number of parts
 abbrev pub select_refused : KnownNames → RawSelect → List NameFault
 select_refused known select =
     let schemas = schemas_of known select.tables in
-    flat_map (unknown_table known) select.tables ++ repeated_names select.tables ++ columns_refused schemas select
+    flat_map (unknown_table known) select.tables ++ repeated_names select.tables
+    ++ columns_refused schemas select
     ++ groups_refused schemas (outs_of select.form) (by_of select.form)
-    ++ kinds_refused schemas (condition_of schemas select.cond) ++ texts_refused (condition_of schemas select.cond)
-    ++ select_parts_refused select
+    ++ kinds_refused schemas (condition_of schemas select.cond)
+    ++ texts_refused (condition_of schemas select.cond) ++ select_parts_refused select
 
 -- all columns of a table, in the order of its schema
 abbrev pub table_columns : Place → Schema → List Ref
 table_columns place schema =
-    map (λ column. record { table = place; column = column }) (range_with_len 0 (length schema.columns))
+    map (λ column. record { table = place; column = column })
+    (range_with_len 0 (length schema.columns))
 
 -- those of the tables that may stand before the star
 abbrev pub star_columns : List Schema → Option Name → List Ref
 star_columns schemas qualifier =
-    flat_map (λ (place, schema). if may_stand_in qualifier schema.name then table_columns place schema else [])
+    flat_map (λ (place, schema). if may_stand_in qualifier schema.name
+    then table_columns place schema else [])
     (enumerate_from 0 schemas)
 
 abbrev pub item_columns : List Schema → RawItem → List Ref
@@ -122,15 +129,22 @@ item_columns schemas (One written) = column_of schemas written ∷ []
 abbrev pub shown_outs : List Schema → List Ref → Place → List RawOut → List Out
 shown_outs schemas by next [] = []
 shown_outs schemas by next (Column written ∷ rest) =
-    shown.Column (position_or_len (same_reference (column_of schemas written)) by) ∷ shown_outs schemas by next rest
-shown_outs schemas by next (Min argument ∷ rest) = shown.Min next ∷ shown_outs schemas by (next + 1) rest
-shown_outs schemas by next (Max argument ∷ rest) = shown.Max next ∷ shown_outs schemas by (next + 1) rest
+    shown.Column (position_or_len (same_reference (column_of schemas written)) by)
+    ∷ shown_outs schemas by next rest
+shown_outs schemas by next (Min argument ∷ rest) =
+    shown.Min next ∷ shown_outs schemas by (next + 1) rest
+shown_outs schemas by next (Max argument ∷ rest) =
+    shown.Max next ∷ shown_outs schemas by (next + 1) rest
 
 abbrev pub form_of : List Schema → RawForm → Form
 form_of schemas forms.Plain = Plain
 form_of schemas forms.Distinct = Distinct
 form_of schemas (forms.Grouped outs by) =
-    Grouped (record { keys = length by; outs = shown_outs schemas (map (column_of schemas) by) (length by) outs })
+    Grouped (record {
+      keys = length by;
+      outs = shown_outs schemas (map (column_of schemas) by)
+          (length by) outs;
+    })
 
 -- the columns of the list; of a grouped select those of GROUP BY, and then the arguments
 abbrev pub listed_columns : List Schema → List RawItem → RawForm → List Ref

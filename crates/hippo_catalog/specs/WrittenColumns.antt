@@ -30,11 +30,13 @@ may_stand_in (Some qualifier) table = bytes_eq qualifier table
 abbrev pub home_in : RawColumn → Place → Schema → Option Ref
 home_in written place schema =
     if may_stand_in written.table schema.name
-    then option_map (λ column. record { table = place; column = column }) (place_of schema written.column) else None
+    then option_map (λ column. record { table = place; column = column })
+    (place_of schema written.column) else None
 
 -- the columns of the statement's tables that a written column may be
 abbrev pub homes : List Schema → RawColumn → List Ref
-homes schemas written = filter_map (λ (place, schema). home_in written place schema) (enumerate_from 0 schemas)
+homes schemas written =
+    filter_map (λ (place, schema). home_in written place schema) (enumerate_from 0 schemas)
 
 -- it has to be one, and only one
 abbrev pub homes_refused : RawColumn → List Ref → List NameFault
@@ -47,9 +49,11 @@ column_refused schemas written = homes_refused written (homes schemas written)
 
 -- the column that a written column is
 abbrev pub column_of : List Schema → RawColumn → Ref
-column_of schemas written = unwrap_or (slice_get (homes schemas written) 0) (record { table = 0; column = 0 })
+column_of schemas written =
+    unwrap_or (slice_get (homes schemas written) 0) (record { table = 0; column = 0 })
 
 -- a column of a statement's tables, as its schema has it
 abbrev pub column_at : List Schema → Ref → Option Column
 column_at schemas reference =
-    option_and_then (λ schema. slice_get schema.columns reference.column) (slice_get schemas reference.table)
+    option_and_then (λ schema. slice_get schema.columns reference.column)
+    (slice_get schemas reference.table)

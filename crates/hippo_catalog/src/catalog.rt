@@ -7,7 +7,7 @@ ghost use Rattle.hippo_model.specs.declared.entry.Act.{Act as HistoryAct};
 ghost use Rattle.hippo_catalog.specs.Catalogs.{KnownNames, known_at, known_after, creates_anew};
 ghost use Rattle.hippo_catalog.specs.Catalogs.{table_of, has_purpose, has_recipient, item_of};
 ghost use Rattle.hippo_catalog.specs.declared.catalog.Newest.TheVariants as Newest;
-ghost use Rattle.hippo_catalog.specs.NewestNames.{Remembers, creates_nothing, known_before};
+ghost use Rattle.hippo_catalog.specs.NewestNames.{RemembersNames, creates_nothing, known_before};
 
 use crate::indexed_table::IndexedTable;
 use crate::name_spaces::NameSpaces;
@@ -106,7 +106,8 @@ impl Catalog {
 
     /// The table that was created as the one with this place among all, counted from 0.
     pub fn table_at(&self, place: usize) -> Option<&Schema>
-        ensures { option_copied result ≡ option_map (λ named. named.1) (slice_get self.now.names.tables place) }
+        ensures { option_copied result ≡ option_map
+            (λ named. named.1) (slice_get self.now.names.tables place) }
     {
         match self.names.tables.get_index(place) {
             Some((_, found)) => Some(found.schema()),
@@ -130,8 +131,9 @@ impl Catalog {
 
     fn add_table(&mut self, alloc: Global, schema: &Schema) -> Result<(), Memory>
         requires { creates_anew self.old.names (Create schema.now) ≡ true }
-        ensures names { OnOk result (self.new.names ≡ known_after self.old.names (Create schema.now)) }
-        ensures newest { OnOk result (Remembers self.new.newest (Create schema.now)) }
+        ensures names { OnOk result (self.new.names
+            ≡ known_after self.old.names (Create schema.now)) }
+        ensures newest { OnOk result (RemembersNames self.new.newest (Create schema.now)) }
         ensures err { OnErr result (self.new ≡ self.old) }
     {
         let name = schema.name.copy(alloc)?;
@@ -143,8 +145,9 @@ impl Catalog {
 
     fn add_purpose(&mut self, alloc: Global, purpose: &Name) -> Result<(), Memory>
         requires { creates_anew self.old.names (Purpose purpose.now) ≡ true }
-        ensures names { OnOk result (self.new.names ≡ known_after self.old.names (Purpose purpose.now)) }
-        ensures newest { OnOk result (Remembers self.new.newest (Purpose purpose.now)) }
+        ensures names { OnOk result (self.new.names
+            ≡ known_after self.old.names (Purpose purpose.now)) }
+        ensures newest { OnOk result (RemembersNames self.new.newest (Purpose purpose.now)) }
         ensures err { OnErr result (self.new ≡ self.old) }
     {
         let purpose = purpose.copy(alloc)?;
@@ -155,8 +158,9 @@ impl Catalog {
 
     fn add_recipient(&mut self, alloc: Global, recipient: &Name) -> Result<(), Memory>
         requires { creates_anew self.old.names (Recipient recipient.now) ≡ true }
-        ensures names { OnOk result (self.new.names ≡ known_after self.old.names (Recipient recipient.now)) }
-        ensures newest { OnOk result (Remembers self.new.newest (Recipient recipient.now)) }
+        ensures names { OnOk result (self.new.names
+            ≡ known_after self.old.names (Recipient recipient.now)) }
+        ensures newest { OnOk result (RemembersNames self.new.newest (Recipient recipient.now)) }
         ensures err { OnErr result (self.new ≡ self.old) }
     {
         let recipient = recipient.copy(alloc)?;
@@ -167,8 +171,9 @@ impl Catalog {
 
     fn add_item(&mut self, alloc: Global, item: &Name, kind: ItemKind) -> Result<(), Memory>
         requires { creates_anew self.old.names (Item item.now kind) ≡ true }
-        ensures names { OnOk result (self.new.names ≡ known_after self.old.names (Item item.now kind)) }
-        ensures newest { OnOk result (Remembers self.new.newest (Item item.now kind)) }
+        ensures names { OnOk result (self.new.names
+            ≡ known_after self.old.names (Item item.now kind)) }
+        ensures newest { OnOk result (RemembersNames self.new.newest (Item item.now kind)) }
         ensures err { OnErr result (self.new ≡ self.old) }
     {
         let item = item.copy(alloc)?;
@@ -177,12 +182,13 @@ impl Catalog {
         Ok(())
     }
 
-    /// Takes in the entry that comes next, which must create nothing that is there: the catalog then stands for the
-    /// history with the entry behind. It is unchanged where memory is short, which it never is for a Delete.
+    /// Takes in the entry that comes next, which must create nothing that is there: the catalog
+    /// then stands for the history with the entry behind. It is unchanged where memory is short,
+    /// which it never is for a Delete.
     pub fn add(&mut self, alloc: Global, entry: &Entry) -> Result<(), Memory>
         requires { creates_anew self.old.names entry.now.act ≡ true }
         ensures names { OnOk result (self.new.names ≡ known_after self.old.names entry.now.act) }
-        ensures newest { OnOk result (Remembers self.new.newest entry.now.act) }
+        ensures newest { OnOk result (RemembersNames self.new.newest entry.now.act) }
         ensures err { OnErr result (self.new ≡ self.old) }
         ensures room { creates_nothing entry.now.act ≡ true → IsOk result }
     {
@@ -239,10 +245,10 @@ impl Catalog {
         }
     }
 
-    /// Takes back the entry that was added last: the catalog then stands for the history before it. Takes no memory.
-    /// The last call that changed the catalog must have added an entry.
+    /// Takes back the entry that was added last: the catalog then stands for the history before it.
+    /// Takes no memory. The last call that changed the catalog must have added an entry.
     pub fn take_back(&mut self)
-        ensures { (known : KnownNames) (act : HistoryAct) → Remembers self.old.newest act
+        ensures { (known : KnownNames) (act : HistoryAct) → RemembersNames self.old.newest act
             → self.old.names ≡ known_after known act → self.new.names ≡ known }
     {
         self.drop_newest();

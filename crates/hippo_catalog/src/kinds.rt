@@ -103,7 +103,8 @@ fn mixes_kinds(tables: &StatementTables<'_>, condition: &CondOf<Operand>) -> boo
 
 #[cycle(mixes_kinds)]
 fn any_mixes_kinds(tables: &StatementTables<'_>, parts: &Sequence<CondOf<Operand>>) -> bool
-    ensures { result ≡ list_any (λ part. list_any (mixes_kinds tables.now) (comparisons part)) parts.now }
+    ensures { result ≡ list_any (λ part. list_any (mixes_kinds tables.now) (comparisons part))
+        parts.now }
 {
     for part in parts.as_slice() {
         if mixes_kinds(tables, part) {

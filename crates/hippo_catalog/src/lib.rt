@@ -1,4 +1,5 @@
-//! The names that statements may use and, in `specs/`, why a statement is refused and what it means.
+//! The names that statements may use and, in `specs/`, why a statement is refused and what it
+//! means.
 #![tactic(auto)]
 
 mod catalog;

@@ -59,7 +59,8 @@ fn is_badly_written(condition: &CondOf<Operand>) -> bool
 
 #[cycle(is_badly_written)]
 fn any_is_badly_written(parts: &Sequence<CondOf<Operand>>) -> bool
-    ensures { result ≡ list_any (λ part. list_any (list_any has_bad_text) (comparisons part)) parts.now }
+    ensures { result ≡ list_any (λ part. list_any (list_any has_bad_text) (comparisons part))
+        parts.now }
 {
     for part in parts.as_slice() {
         if is_badly_written(part) {

@@ -9,7 +9,8 @@ use hippo_values::Name;
 use indexmap::IndexSet;
 use std::alloc::Global;
 
-// Up to how many names each is compared with those before it, which takes less time than a set of them.
+// Up to how many names each is compared with those before it, which takes less time than a set of
+// them.
 const FEW_NAMES: usize = 8;
 
 // Refuses a name that stands twice among several.

@@ -8,18 +8,20 @@ use Rattle.hippo_model.specs.declared.statement.Stmt.{Stmt}
 use Rattle.hippo_model.specs.declared.statement.Wanted.{Wanted}
 use Rattle.hippo_catalog.specs.Catalogs.{KnownNames}
 use Rattle.hippo_catalog.specs.Refusals.{repeated_names}
-use Rattle.hippo_catalog.specs.ChangesRefused.{draft_of, unknown_columns, change_refused}
+use Rattle.hippo_catalog.specs.ChangesRefused.{keyless_table, unknown_columns, change_refused}
 use Rattle.hippo_catalog.specs.ChangesWanted.{wanted_by, Grants}
 
 -- what the statement asks for, or its first refusal
 abbrev pub Checks : KnownNames → Stmt → Result Wanted NameFault → Type 0
-Checks known statement result = Grants (change_refused known statement) (wanted_by known statement) result
+Checks known statement result =
+    Grants (change_refused known statement) (wanted_by known statement) result
 
--- the names in CREATE TABLE: columns that stand twice, keys that do, and keys and a SUBJECT that are no columns
+-- the names in CREATE TABLE: columns that stand twice, keys that do, and keys and a SUBJECT that
+-- are no columns
 abbrev pub draft_refused : List Column → List Name → Option Name → List NameFault
 draft_refused columns key subject =
     repeated_names (map (λ column. column.name) columns) ++ repeated_names key
-    ++ unknown_columns (draft_of [] columns) (key ++ option_to_list subject)
+    ++ unknown_columns (keyless_table [] columns) (key ++ option_to_list subject)
 
 -- the names in UPDATE: columns that stand twice, keys that do, and names that are no columns
 abbrev pub names_refused : List Name → List Name → Schema → List NameFault

@@ -5,7 +5,7 @@ ghost use Rattle.hippo_model.specs.declared.statement.Stmt.TheVariants.{CreatePu
 ghost use Rattle.hippo_model.specs.declared.statement.Wanted.TheVariants.{Ready};
 ghost use Rattle.hippo_model.specs.declared.entry.Act.TheVariants as acts;
 ghost use Rattle.hippo_catalog.specs.Refusals.{Resolves, unknown_pair};
-ghost use Rattle.hippo_catalog.specs.ChangesRefused.{taken, change_refused};
+ghost use Rattle.hippo_catalog.specs.ChangesRefused.{known_name_refused, change_refused};
 ghost use Rattle.hippo_catalog.specs.ChangesWanted.{wanted_by, Grants, changes_something};
 ghost use Rattle.hippo_changes.specs.Checking.{Checks};
 
@@ -21,7 +21,7 @@ use std::alloc::Global;
 
 // A name that has to be new.
 fn new_name(alloc: Global, is_there: bool, name: &Name) -> Result<Name, NameFault>
-    ensures { Resolves (taken is_there name.now) name.now result }
+    ensures { Resolves (known_name_refused is_there name.now) name.now result }
 {
     check_new(alloc, is_there, name)?;
     Ok(name.copy(alloc)?)
@@ -125,9 +125,10 @@ fn check_new_item(
     Ok(Wanted::Ready(Act::Item { item, kind }))
 }
 
-/// What a statement that changes something asks for, or the first refusal that holds: its names and types are right
-/// where a catalog's names stand. What it does may still wait for the rows that are there. A statement that changes
-/// nothing is answered with want of memory; of one that does, any error else is its first refusal.
+/// What a statement that changes something asks for, or the first refusal that holds: its names and
+/// types are right where a catalog's names stand. What it does may still wait for the rows that are
+/// there. A statement that changes nothing is answered with want of memory; of one that does, any
+/// error else is its first refusal.
 pub fn check_change(alloc: Global, catalog: &Catalog, statement: &Stmt) -> Result<Wanted, NameFault>
     ensures answer { Grants (change_refused catalog.now.names statement.now)
         (wanted_by catalog.now.names statement.now) result }

@@ -2,9 +2,9 @@
 ghost use Rattle.std.specs.Prelude.{◌≡◌, [], not, nat_eq, filter_map, option_to_list, option_copied, option_and_then, IfOk};
 ghost use Rattle.std.specs.List.{list_any, list_all, zip};
 ghost use Rattle.std.specs.Map.{lookup};
-ghost use Rattle.hippo_catalog.specs.Refusals.{Resolves, refused};
+ghost use Rattle.hippo_catalog.specs.Refusals.{Resolves, fault_if};
 ghost use Rattle.hippo_catalog.specs.WrittenColumns.{place_of};
-ghost use Rattle.hippo_catalog.specs.ChangesRefused.{column_named, places_of, unknown_columns, rule_refused};
+ghost use Rattle.hippo_catalog.specs.ChangesRefused.{column_named, places_named, unknown_columns, rule_refused};
 ghost use Rattle.hippo_catalog.specs.ChangesRefused.{is_the_key, is_of_key, key_changed};
 ghost use Rattle.hippo_model.specs.declared.name_fault.NameFault.TheVariants.{NotTheKey};
 
@@ -35,9 +35,9 @@ impl NamedColumns for IndexedTable {
 
 impl NamedColumns for Columns {
     ghost use Rattle.std.specs.Prelude.{[]};
-    ghost use Rattle.hippo_catalog.specs.ChangesRefused.{draft_of};
+    ghost use Rattle.hippo_catalog.specs.ChangesRefused.{keyless_table};
 
-    ghost table = { draft_of [] };
+    ghost table = { keyless_table [] };
 
     fn place(&self, name: &Name) -> Option<usize> {
         self.as_slice()
@@ -53,7 +53,7 @@ pub fn places<T: NamedColumns>(
     names: &[Name],
 ) -> Result<Places, NameFault>
     ensures { Resolves (unknown_columns (T.table table.now) names.now)
-        (places_of (T.table table.now) names.now) result }
+        (places_named (T.table table.now) names.now) result }
 {
     let mut places = Sequence::new(alloc);
     for name in names {
@@ -71,7 +71,8 @@ pub fn distinct_places(
     table: &IndexedTable,
     names: &[Name],
 ) -> Result<Places, NameFault>
-    ensures { Resolves (rule_refused names.now table.now) (places_of table.now names.now) result }
+    ensures { Resolves (rule_refused names.now table.now) (places_named table.now names.now)
+        result }
 {
     check_repeats(alloc, names)?;
     places(alloc, table, names)
@@ -123,7 +124,7 @@ fn is_the_key(schema: &Schema, places: &[usize]) -> bool
 
 /// The places of a table's columns have to be those of its key, each once.
 pub fn check_key(schema: &Schema, places: &[usize]) -> Result<(), NameFault>
-    ensures { Resolves (refused (not (is_the_key schema.now places.now)) NotTheKey) tt result }
+    ensures { Resolves (fault_if (not (is_the_key schema.now places.now)) NotTheKey) tt result }
 {
     if is_the_key(schema, places) {
         return Ok(());
@@ -172,7 +173,8 @@ pub fn key_written(
     values: &[Value],
 ) -> Result<Cells, Memory>
     ensures { IfOk result
-        (λ made. made ≡ filter_map (λ place. lookup (nat_eq place) (zip places.now values.now)) key.now) }
+        (λ made. made ≡ filter_map (λ place. lookup (nat_eq place) (zip places.now values.now))
+        key.now) }
 {
     let mut made = Sequence::new(alloc);
     for place in key {

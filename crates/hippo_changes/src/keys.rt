@@ -5,7 +5,7 @@ ghost use Rattle.std.specs.Map.{lookup};
 ghost use Rattle.hippo_model.specs.declared.statement.Stmt.TheVariants.{Update, Delete};
 ghost use Rattle.hippo_model.specs.declared.statement.Wanted.TheVariants.{Set, Remove};
 ghost use Rattle.hippo_catalog.specs.Refusals.{Resolves};
-ghost use Rattle.hippo_catalog.specs.ChangesRefused.{places_of, unknown_columns, rule_refused, key_refused};
+ghost use Rattle.hippo_catalog.specs.ChangesRefused.{places_named, unknown_columns, rule_refused, key_refused};
 ghost use Rattle.hippo_catalog.specs.ChangesRefused.{update_refused, delete_refused};
 ghost use Rattle.hippo_changes.specs.Checking.{Checks, names_refused};
 
@@ -31,7 +31,8 @@ fn both_places(
     key: &[Name],
 ) -> Result<UpdatePlaces, NameFault>
     ensures { Resolves (unknown_columns table.now (set.now ++ key.now))
-        (record { set = places_of table.now set.now; key = places_of table.now key.now }) result }
+        (record { set = places_named table.now set.now; key = places_named table.now key.now })
+        result }
 {
     let set = places(alloc, table, set)?;
     let key = places(alloc, table, key)?;
@@ -45,7 +46,8 @@ fn named_places(
     key: &[Name],
 ) -> Result<UpdatePlaces, NameFault>
     ensures { Resolves (names_refused set.now key.now table.now)
-        (record { set = places_of table.now set.now; key = places_of table.now key.now }) result }
+        (record { set = places_named table.now set.now; key = places_named table.now key.now })
+        result }
 {
     check_repeats(alloc, set)?;
     check_repeats(alloc, key)?;
@@ -60,7 +62,8 @@ fn keyed_places(
     key: &[Name],
 ) -> Result<UpdatePlaces, NameFault>
     ensures { Resolves (names_refused set.now key.now table.now ++ key_refused table.now key.now)
-        (record { set = places_of table.now set.now; key = places_of table.now key.now }) result }
+        (record { set = places_named table.now set.now; key = places_named table.now key.now })
+        result }
 {
     let places = named_places(alloc, table, set, key)?;
     check_key(table.schema(), places.key.as_slice())?;
@@ -76,8 +79,8 @@ fn update_places(
     ensures { Resolves (update_refused set.entry.names.now set.entry.values.now
         key.entry.names.now key.entry.values.now table.now)
         (record {
-          set = places_of table.now set.entry.names.now;
-          key = places_of table.now key.entry.names.now;
+          set = places_named table.now set.entry.names.now;
+          key = places_named table.now key.entry.names.now;
         }) result }
 {
     let places = keyed_places(alloc, table, set.names, key.names)?;
@@ -128,7 +131,8 @@ pub fn check_update(
     keys: &Names,
     key_values: &Cells,
 ) -> Result<Wanted, NameFault>
-    ensures { Checks catalog.now.names (Update table.now columns.now values.now keys.now key_values.now) result }
+    ensures { Checks catalog.now.names (Update table.now columns.now values.now keys.now
+        key_values.now) result }
 {
     let found = known_table(alloc, catalog, table)?;
     let assigned = Assigned {
@@ -146,7 +150,7 @@ pub fn check_update(
 // The places of the key's columns, each named once.
 fn key_places(alloc: Global, table: &IndexedTable, key: &[Name]) -> Result<Places, NameFault>
     ensures { Resolves (rule_refused key.now table.now ++ key_refused table.now key.now)
-        (places_of table.now key.now) result }
+        (places_named table.now key.now) result }
 {
     let places = distinct_places(alloc, table, key)?;
     check_key(table.schema(), places.as_slice())?;
@@ -155,7 +159,7 @@ fn key_places(alloc: Global, table: &IndexedTable, key: &[Name]) -> Result<Place
 
 fn delete_places(alloc: Global, table: &IndexedTable, key: Assigned) -> Result<Places, NameFault>
     ensures { Resolves (delete_refused key.entry.names.now key.entry.values.now table.now)
-        (places_of table.now key.entry.names.now) result }
+        (places_named table.now key.entry.names.now) result }
 {
     let places = key_places(alloc, table, key.names)?;
     let none = Assigned {

@@ -2,7 +2,7 @@
 ghost use Rattle.std.specs.Prelude.{◌≡◌, Some, IfOk, IfErr};
 ghost use Rattle.hippo_catalog.specs.Catalogs.{table_of};
 ghost use Rattle.hippo_catalog.specs.Refusals.{IsFirstOf, Resolves, unknown_table, unknown_item};
-ghost use Rattle.hippo_catalog.specs.ChangesRefused.{unknown_item_if_any, taken};
+ghost use Rattle.hippo_catalog.specs.ChangesRefused.{unknown_item_if_any, known_name_refused};
 
 use hippo_catalog::{Catalog, IndexedTable, name_faults};
 use hippo_model::NameFault;
@@ -50,7 +50,7 @@ pub fn check_item_if_any(
 
 /// A name must not be there.
 pub fn check_new(alloc: Global, is_there: bool, name: &Name) -> Result<(), NameFault>
-    ensures { Resolves (taken is_there name.now) tt result }
+    ensures { Resolves (known_name_refused is_there name.now) tt result }
 {
     if is_there {
         return Err(name_faults::already_there(alloc, name));

@@ -4,7 +4,7 @@ ghost use Rattle.hippo_model.specs.declared.entry.Act.TheVariants as acts;
 ghost use Rattle.hippo_model.specs.declared.statement.Stmt.TheVariants.{Allow, Revoke};
 ghost use Rattle.hippo_model.specs.declared.statement.Wanted.TheVariants.{Ready};
 ghost use Rattle.hippo_catalog.specs.Refusals.{Resolves};
-ghost use Rattle.hippo_catalog.specs.ChangesRefused.{item_refused};
+ghost use Rattle.hippo_catalog.specs.ChangesRefused.{rule_item_refused};
 ghost use Rattle.hippo_changes.specs.Checking.{Checks};
 
 use crate::columns::distinct_places;
@@ -16,7 +16,7 @@ use std::alloc::Global;
 
 // An item wants a table with SUBJECT.
 fn check_subject(alloc: Global, schema: &Schema, item: &Option<Name>) -> Result<(), NameFault>
-    ensures { Resolves (item_refused item.now schema.now) tt result }
+    ensures { Resolves (rule_item_refused item.now schema.now) tt result }
 {
     if item.is_some() && schema.subject.is_none() {
         return Err(name_faults::no_subject(alloc, &schema.name));
@@ -42,7 +42,8 @@ fn allow(
     item: &Option<Name>,
     days: Option<u32>,
 ) -> Result<Wanted, Memory>
-    ensures { IfOk result (λ made. made ≡ Ready (acts.Allow purpose.now recipient.now table.now columns item.now days)) }
+    ensures { IfOk result (λ made. made ≡ Ready
+        (acts.Allow purpose.now recipient.now table.now columns item.now days)) }
 {
     let purpose = purpose.copy(alloc)?;
     let recipient = recipient.copy(alloc)?;
@@ -65,7 +66,8 @@ fn revoke(
     table: &Name,
     columns: Places,
 ) -> Result<Wanted, Memory>
-    ensures { IfOk result (λ made. made ≡ Ready (acts.Revoke purpose.now recipient.now table.now columns)) }
+    ensures { IfOk result (λ made. made ≡ Ready
+        (acts.Revoke purpose.now recipient.now table.now columns)) }
 {
     let purpose = purpose.copy(alloc)?;
     let recipient = recipient.copy(alloc)?;
@@ -109,7 +111,8 @@ pub fn check_revoke(
     table: &Name,
     columns: &Names,
 ) -> Result<Wanted, NameFault>
-    ensures { Checks catalog.now.names (Revoke purpose.now recipient.now table.now columns.now) result }
+    ensures { Checks catalog.now.names (Revoke purpose.now recipient.now table.now columns.now)
+        result }
 {
     let found = known_table(alloc, catalog, table)?;
     check_pair(alloc, catalog, purpose, recipient)?;

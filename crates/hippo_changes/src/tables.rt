@@ -5,7 +5,7 @@ ghost use Rattle.hippo_model.specs.declared.statement.Stmt.TheVariants.{CreateTa
 ghost use Rattle.hippo_model.specs.Validity.{is_integer};
 ghost use Rattle.hippo_catalog.specs.Refusals.{Resolves, repeated_names};
 ghost use Rattle.hippo_catalog.specs.WrittenColumns.{place_of};
-ghost use Rattle.hippo_catalog.specs.ChangesRefused.{draft_of, column_named, places_of, unknown_columns};
+ghost use Rattle.hippo_catalog.specs.ChangesRefused.{keyless_table, column_named, places_named, unknown_columns};
 ghost use Rattle.hippo_catalog.specs.ChangesRefused.{subject_refused, sizes_refused, create_refused};
 ghost use Rattle.hippo_catalog.specs.ChangesWanted.{with_not_null};
 ghost use Rattle.hippo_changes.specs.Checking.{Checks, draft_refused};
@@ -32,7 +32,7 @@ fn check_columns_differ(alloc: Global, columns: &[Column]) -> Result<(), NameFau
 }
 
 fn column_named<'a>(columns: &'a Columns, name: &Name) -> Option<&'a Column>
-    ensures { option_copied result ≡ column_named (draft_of [] columns.now) name.now }
+    ensures { option_copied result ≡ column_named (keyless_table [] columns.now) name.now }
 {
     let place = columns.place(name)?;
     columns.as_slice().get(place)
@@ -45,7 +45,7 @@ fn is_integer(kind: ColumnKind) -> bool
 }
 
 fn check_subject(columns: &Columns, subject: &Option<Name>) -> Result<(), NameFault>
-    ensures { Resolves (subject_refused (draft_of [] columns.now) subject.now) tt result }
+    ensures { Resolves (subject_refused (keyless_table [] columns.now) subject.now) tt result }
 {
     let Some(name) = subject else {
         return Ok(());
@@ -69,10 +69,11 @@ fn key_places(
     key: &Names,
     subject: &Option<Name>,
 ) -> Result<KeyPlaces, NameFault>
-    ensures { Resolves (unknown_columns (draft_of [] columns.now) (key.now ++ option_to_list subject.now))
+    ensures { Resolves (unknown_columns (keyless_table [] columns.now)
+        (key.now ++ option_to_list subject.now))
         (record {
-          key = places_of (draft_of [] columns.now) key.now;
-          subject = option_and_then (place_of (draft_of [] columns.now)) subject.now;
+          key = places_named (keyless_table [] columns.now) key.now;
+          subject = option_and_then (place_of (keyless_table [] columns.now)) subject.now;
         }) result }
 {
     let key = places(alloc, columns, key.as_slice())?;
@@ -90,10 +91,12 @@ struct Draft<'a> {
 
 // Its names: the columns differ, and so do those of the key, which has to be among them.
 fn named_places(alloc: Global, draft: Draft) -> Result<KeyPlaces, NameFault>
-    ensures { Resolves (draft_refused draft.entry.columns.now draft.entry.key.now draft.entry.subject.now)
+    ensures { Resolves (draft_refused draft.entry.columns.now draft.entry.key.now
+        draft.entry.subject.now)
         (record {
-          key = places_of (draft_of [] draft.entry.columns.now) draft.entry.key.now;
-          subject = option_and_then (place_of (draft_of [] draft.entry.columns.now)) draft.entry.subject.now;
+          key = places_named (keyless_table [] draft.entry.columns.now) draft.entry.key.now;
+          subject = option_and_then (place_of (keyless_table [] draft.entry.columns.now))
+              draft.entry.subject.now;
         }) result }
 {
     check_columns_differ(alloc, draft.columns.as_slice())?;
@@ -103,11 +106,13 @@ fn named_places(alloc: Global, draft: Draft) -> Result<KeyPlaces, NameFault>
 
 // Its names, and the SUBJECT's kind.
 fn fitting_places(alloc: Global, draft: Draft) -> Result<KeyPlaces, NameFault>
-    ensures { Resolves (draft_refused draft.entry.columns.now draft.entry.key.now draft.entry.subject.now
-        ++ subject_refused (draft_of [] draft.entry.columns.now) draft.entry.subject.now)
+    ensures { Resolves (draft_refused draft.entry.columns.now draft.entry.key.now
+        draft.entry.subject.now
+        ++ subject_refused (keyless_table [] draft.entry.columns.now) draft.entry.subject.now)
         (record {
-          key = places_of (draft_of [] draft.entry.columns.now) draft.entry.key.now;
-          subject = option_and_then (place_of (draft_of [] draft.entry.columns.now)) draft.entry.subject.now;
+          key = places_named (keyless_table [] draft.entry.columns.now) draft.entry.key.now;
+          subject = option_and_then (place_of (keyless_table [] draft.entry.columns.now))
+              draft.entry.subject.now;
         }) result }
 {
     let places = named_places(alloc, draft)?;
@@ -133,11 +138,13 @@ fn check_table(
     table: &Name,
     draft: Draft,
 ) -> Result<KeyPlaces, NameFault>
-    ensures { Resolves (create_refused catalog.now.names table.now draft.entry.columns.now draft.entry.key.now
+    ensures { Resolves (create_refused catalog.now.names table.now draft.entry.columns.now
+        draft.entry.key.now
         draft.entry.subject.now)
         (record {
-          key = places_of (draft_of [] draft.entry.columns.now) draft.entry.key.now;
-          subject = option_and_then (place_of (draft_of [] draft.entry.columns.now)) draft.entry.subject.now;
+          key = places_named (keyless_table [] draft.entry.columns.now) draft.entry.key.now;
+          subject = option_and_then (place_of (keyless_table [] draft.entry.columns.now))
+              draft.entry.subject.now;
         }) result }
 {
     let places = fitting_places(alloc, draft)?;
@@ -204,7 +211,8 @@ pub fn check_create_table(
     key: &Names,
     subject: &Option<Name>,
 ) -> Result<Wanted, NameFault>
-    ensures { Checks catalog.now.names (CreateTable table.now columns.now key.now subject.now) result }
+    ensures { Checks catalog.now.names (CreateTable table.now columns.now key.now subject.now)
+        result }
 {
     let draft = Draft {
         columns,

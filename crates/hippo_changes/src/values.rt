@@ -113,7 +113,8 @@ fn check_named<C: ValueCheck>(
     name: &Name,
     value: &Value,
 ) -> Result<(), NameFault>
-    ensures { Resolves (in_column table.now name.now (λ column. C.refusals column value.now)) tt result }
+    ensures { Resolves (in_column table.now name.now (λ column. C.refusals column value.now)) tt
+        result }
 {
     match column_named(table, name) {
         Some(column) => C::check(alloc, column, value),
@@ -127,7 +128,8 @@ fn check_assigned<C: ValueCheck>(
     names: &[Name],
     values: &[Value],
 ) -> Result<(), NameFault>
-    ensures { Resolves (assigned_refused C.refusals table.now (zip names.now values.now)) tt result }
+    ensures { Resolves (assigned_refused C.refusals table.now (zip names.now values.now)) tt
+        result }
 {
     for (name, value) in names.iter().zip(values) {
         check_named::<C>(alloc, table, name, value)?;
@@ -170,7 +172,8 @@ fn check_both<C: ValueCheck>(
     other: Assigned,
 ) -> Result<(), NameFault>
     ensures { Resolves (assigned_refused C.refusals table.now
-        (zip one.entry.names.now one.entry.values.now ++ zip other.entry.names.now other.entry.values.now)) tt result }
+        (zip one.entry.names.now one.entry.values.now
+        ++ zip other.entry.names.now other.entry.values.now)) tt result }
 {
     check_assigned::<C>(alloc, table, one.names, one.values)?;
     check_assigned::<C>(alloc, table, other.names, other.values)
@@ -184,7 +187,8 @@ pub fn check_assignments(
     other: Assigned,
 ) -> Result<(), NameFault>
     ensures { Resolves (assignments_refused table.now
-        (zip one.entry.names.now one.entry.values.now ++ zip other.entry.names.now other.entry.values.now)) tt result }
+        (zip one.entry.names.now one.entry.values.now
+        ++ zip other.entry.names.now other.entry.values.now)) tt result }
 {
     check_both::<KindCheck>(alloc, table, one, other)?;
     check_both::<NullCheck>(alloc, table, one, other)?;

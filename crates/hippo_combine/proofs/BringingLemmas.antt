@@ -21,7 +21,7 @@ use Rattle.hippo_typing.proofs.CatalogTheorem.{valid_names}
 use Rattle.hippo_rewrite.proofs.FittingRows.{schema_named}
 use Rattle.hippo_backlog.specs.declared.faults.ReadFault.{ReadFault}
 use Rattle.hippo_backlog.specs.declared.faults.ReadFault.TheVariants.{Damaged}
-use Rattle.hippo_backlog.specs.Calls.{as_call}
+use Rattle.hippo_backlog.specs.Calls.{reading_as_call}
 use Rattle.hippo_keeper.proofs.CallLemmas.{KeepsSame-here, KeepsSame-then, IsAfterCall-none, IsAfterCall-then, IsAfterCall-as}
 use Rattle.hippo_keeper.proofs.Results.{well}
 use Rattle.hippo_intervals.specs.Living.{HeldLives, no_lives, taken_by, LivesFit, Advances}
@@ -90,9 +90,9 @@ module _ (schema : Schema) where
 
 module _ (past : Past) (number : ℕ) where
   -- nothing is done
-  pub Brings-none : {A : Type 0} (result : Result A ReadFault) (tables : List HeldLives) (keeper : KeeperState) (steps : ℕ) → has_failed (as_call result) ≡ false → ((place : ℕ) → result ≢ Err (Damaged place)) → IsReady true keeper → Brings past number result tables tables keeper keeper steps steps
+  pub Brings-none : {A : Type 0} (result : Result A ReadFault) (tables : List HeldLives) (keeper : KeeperState) (steps : ℕ) → has_failed (reading_as_call result) ≡ false → ((place : ℕ) → result ≢ Err (Damaged place)) → IsReady true keeper → Brings past number result tables tables keeper keeper steps steps
   Brings-none result tables keeper steps good whole ready = record {
-    is_after = IsAfterCall-none (as_call result) keeper good ready;
+    is_after = IsAfterCall-none (reading_as_call result) keeper good ready;
     stays = λ tells. KeepsSame-here keeper;
     up_to = λ within. within;
     held = λ names held. held;
@@ -102,12 +102,12 @@ module _ (past : Past) (number : ℕ) where
   }
 
   -- one call after another that did not fail
-  pub Brings-then : {A B : Type 0} (first : Result A ReadFault) (second : Result B ReadFault) (old mid new : List HeldLives) (before between after : KeeperState) (s0 s1 s2 : ℕ) → has_failed (as_call first) ≡ false → Brings past number first old mid before between s0 s1 → Brings past number second mid new between after s1 s2 → Brings past number second old new before after s0 s2
+  pub Brings-then : {A B : Type 0} (first : Result A ReadFault) (second : Result B ReadFault) (old mid new : List HeldLives) (before between after : KeeperState) (s0 s1 s2 : ℕ) → has_failed (reading_as_call first) ≡ false → Brings past number first old mid before between s0 s1 → Brings past number second mid new between after s1 s2 → Brings past number second old new before after s0 s2
   Brings-then first second old mid new before between after s0 s1 s2 good one other =
       let counted = one.ledger in
       let further = other.ledger in
       record {
-        is_after = IsAfterCall-then false (as_call first) (as_call second) before between after good one.is_after other.is_after;
+        is_after = IsAfterCall-then false (reading_as_call first) (reading_as_call second) before between after good one.is_after other.is_after;
         stays = λ tells. KeepsSame-then before between after (one.stays (other.is_after.told tells)) (other.stays tells);
         up_to = λ within. other.up_to (one.up_to within);
         held = λ names held. other.held names (one.held names held);
@@ -121,9 +121,9 @@ module _ (past : Past) (number : ℕ) where
       }
 
   -- the same call, as another answer that failed where it did
-  pub Brings-as : {A B : Type 0} (one : Result A ReadFault) (other : Result B ReadFault) (old new : List HeldLives) (before after : KeeperState) (s0 s1 : ℕ) → has_failed (as_call other) ≡ has_failed (as_call one) → ((place : ℕ) → other ≡ Err (Damaged place) → one ≡ Err (Damaged place)) → Brings past number one old new before after s0 s1 → Brings past number other old new before after s0 s1
+  pub Brings-as : {A B : Type 0} (one : Result A ReadFault) (other : Result B ReadFault) (old new : List HeldLives) (before after : KeeperState) (s0 s1 : ℕ) → has_failed (reading_as_call other) ≡ has_failed (reading_as_call one) → ((place : ℕ) → other ≡ Err (Damaged place) → one ≡ Err (Damaged place)) → Brings past number one old new before after s0 s1 → Brings past number other old new before after s0 s1
   Brings-as one other old new before after s0 s1 same whole brings = record {
-    is_after = IsAfterCall-as true false (as_call one) (as_call other) before after same brings.is_after;
+    is_after = IsAfterCall-as true false (reading_as_call one) (reading_as_call other) before after same brings.is_after;
     stays = brings.stays;
     up_to = brings.up_to;
     held = brings.held;
@@ -143,7 +143,7 @@ module _ (past : Past) (number : ℕ) where
     Brings-push tables keeper steps none ready =
         let count : all_taken (tables ++ no_lives schema ∷ []) ≡ all_taken tables + 0 = sum_by_push taken_by tables (no_lives schema) in
         record {
-          is_after = IsAfterCall-none (as_call (well ReadFault)) keeper refl ready;
+          is_after = IsAfterCall-none (reading_as_call (well ReadFault)) keeper refl ready;
           stays = λ tells. KeepsSame-here keeper;
           up_to = λ within. all-push (λ (lives : HeldLives). lives.versions.place ≤ number) tables (no_lives schema) (omega arith) within;
           held = λ names held. held-push number names tables (no_lives schema) held;

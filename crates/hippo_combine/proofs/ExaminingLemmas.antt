@@ -35,8 +35,8 @@ use Rattle.hippo_rewrite.proofs.FittingRows.{schema_named}
 use Rattle.hippo_shared.specs.Sharing.{HaveSameRows}
 use Rattle.hippo_backlog.specs.declared.faults.ReadFault.{ReadFault}
 use Rattle.hippo_backlog.specs.declared.faults.ReadFault.TheVariants.{Damaged, Memory}
-use Rattle.hippo_backlog.specs.Calls.{as_call}
-use Rattle.hippo_backlog.proofs.CallLemmas.{same_Err, as_call-fault}
+use Rattle.hippo_backlog.specs.Calls.{reading_as_call}
+use Rattle.hippo_backlog.proofs.CallLemmas.{same_Err, reading_as_call-fault}
 use Rattle.hippo_keeper.proofs.CallLemmas.{KeepsSame-here, IsAfterCall-none, IsAfterCall-as}
 use Rattle.hippo_keeper.proofs.Results.{err_of}
 use Rattle.hippo_intervals.specs.Living.{HeldLives}
@@ -45,10 +45,10 @@ use Rattle.hippo_audit_job.specs.Examining.{IsPastOf, IsAuditOf, FindsServing, I
 use Rattle.hippo_model.specs.Audits.{first_serving}
 use Rattle.hippo_examining.specs.Examining.{AreOfHistory}
 use Rattle.hippo_combine.specs.declared.combine.Combine.{Combine}
-use Rattle.hippo_combine.specs.Held.{schema_held, rows_held, have_rows, AreHeldAt, AreUpTo, all_taken, unread, TablesFit}
+use Rattle.hippo_combine.specs.Held.{schema_held, rows_held, are_held, AreHeldAt, AreHeldUpTo, all_taken, unread_count, TablesFit}
 use Rattle.hippo_combine.specs.Bringing.{AreKnown, Brings}
 use Rattle.hippo_combine.specs.Sharing.{HoldsBoth}
-use Rattle.hippo_combine.specs.Combining.{IsSound, combine_terms}
+use Rattle.hippo_combine.specs.Combining.{IsSoundCombine, combine_terms}
 use Rattle.hippo_combine.proofs.HeldLemmas.{all-from}
 use Rattle.hippo_combine.proofs.UnreadLemmas.{taken_and_unread}
 use Rattle.hippo_combine.proofs.PastLemmas.{front_valid, lasting, created_by_meaning, are_common}
@@ -56,9 +56,9 @@ use Rattle.hippo_combine.proofs.SharingLemmas.{as_many, same_rows, stand_so, set
 
 -- ---- what is shared over the rows that are held
 module _ (tables : List HeldLives) (query audit : List Name) (query_sets audit_sets : List KeyedRows) (query_is : query_sets ≡ filter_map (rows_held tables) query) (audit_is : audit_sets ≡ filter_map (rows_held tables) audit)
-    (rows : (have_rows tables audit && have_rows tables query) ≡ true) where
-  both_rows : (have_rows tables audit ≡ true) × (have_rows tables query ≡ true)
-  both_rows = and_parts (have_rows tables audit) (have_rows tables query) rows
+    (rows : (are_held tables audit && are_held tables query) ≡ true) where
+  both_rows : (are_held tables audit ≡ true) × (are_held tables query ≡ true)
+  both_rows = and_parts (are_held tables audit) (are_held tables query) rows
 
   -- there are as many sets as tables on each side
   pub query_many : length query_sets ≡ length query
@@ -75,12 +75,12 @@ module _ (tables : List HeldLives) (query audit : List Name) (query_sets audit_s
 
 -- what is held is that of the history before the entry
 module _ (book : PolicyBook) (tables : List HeldLives) (number : ℕ) (query : Query) (audit : Audit) (query_sets audit_sets : List KeyedRows) (query_is : query_sets ≡ filter_map (rows_held tables) query.tables) (audit_is : audit_sets ≡ filter_map (rows_held tables) audit.tables)
-    (rows : (have_rows tables audit.tables && have_rows tables query.tables) ≡ true) (schemas : List Schema) (schemas_is : schemas ≡ filter_map (schema_held tables) query.tables) where
+    (rows : (are_held tables audit.tables && are_held tables query.tables) ≡ true) (schemas : List Schema) (schemas_is : schemas ≡ filter_map (schema_held tables) query.tables) where
   pub those_of : (history : History) → HoldsBoth book tables number history query audit → (context : Context) (rules : List TableRules) (choices : Choices) → rules ≡ rules_at (take number history) context schemas
       → ((subject : ℤ) (item : Name) → choices subject item ≡ choice_at (take number history) subject item)
       → AreOfHistory meaning (take number history) context query audit rules query_sets audit_sets choices
   those_of history holds context rules choices rules_are choices_are =
-      let both = and_parts (have_rows tables audit.tables) (have_rows tables query.tables) rows_there in
+      let both = and_parts (are_held tables audit.tables) (are_held tables query.tables) rows_there in
       let of_query = stand_so tables number history holds.valid holds.fits query.tables holds.query_held both.1 in
       let of_audit = stand_so tables number history holds.valid holds.fits audit.tables holds.audit_held both.0 in
       record {
@@ -96,7 +96,7 @@ module _ (book : PolicyBook) (tables : List HeldLives) (number : ℕ) (query : Q
         choices_are = λ i subject item. choices_are subject item i;
       }
     where
-      rows_there : (have_rows tables audit.tables && have_rows tables query.tables) ≡ true
+      rows_there : (are_held tables audit.tables && are_held tables query.tables) ≡ true
       rows_there = rows
 
 -- ---- tables of a history are known
@@ -116,25 +116,25 @@ some_lasts history number valid table None is some = absurd cc
 some_lasts history number valid table (Some schema) is some = ap is_some (lasting history number valid table schema is)
 
 -- what is sound is brought no further than to the entry before the one that is asked about
-pub up_to_number : (combine : Combine) (seq number : ℕ) → IsSound combine → combine.asked ≤ seq → number + 1 ≡ seq → AreUpTo number combine.tables.items
+pub up_to_number : (combine : Combine) (seq number : ℕ) → IsSoundCombine combine → combine.asked ≤ seq → number + 1 ≡ seq → AreHeldUpTo number combine.tables.items
 up_to_number combine seq number sound order next =
     all-from (λ (lives : HeldLives). lives.versions.place < combine.asked) (λ (lives : HeldLives). lives.versions.place ≤ number) (λ lives below. omega (arith, below, order, next)) combine.tables.items sound
 
 -- ---- faults
-only_memory : (result : Result (Option (List SharedRow)) ReadFault) → IfErr result (λ fault. fault ≡ Memory) → has_failed (as_call result) ≡ false
+only_memory : (result : Result (Option (List SharedRow)) ReadFault) → IfErr result (λ fault. fault ≡ Memory) → has_failed (reading_as_call result) ≡ false
 only_memory (Ok shared) memory = refl
-only_memory (Err fault) memory = ap (λ (f : ReadFault). has_failed (as_call (err_of (Option (List SharedRow)) f))) memory
+only_memory (Err fault) memory = ap (λ (f : ReadFault). has_failed (reading_as_call (err_of (Option (List SharedRow)) f))) memory
 
 undamaged : (result : Result (Option (List SharedRow)) ReadFault) → IfErr result (λ fault. fault ≡ Memory) → (place : ℕ) → result ≢ Err (Damaged place)
 undamaged (Ok shared) memory place is = cc
 undamaged (Err fault) memory place is =
     let other : Memory ≡ Damaged place = sym memory ∙ same_Err {A = Option (List SharedRow)} fault (Damaged place) is in cc
 
-unfailed : {B : Type 0} (one : Result B ReadFault) (value : B) → one ≡ Ok value → has_failed (as_call one) ≡ false
-unfailed one value is = ap (λ r. has_failed (as_call r)) is
+unfailed : {B : Type 0} (one : Result B ReadFault) (value : B) → one ≡ Ok value → has_failed (reading_as_call one) ≡ false
+unfailed one value is = ap (λ r. has_failed (reading_as_call r)) is
 
 module _ (past : Past) (audit : Audit) (entry : Entry) (query : Query) (old new : Combine) (before : KeeperState) (s0 : ℕ)
-    (asked : new.asked ≡ entry.seq) (sound : IsSound old) (order : old.asked ≤ entry.seq) where
+    (asked : new.asked ≡ entry.seq) (sound : IsSoundCombine old) (order : old.asked ≤ entry.seq) where
   -- ---- an entry that is none of the history
   no_entry : (history : History) → IsPastOf past history → (entry.seq ≡ 0) ⊎ (past.count < entry.seq) → StandsIn meaning history entry → ⊥
   no_entry history its (inl zero) stands =
@@ -145,7 +145,7 @@ module _ (past : Past) (audit : Audit) (entry : Entry) (query : Query) (old new 
       let count = its.count in
       omega (arith, beyond, number, within, count)
 
-  sound_still : new.tables.items ≡ old.tables.items → IsSound new
+  sound_still : new.tables.items ≡ old.tables.items → IsSoundCombine new
   sound_still same =
       subst (λ (tables : List HeldLives). AllByRecursion (λ (lives : HeldLives). lives.versions.place < new.asked) tables) (sym same)
       (all-from (λ (lives : HeldLives). lives.versions.place < old.asked) (λ (lives : HeldLives). lives.versions.place < new.asked) (λ lives below. omega (arith, below, order, asked)) old.tables.items sound)
@@ -155,7 +155,7 @@ module _ (past : Past) (audit : Audit) (entry : Entry) (query : Query) (old new 
       let taken : all_taken new.tables.items ≡ all_taken old.tables.items = ap all_taken same in
       record {
         moves = record {
-          is_after = IsAfterCall-none (as_call (answer None)) before refl ready;
+          is_after = IsAfterCall-none (reading_as_call (answer None)) before refl ready;
           stays = λ tells. KeepsSame-here before;
           is_sound = sound_still same;
           limit = omega (arith, asked);
@@ -164,7 +164,7 @@ module _ (past : Past) (audit : Audit) (entry : Entry) (query : Query) (old new 
         told = λ tells history kept its audit_is fits. record {
           fits_still = subst (λ (tables : List HeldLives). TablesFit tables history) (sym same) fits;
           undamaged = λ place e. absurd cc;
-          once = let unread_same : unread new.tables.items history ≡ unread old.tables.items history = ap (λ (tables : List HeldLives). unread tables history) same in omega (arith, unread_same);
+          once = let unread_same : unread_count new.tables.items history ≡ unread_count old.tables.items history = ap (λ (tables : List HeldLives). unread_count tables history) same in omega (arith, unread_same);
           finds = λ stands. absurd (no_entry history its none stands);
         };
       }
@@ -175,17 +175,17 @@ module _ (past : Past) (audit : Audit) (entry : Entry) (query : Query) (old new 
   -- ---- tables that are brought forward
   module _ {B : Type 0} (number : ℕ) (next : number + 1 ≡ entry.seq) (one : Result B ReadFault) (after : KeeperState) (s1 : ℕ)
       (brings : Brings past number one old.tables.items new.tables.items before after s0 s1) where
-    within : AreUpTo number old.tables.items
+    within : AreHeldUpTo number old.tables.items
     within = up_to_number old entry.seq number sound order next
 
-    once_only : (history : History) → IsPastOf past history → TablesFit old.tables.items history → TablesFit new.tables.items history → s1 + unread new.tables.items history ≤ s0 + unread old.tables.items history
+    once_only : (history : History) → IsPastOf past history → TablesFit old.tables.items history → TablesFit new.tables.items history → s1 + unread_count new.tables.items history ≤ s0 + unread_count old.tables.items history
     once_only history its fits fits_still =
         let counted = brings.ledger in
         let at_first = taken_and_unread meaning history its.valid old.tables.items fits in
         let then = taken_and_unread meaning history its.valid new.tables.items fits_still in
         omega (arith, counted, at_first, then)
 
-    pub examines : (result : Result (Option (List SharedRow)) ReadFault) → has_failed (as_call result) ≡ has_failed (as_call one) → ((place : ℕ) → result ≡ Err (Damaged place) → one ≡ Err (Damaged place))
+    pub examines : (result : Result (Option (List SharedRow)) ReadFault) → has_failed (reading_as_call result) ≡ has_failed (reading_as_call one) → ((place : ℕ) → result ≡ Err (Damaged place) → one ≡ Err (Damaged place))
         → (after.tells → (history : History) → map stored history ≡ before.kept → IsPastOf past history → IsAuditOf history audit → TablesFit new.tables.items history → StandsIn meaning history entry → FindsServing history audit entry query result)
         → Examines combine_terms past audit entry query result old new before after s0 s1
     examines result same whole finds =
@@ -193,7 +193,7 @@ module _ (past : Past) (audit : Audit) (entry : Entry) (query : Query) (old new 
         let counted = brings.ledger in
         record {
           moves = record {
-            is_after = IsAfterCall-as true false (as_call one) (as_call result) before after same brings.is_after;
+            is_after = IsAfterCall-as true false (reading_as_call one) (reading_as_call result) before after same brings.is_after;
             stays = brings.stays;
             is_sound = all-from (λ (lives : HeldLives). lives.versions.place ≤ number) (λ (lives : HeldLives). lives.versions.place < new.asked) (λ lives below. omega (arith, below, next, asked)) new.tables.items up_to;
             limit = omega (arith, asked);
@@ -213,7 +213,7 @@ module _ (past : Past) (audit : Audit) (entry : Entry) (query : Query) (old new 
     pub examines_fault : (fault : ReadFault) (result : Result (Option (List SharedRow)) ReadFault) → result ≡ Err fault → one ≡ Err fault → Examines combine_terms past audit entry query result old new before after s0 s1
     examines_fault fault result is one_is =
         examines result
-        (ap (λ r. has_failed (as_call r)) is ∙ ap has_failed (as_call-fault (Option (List SharedRow)) B fault) ∙ sym (ap (λ r. has_failed (as_call r)) one_is))
+        (ap (λ r. has_failed (reading_as_call r)) is ∙ ap has_failed (reading_as_call-fault (Option (List SharedRow)) B fault) ∙ sym (ap (λ r. has_failed (reading_as_call r)) one_is))
         (λ place e. one_is ∙ ap (err_of B) (same_Err {A = Option (List SharedRow)} fault (Damaged place) (sym is ∙ e)))
         (λ tells history kept its audit_is fits stands. subst (FindsServing history audit entry query) (sym is) (λ user purpose recipient text asked means. tt))
 

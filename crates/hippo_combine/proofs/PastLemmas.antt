@@ -21,8 +21,8 @@ use Rattle.hippo_model.specs.declared.query.Query.{Query}
 use Rattle.hippo_model.specs.declared.query.Ref.{Ref}
 use Rattle.hippo_model.specs.declared.schema.Schema.{Schema}
 use Rattle.hippo_model.specs.declared.statement.RawSelect.{RawSelect}
-use Rattle.hippo_model.specs.Columns.{named_column, named, same_column, names_all}
-use Rattle.hippo_model.specs.Histories.{created, schema_at}
+use Rattle.hippo_model.specs.Columns.{named_column, query_columns, same_column, names_all}
+use Rattle.hippo_model.specs.Histories.{schema_created, schema_at}
 use Rattle.hippo_model.specs.Keepable.{act_is_keepable}
 use Rattle.hippo_model.specs.Rows.{table_rows}
 use Rattle.hippo_model.specs.RowSets.{KeyedRows, kept_at}
@@ -33,7 +33,7 @@ use Rattle.hippo_model.specs.Versions.{is_version}
 use Rattle.hippo_model.proofs.LastWords.{last_word-append}
 use Rattle.hippo_laws.proofs.ValidFronts.{front_is_valid, holds_of_each_valid}
 use Rattle.hippo_catalog.specs.Catalogs.{KnownNames, known_at, table_of}
-use Rattle.hippo_catalog.specs.Refusals.{refused, unknown_table}
+use Rattle.hippo_catalog.specs.Refusals.{fault_if, unknown_table}
 use Rattle.hippo_catalog.specs.Selects.{select_refused}
 use Rattle.hippo_typing.specs.Meanings.{meaning}
 use Rattle.hippo_typing.specs.ResolutionLaws.{NamesAreThoseOf}
@@ -42,7 +42,7 @@ use Rattle.hippo_typing.proofs.MeaningTheorem.{Means-found}
 use Rattle.hippo_backlog.specs.Backlogs.{is_version_of, versions_of}
 use Rattle.hippo_backlog.proofs.VersionsTheorem.{kept_at-versions, stands_at, may_there, schemas_last}
 use Rattle.hippo_audit_job.specs.Examining.{IsColumnOf, IsAuditOf}
-use Rattle.hippo_examining.specs.Seen.{IsCommon, AreCommon}
+use Rattle.hippo_examining.specs.Seen.{IsCommon, AreCommonColumns}
 
 module _ (history : History) (number : ℕ) (valid : is_valid meaning history ≡ true) where
   both_parts : take number history ++ drop number history ≡ history
@@ -93,7 +93,7 @@ front_none : {A : Type 0} (front rest : List A) → front ++ rest ≡ [] → fro
 front_none [] rest none = refl
 front_none (first ∷ front) rest none = absurd cc
 
-not_refused : (test : Bool) (fault : NameFault) (rest : List NameFault) → refused test fault ++ rest ≡ [] → (test ≡ false) × (rest ≡ [])
+not_refused : (test : Bool) (fault : NameFault) (rest : List NameFault) → fault_if test fault ++ rest ≡ [] → (test ≡ false) × (rest ≡ [])
 not_refused true fault rest none = absurd cc
 not_refused false fault rest none = (refl, none)
 
@@ -125,7 +125,7 @@ created_by_meaning front text query valid is =
 then_some-false : {A : Type 0} (value : A) (test : Bool) → test ≡ false → then_some test value ≡ None
 then_some-false value test is = rw is refl
 
-nameless : (act : Act) → act_is_keepable act ≡ true → created [] act ≡ None
+nameless : (act : Act) → act_is_keepable act ≡ true → schema_created [] act ≡ None
 nameless (Create schema) keepable =
     elim (bytes_eq schema.name []) as (λ same. bytes_eq schema.name [] ≡ same → then_some same schema ≡ None) [
       | true ↦ λ same.
@@ -148,7 +148,7 @@ all_named history valid =
     holds_of_each_valid meaning (λ h. schema_at h [] ≡ None)
     (λ h entry good so_far may.
     let keepable = (and_parts _ _ (and_parts _ _ (and_parts _ _ may).0).0).0 in
-    last_word-append (λ (e : Entry). created [] e.act) h entry
+    last_word-append (λ (e : Entry). schema_created [] e.act) h entry
     ∙ ap (λ word. option_or word (schema_at h [])) (nameless entry.act (and_parts _ _ keepable).1) ∙ so_far)
     refl history valid
 
@@ -183,7 +183,7 @@ below : (low high : ℕ) → nat_lt low high ≡ true → low < high
 below low high is = grind (arith, is)
 
 module _ (history : History) (number : ℕ) (valid : is_valid meaning history ≡ true) (query : Query) where
-  is_common : (audit : Audit) → (column : Ref) → IsColumnOf history audit.tables column → list_any (same_column (named_column audit.tables column)) (named query) ≡ true → IsCommon (take number history) query audit column
+  is_common : (audit : Audit) → (column : Ref) → IsColumnOf history audit.tables column → list_any (same_column (named_column audit.tables column)) (query_columns query) ≡ true → IsCommon (take number history) query audit column
   is_common audit column its names =
       let table : Name = slice_index_or audit.tables column.table [] in
       let made = some_of _ (schema_at history table) its.within in
@@ -196,10 +196,10 @@ module _ (history : History) (number : ℕ) (valid : is_valid meaning history �
           below column.column (length schema.columns) (sym (ap (λ found. option_map_or (λ (s : Schema). nat_lt column.column (length s.columns)) found false) (lasting history number valid table schema is)) ∙ passes)
 
 -- the audited columns are those of tables that the query has, too
-pub are_common : (history : History) (number : ℕ) → is_valid meaning history ≡ true → (query : Query) (audit : Audit) → IsAuditOf history audit → names_all query audit ≡ true → AreCommon (take number history) query audit
+pub are_common : (history : History) (number : ℕ) → is_valid meaning history ≡ true → (query : Query) (audit : Audit) → IsAuditOf history audit → names_all query audit ≡ true → AreCommonColumns (take number history) query audit
 are_common history number valid query audit its names = each audit.columns its.columns names
   where
-    each : (columns : List Ref) → AllByRecursion (IsColumnOf history audit.tables) columns → list_all (λ (column : Ref). list_any (same_column (named_column audit.tables column)) (named query)) columns ≡ true → AllByRecursion (IsCommon (take number history) query audit) columns
+    each : (columns : List Ref) → AllByRecursion (IsColumnOf history audit.tables) columns → list_all (λ (column : Ref). list_any (same_column (named_column audit.tables column)) (query_columns query)) columns ≡ true → AllByRecursion (IsCommon (take number history) query audit) columns
     each [] all names = tt
     each (column ∷ columns) all names =
         let both = and_parts _ _ names in

@@ -18,7 +18,7 @@ use Rattle.hippo_model.specs.declared.query.Query.{Query}
 use Rattle.hippo_model.specs.declared.schema.Schema.{Schema}
 use Rattle.hippo_model.specs.Answers.{product, answer_of, query_answer, audit_answer, seen_combinations, unmasked_combinations}
 use Rattle.hippo_model.specs.Audits.{needs, query_needs, audit_needs, has_tuple, serves, first_serving}
-use Rattle.hippo_model.specs.Forms.{formed}
+use Rattle.hippo_model.specs.Forms.{rows_by_form}
 use Rattle.hippo_model.specs.Histories.{schema_at}
 use Rattle.hippo_model.specs.RowSets.{KeyedRows, kept_at}
 use Rattle.hippo_model.specs.Terms.{History, ShownRow}
@@ -30,8 +30,8 @@ use Rattle.hippo_shared.specs.Sharing.{common_tables, place_in, rows_named, Have
 use Rattle.hippo_shared.specs.HistoryLaws.{sets_at}
 use Rattle.hippo_shared.proofs.CommonLemmas.{place-found, common-in-query, common-in-audit}
 use Rattle.hippo_intervals.specs.Living.{HeldLives, LivesFit}
-use Rattle.hippo_intervals.proofs.LivesLemmas.{AreThoseOf-fits}
-use Rattle.hippo_combine.specs.Held.{lives_of, schema_held, rows_held, place_held, has_some, have_rows, AreHeldAt, TablesFit}
+use Rattle.hippo_intervals.proofs.LivesLemmas.{LivesAreThoseOf-fits}
+use Rattle.hippo_combine.specs.Held.{lives_of, schema_held, rows_held, place_held, has_some, are_held, AreHeldAt, TablesFit}
 use Rattle.hippo_combine.proofs.PastLemmas.{front_valid, lasting, no_rows_yet}
 
 abbrev no_set : KeyedRows
@@ -47,10 +47,10 @@ module _ (tables : List HeldLives) where
   one_found (Some set) rest some = refl
 
   -- there is a set for each table
-  pub sets_each : (names : List Name) → have_rows tables names ≡ true → filter_map (rows_held tables) names ≡ map set_of names
+  pub sets_each : (names : List Name) → are_held tables names ≡ true → filter_map (rows_held tables) names ≡ map set_of names
   sets_each [] have = refl
   sets_each (name ∷ names) have =
-      let both = and_parts (has_some (rows_held tables name)) (have_rows tables names) have in
+      let both = and_parts (has_some (rows_held tables name)) (are_held tables names) have in
       let rest = sets_each names both.1 in
       (λ i. cons_option (rows_held tables name) (rest i)) ∙ one_found (rows_held tables name) (map set_of names) both.0
 
@@ -58,7 +58,7 @@ module _ (tables : List HeldLives) where
   length_map f [] = refl
   length_map f (x ∷ xs) = let rest = length_map f xs in omega (arith, rest)
 
-  pub as_many : (names : List Name) → have_rows tables names ≡ true → length (filter_map (rows_held tables) names) ≡ length names
+  pub as_many : (names : List Name) → are_held tables names ≡ true → length (filter_map (rows_held tables) names) ≡ length names
   as_many names have = ap length (sets_each names have) ∙ length_map set_of names
 
   get_map : {X Y : Type 0} (f : X → Y) (xs : List X) (k : ℕ) (d : X) (e : Y) → k < length xs → get_or (map f xs) k e ≡ f (get_or xs k d)
@@ -66,13 +66,13 @@ module _ (tables : List HeldLives) where
   get_map f (x ∷ xs) zero d e within = refl
   get_map f (x ∷ xs) (suc k) d e within = get_map f xs k d e (omega (arith, within))
 
-  named_set : (names : List Name) → have_rows tables names ≡ true → (table : Name) → list_any (bytes_eq table) names ≡ true → rows_named names (filter_map (rows_held tables) names) table ≡ set_of table
+  named_set : (names : List Name) → are_held tables names ≡ true → (table : Name) → list_any (bytes_eq table) names ≡ true → rows_named names (filter_map (rows_held tables) names) table ≡ set_of table
   named_set names have table among =
       let there = place-found names table among in
       ap (λ sets. rows_named names sets table) (sets_each names have)
       ∙ get_map set_of names (place_in names table) [] no_set there.0 ∙ ap set_of there.1
 
-  module _ (query audit : List Name) (query_have : have_rows tables query ≡ true) (audit_have : have_rows tables audit ≡ true) where
+  module _ (query audit : List Name) (query_have : are_held tables query ≡ true) (audit_have : are_held tables audit ≡ true) where
     abbrev SameRows : Name → Type 0
     SameRows table = rows_named query (filter_map (rows_held tables) query) table ≡ rows_named audit (filter_map (rows_held tables) audit) table
 
@@ -108,7 +108,7 @@ module _ (number : ℕ) (history : History) (valid : is_valid meaning history �
   held_as tables fits (Some lives) is place =
       let its = found_fits tables fits.each lives is in
       let named : lives.schema.name ≡ table = (bytes_eq-Decides lives.schema.name table).0 its.0 in
-      let rows = (AreThoseOf-fits meaning lives history valid its.1).rows in
+      let rows = (LivesAreThoseOf-fits meaning lives history valid its.1).rows in
       record {
         schema = lives.schema;
         schema_is = ap (option_map (λ (l : HeldLives). l.schema)) is;
@@ -139,10 +139,10 @@ module _ (tables : List HeldLives) (number : ℕ) (history : History) (valid : i
     pub held : HeldTable tables number history table
     pub at : schema_at front table ≡ Some held.schema
 
-  pub stand_so : TablesFit tables history → (names : List Name) → AreHeldAt number names tables → have_rows tables names ≡ true → AllByRecursion StandsSo names
+  pub stand_so : TablesFit tables history → (names : List Name) → AreHeldAt number names tables → are_held tables names ≡ true → AllByRecursion StandsSo names
   stand_so fits [] held have = tt
   stand_so fits (name ∷ names) held have =
-      let both = and_parts (has_some (rows_held tables name)) (have_rows tables names) have in
+      let both = and_parts (has_some (rows_held tables name)) (are_held tables names) have in
       let its = held_table number history valid name tables fits held.0 in
       (record { held = its; at = created_with_rows name its both.0 }, stand_so fits names held.1 both.1)
 
@@ -168,7 +168,7 @@ flat_map_none f none (x ∷ xs) = λ i. (none x i) ++ flat_map_none f none xs i
 product_none : {A : Type 0} (first : List A) (rest : List (List A)) → product rest ≡ [] → product (first ∷ rest) ≡ []
 product_none first rest none = flat_map_none (λ member. map (λ others. member ∷ others) (product rest)) (λ member. ap (map (λ others. member ∷ others)) none) first
 
-formed_none : (form : Form) → formed form [] ≡ []
+formed_none : (form : Form) → rows_by_form form [] ≡ []
 formed_none Plain = refl
 formed_none Distinct = refl
 formed_none (Grouped shape) = refl
@@ -193,10 +193,10 @@ module _ (tables : List HeldLives) (number : ℕ) (history : History) (valid : i
       empty table its.schema its.named (schema_at (take number history) table) refl (either table its.schema its.there (schema_at (take number history) table) refl)
       (no_length (kept_at its.schema (take number history)).rows (sym (ap has_some its.rows_are) ∙ none))
 
-  none_of_all : (names : List Name) → AreHeldAt number names tables → have_rows tables names ≡ false → product (map rows_in names) ≡ []
+  none_of_all : (names : List Name) → AreHeldAt number names tables → are_held tables names ≡ false → product (map rows_in names) ≡ []
   none_of_all [] held none = absurd (false≢true (sym none))
   none_of_all (name ∷ names) held none =
-      elim (has_some (rows_held tables name)) as (λ here. has_some (rows_held tables name) ≡ here → (here && have_rows tables names) ≡ false → product (rows_in name ∷ map rows_in names) ≡ []) [
+      elim (has_some (rows_held tables name)) as (λ here. has_some (rows_held tables name) ≡ here → (here && are_held tables names) ≡ false → product (rows_in name ∷ map rows_in names) ≡ []) [
         | true ↦ λ is none. product_none (rows_in name) (map rows_in names) (none_of_all names held.1 none)
         | false ↦ λ is none. ap (λ (rows : List ShownRow). flat_map (λ member. map (λ others. member ∷ others) (product (map rows_in names))) rows) (none_here name held.0 is)
       ] refl none
@@ -219,7 +219,7 @@ module _ (tables : List HeldLives) (number : ℕ) (history : History) (valid : i
   query_unneeded : seen_combinations before context query ≡ [] → (tuple : List SharedRow) → query_needs before context query tuple ≡ false
   query_unneeded none tuple = ap (needs (query_answer query) (has_tuple before query.tables tuple)) none ∙ by query.form
     where
-      by : (form : Form) → needs (λ combinations. formed form (answer_of query.items query.cond combinations)) (has_tuple before query.tables tuple) [] ≡ false
+      by : (form : Form) → needs (λ combinations. rows_by_form form (answer_of query.items query.cond combinations)) (has_tuple before query.tables tuple) [] ≡ false
       by form = rw (formed_none form) refl
 
   no_query : (mine others shown : Bool) → mine ≡ false → (mine && others && shown) ≡ false
@@ -240,9 +240,9 @@ module _ (tables : List HeldLives) (number : ℕ) (history : History) (valid : i
   nothing_of_query : seen_combinations before context query ≡ [] → first_serving before context query audit ≡ None
   nothing_of_query none = find_none (serves before context query audit) (λ tuple. no_query (query_needs before context query tuple) (audit_needs before audit tuple) _ (query_unneeded none tuple)) _
 
-  pub nothing_serves : AreHeldAt number audit.tables tables → AreHeldAt number query.tables tables → (have_rows tables audit.tables && have_rows tables query.tables) ≡ false → first_serving before context query audit ≡ None
+  pub nothing_serves : AreHeldAt number audit.tables tables → AreHeldAt number query.tables tables → (are_held tables audit.tables && are_held tables query.tables) ≡ false → first_serving before context query audit ≡ None
   nothing_serves audit_held query_held lacks =
-      elim (have_rows tables audit.tables) as (λ have. have_rows tables audit.tables ≡ have → (have && have_rows tables query.tables) ≡ false → first_serving before context query audit ≡ None) [
+      elim (are_held tables audit.tables) as (λ have. are_held tables audit.tables ≡ have → (have && are_held tables query.tables) ≡ false → first_serving before context query audit ≡ None) [
         | true ↦ λ is lacks. nothing_of_query (none_of_all tables number history valid fits (view_at before context) view_empty query.tables query_held lacks)
         | false ↦ λ is lacks. nothing_of_audit (none_of_all tables number history valid fits (unmasked_at before) unmasked_empty audit.tables audit_held is)
       ] refl lacks

@@ -14,8 +14,8 @@ use Rattle.hippo_model.specs.Versions.{is_version, versions}
 use Rattle.hippo_backlog.specs.Backlogs.{is_version_of}
 use Rattle.hippo_backlog.proofs.NumberLemmas.{IsNumbered, valid-IsNumbered}
 use Rattle.hippo_intervals.specs.Living.{HeldLives, taken_by, LivesFit}
-use Rattle.hippo_intervals.proofs.LivesLemmas.{AreThoseOf-fits}
-use Rattle.hippo_combine.specs.Held.{all_taken, is_reached, unread, TablesFit}
+use Rattle.hippo_intervals.proofs.LivesLemmas.{LivesAreThoseOf-fits}
+use Rattle.hippo_combine.specs.Held.{all_taken, is_reached, unread_count, TablesFit}
 use Rattle.hippo_combine.proofs.HeldLemmas.{name_of}
 
 -- ---- counting
@@ -93,7 +93,7 @@ reached_by : (meaning : Meaning) (history : History) (lives : HeldLives) → is_
 reached_by meaning history lives valid fits =
     ap (λ limit. count_by (up_to (is_version_of lives.schema.name) limit) history) (sym (zero-add lives.versions.ahead.reached))
     ∙ reached_are (is_version_of lives.schema.name) lives.versions.ahead.reached 0 history (valid-IsNumbered meaning history valid)
-    ∙ sym (AreThoseOf-fits meaning lives history valid fits).taken_is
+    ∙ sym (LivesAreThoseOf-fits meaning lives history valid fits).taken_is
 
 -- a version of a table is none of tables of other names
 not_theirs : (table : Name) (entry : Entry) (tables : List HeldLives) → AllByRecursion (λ (name : Name). bytes_eq table name ≡ false) (map name_of tables) → is_version_of table entry ≡ true → is_reached tables entry ≡ false
@@ -117,9 +117,9 @@ split false true others is apart = absurd (false≢true (is refl))
 split false false others is apart = refl
 
 module _ (meaning : Meaning) (history : History) (valid : is_valid meaning history ≡ true) where
-  by_tables : (tables : List HeldLives) → IsDistinct bytes_eq (map name_of tables) → AllByRecursion (λ (lives : HeldLives). LivesFit lives history) tables → all_taken tables + unread tables history ≡ versions history
+  by_tables : (tables : List HeldLives) → IsDistinct bytes_eq (map name_of tables) → AllByRecursion (λ (lives : HeldLives). LivesFit lives history) tables → all_taken tables + unread_count tables history ≡ versions history
   unfolding IsDistinct
-  by_tables [] apart fits = zero-add (unread [] history) ∙ count_same (λ entry. is_version entry.act && true) (λ entry. is_version entry.act) (λ entry. and_true (λ e. true) (is_version entry.act)) history
+  by_tables [] apart fits = zero-add (unread_count [] history) ∙ count_same (λ entry. is_version entry.act && true) (λ entry. is_version entry.act) (λ entry. and_true (λ e. true) (is_version entry.act)) history
   by_tables (lives ∷ rest) apart fits =
       let mine : Entry → Bool = is_reached_by lives in
       let each : (entry : Entry) → one_if (is_version entry.act && not (mine entry || is_reached rest entry)) + one_if (mine entry) ≡ one_if (is_version entry.act && not (is_reached rest entry)) = λ entry.
@@ -133,5 +133,5 @@ module _ (meaning : Meaning) (history : History) (valid : is_valid meaning histo
       omega (arith, both, own, others, sum)
 
   -- what is taken and what is not read yet are all versions
-  pub taken_and_unread : (tables : List HeldLives) → TablesFit tables history → all_taken tables + unread tables history ≡ versions history
+  pub taken_and_unread : (tables : List HeldLives) → TablesFit tables history → all_taken tables + unread_count tables history ≡ versions history
   taken_and_unread tables fit = by_tables tables fit.apart fit.each

@@ -9,15 +9,16 @@ use Rattle.hippo_keeper.specs.Keeping.{KeeperState, IsAfterCall, KeepsSame}
 use Rattle.hippo_catalog.specs.Catalogs.{KnownNames, table_of}
 use Rattle.hippo_backlog.specs.declared.faults.ReadFault.{ReadFault}
 use Rattle.hippo_backlog.specs.declared.faults.ReadFault.TheVariants.{Damaged}
-use Rattle.hippo_backlog.specs.Calls.{as_call}
+use Rattle.hippo_backlog.specs.Calls.{reading_as_call}
 use Rattle.hippo_intervals.specs.Living.{HeldLives, no_lives}
 use Rattle.hippo_audit_job.specs.declared.past.Past.{Past}
 use Rattle.hippo_audit_job.specs.Examining.{IsPastOf}
-use Rattle.hippo_combine.specs.Held.{lives_of, AreHeldAt, AreUpTo, all_taken, TablesFit}
+use Rattle.hippo_combine.specs.Held.{lives_of, AreHeldAt, AreHeldUpTo, all_taken, TablesFit}
 
 -- the tables that are held, with a new one behind where none has this schema's name
 abbrev pub with_table : Schema → List HeldLives → List HeldLives
-with_table schema tables = if is_some (lives_of tables schema.name) then tables else tables ++ no_lives schema ∷ []
+with_table schema tables =
+    if is_some (lives_of tables schema.name) then tables else tables ++ no_lives schema ∷ []
 
 -- the first place with a table of this name
 pub record IsPlaceOf (table : Name) (place : ℕ) (tables : List HeldLives) : Type 0 where
@@ -27,22 +28,27 @@ pub record IsPlaceOf (table : Name) (place : ℕ) (tables : List HeldLives) : Ty
 -- each of these tables is known under its own name
 abbrev pub AreKnown : KnownNames → List Name → Type 0
 AreKnown known names =
-    AllByRecursion (λ table. option_map (λ schema. schema.name) (table_of known table) ≡ Some table) names
+    AllByRecursion (λ table. option_map (λ schema. schema.name) (table_of known table) ≡ Some table)
+    names
 
 -- the number of the entry before this one, which is among the first so many; none where it is not
 abbrev pub IsNumberBefore : ℕ → ℕ → Option ℕ → Type 0
 IsNumberBefore seq count (Some number) = (number + 1 ≡ seq) × (seq ≤ count)
 IsNumberBefore seq count None = (seq ≡ 0) ⊎ (count < seq)
 
--- tables are brought forward, to a number at most; each version that is read is a step, and is read once
-pub record Brings {A : Type 0} (past : Past) (number : ℕ) (result : Result A ReadFault) (old new : List HeldLives)
+-- tables are brought forward, to a number at most; each version that is read is a step, and is read
+-- once
+pub record Brings {A : Type 0} (past : Past) (number : ℕ) (result : Result A ReadFault)
+    (old new : List HeldLives)
     (before after : KeeperState) (steps_old steps_new : ℕ) : Type 0 where
-  pub is_after : IsAfterCall true false (as_call result) before after
+  pub is_after : IsAfterCall true false (reading_as_call result) before after
   pub stays : after.tells → KeepsSame before after
-  pub up_to : AreUpTo number old → AreUpTo number new
+  pub up_to : AreHeldUpTo number old → AreHeldUpTo number new
   pub held : (names : List Name) → AreHeldAt number names old → AreHeldAt number names new
   pub ledger : steps_new + all_taken old ≡ steps_old + all_taken new
-  pub told : after.tells → (history : History) → map stored history ≡ before.kept → IsPastOf past history
+  pub told : after.tells → (history : History) → map stored history ≡ before.kept
+      → IsPastOf past history
       → TablesFit old history → TablesFit new history
-  pub undamaged : after.tells → (history : History) → map stored history ≡ before.kept → IsPastOf past history
+  pub undamaged : after.tells → (history : History) → map stored history ≡ before.kept
+      → IsPastOf past history
       → TablesFit old history → (place : ℕ) → result ≢ Err (Damaged place)

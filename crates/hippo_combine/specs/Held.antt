@@ -29,16 +29,17 @@ abbrev pub has_some : Option KeyedRows → Bool
 has_some found = option_map_or (λ set. nat_lt 0 (length set.rows)) found false
 
 -- whether there are rows of each of these tables
-abbrev pub have_rows : List HeldLives → List Name → Bool
-have_rows tables names = list_all (λ table. has_some (rows_held tables table)) names
+abbrev pub are_held : List HeldLives → List Name → Bool
+are_held tables names = list_all (λ table. has_some (rows_held tables table)) names
 
 -- these tables' rows are held as they were after so many entries
 abbrev pub AreHeldAt : ℕ → List Name → List HeldLives → Type 0
-AreHeldAt number names tables = AllByRecursion (λ table. place_held tables table ≡ Some number) names
+AreHeldAt number names tables =
+    AllByRecursion (λ table. place_held tables table ≡ Some number) names
 
 -- no table's rows are those of a place beyond a number
-abbrev pub AreUpTo : ℕ → List HeldLives → Type 0
-AreUpTo number tables = AllByRecursion (λ lives. lives.versions.place ≤ number) tables
+abbrev pub AreHeldUpTo : ℕ → List HeldLives → Type 0
+AreHeldUpTo number tables = AllByRecursion (λ lives. lives.versions.place ≤ number) tables
 
 -- how many versions were handed over for all of them
 abbrev pub all_taken : List HeldLives → ℕ
@@ -47,11 +48,13 @@ all_taken tables = sum_by taken_by tables
 -- whether an entry is a version of a table that is read up to its number
 abbrev pub is_reached : List HeldLives → Entry → Bool
 is_reached tables entry =
-    list_any (λ lives. is_version_of lives.schema.name entry && nat_le entry.seq lives.versions.ahead.reached) tables
+    list_any (λ lives. is_version_of lives.schema.name entry
+    && nat_le entry.seq lives.versions.ahead.reached) tables
 
 -- the number of versions that none of them has reached
-abbrev pub unread : List HeldLives → History → ℕ
-unread tables history = count_by (λ entry. is_version entry.act && not (is_reached tables entry)) history
+abbrev pub unread_count : List HeldLives → History → ℕ
+unread_count tables history =
+    count_by (λ entry. is_version entry.act && not (is_reached tables entry)) history
 
 -- no table is held twice, and what is held of each is that of the history
 pub record TablesFit (tables : List HeldLives) (history : History) : Type 0 where

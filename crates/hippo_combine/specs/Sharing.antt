@@ -8,21 +8,23 @@ use Rattle.hippo_model.specs.Histories.{schema_at}
 use Rattle.hippo_model.specs.Terms.{History}
 use Rattle.hippo_model.specs.Validity.{is_valid}
 use Rattle.hippo_policy.specs.declared.book.PolicyBook.{PolicyBook}
-use Rattle.hippo_policy.specs.Books.{StandsFor}
+use Rattle.hippo_policy.specs.Books.{BookStandsFor}
 use Rattle.hippo_typing.specs.Meanings.{meaning}
 use Rattle.hippo_audit_job.specs.Examining.{IsAuditOf}
 use Rattle.hippo_intervals.specs.Living.{HeldLives}
 use Rattle.hippo_combine.specs.Held.{AreHeldAt, TablesFit}
 
--- the tables of an audit and of a query that names its columns are held as they were after the first entries of a valid
--- history, when those of the query were created
-pub record HoldsBoth (book : PolicyBook) (tables : List HeldLives) (number : ℕ) (history : History) (query : Query)
+-- the tables of an audit and of a query that names its columns are held as they were after the
+-- first entries of a valid history, when those of the query were created
+pub record HoldsBoth (book : PolicyBook) (tables : List HeldLives) (number : ℕ) (history : History)
+    (query : Query)
     (audit : Audit) : Type 0 where
   pub valid : is_valid meaning history ≡ true
-  pub book_is : StandsFor book history
+  pub book_is : BookStandsFor book history
   pub fits : TablesFit tables history
   pub audit_is : IsAuditOf history audit
   pub names : names_all query audit ≡ true
   pub audit_held : AreHeldAt number audit.tables tables
   pub query_held : AreHeldAt number query.tables tables
-  pub created : AllByRecursion (λ table. is_some (schema_at (take number history) table) ≡ true) query.tables
+  pub created : AllByRecursion (λ table. is_some (schema_at (take number history) table) ≡ true)
+      query.tables

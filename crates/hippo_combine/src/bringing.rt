@@ -3,7 +3,7 @@ ghost use Rattle.std.specs.Prelude.{◌≡◌, ◌≤◌, ◌∷◌, [], true, S
 ghost use Rattle.hippo_values.specs.declared.names.Name.{Name as NameValue};
 ghost use Rattle.hippo_keeper.specs.Keeping.{IsReady};
 ghost use Rattle.hippo_catalog.specs.Catalogs.{table_of};
-ghost use Rattle.hippo_combine.specs.Held.{AreHeldAt, AreUpTo};
+ghost use Rattle.hippo_combine.specs.Held.{AreHeldAt, AreHeldUpTo};
 ghost use Rattle.hippo_combine.specs.Bringing.{with_table, IsPlaceOf, AreKnown, Brings};
 
 use crate::held::place_of;
@@ -40,9 +40,10 @@ fn bring<P: Keeper, L: Ledger>(
     steps: &mut Steps<L>,
 ) -> Result<(), ReadFault>
     requires ready { IsReady true (P.state keeper.old) }
-    requires up_to { AreUpTo number tables.old.items }
+    requires up_to { AreHeldUpTo number tables.old.items }
     requires end { number ≤ past.now.count }
-    ensures brings { (table : NameValue) → table_of past.now.catalog.now.names table ≡ Some schema.now
+    ensures brings { (table : NameValue)
+        → table_of past.now.catalog.now.names table ≡ Some schema.now
         → Brings past.now number result tables.old.items tables.new.items
         (P.state keeper.old) (P.state keeper.new) steps.old steps.new }
     ensures held { OnOk result (AreHeldAt number (schema.now.name ∷ []) tables.new.items) }
@@ -65,7 +66,7 @@ fn bring_known<P: Keeper, L: Ledger>(
     steps: &mut Steps<L>,
 ) -> Result<(), ReadFault>
     requires ready { IsReady true (P.state keeper.old) }
-    requires up_to { AreUpTo number tables.old.items }
+    requires up_to { AreHeldUpTo number tables.old.items }
     requires end { number ≤ past.now.count }
     ensures brings { Brings past.now number result tables.old.items tables.new.items
         (P.state keeper.old) (P.state keeper.new) steps.old steps.new }
@@ -89,7 +90,7 @@ fn bring_all<P: Keeper, L: Ledger>(
     steps: &mut Steps<L>,
 ) -> Result<(), ReadFault>
     requires ready { IsReady true (P.state keeper.old) }
-    requires up_to { AreUpTo number tables.old.items }
+    requires up_to { AreHeldUpTo number tables.old.items }
     requires end { number ≤ past.now.count }
     ensures brings { Brings past.now number result tables.old.items tables.new.items
         (P.state keeper.old) (P.state keeper.new) steps.old steps.new }
@@ -114,7 +115,7 @@ pub(crate) fn bring_both<P: Keeper, L: Ledger>(
     steps: &mut Steps<L>,
 ) -> Result<(), ReadFault>
     requires ready { IsReady true (P.state keeper.old) }
-    requires up_to { AreUpTo number tables.old.items }
+    requires up_to { AreHeldUpTo number tables.old.items }
     requires end { number ≤ past.now.count }
     ensures brings { Brings past.now number result tables.old.items tables.new.items
         (P.state keeper.old) (P.state keeper.new) steps.old steps.new }

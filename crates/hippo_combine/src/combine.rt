@@ -13,8 +13,9 @@ use hippo_model::{Audit, Entry, Query, SharedTuple};
 use std::alloc::Global;
 use std::sync::ledger::Ledger;
 
-/// Examines logged questions in the order of their numbers, over the rows of each table that it needed so far. They are
-/// brought forward from question to question, so each version of a row is read once.
+/// Examines logged questions in the order of their numbers, over the rows of each table that it
+/// needed so far. They are brought forward from question to question, so each version of a row is
+/// read once.
 #[derive(Debug, Drop)]
 pub struct Combine {
     tables: Vec<Lives>,

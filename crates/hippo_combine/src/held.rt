@@ -2,7 +2,7 @@
 ghost use Rattle.std.specs.Prelude.{◌≡◌, bytes_eq, filter_map, option_copied, IfOk};
 ghost use Rattle.std.specs.List.{position_or_len};
 ghost use Rattle.hippo_audit_job.specs.Examining.{shown_count};
-ghost use Rattle.hippo_combine.specs.Held.{lives_of, schema_held, rows_held, has_some, have_rows, all_taken};
+ghost use Rattle.hippo_combine.specs.Held.{lives_of, schema_held, rows_held, has_some, are_held, all_taken};
 
 use hippo_intervals::Lives;
 use hippo_model::{Lent, LentSchemas, Sets};
@@ -42,7 +42,7 @@ fn has_rows(tables: &[Lives], table: &Name) -> bool
 
 /// Whether there are rows of each of these tables.
 pub(crate) fn have_rows(tables: &[Lives], names: &[Name]) -> bool
-    ensures { result ≡ have_rows tables.now names.now }
+    ensures { result ≡ are_held tables.now names.now }
 {
     names.iter().all(|table| has_rows(tables, table))
 }

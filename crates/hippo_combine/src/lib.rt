@@ -1,4 +1,5 @@
-//! An examiner that holds the rows of each table that it needed so far, and brings them forward between questions.
+//! An examiner that holds the rows of each table that it needed so far, and brings them forward
+//! between questions.
 #![tactic(auto)]
 
 mod bringing;

@@ -1,4 +1,5 @@
-//! Orders that are kept of the rows of tables, for the columns by which an audit or a query ties them.
+//! Orders that are kept of the rows of tables, for the columns by which an audit or a query ties
+//! them.
 ghost use Rattle.std.specs.Prelude.{◌≡◌};
 
 use crate::held::place_of;
@@ -60,7 +61,8 @@ fn order_for_parts(tables: &mut Vec<Lives>, alloc: Global, names: &Names, parts:
     }
 }
 
-// Keeps orders by the columns by which the parts of a condition that all have to hold tie two tables.
+// Keeps orders by the columns by which the parts of a condition that all have to hold tie two
+// tables.
 fn order_for_condition(
     tables: &mut Vec<Lives>,
     alloc: Global,
@@ -75,8 +77,8 @@ fn order_for_condition(
     }
 }
 
-/// Keeps orders, from now on, by the columns by which an audit and a query tie two tables, of the rows that are held;
-/// they stay what they are.
+/// Keeps orders, from now on, by the columns by which an audit and a query tie two tables, of the
+/// rows that are held; they stay what they are.
 pub(crate) fn order_for(tables: &mut Vec<Lives>, alloc: Global, query: &Query, audit: &Audit)
     ensures { tables.new.items ≡ tables.old.items }
 {

@@ -8,7 +8,7 @@ ghost use Rattle.hippo_model.specs.Terms.{History};
 ghost use Rattle.hippo_model.specs.Verdicts.{Context};
 ghost use Rattle.hippo_backlog.specs.declared.faults.ReadFault.TheVariants.{Memory as NoMemory};
 ghost use Rattle.hippo_model.specs.Audits.{first_serving};
-ghost use Rattle.hippo_combine.specs.Held.{have_rows};
+ghost use Rattle.hippo_combine.specs.Held.{are_held};
 ghost use Rattle.hippo_combine.specs.Sharing.{HoldsBoth};
 
 use crate::held::{have_rows, schemas_of, sets_of};
@@ -22,7 +22,8 @@ use std::alloc::Global;
 
 // Whether there are rows of each table of an audit and of a query.
 fn have_all_rows(tables: &[Lives], query: &Query, audit: &Audit) -> bool
-    ensures { result ≡ (have_rows tables.now audit.now.tables && have_rows tables.now query.now.tables) }
+    ensures { result ≡ (are_held tables.now audit.now.tables
+        && are_held tables.now query.now.tables) }
 {
     have_rows(tables, audit.tables.as_slice()) && have_rows(tables, query.tables.as_slice())
 }
@@ -42,7 +43,8 @@ fn shared_at(
     requires differ { IsDistinct bytes_eq audit.now.tables }
     ensures { IfOk result (λ shared. (history : History)
         → HoldsBoth book.now tables.now number history query.now audit.now
-        → let context : Context = record { purpose = purpose.now; recipient = recipient.now; moment = moment } in
+        → let context : Context = record
+        { purpose = purpose.now; recipient = recipient.now; moment = moment } in
         shared ≡ first_serving (take number history) context query.now audit.now) }
 {
     if !have_all_rows(tables, query, audit) {
@@ -65,8 +67,8 @@ fn shared_at(
     )
 }
 
-/// The first virtual tuple that serves, of a question with this meaning and an audit, over rows that are those before
-/// the entry.
+/// The first virtual tuple that serves, of a question with this meaning and an audit, over rows
+/// that are those before the entry.
 pub(crate) fn shared_with(
     alloc: Global,
     tables: &[Lives],
@@ -80,8 +82,10 @@ pub(crate) fn shared_with(
     ensures memory { IfErr result (λ fault. fault ≡ NoMemory) }
     ensures serves { IfOk result (λ shared. (history : History)
         → HoldsBoth book.now tables.now number history query.now audit.now
-        → (user purpose recipient : NameValue) (text : TextValue) → entry.now.act ≡ Asked user purpose recipient text
-        → let context : Context = record { purpose = purpose; recipient = recipient; moment = entry.now.moment } in
+        → (user purpose recipient : NameValue) (text : TextValue)
+        → entry.now.act ≡ Asked user purpose recipient text
+        → let context : Context = record
+        { purpose = purpose; recipient = recipient; moment = entry.now.moment } in
         shared ≡ first_serving (take number history) context query.now audit.now) }
 {
     let Act::Asked {

@@ -1,14 +1,14 @@
 -- What some lines command.
 use Rattle.std.proofs.Common.{◌≡◌, ℕ, List, [], ◌∷◌, true, false, Option, Some, None, Ok, Err, refl, codes}
 use Rattle.hippo_io.specs.Lines.{text_line, too_long_line, not_utf8_line}
-use Rattle.hippo_lines.specs.Forms.{logs_out, fetches, says_nothing, asks, states}
+use Rattle.hippo_lines.specs.Forms.{logs_out, fetches, says_nothing, makes_request, makes_statement}
 use Rattle.hippo_report.specs.declared.refusal.Refusal.TheVariants.{BadLine, LineTooLong, BadSyntax, BadMoment, Unsupported, Memory}
 use Rattle.hippo_report.specs.declared.speaker.Speaker.TheVariants.{Nobody}
 use Rattle.hippo_report.specs.Speakers.{speaker_at}
 use Rattle.hippo_lexer.specs.declared.kinds.Token.{Token}
 use Rattle.hippo_lexer.specs.declared.kinds.TokenKind.TheVariants as kinds
 use Rattle.hippo_lexer.specs.declared.faults.SyntaxFault.TheVariants as syntax
-use Rattle.hippo_commands.specs.Commands.{nothing, wrong, ask, command_by, command_of, clock_command, syntax_refusal, state_command, who_commands, takes_memory}
+use Rattle.hippo_commands.specs.Commands.{nothing, wrong, make_request, command_by, command_of, clock_command, syntax_refusal, state_command, who_commands, takes_memory}
 
 too_long_is_nobodys : command_of too_long_line ≡ wrong Nobody LineTooLong
 too_long_is_nobodys = refl
@@ -25,7 +25,7 @@ silence_commands_nothing = refl
 no_moment_is_nobodys : clock_command None ≡ wrong Nobody BadMoment
 no_moment_is_nobodys = refl
 
-fetches_in_a_session : command_by (Some (asks 1 (fetches 2 10))) ≡ ask 1 (fetches 2 10)
+fetches_in_a_session : command_by (Some (makes_request 1 (fetches 2 10))) ≡ make_request 1 (fetches 2 10)
 fetches_in_a_session = refl
 
 -- a statement's refusal is its session's
@@ -39,7 +39,7 @@ words_in_upper_case :
 words_in_upper_case = refl
 
 -- a line that ends something takes no memory, one that is refused in a session may
-logout_takes_none : takes_memory (ask 7 logs_out) ≡ false
+logout_takes_none : takes_memory (make_request 7 logs_out) ≡ false
 logout_takes_none = refl
 
 refusals_may_take_some : takes_memory (wrong (speaker_at 3) BadSyntax) ≡ true

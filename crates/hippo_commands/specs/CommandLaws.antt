@@ -12,8 +12,8 @@ use Rattle.hippo_stmt_reader.specs.StatementGrammar.{IsStatement}
 use Rattle.hippo_commands.specs.Moments.{moment_in}
 use Rattle.hippo_commands.specs.Commands.{statement_in}
 
--- a text is a statement: it has tokens, which are neither too deep nor words that are refused, and by the grammar all
--- of them together are this statement
+-- a text is a statement: it has tokens, which are neither too deep nor words that are refused, and
+-- by the grammar all of them together are this statement
 pub record IsStatementText (text : Txt) (stmt : Stmt) : Type 0 where
   pub tokens : List Token
   pub cut : IsOutcome text (Ok tokens)
@@ -22,8 +22,10 @@ pub record IsStatementText (text : Txt) (stmt : Stmt) : Type 0 where
 
 -- the statement that is found in a text is the one that it is by the grammar
 abbrev pub StatementsAreRead : Type 0
-StatementsAreRead = (text : Txt) (stmt : Stmt) → (statement_in text ≡ Ok stmt) ↔ IsStatementText text stmt
+StatementsAreRead =
+    (text : Txt) (stmt : Stmt) → (statement_in text ≡ Ok stmt) ↔ IsStatementText text stmt
 
 -- the moment that is found in a text is the one that it writes
 abbrev pub MomentsAreRead : Type 0
-MomentsAreRead = (text : Txt) (moment : Moment) → (moment_in text ≡ Some moment) ↔ IsMomentText text moment
+MomentsAreRead =
+    (text : Txt) (moment : Moment) → (moment_in text ≡ Some moment) ↔ IsMomentText text moment

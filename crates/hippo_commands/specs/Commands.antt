@@ -1,4 +1,5 @@
--- What a line of the input commands, by the forms of lines and the grammar alone, whatever the history.
+-- What a line of the input commands, by the forms of lines and the grammar alone, whatever the
+-- history.
 use Rattle.std.specs.Prelude.{◌≡◌, ◌⊎◌, ℕ, Bool, true, false, List, [], map, Option, Some, None, Result, Ok, Err, ok_or, slice_get}
 use Rattle.std.specs.Option.{option_map_or}
 use Rattle.std.specs.Char.{to_ascii_uppercase}
@@ -14,7 +15,7 @@ use Rattle.hippo_lexer.specs.declared.kinds.TokenKind.{TokenKind}
 use Rattle.hippo_lexer.specs.declared.kinds.TokenKind.TheVariants as kinds
 use Rattle.hippo_lexer.specs.Cutting.{outcome_of}
 use Rattle.hippo_lexer.specs.Words.{words_check}
-use Rattle.hippo_lines.specs.Forms.{Form, says_nothing, sets_clock, asks, states, Request, logs_in, logs_out, fetches, closes, steps, drops, unwatches, loads, line_form}
+use Rattle.hippo_lines.specs.Forms.{Form, says_nothing, sets_clock, makes_request, makes_statement, Request, logs_in, logs_out, fetches, closes, steps, drops, unwatches, loads, line_form}
 use Rattle.hippo_model.specs.declared.statement.Stmt.{Stmt}
 use Rattle.hippo_stmt_reader.specs.StatementFinder.{statement_of}
 use Rattle.hippo_report.specs.declared.refusal.Refusal.{Refusal}
@@ -30,10 +31,10 @@ pub data Command : Type 0 where
   -- whatever the history, a line that speaks for somebody or nobody is refused
   wrong : Speaker → Refusal → Command
   set_clock : Moment → Command
-  -- in a session or at the console: what a short word asks for
-  ask : ℕ → Request → Command
+  -- in a session or at the console: the request of a short word
+  make_request : ℕ → Request → Command
   -- a statement, and the text in which it stands
-  state : ℕ → Stmt → Txt → Command
+  make_statement : ℕ → Stmt → Txt → Command
 
 -- why a text has no tokens
 abbrev pub lexing_refusal : LexFault → Refusal
@@ -71,7 +72,7 @@ abbrev pub statement_in : Txt → Result Stmt Refusal
 statement_in text = statement_among (outcome_of text)
 
 abbrev pub state_command : ℕ → Txt → Result Stmt Refusal → Command
-state_command session text (Ok stmt) = state session stmt text
+state_command session text (Ok stmt) = make_statement session stmt text
 state_command session text (Err refusal) = wrong (speaker_at session) refusal
 
 abbrev pub clock_command : Option Moment → Command
@@ -83,8 +84,8 @@ abbrev pub command_by : Option Form → Command
 command_by None = wrong Nobody BadLine
 command_by (Some says_nothing) = nothing
 command_by (Some (sets_clock moment)) = clock_command (moment_in moment)
-command_by (Some (asks session request)) = ask session request
-command_by (Some (states session text)) = state_command session text (statement_in text)
+command_by (Some (makes_request session request)) = make_request session request
+command_by (Some (makes_statement session text)) = state_command session text (statement_in text)
 
 -- what a line commands
 abbrev pub command_of : LineText → Command
@@ -92,19 +93,20 @@ command_of (text_line text) = command_by (line_form text)
 command_of too_long_line = wrong Nobody LineTooLong
 command_of not_utf8_line = wrong Nobody BadLine
 
--- what is commanded by what a reader hands out: by a line, what it commands; by the end of the input, nothing
-abbrev pub commanded : Option LineText → Command
-commanded line = option_map_or command_of line nothing
+-- what is commanded by what a reader hands out: by a line, what it commands; by the end of the
+-- input, nothing
+abbrev pub input_command : Option LineText → Command
+input_command line = option_map_or command_of line nothing
 
 -- who the line speaks for
 abbrev pub who_commands : Command → Speaker
 who_commands nothing = Nobody
 who_commands (wrong who refusal) = who
 who_commands (set_clock moment) = Nobody
-who_commands (ask session request) = speaker_at session
-who_commands (state session stmt text) = speaker_at session
+who_commands (make_request session request) = speaker_at session
+who_commands (make_statement session stmt text) = speaker_at session
 
--- what is asked for by a short word takes no memory where it ends something
+-- a request takes no memory where it ends something
 abbrev pub request_takes_memory : Request → Bool
 request_takes_memory logs_out = false
 request_takes_memory (closes cursor) = false
@@ -117,13 +119,14 @@ abbrev pub takes_memory : Command → Bool
 takes_memory nothing = false
 takes_memory (wrong who refusal) = is_somebody who
 takes_memory (set_clock moment) = false
-takes_memory (ask session request) = request_takes_memory request
-takes_memory (state session stmt text) = true
+takes_memory (make_request session request) = request_takes_memory request
+takes_memory (make_statement session stmt text) = true
 
--- reading takes memory for statements alone: such a line is a statement, or a refusal of a session's line
+-- reading takes memory for statements alone: such a line is a statement, or a refusal of a
+-- session's line
 abbrev pub may_want : Command → Bool
 may_want (wrong who refusal) = is_somebody who
-may_want (state session stmt text) = true
+may_want (make_statement session stmt text) = true
 may_want command = false
 
 -- an outcome, or want of memory

@@ -2,11 +2,11 @@
 use Rattle.hippo_lines.specs.Lent.{request}
 use Rattle.hippo_commands.specs.Commands as commands
 use Rattle.hippo_commands.specs.declared.command.Command.{Command}
-use Rattle.hippo_commands.specs.declared.command.Command.TheVariants.{Nothing, Wrong, SetClock, Ask, State}
+use Rattle.hippo_commands.specs.declared.command.Command.TheVariants.{Nothing, Wrong, SetClock, Request, Statement}
 
 abbrev pub command : Command → commands.Command
 command Nothing = commands.nothing
 command (Wrong who refusal) = commands.wrong who refusal
 command (SetClock moment) = commands.set_clock moment
-command (Ask session asked) = commands.ask session (request asked)
-command (State session statement text) = commands.state session statement text.now
+command (Request session asked) = commands.make_request session (request asked)
+command (Statement session statement text) = commands.make_statement session statement text.now

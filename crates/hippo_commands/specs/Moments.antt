@@ -15,7 +15,8 @@ moment_after seconds = first_moment +ℤ pos seconds
 unfoldable pub moment_among : ℕ → Txt → Option Moment
 moment_among zero text = None
 moment_among (suc n) text =
-    if bytes_eq text (moment_text (moment_after n)) then Some (moment_after n) else moment_among n text
+    if bytes_eq text (moment_text (moment_after n)) then Some (moment_after n)
+    else moment_among n text
 
 -- the moment that a text writes, among those of the years 0001 to 9999
 unfoldable pub moment_in : Txt → Option Moment

@@ -18,13 +18,13 @@ pub enum Command<'a> {
     SetClock {
         moment: Moment,
     },
-    /// Do what a short word asks for.
-    Ask {
+    /// Carry out the request of a short word.
+    Request {
         session: u8,
         request: RequestForm<'a>,
     },
     /// Carry out a statement, which stands in this text.
-    State {
+    Statement {
         session: u8,
         statement: Stmt,
         text: &'a str,

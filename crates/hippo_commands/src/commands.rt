@@ -3,7 +3,7 @@ ghost use Rattle.std.specs.Prelude.{◌≡◌};
 ghost use Rattle.hippo_io.specs.LineTexts.{line_text};
 ghost use Rattle.hippo_lines.specs.Forms.{line_form};
 ghost use Rattle.hippo_commands.specs.Moments.{moment_in};
-ghost use Rattle.hippo_commands.specs.Commands.{clock_command, state_command, statement_in, command_by, commanded, IsCommand};
+ghost use Rattle.hippo_commands.specs.Commands.{clock_command, state_command, statement_in, command_by, input_command, IsCommand};
 ghost use Rattle.hippo_commands.specs.Lent.{command};
 
 use crate::command::Command;
@@ -37,7 +37,7 @@ fn state_command<'a>(alloc: Global, session: u8, text: &'a str) -> Command<'a>
     ensures { IsCommand (state_command session text.now (statement_in text.now)) (command result) }
 {
     match statement_in(alloc, text) {
-        Ok(statement) => Command::State {
+        Ok(statement) => Command::Statement {
             session,
             statement,
             text,
@@ -59,15 +59,15 @@ fn text_command<'a>(alloc: Global, text: &'a str) -> Command<'a>
         },
         Some(LineForm::Silent) => Command::Nothing,
         Some(LineForm::At { moment }) => clock_command(moment),
-        Some(LineForm::Asking { session, request }) => Command::Ask { session, request },
+        Some(LineForm::Short { session, request }) => Command::Request { session, request },
         Some(LineForm::Statement { session, text }) => state_command(alloc, session, text),
     }
 }
 
-/// What a line commands, by the forms of lines and the grammar alone. A statement may be refused for want of memory
-/// instead; nothing else takes memory. The end of the input commands nothing.
+/// What a line commands, by the forms of lines and the grammar alone. A statement may be refused
+/// for want of memory instead; nothing else takes memory. The end of the input commands nothing.
 pub fn command_of<'a>(alloc: Global, line: Line<'a>) -> Command<'a>
-    ensures { IsCommand (commanded (line_text line.entry)) (command result) }
+    ensures { IsCommand (input_command (line_text line.entry)) (command result) }
 {
     match line {
         Line::Text(text) => text_command(alloc, text),

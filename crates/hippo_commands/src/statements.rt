@@ -49,7 +49,8 @@ fn word_at(alloc: Global, tokens: &Tokens, place: usize) -> Result<Txt, Memory>
 }
 
 fn unsupported(alloc: Global, tokens: &Tokens, place: usize) -> Refusal
-    ensures { (result ≡ syntax_refusal tokens.now (SyntaxFault.Unsupported place)) ⊎ (result ≡ NoMemory) }
+    ensures { (result ≡ syntax_refusal tokens.now (SyntaxFault.Unsupported place))
+        ⊎ (result ≡ NoMemory) }
 {
     match word_at(alloc, tokens, place) {
         Ok(word) => Refusal::Unsupported(word),
@@ -77,8 +78,8 @@ fn statement_by(alloc: Global, tokens: &Tokens) -> Result<Stmt, Refusal>
     }
 }
 
-/// The statement that a text is, or why it is none: its tokens, their words and the grammar are looked at in this
-/// order.
+/// The statement that a text is, or why it is none: its tokens, their words and the grammar are
+/// looked at in this order.
 pub fn statement_in(alloc: Global, text: &str) -> Result<Stmt, Refusal>
     ensures { OrMemory (statement_in text.now) result }
 {

@@ -23,7 +23,7 @@ use Rattle.hippo_model.specs.declared.schema.ColumnKind.TheVariants as columns
 use Rattle.hippo_model.specs.Keepable.{value_is_keepable}
 use Rattle.hippo_model.specs.Values.{has_kind, fits}
 use Rattle.hippo_csv.specs.Records.{is_integer_text, field_value, cell_field}
-use Rattle.hippo_csv.specs.Loading.{is_numeral}
+use Rattle.hippo_csv.specs.Loading.{is_signed_numeral}
 use Rattle.hippo_csv.specs.RecordLaws.{is_empty_text}
 
 own : IsNumeralModel (λ ds. list_all is_ascii_digit ds ≡ true) (digits_value 10)
@@ -34,14 +34,14 @@ digit-signs : (byte : ℕ) → is_ascii_digit byte ≡ true → ((byte == 45) �
 digit-signs byte is = (grind (arith, nat_tests), grind (arith, nat_tests))
 
 plain-number : (digits : List ℕ) → 0 < length digits → list_all is_ascii_digit digits ≡ true
-    → (is_numeral digits ≡ true) × (signed_digits_value 10 digits ≡ pos (digits_value 10 digits)) × ((length digits == 0) ≡ false)
+    → (is_signed_numeral digits ≡ true) × (signed_digits_value 10 digits ≡ pos (digits_value 10 digits)) × ((length digits == 0) ≡ false)
 plain-number [] some are = absurd (omega arith)
 plain-number (digit ∷ digits) some are =
     let signs = digit-signs digit (and_parts _ _ are).0 in
     let filled : (length (digit ∷ digits) == 0) ≡ false = grind (arith, nat_tests) in
     rw (signs.0, signs.1, filled, are) (refl, refl, refl)
 
-negative-number : (digits : List ℕ) → 0 < length digits → list_all is_ascii_digit digits ≡ true → is_numeral (45 ∷ digits) ≡ true
+negative-number : (digits : List ℕ) → 0 < length digits → list_all is_ascii_digit digits ≡ true → is_signed_numeral (45 ∷ digits) ≡ true
 negative-number digits some are =
     let filled : (length digits == 0) ≡ false = grind (arith, nat_tests) in
     rw (filled, are) refl

@@ -8,7 +8,7 @@ use Rattle.std.proofs.lemmas.Bool.{cases_Bool, and_parts}
 use Rattle.std.proofs.lemmas.Bool.Decides.{nat_tests}
 use Rattle.hippo_values.specs.Moments.{is_signed_number}
 use Rattle.hippo_lexer.specs.Cutting.{number_of, IsNumeral}
-use Rattle.hippo_csv.specs.Loading.{is_numeral}
+use Rattle.hippo_csv.specs.Loading.{is_signed_numeral}
 
 -- some digits are digits, at least one
 digits-some : (digits : List ℕ) → (not (length digits == 0) && list_all is_ascii_digit digits) ≡ true
@@ -20,7 +20,7 @@ digits-some (digit ∷ digits) are = (omega arith, (and_parts _ _ are).1)
 digit-no_plus : (byte : ℕ) → is_ascii_digit byte ≡ true → (byte == 43) ≡ false
 digit-no_plus byte is = grind (arith, nat_tests)
 
-pub numeral : (text : List ℕ) → is_numeral text ≡ true → IsNumeral text
+pub numeral : (text : List ℕ) → is_signed_numeral text ≡ true → IsNumeral text
 numeral [] is = absurd cc
 numeral (first ∷ rest) is = elim (cases_Bool (first == 45)) [
   | inl minus ↦
@@ -32,7 +32,7 @@ numeral (first ∷ rest) is = elim (cases_Bool (first == 45)) [
 ]
 
 -- the number that the cut makes of digits is their value, where it fits
-pub number-of_numeral : (text : List ℕ) → is_numeral text ≡ true
+pub number-of_numeral : (text : List ℕ) → is_signed_numeral text ≡ true
     → number_of text ≡ then_some (is_signed_number (signed_digits_value 10 text)) (signed_digits_value 10 text)
 unfolding number_of
 number-of_numeral [] is = absurd cc

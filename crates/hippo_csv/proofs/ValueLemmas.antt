@@ -11,7 +11,7 @@ use Rattle.hippo_model.specs.Terms.{Row}
 use Rattle.hippo_csv.specs.declared.faults.CsvFault.{CsvFault}
 use Rattle.hippo_csv.specs.declared.faults.CsvFault.TheVariants as faults
 use Rattle.hippo_csv.specs.Records.{field_value}
-use Rattle.hippo_csv.specs.Loading.{Gives, all_values}
+use Rattle.hippo_csv.specs.Loading.{GivesValues, all_values}
 
 -- behind values that are there stands the first that is not
 missing-behind : (row : Row) (rest : List (Option Value)) → position_or_len is_none (map Some row ++ None ∷ rest) ≡ length row
@@ -89,7 +89,7 @@ none-missing columns fields row place past front =
 
 -- a fault of the value at a place is that of the values
 pub fault-so : (value : Option Value) (place : ℕ) (fault : CsvFault) (right : Result Row CsvFault)
-    → Gives (Err fault) (ok_or value (faults.Field place)) → (value ≡ None → right ≡ Err (faults.Field place)) → Gives (Err fault) right
+    → GivesValues (Err fault) (ok_or value (faults.Field place)) → (value ≡ None → right ≡ Err (faults.Field place)) → GivesValues (Err fault) right
 fault-so None place faults.Count right is so = absurd cc
 fault-so None place (faults.Field at) right is so =
     let same : at ≡ place = cc in

@@ -12,15 +12,16 @@ use Rattle.hippo_csv.specs.declared.faults.CsvFault.TheVariants as faults
 use Rattle.hippo_csv.specs.Records.{without_sign, field_values}
 
 -- What a call answers is this, or want of memory.
-abbrev pub Gives : {A : Type 0} → Result A CsvFault → Result A CsvFault → Type 0
-Gives (Ok found) right = right ≡ Ok found
-Gives (Err faults.Count) right = right ≡ Err faults.Count
-Gives (Err (faults.Field place)) right = right ≡ Err (faults.Field place)
-Gives (Err faults.Memory) right = Unit {0}
+abbrev pub GivesValues : {A : Type 0} → Result A CsvFault → Result A CsvFault → Type 0
+GivesValues (Ok found) right = right ≡ Ok found
+GivesValues (Err faults.Count) right = right ≡ Err faults.Count
+GivesValues (Err (faults.Field place)) right = right ≡ Err (faults.Field place)
+GivesValues (Err faults.Memory) right = Unit {0}
 
 -- digits, one or more, with a `-` before them or not
-abbrev pub is_numeral : Txt → Bool
-is_numeral text = not (length (without_sign text) == 0) && list_all is_ascii_digit (without_sign text)
+abbrev pub is_signed_numeral : Txt → Bool
+is_signed_numeral text =
+    not (length (without_sign text) == 0) && list_all is_ascii_digit (without_sign text)
 
 -- the values that are there, unless one is not: then the place of the first such
 abbrev pub all_values : List (Option Value) → Result Row CsvFault
@@ -31,4 +32,5 @@ all_values values =
 -- the row of a table that the fields of a record are: a value for each column, of the column's form
 abbrev pub row_of_fields : Schema → List Txt → Result Row CsvFault
 row_of_fields schema fields =
-    if length fields == length schema.columns then all_values (field_values schema fields) else Err faults.Count
+    if length fields == length schema.columns then all_values (field_values schema fields)
+    else Err faults.Count

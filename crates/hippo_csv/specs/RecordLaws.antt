@@ -32,8 +32,8 @@ first_has_mark row = false
 abbrev pub record_of_row : Row → Txt
 record_of_row row = row_text default_writer (map (λ value. cell_field (Shown value)) row)
 
--- a row of a table with at least one column, of values that can be kept, of which none is an empty text and the first
--- begins with no byte order mark
+-- a row of a table with at least one column, of values that can be kept, of which none is an empty
+-- text and the first begins with no byte order mark
 pub record IsExtractable (schema : Schema) (row : Row) : Type 0 where
   pub fits : row_fits schema row ≡ true
   pub some : 0 < length row

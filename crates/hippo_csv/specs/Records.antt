@@ -39,7 +39,8 @@ is_integer_text text =
 
 -- the value of a field for a column of a kind, if it is of the form; an empty field is NULL
 abbrev pub filled_value : ColumnKind → Txt → Option Value
-filled_value columns.Integer text = then_some (is_integer_text text) (values.Int (signed_digits_value 10 text))
+filled_value columns.Integer text =
+    then_some (is_integer_text text) (values.Int (signed_digits_value 10 text))
 filled_value columns.Text text = Some (values.Text text)
 filled_value columns.Date text = option_map values.Day (day_of text)
 
@@ -48,7 +49,8 @@ field_value kind text = if length text == 0 then Some values.Null else filled_va
 
 -- the values of a record's fields; where a field is not of its form, there is none
 abbrev pub field_values : Schema → List Txt → List (Option Value)
-field_values schema fields = map (λ (column, field). field_value column.kind field) (zip schema.columns fields)
+field_values schema fields =
+    map (λ (column, field). field_value column.kind field) (zip schema.columns fields)
 
 -- a cell as a field of a record
 abbrev pub cell_field : Cell → Txt
@@ -58,4 +60,5 @@ cell_field cell = cell_text cell
 
 -- one row of an answer as a record
 abbrev pub extract_line : ℕ → ShownRow → Txt
-extract_line session row = decimal session ++ (codes " csv " ++ row_text default_writer (map cell_field row))
+extract_line session row =
+    decimal session ++ (codes " csv " ++ row_text default_writer (map cell_field row))

@@ -24,7 +24,8 @@ fn print_denied(rule: u64, text: &mut Txt) -> Result<(), Memory>
 }
 
 fn push_printed(value: &Value, text: &mut Txt, fields: &mut StringRecord) -> Result<(), Memory>
-    ensures { OnOk result (fields_of fields.new ≡ fields_of fields.old ++ cell_text (Shown value.now) ∷ []) }
+    ensures { OnOk result (fields_of fields.new
+        ≡ fields_of fields.old ++ cell_text (Shown value.now) ∷ []) }
 {
     text.clear();
     print_value(value, text)?;
@@ -33,7 +34,8 @@ fn push_printed(value: &Value, text: &mut Txt, fields: &mut StringRecord) -> Res
 }
 
 fn push_denied(rule: u64, text: &mut Txt, fields: &mut StringRecord) -> Result<(), Memory>
-    ensures { OnOk result (fields_of fields.new ≡ fields_of fields.old ++ cell_field (Denied rule) ∷ []) }
+    ensures { OnOk result (fields_of fields.new
+        ≡ fields_of fields.old ++ cell_field (Denied rule) ∷ []) }
 {
     text.clear();
     print_denied(rule, text)?;
@@ -42,7 +44,8 @@ fn push_denied(rule: u64, text: &mut Txt, fields: &mut StringRecord) -> Result<(
 }
 
 fn push_shown(value: &Value, text: &mut Txt, fields: &mut StringRecord) -> Result<(), Memory>
-    ensures { OnOk result (fields_of fields.new ≡ fields_of fields.old ++ cell_field (Shown value.now) ∷ []) }
+    ensures { OnOk result (fields_of fields.new
+        ≡ fields_of fields.old ++ cell_field (Shown value.now) ∷ []) }
 {
     match value {
         Value::Null => fields.push_field("")?,
@@ -54,7 +57,8 @@ fn push_shown(value: &Value, text: &mut Txt, fields: &mut StringRecord) -> Resul
 }
 
 fn push_cell(cell: &Cell, text: &mut Txt, fields: &mut StringRecord) -> Result<(), Memory>
-    ensures { OnOk result (fields_of fields.new ≡ fields_of fields.old ++ cell_field cell.now ∷ []) }
+    ensures { OnOk result (fields_of fields.new
+        ≡ fields_of fields.old ++ cell_field cell.now ∷ []) }
 {
     match cell {
         Cell::Shown(value) => push_shown(value, text, fields),
@@ -85,8 +89,8 @@ fn write_record(writer: &mut Writer<Vec<u8>>, fields: &StringRecord) -> Result<(
     Ok(())
 }
 
-// What the rows of an answer are written with: one writer for all of them, whose records may differ in length, the
-// record of the row at hand, and a text where a cell is printed.
+// What the rows of an answer are written with: one writer for all of them, whose records may differ
+// in length, the record of the row at hand, and a text where a cell is printed.
 #[derive(Drop)]
 struct Extractor {
     writer: Writer<Vec<u8>>,
@@ -114,7 +118,8 @@ fn append_line<const ROOM: usize>(
     line: &[u8],
     out: &mut RoomyTxt<ROOM>,
 ) -> Result<(), Memory>
-    ensures ok { OnOk result (out.new ≡ out.old ++ (decimal session ++ (codes " csv " ++ line.now))) }
+    ensures ok { OnOk result (out.new ≡ out.old
+        ++ (decimal session ++ (codes " csv " ++ line.now))) }
     ensures err { OnErr result (KeepsFront out.old out.new) }
 {
     match str::from_utf8(line) {
@@ -176,9 +181,10 @@ fn append_answer<const ROOM: usize>(
     appended
 }
 
-/// Adds the rows of an answer to a session as records by RFC 4180: for each one `N csv `, the record, and a line feed.
-/// A text is its field as it stands, NULL the empty field, every other value is printed as in SQL, and a denied cell as
-/// `DENIED(e)` with the number of its rule. The text is unchanged where memory is short.
+/// Adds the rows of an answer to a session as records by RFC 4180: for each one `N csv `, the
+/// record, and a line feed. A text is its field as it stands, NULL the empty field, every other
+/// value is printed as in SQL, and a denied cell as `DENIED(e)` with the number of its rule. The
+/// text is unchanged where memory is short.
 pub fn extract_lines<const ROOM: usize>(
     alloc: Global,
     session: u8,
@@ -196,8 +202,8 @@ pub fn extract_lines<const ROOM: usize>(
     written
 }
 
-/// Adds one row of an answer to a session as a record, as `extract_lines` does. The text is unchanged where memory is
-/// short.
+/// Adds one row of an answer to a session as a record, as `extract_lines` does. The text is
+/// unchanged where memory is short.
 pub fn extract_line<const ROOM: usize>(
     alloc: Global,
     session: u8,

@@ -38,9 +38,10 @@ fn copied_fields(alloc: Global, read: &StringRecord) -> Result<Fields, Memory>
     Ok(fields)
 }
 
-/// The fields of the one record that a text is, by RFC 4180 without a header line; none where the text is not exactly
-/// one record. A byte order mark in front is no part of it, and lines that are empty are no records. Every fault of
-/// the reader is want of memory, since it reads from memory a text whose records may have any length.
+/// The fields of the one record that a text is, by RFC 4180 without a header line; none where the
+/// text is not exactly one record. A byte order mark in front is no part of it, and lines that are
+/// empty are no records. Every fault of the reader is want of memory, since it reads from memory a
+/// text whose records may have any length.
 pub fn read_fields(alloc: Global, text: &str) -> Result<Option<Fields>, Memory>
     ensures { IfOk result (λ fields. fields ≡ record_fields text.now) }
 {

@@ -9,7 +9,7 @@ ghost use Rattle.hippo_lexer.specs.Cutting.{day_of};
 ghost use Rattle.hippo_model.specs.declared.schema.ColumnKind.TheVariants as columns;
 ghost use Rattle.hippo_csv.specs.declared.faults.CsvFault.TheVariants as faults;
 ghost use Rattle.hippo_csv.specs.Records.{without_sign, is_integer_text, filled_value, field_value, field_values};
-ghost use Rattle.hippo_csv.specs.Loading.{Gives, is_numeral, all_values, row_of_fields};
+ghost use Rattle.hippo_csv.specs.Loading.{GivesValues, is_signed_numeral, all_values, row_of_fields};
 
 use crate::faults::CsvFault;
 use crate::fields::Fields;
@@ -34,7 +34,7 @@ fn are_digits(bytes: &[u8]) -> bool
 
 // Digits, at least one, with a `-` before them or not.
 fn is_numeral(bytes: &[u8]) -> bool
-    ensures { result ≡ is_numeral bytes.now }
+    ensures { result ≡ is_signed_numeral bytes.now }
 {
     let digits = without_sign(bytes);
     !digits.is_empty() && are_digits(digits)
@@ -42,9 +42,10 @@ fn is_numeral(bytes: &[u8]) -> bool
 
 // The number that digits write; none where it does not fit.
 fn number_of(text: &str) -> Option<i64>
-    requires { is_numeral text.now ≡ true }
+    requires { is_signed_numeral text.now ≡ true }
     ensures { result
-        ≡ then_some (is_signed_number (signed_digits_value 10 text.now)) (signed_digits_value 10 text.now) }
+        ≡ then_some (is_signed_number (signed_digits_value 10 text.now))
+        (signed_digits_value 10 text.now) }
 {
     text.parse::<i64>().ok()
 }
@@ -106,7 +107,7 @@ fn field_value(alloc: Global, kind: ColumnKind, text: &str) -> Result<Option<Val
 
 // The value of the field at a place.
 fn value_at(alloc: Global, kind: ColumnKind, text: &str, place: usize) -> Result<Value, CsvFault>
-    ensures { Gives result (ok_or (field_value kind text.now) (faults.Field place)) }
+    ensures { GivesValues result (ok_or (field_value kind text.now) (faults.Field place)) }
 {
     field_value(alloc, kind, text)?.ok_or(CsvFault::Field(place))
 }
@@ -114,7 +115,7 @@ fn value_at(alloc: Global, kind: ColumnKind, text: &str, place: usize) -> Result
 // The values of as many fields as the table has columns.
 fn all_values(alloc: Global, schema: &Schema, fields: &Fields) -> Result<Cells, CsvFault>
     requires { length fields.now ≡ length schema.now.columns }
-    ensures { Gives result (all_values (field_values schema.now fields.now)) }
+    ensures { GivesValues result (all_values (field_values schema.now fields.now)) }
 {
     let mut row = Cells::new(alloc);
     for (place, field) in fields.as_slice().iter().enumerate() {
@@ -124,12 +125,13 @@ fn all_values(alloc: Global, schema: &Schema, fields: &Fields) -> Result<Cells, 
     Ok(row)
 }
 
-/// The row of a table that the fields of a record are. An empty field is NULL; for INTEGER a field is digits with a `-`
-/// before them or not, within 64 bits; for DATE a day as `YYYY-MM-DD`; for TEXT it is the text itself. Answered with
-/// `Count` where there are more or fewer fields than columns, else with `Field` where a field is not of its column's
-/// form: the place of the first one.
+/// The row of a table that the fields of a record are. An empty field is NULL; for INTEGER a field
+/// is digits with a `-` before them or not, within 64 bits; for DATE a day as `YYYY-MM-DD`; for
+/// TEXT it is the text itself. Answered with `Count` where there are more or fewer fields than
+/// columns, else with `Field` where a field is not of its column's form: the place of the first
+/// one.
 pub fn field_values(alloc: Global, schema: &Schema, fields: &Fields) -> Result<Cells, CsvFault>
-    ensures { Gives result (row_of_fields schema.now fields.now) }
+    ensures { GivesValues result (row_of_fields schema.now fields.now) }
 {
     if fields.len() == schema.columns.len() {
         all_values(alloc, schema, fields)

@@ -11,7 +11,7 @@ use Rattle.hippo_model.specs.declared.query.Operand.{Operand}
 use Rattle.hippo_model.specs.declared.query.Operand.TheVariants.{Column}
 use Rattle.hippo_model.specs.declared.query.Query.{Query}
 use Rattle.hippo_model.specs.declared.query.Ref.{Ref}
-use Rattle.hippo_model.specs.Columns.{columns_in, condition_columns, named_column, named, same_column}
+use Rattle.hippo_model.specs.Columns.{columns_in, condition_columns, named_column, query_columns, same_column}
 use Rattle.hippo_model.specs.Terms.{Place}
 use Rattle.hippo_model.proofs.NamedColumns.{condition_columns-All, condition_columns-Any, condition_columns-Not, condition_columns-Compare, condition_columns-Between, condition_columns-Among, condition_columns-Missing}
 use Rattle.hippo_typing.proofs.LastingNames.{any-append}
@@ -68,7 +68,7 @@ module _ (test : Ref → Bool) where
 pub ruleset any_column = (any-All, any-Any, any-Not, any-Compare, any-Between, any-Among, any-Missing)
 
 -- a query names a column in its items or in its condition
-pub named_any : (query : Query) (column : Name × Place) → list_any (same_column column) (named query) ≡ (list_any (is_it query.tables column) query.items || list_any (is_it query.tables column) (condition_columns query.cond))
+pub named_any : (query : Query) (column : Name × Place) → list_any (same_column column) (query_columns query) ≡ (list_any (is_it query.tables column) query.items || list_any (is_it query.tables column) (condition_columns query.cond))
 named_any query column =
     any_mapped (same_column column) (named_column query.tables) (query.items ++ condition_columns query.cond)
     ∙ any-append (is_it query.tables column) query.items (condition_columns query.cond)
@@ -83,9 +83,9 @@ second_or a b false second whole is fails other same = other ∙ sym same
 
 module _ (query : Query) (column : Name × Place) (among : Bool) (is : among ≡ list_any (is_it query.tables column) query.items) where
   -- a column stands in the items of a query
-  pub named_items : among ≡ true → among ≡ list_any (same_column column) (named query)
+  pub named_items : among ≡ true → among ≡ list_any (same_column column) (query_columns query)
   named_items holds = first_or among _ _ _ is holds (named_any query column)
 
   -- or in its condition
-  pub named_condition : (spoken : Bool) → among ≡ false → spoken ≡ list_any (is_it query.tables column) (condition_columns query.cond) → spoken ≡ list_any (same_column column) (named query)
+  pub named_condition : (spoken : Bool) → among ≡ false → spoken ≡ list_any (is_it query.tables column) (condition_columns query.cond) → spoken ≡ list_any (same_column column) (query_columns query)
   named_condition spoken fails other = second_or among spoken _ _ _ is fails other (named_any query column)

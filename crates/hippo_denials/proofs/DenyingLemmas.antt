@@ -21,7 +21,7 @@ use Rattle.hippo_keeper.specs.Answering.{has_failed}
 use Rattle.hippo_keeper.specs.Keeping.{KeeperState, IsReady, KeepsSame}
 use Rattle.hippo_catalog.specs.Catalogs.{KnownNames, known_at, table_of}
 use Rattle.hippo_catalog.proofs.ListLemmas.{drop_at_item}
-use Rattle.hippo_policy.specs.Books.{StandsFor}
+use Rattle.hippo_policy.specs.Books.{BookStandsFor}
 use Rattle.hippo_typing.specs.Meanings.{meaning}
 use Rattle.hippo_rewrite.proofs.FittingRows.{schema_named}
 use Rattle.hippo_backlog.specs.Backlogs.{versions_of, IsSnapshot, Snapshots}
@@ -35,8 +35,8 @@ use Rattle.hippo_denials.specs.declared.faults.DenialsFault.TheVariants.{Read, T
 use Rattle.hippo_denials.specs.declared.faults.ListFault.{ListFault}
 use Rattle.hippo_denials.specs.declared.faults.ListFault.TheVariants as lists
 use Rattle.hippo_denials.specs.declared.rows.RulesThen.{RulesThen}
-use Rattle.hippo_denials.specs.Listing.{context_of, listed_columns, rows_denials, fault_of, Lists}
-use Rattle.hippo_denials.specs.Denying.{as_call, FitsTable, FitsQuery, one_table, tables_denials, one_count, tables_versions, Adds, Reads}
+use Rattle.hippo_denials.specs.Listing.{rules_context, denial_columns, rows_denials, listing_fault, Lists}
+use Rattle.hippo_denials.specs.Denying.{listing_as_call, FitsTable, FitsQuery, one_table, tables_denials, one_count, tables_versions, AddsDenials, ReadsDenials}
 use Rattle.hippo_denials.proofs.ListingLemmas.{table_is}
 use Rattle.hippo_denials.proofs.QuestionLemmas.{schema_then, not_unknown}
 
@@ -58,33 +58,33 @@ same_store before after history keeps store = record { forms = store.forms ∙ s
 
 module _ {fits : History → Type 0} {wanted : History → List Denial} {count : History → ℕ} {limit : ℕ} where
   -- nothing was read
-  pub Reads-none : (result : Result (Unit {0}) DenialsFault) (old new : List Denial) (keeper : KeeperState) (steps : ℕ) → IsReady true keeper → has_failed (as_call result) ≡ false
-      → ((history : History) → IsStoreOf meaning keeper.kept history → fits history → Adds limit (wanted history) result old new)
-      → Reads fits wanted count limit result old new keeper keeper steps steps
-  Reads-none result old new keeper steps ready good adds = record {
-    call = IsAfterCall-none (as_call result) keeper good ready;
+  pub ReadsDenials-none : (result : Result (Unit {0}) DenialsFault) (old new : List Denial) (keeper : KeeperState) (steps : ℕ) → IsReady true keeper → has_failed (listing_as_call result) ≡ false
+      → ((history : History) → IsStoreOf meaning keeper.kept history → fits history → AddsDenials limit (wanted history) result old new)
+      → ReadsDenials fits wanted count limit result old new keeper keeper steps steps
+  ReadsDenials-none result old new keeper steps ready good adds = record {
+    call = IsAfterCall-none (listing_as_call result) keeper good ready;
     stays = λ tells. KeepsSame-here keeper;
     told = λ tells history store fit. record { adds = adds history store fit; few = omega arith };
   }
 
   -- what fits less, wants the same and counts no fewer
-  pub Reads-weaker : {fits' : History → Type 0} {wanted' : History → List Denial} {count' : History → ℕ} (result : Result (Unit {0}) DenialsFault) (old new : List Denial) (before after : KeeperState) (steps steps' : ℕ)
+  pub ReadsDenials-weaker : {fits' : History → Type 0} {wanted' : History → List Denial} {count' : History → ℕ} (result : Result (Unit {0}) DenialsFault) (old new : List Denial) (before after : KeeperState) (steps steps' : ℕ)
       → ((history : History) → IsStoreOf meaning before.kept history → fits' history → fits history × (wanted history ≡ wanted' history) × (count history ≤ count' history))
-      → Reads fits wanted count limit result old new before after steps steps' → Reads fits' wanted' count' limit result old new before after steps steps'
-  Reads-weaker result old new before after steps steps' same reads = record {
+      → ReadsDenials fits wanted count limit result old new before after steps steps' → ReadsDenials fits' wanted' count' limit result old new before after steps steps'
+  ReadsDenials-weaker result old new before after steps steps' same reads = record {
     call = reads.call;
     stays = reads.stays;
     told = λ tells history store fit.
         let parts = same history store fit in
         let added = reads.told tells history store parts.0 in
         record {
-          adds = subst (λ (w : List Denial). Adds limit w result old new) parts.1 added.adds;
+          adds = subst (λ (w : List Denial). AddsDenials limit w result old new) parts.1 added.adds;
           few = omega (arith, added.few, parts.2);
         };
   }
 
 -- what is added behind what was added
-adds_then : (limit : ℕ) (first second : List Denial) (result : Result (Unit {0}) DenialsFault) (old mid new : List Denial) → mid ≡ old ++ first → Adds limit second result mid new → Adds limit (first ++ second) result old new
+adds_then : (limit : ℕ) (first second : List Denial) (result : Result (Unit {0}) DenialsFault) (old mid new : List Denial) → mid ≡ old ++ first → AddsDenials limit second result mid new → AddsDenials limit (first ++ second) result old new
 adds_then limit first second (Ok tt) old mid new is adds = adds ∙ ap (λ l. l ++ second) is ∙ append_assoc old first second
 adds_then limit first second (Err TooMany) old mid new is adds = subst (λ (l : List Denial). limit < length l) (ap (λ l. l ++ second) is ∙ append_assoc old first second) adds
 adds_then limit first second (Err (Read Keeper)) old mid new is adds = tt
@@ -92,7 +92,7 @@ adds_then limit first second (Err (Read (Damaged number))) old mid new is adds =
 adds_then limit first second (Err (Read Memory)) old mid new is adds = tt
 
 -- a fault stays where more is wanted
-adds_fault : (limit : ℕ) (first second : List Denial) (fault : DenialsFault) (old new : List Denial) → Adds limit first (Err fault) old new → Adds limit (first ++ second) (Err fault) old new
+adds_fault : (limit : ℕ) (first second : List Denial) (fault : DenialsFault) (old new : List Denial) → AddsDenials limit first (Err fault) old new → AddsDenials limit (first ++ second) (Err fault) old new
 adds_fault limit first second TooMany old new adds = omega (arith, adds, length-append old first, length-append old (first ++ second), length-append first second)
 adds_fault limit first second (Read Keeper) old new adds = tt
 adds_fault limit first second (Read (Damaged number)) old new adds = adds
@@ -100,11 +100,11 @@ adds_fault limit first second (Read Memory) old new adds = tt
 
 module _ {fits : History → Type 0} {first second : History → List Denial} {one other : History → ℕ} {limit : ℕ} where
   -- one reading, and then another
-  pub Reads-then : (result : Result (Unit {0}) DenialsFault) (old mid new : List Denial) (before between after : KeeperState) (steps steps' steps'' : ℕ)
-      → Reads fits first one limit ok old mid before between steps steps' → Reads fits second other limit result mid new between after steps' steps''
-      → Reads fits (λ history. first history ++ second history) (λ history. one history + other history) limit result old new before after steps steps''
-  Reads-then result old mid new before between after steps steps' steps'' here there = record {
-    call = IsAfterCall-then false (as_call ok) (as_call result) before between after refl here.call there.call;
+  pub ReadsDenials-then : (result : Result (Unit {0}) DenialsFault) (old mid new : List Denial) (before between after : KeeperState) (steps steps' steps'' : ℕ)
+      → ReadsDenials fits first one limit ok old mid before between steps steps' → ReadsDenials fits second other limit result mid new between after steps' steps''
+      → ReadsDenials fits (λ history. first history ++ second history) (λ history. one history + other history) limit result old new before after steps steps''
+  ReadsDenials-then result old mid new before between after steps steps' steps'' here there = record {
+    call = IsAfterCall-then false (listing_as_call ok) (listing_as_call result) before between after refl here.call there.call;
     stays = λ tells. KeepsSame-then before between after (here.stays (there.call.told tells)) (there.stays tells);
     told = λ tells history store fit.
         let earlier = here.told (there.call.told tells) history store fit in
@@ -114,10 +114,10 @@ module _ {fits : History → Type 0} {first second : History → List Denial} {o
 
 module _ {fits : History → Type 0} {first : History → List Denial} {one : History → ℕ} {limit : ℕ} (second : History → List Denial) (other : History → ℕ) where
   -- a reading that failed
-  pub Reads-fault : (fault : DenialsFault) (old new : List Denial) (before after : KeeperState) (steps steps' : ℕ)
-      → Reads fits first one limit (Err fault) old new before after steps steps'
-      → Reads fits (λ history. first history ++ second history) (λ history. one history + other history) limit (Err fault) old new before after steps steps'
-  Reads-fault fault old new before after steps steps' here = record {
+  pub ReadsDenials-fault : (fault : DenialsFault) (old new : List Denial) (before after : KeeperState) (steps steps' : ℕ)
+      → ReadsDenials fits first one limit (Err fault) old new before after steps steps'
+      → ReadsDenials fits (λ history. first history ++ second history) (λ history. one history + other history) limit (Err fault) old new before after steps steps'
+  ReadsDenials-fault fault old new before after steps steps' here = record {
     call = here.call;
     stays = here.stays;
     told = λ tells history store fit.
@@ -128,24 +128,24 @@ module _ {fits : History → Type 0} {first : History → List Denial} {one : Hi
 -- what is listed, where rows are read
 abbrev pub listed_as : Result (Unit {0}) ListFault → Result (Unit {0}) DenialsFault
 listed_as (Ok tt) = Ok tt
-listed_as (Err fault) = Err (fault_of fault)
+listed_as (Err fault) = Err (listing_fault fault)
 
-adds_listed : (limit : ℕ) (wanted : List Denial) (listed : Result (Unit {0}) ListFault) (old new : List Denial) → Lists limit wanted listed old new → Adds limit wanted (listed_as listed) old new
+adds_listed : (limit : ℕ) (wanted : List Denial) (listed : Result (Unit {0}) ListFault) (old new : List Denial) → Lists limit wanted listed old new → AddsDenials limit wanted (listed_as listed) old new
 adds_listed limit wanted (Ok tt) old new lists = lists
 adds_listed limit wanted (Err lists.TooMany) old new lists = lists
 adds_listed limit wanted (Err lists.Memory) old new lists = tt
 
-listed_good : (listed : Result (Unit {0}) ListFault) → has_failed (as_call (listed_as listed)) ≡ false
+listed_good : (listed : Result (Unit {0}) ListFault) → has_failed (listing_as_call (listed_as listed)) ≡ false
 listed_good (Ok tt) = refl
 listed_good (Err lists.TooMany) = refl
 listed_good (Err lists.Memory) = refl
 
-adds_unread : (limit : ℕ) (wanted : List Denial) (fault : ReadFault) (old new : List Denial) → ((place : ℕ) → err_of KeyedRows fault ≢ Err (Damaged place)) → Adds limit wanted (Err (Read fault)) old new
+adds_unread : (limit : ℕ) (wanted : List Denial) (fault : ReadFault) (old new : List Denial) → ((place : ℕ) → err_of KeyedRows fault ≢ Err (Damaged place)) → AddsDenials limit wanted (Err (Read fault)) old new
 adds_unread limit wanted Keeper old new undamaged = tt
 adds_unread limit wanted (Damaged number) old new undamaged = undamaged number refl
 adds_unread limit wanted Memory old new undamaged = tt
 
-unread_same : (fault : ReadFault) → has_failed (as_call (err_of (Unit {0}) (Read fault))) ≡ has_failed (reads.as_call (err_of KeyedRows fault))
+unread_same : (fault : ReadFault) → has_failed (listing_as_call (err_of (Unit {0}) (Read fault))) ≡ has_failed (reads.reading_as_call (err_of KeyedRows fault))
 unread_same Keeper = refl
 unread_same (Damaged number) = refl
 unread_same Memory = refl
@@ -165,10 +165,10 @@ module _ (schema : Schema) (rules : RulesThen) (query : Query) (limit : ℕ) (be
 
   -- a table's rows were read, and its denied cells listed
   pub table_read : (rows : KeyedRows) (listed : Result (Unit {0}) ListFault) (old new : List Denial) → Snapshots schema rules.count (Ok rows) before after steps steps'
-      → ((history : History) → StandsFor rules.book.now history → Lists limit (rows_denials (take rules.count history) (context_of rules) schema (listed_columns query schema) rows.rows) listed old new)
-      → Reads Fits (one_table rules query schema) (one_count schema) limit (listed_as listed) old new before after steps steps'
+      → ((history : History) → BookStandsFor rules.book.now history → Lists limit (rows_denials (take rules.count history) (rules_context rules) schema (denial_columns query schema) rows.rows) listed old new)
+      → ReadsDenials Fits (one_table rules query schema) (one_count schema) limit (listed_as listed) old new before after steps steps'
   table_read rows listed old new snapshots lists = record {
-    call = IsAfterCall-as true false (reads.as_call {A = KeyedRows} (Ok rows)) (as_call (listed_as listed)) before after (listed_good listed) snapshots.is_after;
+    call = IsAfterCall-as true false (reads.reading_as_call {A = KeyedRows} (Ok rows)) (listing_as_call (listed_as listed)) before after (listed_good listed) snapshots.is_after;
     stays = snapshots.stays;
     told = λ tells history store fit.
         let snapshot = snapshot_of snapshots tells history store fit in
@@ -176,7 +176,7 @@ module _ (schema : Schema) (rules : RulesThen) (query : Query) (limit : ℕ) (be
         record {
           adds = adds_listed limit (one_table rules query schema history) listed old new
               (subst (λ (w : List Denial). Lists limit w listed old new)
-              (ap (λ (r : KeyedRows). rows_denials (take rules.count history) (context_of rules) schema (listed_columns query schema) r.rows) rows_are ∙ table_is (take rules.count history) (context_of rules) query schema)
+              (ap (λ (r : KeyedRows). rows_denials (take rules.count history) (rules_context rules) schema (denial_columns query schema) r.rows) rows_are ∙ table_is (take rules.count history) (rules_context rules) query schema)
               (lists history fit.rules));
           few = snapshot.steps;
         };
@@ -184,9 +184,9 @@ module _ (schema : Schema) (rules : RulesThen) (query : Query) (limit : ℕ) (be
 
   -- they were not
   pub table_unread : (fault : ReadFault) (cells : List Denial) → Snapshots schema rules.count (Err fault) before after steps steps'
-      → Reads Fits (one_table rules query schema) (one_count schema) limit (Err (Read fault)) cells cells before after steps steps'
+      → ReadsDenials Fits (one_table rules query schema) (one_count schema) limit (Err (Read fault)) cells cells before after steps steps'
   table_unread fault cells snapshots = record {
-    call = IsAfterCall-as true false (reads.as_call (err_of KeyedRows fault)) (as_call (err_of (Unit {0}) (Read fault))) before after (unread_same fault) snapshots.is_after;
+    call = IsAfterCall-as true false (reads.reading_as_call (err_of KeyedRows fault)) (listing_as_call (err_of (Unit {0}) (Read fault))) before after (unread_same fault) snapshots.is_after;
     stays = snapshots.stays;
     told = λ tells history store fit.
         let snapshot = snapshot_of snapshots tells history store fit in
@@ -202,10 +202,10 @@ module _ (names : KnownNames) (rules : RulesThen) (query : Query) (limit : ℕ) 
 
   -- a table by its name
   pub named_read : (table : Name) (schema : Schema) (result : Result (Unit {0}) DenialsFault) (old new : List Denial) (before after : KeeperState) (steps steps' : ℕ) → table_of names table ≡ Some schema
-      → Reads (FitsTable schema rules.count rules.book.now) (one_table rules query schema) (one_count schema) limit result old new before after steps steps'
-      → Reads (FitsAll (table ∷ [])) (tables_denials rules query (table ∷ [])) (tables_versions (table ∷ [])) limit result old new before after steps steps'
+      → ReadsDenials (FitsTable schema rules.count rules.book.now) (one_table rules query schema) (one_count schema) limit result old new before after steps steps'
+      → ReadsDenials (FitsAll (table ∷ [])) (tables_denials rules query (table ∷ [])) (tables_versions (table ∷ [])) limit result old new before after steps steps'
   named_read table schema result old new before after steps steps' known reads =
-      Reads-weaker result old new before after steps steps' (λ history store fit.
+      ReadsDenials-weaker result old new before after steps steps' (λ history store fit.
       let created : schema_at (take rules.count history) table ≡ Some schema =
       schema_then rules.count history table schema store.valid (created_one table history fit) (ap (λ (k : KnownNames). table_of k table) (sym fit.known) ∙ known) in
       let named : schema.name ≡ table = schema_named (take rules.count history) table schema created in (
@@ -216,19 +216,19 @@ module _ (names : KnownNames) (rules : RulesThen) (query : Query) (limit : ℕ) 
 
   -- a table that is not there is none of a query's
   pub unknown_read : (table : Name) (number : ℕ) (cells : List Denial) (keeper : KeeperState) (steps : ℕ) → IsReady true keeper → table_of names table ≡ None
-      → Reads (FitsAll (table ∷ [])) (tables_denials rules query (table ∷ [])) (tables_versions (table ∷ [])) limit (Err (Read (Damaged number))) cells cells keeper keeper steps steps
+      → ReadsDenials (FitsAll (table ∷ [])) (tables_denials rules query (table ∷ [])) (tables_versions (table ∷ [])) limit (Err (Read (Damaged number))) cells cells keeper keeper steps steps
   unknown_read table number cells keeper steps ready unknown =
-      Reads-none (Err (Read (Damaged number))) cells cells keeper steps ready refl
+      ReadsDenials-none (Err (Read (Damaged number))) cells cells keeper steps ready refl
       (λ history store fit. not_unknown rules.count history table (created_one table history fit) (ap (λ (k : KnownNames). table_of k table) (sym fit.known) ∙ unknown))
 
   module _ (tables : List Name) where
     abbrev pub ReadsFront : ℕ → Result (Unit {0}) DenialsFault → List Denial → List Denial → KeeperState → KeeperState → ℕ → ℕ → Type 0
     ReadsFront place result old new before after steps steps' =
-        Reads (FitsAll tables) (tables_denials rules query (take place tables)) (tables_versions (take place tables)) limit result old new before after steps steps'
+        ReadsDenials (FitsAll tables) (tables_denials rules query (take place tables)) (tables_versions (take place tables)) limit result old new before after steps steps'
 
     -- no table was read yet
     pub front_none : (cells : List Denial) (keeper : KeeperState) (steps : ℕ) → IsReady true keeper → ReadsFront 0 ok cells cells keeper keeper steps steps
-    front_none cells keeper steps ready = Reads-none ok cells cells keeper steps ready refl (λ history store fit. sym (append-nil cells))
+    front_none cells keeper steps ready = ReadsDenials-none ok cells cells keeper steps ready refl (λ history store fit. sym (append-nil cells))
 
     module _ (place : ℕ) (table : Name) (is : slice_get tables place ≡ Some table) where
       whole : take place tables ++ table ∷ drop (place + 1) tables ≡ tables
@@ -259,16 +259,16 @@ module _ (names : KnownNames) (rules : RulesThen) (query : Query) (limit : ℕ) 
 
       module _ (result : Result (Unit {0}) DenialsFault) (old mid new : List Denial) (before between after : KeeperState) (steps steps' steps'' : ℕ)
           (so_far : ReadsFront place ok old mid before between steps steps')
-          (next : Reads (FitsAll (table ∷ [])) (tables_denials rules query (table ∷ [])) (tables_versions (table ∷ [])) limit result mid new between after steps' steps'') where
-        together : Reads (FitsAll tables) (λ history. tables_denials rules query (take place tables) history ++ tables_denials rules query (table ∷ []) history)
+          (next : ReadsDenials (FitsAll (table ∷ [])) (tables_denials rules query (table ∷ [])) (tables_versions (table ∷ [])) limit result mid new between after steps' steps'') where
+        together : ReadsDenials (FitsAll tables) (λ history. tables_denials rules query (take place tables) history ++ tables_denials rules query (table ∷ []) history)
             (λ history. tables_versions (take place tables) history + tables_versions (table ∷ []) history) limit result old new before after steps steps''
-        together = Reads-then result old mid new before between after steps steps' steps'' so_far
-            (Reads-weaker result mid new between after steps' steps'' (λ history store fit. (created_at history fit, refl, omega arith)) next)
+        together = ReadsDenials-then result old mid new before between after steps steps' steps'' so_far
+            (ReadsDenials-weaker result mid new between after steps' steps'' (λ history store fit. (created_at history fit, refl, omega arith)) next)
 
         -- one table more
         pub front_more : ReadsFront (place + 1) result old new before after steps steps''
         front_more =
-            Reads-weaker result old new before after steps steps'' (λ history store fit. (
+            ReadsDenials-weaker result old new before after steps steps'' (λ history store fit. (
               fit,
               sym (ap (λ (ts : List Name). tables_denials rules query ts history) one_more ∙ denials_front history [] ∙ append-nil _),
               omega (arith, ap (λ (ts : List Name). tables_versions ts history) one_more, counts_front history []),
@@ -277,14 +277,14 @@ module _ (names : KnownNames) (rules : RulesThen) (query : Query) (limit : ℕ) 
       -- a table could not be read
       pub front_fault : (fault : DenialsFault) (old mid new : List Denial) (before between after : KeeperState) (steps steps' steps'' : ℕ)
           → ReadsFront place ok old mid before between steps steps'
-          → Reads (FitsAll (table ∷ [])) (tables_denials rules query (table ∷ [])) (tables_versions (table ∷ [])) limit (Err fault) mid new between after steps' steps''
-          → Reads (FitsAll tables) (tables_denials rules query tables) (tables_versions tables) limit (Err fault) old new before after steps steps''
+          → ReadsDenials (FitsAll (table ∷ [])) (tables_denials rules query (table ∷ [])) (tables_versions (table ∷ [])) limit (Err fault) mid new between after steps' steps''
+          → ReadsDenials (FitsAll tables) (tables_denials rules query tables) (tables_versions tables) limit (Err fault) old new before after steps steps''
       front_fault fault old mid new before between after steps steps' steps'' so_far next =
           let later : List Name = drop (place + 1) tables in
-          Reads-weaker (Err fault) old new before after steps steps'' (λ history store fit. (
+          ReadsDenials-weaker (Err fault) old new before after steps steps'' (λ history store fit. (
             fit,
             sym (ap (λ (ts : List Name). tables_denials rules query ts history) (sym whole) ∙ denials_front history later),
             omega (arith, ap (λ (ts : List Name). tables_versions ts history) whole, counts_front history later),
           ))
-          (Reads-fault (tables_denials rules query later) (tables_versions later) fault old new before after steps steps''
+          (ReadsDenials-fault (tables_denials rules query later) (tables_versions later) fault old new before after steps steps''
           (together (Err fault) old mid new before between after steps steps' steps'' so_far next))

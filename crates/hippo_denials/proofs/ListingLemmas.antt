@@ -14,7 +14,7 @@ use Rattle.hippo_model.specs.Rows.{table_rows}
 use Rattle.hippo_model.specs.Terms.{History, Place, Row}
 use Rattle.hippo_model.specs.Verdicts.{Context, verdict}
 use Rattle.hippo_catalog.proofs.ListLemmas.{drop_at_item}
-use Rattle.hippo_denials.specs.Listing.{listed_columns, listed_denials, rows_denials}
+use Rattle.hippo_denials.specs.Listing.{denial_columns, listed_denials, rows_denials}
 
 -- what is made of members that pass a test is what is made of those that pass
 filter_map-filter : {A B : Type 0} (test : A → Bool) (make : A → Option B) (members : List A) → filter_map (λ member. if test member then make member else None) members ≡ filter_map make (filter test members)
@@ -27,13 +27,13 @@ filter_map-filter test make (first ∷ rest) = by (test first) (filter_map-filte
     by false later = later
 
 module _ (history : History) (context : Context) (query : Query) (schema : Schema) where
-  row_is : (kept : BornRow) → row_denials history context query schema kept ≡ listed_denials history context schema (listed_columns query schema) kept
+  row_is : (kept : BornRow) → row_denials history context query schema kept ≡ listed_denials history context schema (denial_columns query schema) kept
   row_is kept =
       filter_map-filter (λ (place, column). is_listed query schema place)
       (λ (place, column). denial_by schema kept.row column.name (verdict history context schema kept place)) (enumerate_from 0 schema.columns)
 
   -- the denied cells of a table are those of its rows in the columns that are listed
-  pub table_is : rows_denials history context schema (listed_columns query schema) (table_rows schema history) ≡ table_denials history context query schema
+  pub table_is : rows_denials history context schema (denial_columns query schema) (table_rows schema history) ≡ table_denials history context query schema
   table_is = sym (λ i. flat_map (λ kept. row_is kept i) (table_rows schema history))
 
 row_in : (found : Option BornRow) (row : Row) (born : Moment) → option_map (λ (kept : BornRow). kept.row) found ≡ Some row → option_map (λ (kept : BornRow). kept.born) found ≡ Some born → found ≡ Some (record { row = row; born = born })

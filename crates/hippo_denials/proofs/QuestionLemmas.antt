@@ -19,7 +19,7 @@ use Rattle.hippo_model.specs.Validity.{is_acceptable, is_authorized, may_follow,
 use Rattle.hippo_laws.specs.Audits.{StandsIn}
 use Rattle.hippo_laws.proofs.ValidFronts.{front_is_valid, entry_has_its_number}
 use Rattle.hippo_catalog.specs.Catalogs.{KnownNames, known_at, table_of}
-use Rattle.hippo_catalog.specs.Refusals.{refused, unknown_table, repeated_names}
+use Rattle.hippo_catalog.specs.Refusals.{fault_if, unknown_table, repeated_names}
 use Rattle.hippo_catalog.proofs.ListLemmas.{drop_at_item}
 use Rattle.hippo_typing.specs.Meanings.{meaning}
 use Rattle.hippo_typing.proofs.MeaningTheorem.{Means-found, found-Means}
@@ -38,7 +38,7 @@ both_none : {A : Type 0} (first second : List A) → first ++ second ≡ [] → 
 both_none [] second none = (refl, none)
 both_none (x ∷ rest) second none = absurd cc
 
-there : (found : Option Schema) (table : Name) → refused (is_none found) (UnknownTable table) ≡ [] → is_some found ≡ true
+there : (found : Option Schema) (table : Name) → fault_if (is_none found) (UnknownTable table) ≡ [] → is_some found ≡ true
 there None table none = absurd cc
 there (Some schema) table none = refl
 

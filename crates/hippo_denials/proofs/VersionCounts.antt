@@ -12,7 +12,7 @@ use Rattle.hippo_model.specs.declared.name_fault.NameFault.TheVariants.{Repeated
 use Rattle.hippo_model.specs.StoredForms.{table_changed}
 use Rattle.hippo_model.specs.Terms.{History}
 use Rattle.hippo_model.specs.Versions.{is_version, versions}
-use Rattle.hippo_catalog.specs.Refusals.{refused, repeated_after, repeated_names}
+use Rattle.hippo_catalog.specs.Refusals.{fault_if, repeated_after, repeated_names}
 use Rattle.hippo_typing.proofs.LastingNames.{any-append}
 use Rattle.hippo_backlog.specs.Backlogs.{is_version_of, versions_of}
 use Rattle.hippo_denials.specs.Denying.{tables_versions}
@@ -21,7 +21,7 @@ both_none : {A : Type 0} (first second : List A) → first ++ second ≡ [] → 
 both_none [] second none = (refl, none)
 both_none (x ∷ rest) second none = absurd cc
 
-unrefused : (test : Bool) (fault : NameFault) → refused test fault ≡ [] → test ≡ false
+unrefused : (test : Bool) (fault : NameFault) → fault_if test fault ≡ [] → test ≡ false
 unrefused true fault none = absurd cc
 unrefused false fault none = refl
 
@@ -42,7 +42,7 @@ at_most_once : (before names : List Name) (table : Name) → repeated_after befo
     → (list_any (bytes_eq table) before ≡ true → times table names ≡ 0) × (times table names ≤ 1)
 at_most_once before [] table none = (λ there. refl, omega arith)
 at_most_once before (name ∷ rest) table none =
-    let parts = both_none (refused (list_any (bytes_eq name) before) (RepeatedName name)) (repeated_after (before ++ name ∷ []) rest) none in
+    let parts = both_none (fault_if (list_any (bytes_eq name) before) (RepeatedName name)) (repeated_after (before ++ name ∷ []) rest) none in
     let new : list_any (bytes_eq name) before ≡ false = unrefused (list_any (bytes_eq name) before) (RepeatedName name) parts.0 in
     let later = at_most_once (before ++ name ∷ []) rest table parts.1 in
     let sum : times table (name ∷ rest) ≡ cond (bytes_eq table name) 1 0 + times table rest = sum_by-cons (λ n. cond (bytes_eq table n) 1 0) name rest in

@@ -17,7 +17,7 @@ use Rattle.hippo_keeper.specs.declared.faults.KeeperFault.{KeeperFault}
 use Rattle.hippo_keeper.specs.Keeping.{KeeperState, IsAfterCall, KeepsSame}
 use Rattle.hippo_catalog.specs.Catalogs.{KnownNames, known_at, table_of}
 use Rattle.hippo_policy.specs.declared.book.PolicyBook.{PolicyBook}
-use Rattle.hippo_policy.specs.Books.{StandsFor}
+use Rattle.hippo_policy.specs.Books.{BookStandsFor}
 use Rattle.hippo_typing.specs.Meanings.{meaning}
 use Rattle.hippo_backlog.specs.Backlogs.{versions_of}
 use Rattle.hippo_backlog.specs.Calls as reads
@@ -25,38 +25,43 @@ use Rattle.hippo_backlog.specs.declared.faults.ReadFault.TheVariants.{Keeper, Da
 use Rattle.hippo_denials.specs.declared.faults.DenialsFault.{DenialsFault}
 use Rattle.hippo_denials.specs.declared.faults.DenialsFault.TheVariants.{Read, TooMany}
 use Rattle.hippo_denials.specs.declared.rows.RulesThen.{RulesThen}
-use Rattle.hippo_denials.specs.Listing.{context_of}
+use Rattle.hippo_denials.specs.Listing.{rules_context}
 
 -- listing as one call of the keeper
-abbrev pub as_call : {A : Type 0} → Result A DenialsFault → Result (Unit {0}) KeeperFault
-as_call (Ok value) = Ok tt
-as_call (Err TooMany) = Ok tt
-as_call (Err (Read fault)) = reads.as_call {A = Unit {0}} (Err fault)
+abbrev pub listing_as_call : {A : Type 0} → Result A DenialsFault → Result (Unit {0}) KeeperFault
+listing_as_call (Ok value) = Ok tt
+listing_as_call (Err TooMany) = Ok tt
+listing_as_call (Err (Read fault)) = reads.reading_as_call {A = Unit {0}} (Err fault)
 
 -- what a table is among the first entries of a history, by the rules of the whole
-pub record FitsTable (schema : Schema) (count : ℕ) (book : PolicyBook) (history : History) : Type 0 where
-  pub rules : StandsFor book history
+pub record FitsTable (schema : Schema) (count : ℕ) (book : PolicyBook) (history : History)
+    : Type 0 where
+  pub rules : BookStandsFor book history
   pub created : schema_at (take count history) schema.name ≡ Some schema
   pub within : count ≤ length history
 
 -- tables are all created among the first entries
-pub record FitsQuery (tables : List Name) (names : KnownNames) (count : ℕ) (book : PolicyBook) (history : History)
+pub record FitsQuery (tables : List Name) (names : KnownNames) (count : ℕ) (book : PolicyBook)
+    (history : History)
     : Type 0 where
-  pub rules : StandsFor book history
+  pub rules : BookStandsFor book history
   pub known : names ≡ known_at history
-  pub created : list_all (λ table. is_some (table_of (known_at (take count history)) table)) tables ≡ true
+  pub created : list_all (λ table. is_some (table_of (known_at (take count history)) table)) tables
+      ≡ true
   pub within : count ≤ length history
 
 -- a text is that of a question that may follow the first entries
-pub record FitsText (text : Txt) (names : KnownNames) (count : ℕ) (book : PolicyBook) (history : History) : Type 0 where
-  pub rules : StandsFor book history
+pub record FitsText (text : Txt) (names : KnownNames) (count : ℕ) (book : PolicyBook)
+    (history : History) : Type 0 where
+  pub rules : BookStandsFor book history
   pub known : names ≡ known_at history
   pub means : is_some (meaning (take count history) text) ≡ true
   pub within : count ≤ length history
 
 -- the denied cells of a table, by the first entries of a history
 abbrev pub one_table : RulesThen → Query → Schema → History → List Denial
-one_table rules query schema history = table_denials (take rules.count history) (context_of rules) query schema
+one_table rules query schema history =
+    table_denials (take rules.count history) (rules_context rules) query schema
 
 -- those of tables by their names
 abbrev pub tables_denials : RulesThen → Query → List Name → History → List Denial
@@ -67,7 +72,7 @@ tables_denials rules query tables history =
 -- those of the query that a text means
 abbrev pub text_denials : RulesThen → Txt → History → List Denial
 text_denials rules text history =
-    option_map_or (query_denials (take rules.count history) (context_of rules))
+    option_map_or (query_denials (take rules.count history) (rules_context rules))
     (meaning (take rules.count history) text) []
 
 -- how many versions a table has, and tables, each by itself
@@ -77,31 +82,37 @@ one_count schema history = length (versions_of schema.name history)
 abbrev pub tables_versions : List Name → History → ℕ
 tables_versions tables history = sum_by (λ table. length (versions_of table history)) tables
 
--- the cells that are wanted are added; or they are more than so many, or the keeper failed, or memory was short
-abbrev pub Adds : ℕ → List Denial → Result (Unit {0}) DenialsFault → List Denial → List Denial → Type 0
-Adds limit wanted (Ok tt) old new = new ≡ old ++ wanted
-Adds limit wanted (Err TooMany) old new = limit < length (old ++ wanted)
-Adds limit wanted (Err (Read Keeper)) old new = Unit {0}
-Adds limit wanted (Err (Read (Damaged number))) old new = ⊥
-Adds limit wanted (Err (Read Memory)) old new = Unit {0}
+-- the cells that are wanted are added; or they are more than so many, or the keeper failed, or
+-- memory was short
+abbrev pub AddsDenials : ℕ → List Denial → Result (Unit {0}) DenialsFault → List Denial
+    → List Denial → Type 0
+AddsDenials limit wanted (Ok tt) old new = new ≡ old ++ wanted
+AddsDenials limit wanted (Err TooMany) old new = limit < length (old ++ wanted)
+AddsDenials limit wanted (Err (Read Keeper)) old new = Unit {0}
+AddsDenials limit wanted (Err (Read (Damaged number))) old new = ⊥
+AddsDenials limit wanted (Err (Read Memory)) old new = Unit {0}
 
 -- so it is done in at most so many steps
-pub record HasAdded (limit : ℕ) (wanted : List Denial) (versions : ℕ) (result : Result (Unit {0}) DenialsFault)
+pub record HasAdded (limit : ℕ) (wanted : List Denial) (versions : ℕ)
+    (result : Result (Unit {0}) DenialsFault)
     (old new : List Denial) (steps steps' : ℕ) : Type 0 where
-  pub adds : Adds limit wanted result old new
+  pub adds : AddsDenials limit wanted result old new
   pub few : steps' ≤ steps + versions
 
--- what reading tables does to a keeper; and it has added the cells that are wanted of each history that the keeper
--- tells, and that fits
-pub record Reads (fits : History → Type 0) (wanted : History → List Denial) (count : History → ℕ) (limit : ℕ)
+-- what reading tables does to a keeper; and it has added the cells that are wanted of each history
+-- that the keeper tells, and that fits
+pub record ReadsDenials (fits : History → Type 0) (wanted : History → List Denial)
+    (count : History → ℕ) (limit : ℕ)
     (result : Result (Unit {0}) DenialsFault) (old new : List Denial) (before after : KeeperState)
     (steps steps' : ℕ) : Type 0 where
-  pub call : IsAfterCall true false (as_call result) before after
+  pub call : IsAfterCall true false (listing_as_call result) before after
   pub stays : after.tells → KeepsSame before after
-  pub told : after.tells → (history : History) → IsStoreOf meaning before.kept history → fits history
+  pub told : after.tells → (history : History) → IsStoreOf meaning before.kept history
+      → fits history
       → HasAdded limit (wanted history) (count history) result old new steps steps'
 
--- the cells are those that are wanted, or there are more than so many, or the keeper failed, or memory was short
+-- the cells are those that are wanted, or there are more than so many, or the keeper failed, or
+-- memory was short
 abbrev pub IsAnswer : ℕ → List Denial → Result (List Denial) DenialsFault → Type 0
 IsAnswer limit wanted (Ok cells) = (cells ≡ wanted) × (length wanted ≤ limit)
 IsAnswer limit wanted (Err TooMany) = limit < length wanted
@@ -110,17 +121,20 @@ IsAnswer limit wanted (Err (Read (Damaged number))) = ⊥
 IsAnswer limit wanted (Err (Read Memory)) = Unit {0}
 
 -- so it is answered in at most one step for each version
-pub record HasAnswered (limit : ℕ) (history : History) (entry : Entry) (result : Result (List Denial) DenialsFault)
+pub record HasAnswered (limit : ℕ) (history : History) (entry : Entry)
+    (result : Result (List Denial) DenialsFault)
     (steps steps' : ℕ) : Type 0 where
   pub answer : IsAnswer limit (denials meaning history entry) result
   pub few : steps' ≤ steps + versions history
 
--- what listing the cells that were denied to an entry does to a keeper; and it has answered them for each history that
--- the keeper tells, names and rules stand for, and the entry stands in
+-- what listing the cells that were denied to an entry does to a keeper; and it has answered them
+-- for each history that the keeper tells, names and rules stand for, and the entry stands in
 pub record Denies (limit : ℕ) (entry : Entry) (names : KnownNames) (book : PolicyBook)
-    (result : Result (List Denial) DenialsFault) (before after : KeeperState) (steps steps' : ℕ) : Type 0 where
-  pub call : IsAfterCall true false (as_call result) before after
+    (result : Result (List Denial) DenialsFault) (before after : KeeperState) (steps steps' : ℕ)
+    : Type 0 where
+  pub call : IsAfterCall true false (listing_as_call result) before after
   pub stays : after.tells → KeepsSame before after
-  pub told : after.tells → (history : History) → IsStoreOf meaning before.kept history → names ≡ known_at history
-      → StandsFor book history → StandsIn meaning history entry
+  pub told : after.tells → (history : History) → IsStoreOf meaning before.kept history
+      → names ≡ known_at history
+      → BookStandsFor book history → StandsIn meaning history entry
       → HasAnswered limit history entry result steps steps'

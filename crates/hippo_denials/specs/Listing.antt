@@ -23,31 +23,36 @@ abbrev pub is_it : List Name → Name × Place → Ref → Bool
 is_it tables column reference = same_column column (named_column tables reference)
 
 -- the columns of a table that are listed for a query, with their places
-abbrev pub listed_columns : Query → Schema → List (Place × Column)
-listed_columns query schema =
+abbrev pub denial_columns : Query → Schema → List (Place × Column)
+denial_columns query schema =
     filter (λ (place, column). is_listed query schema place) (enumerate_from 0 schema.columns)
 
-abbrev pub context_of : RulesThen → Context
-context_of rules =
+abbrev pub rules_context : RulesThen → Context
+rules_context rules =
     record { purpose = rules.purpose.now; recipient = rules.recipient.now; moment = rules.moment }
 
 -- the denied cells of a row in these columns
-abbrev pub listed_denials : History → Context → Schema → List (Place × Column) → BornRow → List Denial
+abbrev pub listed_denials : History → Context → Schema → List (Place × Column) → BornRow
+    → List Denial
 listed_denials history context schema listed kept =
-    filter_map (λ (place, column). denial_by schema kept.row column.name (verdict history context schema kept place))
+    filter_map (λ (place, column). denial_by schema kept.row column.name
+    (verdict history context schema kept place))
     listed
 
 -- those of some rows
-abbrev pub rows_denials : History → Context → Schema → List (Place × Column) → List BornRow → List Denial
-rows_denials history context schema listed rows = flat_map (listed_denials history context schema listed) rows
+abbrev pub rows_denials : History → Context → Schema → List (Place × Column) → List BornRow
+    → List Denial
+rows_denials history context schema listed rows =
+    flat_map (listed_denials history context schema listed) rows
 
 -- why rows are not listed, where they are read
-abbrev pub fault_of : ListFault → DenialsFault
-fault_of lists.TooMany = TooMany
-fault_of lists.Memory = Read Memory
+abbrev pub listing_fault : ListFault → DenialsFault
+listing_fault lists.TooMany = TooMany
+listing_fault lists.Memory = Read Memory
 
 -- the cells that are wanted are added; or they are more than so many, or memory was short
-abbrev pub Lists : ℕ → List Denial → Result (Unit {0}) ListFault → List Denial → List Denial → Type 0
+abbrev pub Lists : ℕ → List Denial → Result (Unit {0}) ListFault → List Denial → List Denial
+    → Type 0
 Lists limit wanted (Ok tt) old new = new ≡ old ++ wanted
 Lists limit wanted (Err lists.TooMany) old new = limit < length (old ++ wanted)
 Lists limit wanted (Err lists.Memory) old new = Unit {0}

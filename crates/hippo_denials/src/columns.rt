@@ -1,9 +1,9 @@
 //! Which columns of a table are listed where a question's denied cells are.
 ghost use Rattle.std.specs.Prelude.{◌≡◌, [], slice_index_or, IfOk};
 ghost use Rattle.std.specs.List.{list_any};
-ghost use Rattle.hippo_model.specs.Columns.{columns_in, condition_columns, named_column, named, same_column};
+ghost use Rattle.hippo_model.specs.Columns.{columns_in, condition_columns, named_column, query_columns, same_column};
 ghost use Rattle.hippo_model.specs.Denials.{is_listed};
-ghost use Rattle.hippo_denials.specs.Listing.{is_it, listed_columns};
+ghost use Rattle.hippo_denials.specs.Listing.{is_it, denial_columns};
 
 use hippo_model::{Column, CondOf, Names, Operand, Operands, Query, Ref, Schema};
 use hippo_values::{Memory, Name, Sequence};
@@ -63,7 +63,8 @@ fn is_in(tables: &Names, table: &Name, place: usize, operand: &Operand) -> bool
 
 fn is_in_list(tables: &Names, table: &Name, place: usize, list: &Operands) -> bool
     ensures { result
-        ≡ list_any (λ operand. list_any (is_it tables.now (table.now, place)) (columns_in operand)) list.now }
+        ≡ list_any (λ operand. list_any (is_it tables.now (table.now, place)) (columns_in operand))
+        list.now }
 {
     for operand in list.as_slice() {
         if is_in(tables, table, place, operand) {
@@ -77,7 +78,8 @@ fn is_in_list(tables: &Names, table: &Name, place: usize, list: &Operands) -> bo
 #[cycle(speaks_of)]
 #[tactic(auto, using(crate::proofs::ColumnLemmas::any_column))]
 fn speaks_of(tables: &Names, table: &Name, place: usize, condition: &CondOf<Operand>) -> bool
-    ensures { result ≡ list_any (is_it tables.now (table.now, place)) (condition_columns condition.now) }
+    ensures { result ≡ list_any (is_it tables.now (table.now, place))
+        (condition_columns condition.now) }
 {
     match condition {
         CondOf::All(parts) => one_speaks_of(tables, table, place, parts),
@@ -106,7 +108,8 @@ fn one_speaks_of(
     parts: &Sequence<CondOf<Operand>>,
 ) -> bool
     ensures { result
-        ≡ list_any (λ part. list_any (is_it tables.now (table.now, place)) (condition_columns part)) parts.now }
+        ≡ list_any (λ part. list_any (is_it tables.now (table.now, place)) (condition_columns part))
+        parts.now }
 {
     for part in parts.as_slice() {
         if speaks_of(tables, table, place, part) {
@@ -118,7 +121,7 @@ fn one_speaks_of(
 
 // Whether a query names a column: in its items, as an argument, in GROUP BY, in ON or in WHERE.
 fn names(query: &Query, table: &Name, place: usize) -> bool
-    ensures { result ≡ list_any (same_column (table.now, place)) (named query.now) }
+    ensures { result ≡ list_any (same_column (table.now, place)) (query_columns query.now) }
 {
     is_among(&query.tables, table, place, query.items.as_slice())
         || speaks_of(&query.tables, table, place, &query.cond)
@@ -136,7 +139,7 @@ pub(crate) fn listed_columns<'a>(
     query: &Query,
     schema: &'a Schema,
 ) -> Result<Sequence<Listed<'a>>, Memory>
-    ensures { IfOk result (λ listed. listed ≡ listed_columns query.now schema.now) }
+    ensures { IfOk result (λ listed. listed ≡ denial_columns query.now schema.now) }
 {
     let mut listed = Sequence::new(alloc);
     for (place, column) in schema.columns.as_slice().iter().enumerate() {

@@ -3,7 +3,7 @@ ghost use Rattle.std.specs.Prelude.{◌≤◌, [], ◌∷◌, true, length, OnOk
 ghost use Rattle.hippo_model.specs.Versions.{versions};
 ghost use Rattle.hippo_keeper.specs.Keeping.{IsReady};
 ghost use Rattle.hippo_denials.specs.Denying.{FitsTable, FitsQuery, FitsText, one_table, tables_denials, text_denials};
-ghost use Rattle.hippo_denials.specs.Denying.{one_count, tables_versions, Reads, Denies};
+ghost use Rattle.hippo_denials.specs.Denying.{one_count, tables_versions, ReadsDenials, Denies};
 
 use crate::faults::{DenialsFault, fault_of};
 use crate::rows::{Denied, RulesThen, list_table};
@@ -30,8 +30,9 @@ fn read_table<'a, P: Keeper, L: Ledger>(
 ) -> Result<(), DenialsFault>
     requires ready { IsReady true (P.state keeper.old) }
     requires within { length cells.old ≤ limit }
-    ensures reads { Reads (FitsTable schema.now rules.now.count rules.now.book.now)
-        (one_table rules.now query.now schema.now) (one_count schema.now) limit result cells.old cells.new
+    ensures reads { ReadsDenials (FitsTable schema.now rules.now.count rules.now.book.now)
+        (one_table rules.now query.now schema.now) (one_count schema.now) limit result cells.old
+        cells.new
         (P.state keeper.old) (P.state keeper.new) steps.old steps.new }
     ensures within { OnOk result (length cells.new ≤ limit) }
 {
@@ -58,8 +59,10 @@ fn read_named<'a, P: Keeper, L: Ledger>(
 ) -> Result<(), DenialsFault>
     requires ready { IsReady true (P.state keeper.old) }
     requires within { length cells.old ≤ limit }
-    ensures reads { Reads (FitsQuery (name.now ∷ []) catalog.now.names rules.now.count rules.now.book.now)
-        (tables_denials rules.now query.now (name.now ∷ [])) (tables_versions (name.now ∷ [])) limit result cells.old
+    ensures reads { ReadsDenials (FitsQuery (name.now ∷ []) catalog.now.names rules.now.count
+        rules.now.book.now)
+        (tables_denials rules.now query.now (name.now ∷ [])) (tables_versions (name.now ∷ [])) limit
+        result cells.old
         cells.new (P.state keeper.old) (P.state keeper.new) steps.old steps.new }
     ensures within { OnOk result (length cells.new ≤ limit) }
 {
@@ -82,8 +85,10 @@ fn read_tables<'a, P: Keeper, L: Ledger>(
 ) -> Result<(), DenialsFault>
     requires ready { IsReady true (P.state keeper.old) }
     requires within { length cells.old ≤ limit }
-    ensures reads { Reads (FitsQuery query.now.tables catalog.now.names rules.now.count rules.now.book.now)
-        (tables_denials rules.now query.now query.now.tables) (tables_versions query.now.tables) limit result cells.old
+    ensures reads { ReadsDenials (FitsQuery query.now.tables catalog.now.names rules.now.count
+        rules.now.book.now)
+        (tables_denials rules.now query.now query.now.tables) (tables_versions query.now.tables)
+        limit result cells.old
         cells.new (P.state keeper.old) (P.state keeper.new) steps.old steps.new }
     ensures within { OnOk result (length cells.new ≤ limit) }
 {
@@ -111,7 +116,8 @@ fn read_text<'a, P: Keeper, L: Ledger>(
 ) -> Result<(), DenialsFault>
     requires ready { IsReady true (P.state keeper.old) }
     requires within { length cells.old ≤ limit }
-    ensures reads { Reads (FitsText text.now catalog.now.names rules.now.count rules.now.book.now)
+    ensures reads { ReadsDenials (FitsText text.now catalog.now.names rules.now.count
+        rules.now.book.now)
         (text_denials rules.now text.now) versions limit result cells.old cells.new
         (P.state keeper.old) (P.state keeper.new) steps.old steps.new }
     ensures within { OnOk result (length cells.new ≤ limit) }
@@ -127,12 +133,13 @@ fn read_text<'a, P: Keeper, L: Ledger>(
     }
 }
 
-/// The cells that were denied to an entry of the history that a keeper keeps, whose names and rules are known: to a
-/// question in the rows of its tables as they were, table by table and row by row, of each in the key's columns and
-/// those that the question names; to another entry none. Not more than so many.
+/// The cells that were denied to an entry of the history that a keeper keeps, whose names and rules
+/// are known: to a question in the rows of its tables as they were, table by table and row by row,
+/// of each in the key's columns and those that the question names; to another entry none. Not more
+/// than so many.
 ///
-/// That is said where the keeper tells a valid history; then `Damaged` never comes. `Keeper` comes only where the
-/// keeper's count of faults rose. Each version that is handed over is one step.
+/// That is said where the keeper tells a valid history; then `Damaged` never comes. `Keeper` comes
+/// only where the keeper's count of faults rose. Each version that is handed over is one step.
 pub fn denied_cells<'a, P: Keeper, L: Ledger>(
     keeper: &mut P,
     alloc: Global,

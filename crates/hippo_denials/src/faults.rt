@@ -1,6 +1,6 @@
 //! Why denied cells are not listed.
 ghost use Rattle.std.specs.Prelude.{◌≡◌};
-ghost use Rattle.hippo_denials.specs.Listing.{fault_of};
+ghost use Rattle.hippo_denials.specs.Listing.{listing_fault};
 
 use hippo_backlog::ReadFault;
 use thiserror::Error;
@@ -28,7 +28,7 @@ pub enum ListFault {
 
 /// Why the denied cells of a question are not listed, where those of its rows are not.
 pub(crate) fn fault_of(fault: ListFault) -> DenialsFault
-    ensures { result ≡ fault_of fault }
+    ensures { result ≡ listing_fault fault }
 {
     match fault {
         ListFault::TooMany => DenialsFault::TooMany,

@@ -5,8 +5,8 @@ ghost use Rattle.hippo_model.specs.declared.born_row.BornRow.{BornRow};
 ghost use Rattle.hippo_model.specs.Denials.{denial_by};
 ghost use Rattle.hippo_model.specs.Rows.{cell_at, key_of};
 ghost use Rattle.hippo_model.specs.Verdicts.{verdict};
-ghost use Rattle.hippo_policy.specs.Books.{StandsFor};
-ghost use Rattle.hippo_denials.specs.Listing.{context_of, listed_columns, listed_denials, rows_denials, Lists};
+ghost use Rattle.hippo_policy.specs.Books.{BookStandsFor};
+ghost use Rattle.hippo_denials.specs.Listing.{rules_context, denial_columns, listed_denials, rows_denials, Lists};
 
 use crate::columns::{Listed, listed_columns};
 use crate::faults::ListFault;
@@ -16,8 +16,8 @@ use hippo_values::{Duplicate, Memory, Moment, Name, Sequence, Value};
 use std::alloc::Global;
 use std::marker::Model;
 
-/// A cell that was denied: its table, its row's key, its column, and the number of the rule that denied it, 0 where no
-/// rule ever spoke of it.
+/// A cell that was denied: its table, its row's key, its column, and the number of the rule that
+/// denied it, 0 where no rule ever spoke of it.
 #[derive(Drop)]
 pub struct Denied<'a> {
     pub table: &'a Name,
@@ -39,7 +39,8 @@ impl<'a> Model for Denied<'a> {
     } };
 }
 
-/// The rules after the first entries, those before the one with a number, for a purpose and recipient at a moment.
+/// The rules after the first entries, those before the one with a number, for a purpose and
+/// recipient at a moment.
 #[derive(Clone, Copy)]
 pub struct RulesThen<'a> {
     pub number: u64,
@@ -57,8 +58,8 @@ fn verdict(
     born: Moment,
     column: usize,
 ) -> Verdict
-    ensures { (history : History) → StandsFor rules.now.book.now history
-        → result ≡ verdict (take rules.now.count history) (context_of rules.now) schema.now
+    ensures { (history : History) → BookStandsFor rules.now.book.now history
+        → result ≡ verdict (take rules.now.count history) (rules_context rules.now) schema.now
         (record { row = row.now; born = born }) column }
 {
     rules.book.verdict(
@@ -123,8 +124,9 @@ fn list_row<'a>(
     born: Moment,
     cells: &mut Sequence<Denied<'a>>,
 ) -> Result<(), Memory>
-    ensures { OnOk result ((history : History) → StandsFor rules.now.book.now history
-        → cells.new ≡ cells.old ++ listed_denials (take rules.now.count history) (context_of rules.now) schema.now
+    ensures { OnOk result ((history : History) → BookStandsFor rules.now.book.now history
+        → cells.new ≡ cells.old ++ listed_denials (take rules.now.count history)
+        (rules_context rules.now) schema.now
         listed.now (record { row = row.now; born = born })) }
 {
     for column in listed {
@@ -147,8 +149,9 @@ fn list_rows<'a>(
     cells: &mut Sequence<Denied<'a>>,
 ) -> Result<(), ListFault>
     requires within { length cells.old ≤ limit }
-    ensures lists { (history : History) → StandsFor rules.now.book.now history
-        → Lists limit (rows_denials (take rules.now.count history) (context_of rules.now) schema.now listed.now
+    ensures lists { (history : History) → BookStandsFor rules.now.book.now history
+        → Lists limit (rows_denials (take rules.now.count history) (rules_context rules.now)
+        schema.now listed.now
         rows.now.rows) result cells.old cells.new }
     ensures within { OnOk result (length cells.new ≤ limit) }
 {
@@ -164,7 +167,8 @@ fn list_rows<'a>(
     Ok(())
 }
 
-/// Adds the denied cells of a table's rows that are listed for a query, while there are not more than so many.
+/// Adds the denied cells of a table's rows that are listed for a query, while there are not more
+/// than so many.
 pub(crate) fn list_table<'a>(
     alloc: Global,
     rules: &RulesThen<'_>,
@@ -175,9 +179,10 @@ pub(crate) fn list_table<'a>(
     cells: &mut Sequence<Denied<'a>>,
 ) -> Result<(), ListFault>
     requires within { length cells.old ≤ limit }
-    ensures lists { (history : History) → StandsFor rules.now.book.now history
-        → Lists limit (rows_denials (take rules.now.count history) (context_of rules.now) schema.now
-        (listed_columns query.now schema.now) rows.now.rows) result cells.old cells.new }
+    ensures lists { (history : History) → BookStandsFor rules.now.book.now history
+        → Lists limit (rows_denials (take rules.now.count history) (rules_context rules.now)
+        schema.now
+        (denial_columns query.now schema.now) rows.now.rows) result cells.old cells.new }
     ensures within { OnOk result (length cells.new ≤ limit) }
 {
     match listed_columns(alloc, query, schema) {

@@ -32,9 +32,9 @@ use Rattle.hippo_join.proofs.VisitingLemmas.{filter-implied}
 use Rattle.hippo_shared.specs.declared.marks.Mark.{Mark}
 use Rattle.hippo_shared.specs.declared.marks.Mark.TheVariants.{Unmarked}
 use Rattle.hippo_shared.specs.Marks.{row_places, mark_of, is_one}
-use Rattle.hippo_shared.specs.Candidates.{AreThoseOf}
+use Rattle.hippo_shared.specs.Candidates.{AreCandidates}
 use Rattle.hippo_shared.specs.Needs.{needs_by, first_needed}
-use Rattle.hippo_shared.specs.Sharing.{common_tables, place_in, rows_named, HaveSameRows, has_tuple, query_has, audit_has, virtual_tuples}
+use Rattle.hippo_shared.specs.Sharing.{common_tables, place_in, rows_named, HaveSameRows, has_tuple_in, query_has, audit_has, virtual_tuples_in}
 use Rattle.hippo_shared.specs.Tuples.{tuple_at}
 use Rattle.hippo_shared.proofs.CandidateLemmas.{marked-alone}
 use Rattle.hippo_distinct.specs.declared.keys.CellKey.{CellKey}
@@ -239,7 +239,7 @@ module _ (choices : Choices) (query : Masked) (audit : List Name) (query_sets au
   ranges places = in_range (map (rows_named audit audit_sets) (common_tables query.tables audit)) places
 
   abbrev out : List Place → Combination → Bool
-  out places rows = has_tuple query.tables query_sets (tuple places) rows
+  out places rows = has_tuple_in query.tables query_sets (tuple places) rows
 
   abbrev alone_by : List Place → ShownRow → Bool
   alone_by places row = list_all (λ rows. not (makes_row choices query row rows) || out places rows) all
@@ -253,7 +253,7 @@ module _ (choices : Choices) (query : Masked) (audit : List Name) (query_sets au
 
   pub needed-are : (marks : Marks) → tree.IsOrdered key_order marks → (tables : List Place) → tables ≡ tables_at → AreMarked key_order choices query query_sets tables all marks → (candidates : List (List Place))
       → ((places : List Place) → has_places places candidates ≡ list_any (λ entry. is_one places entry.1) marks.entries)
-      → AreThoseOf (needs_by choices query Distinct query_sets) audit audit_sets (common_tables query.tables audit) candidates
+      → AreCandidates (needs_by choices query Distinct query_sets) audit audit_sets (common_tables query.tables audit) candidates
   needed-are marks ordered tables is told candidates kept places =
       both_ways (has_places places candidates) (ranges places && needs_by choices query Distinct query_sets (tuple places))
       (λ has.
@@ -282,7 +282,7 @@ pub none-needed : (choices : Choices) (query : Masked) (form : Form) (audit : Au
 none-needed choices query form audit seen query_sets audit_sets none =
     sym (find-nothing (λ tuple. needs_by choices query form query_sets tuple && query_has choices query seen query_sets tuple && audit_has audit audit_sets tuple)
     (λ tuple. ap (λ b. needs_by choices query form query_sets tuple && query_has choices query seen query_sets tuple && b) (none tuple) ∙ never (needs_by choices query form query_sets tuple && query_has choices query seen query_sets tuple))
-    (virtual_tuples audit.tables audit_sets (common_tables query.tables audit.tables)))
+    (virtual_tuples_in audit.tables audit_sets (common_tables query.tables audit.tables)))
   where
     never : (b : Bool) → (b && false) ≡ false
     never true = refl

@@ -7,7 +7,7 @@ use Rattle.std.proofs.lemmas.Bool.{and_parts, and_from, or_left, or_right, eqb-t
 use Rattle.std.proofs.lemmas.List.Folds.{list_any-append}
 use Rattle.hippo_model.specs.Terms.{ShownRow}
 use Rattle.hippo_model.specs.Bags.{same_row, occurrences, same_bag}
-use Rattle.hippo_model.specs.Forms.{different}
+use Rattle.hippo_model.specs.Forms.{different_rows}
 use Rattle.hippo_distinct.proofs.DifferentLemmas.{same_row-exact}
 use Rattle.hippo_distinct.proofs.NeededRows.{same_row-refl, is_among, one_if, counted, once}
 
@@ -156,16 +156,16 @@ module _ (some all : List ShownRow) (within : list_all (is_among all) some ≡ t
       neither true = refl
       neither false = refl
 
-  of_some : (row : ShownRow) (among : Bool) → is_among some row ≡ among → count (λ other. among && same_row row other) (different all) ≡ one_if among
-  of_some row true e = sym (occurrences-count row (different all)) ∙ once row all ∙ ap one_if (at_member (is_among all) some within row e)
-  of_some row false e = count-none (different all)
+  of_some : (row : ShownRow) (among : Bool) → is_among some row ≡ among → count (λ other. among && same_row row other) (different_rows all) ≡ one_if among
+  of_some row true e = sym (occurrences-count row (different_rows all)) ∙ once row all ∙ ap one_if (at_member (is_among all) some within row e)
+  of_some row false e = count-none (different_rows all)
 
-  same-different : AreSame (different some) (filter (is_among some) (different all))
-  same-different row =
-      sym (occurrences-count row (different some)) ∙ once row some ∙ sym (of_some row (is_among some row) refl)
-      ∙ sym (λ i. count (λ other. shared_with row other (same_row row other) refl i) (different all))
-      ∙ sym (count-filter (same_row row) (is_among some) (different all))
+  same-different_rows : AreSame (different_rows some) (filter (is_among some) (different_rows all))
+  same-different_rows row =
+      sym (occurrences-count row (different_rows some)) ∙ once row some ∙ sym (of_some row (is_among some row) refl)
+      ∙ sym (λ i. count (λ other. shared_with row other (same_row row other) refl i) (different_rows all))
+      ∙ sym (count-filter (same_row row) (is_among some) (different_rows all))
 
   -- the different ones of some rows, counted among those of all
-  pub count-different : (test : Test) → count test (different some) ≡ count (λ row. is_among some row && test row) (different all)
-  count-different test = count-same (different some) (filter (is_among some) (different all)) same-different test ∙ count-filter test (is_among some) (different all)
+  pub count-different_rows : (test : Test) → count test (different_rows some) ≡ count (λ row. is_among some row && test row) (different_rows all)
+  count-different_rows test = count-same (different_rows some) (filter (is_among some) (different_rows all)) same-different_rows test ∙ count-filter test (is_among some) (different_rows all)

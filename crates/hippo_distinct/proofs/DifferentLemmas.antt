@@ -13,7 +13,7 @@ use Rattle.hippo_model.specs.declared.cells.Cell.{Cell}
 use Rattle.hippo_model.specs.declared.cells.Cell.TheVariants.{Shown, Denied}
 use Rattle.hippo_model.specs.Terms.{ShownRow}
 use Rattle.hippo_model.specs.Bags.{same_cell, same_row}
-use Rattle.hippo_model.specs.Forms.{different}
+use Rattle.hippo_model.specs.Forms.{different_rows}
 use Rattle.hippo_model.proofs.Orders.{same_exact}
 use Rattle.hippo_distinct.specs.DistinctRows.{stands_in}
 use Rattle.hippo_values.specs.declared.values.Value.{Value}
@@ -27,12 +27,12 @@ new_after first row false true e = refl
 new_after first row true false e = rw e refl
 new_after first row false false e = rw e refl
 
-pub different-push : (rows : List ShownRow) (row : ShownRow) → different (rows ++ row ∷ []) ≡ different rows ++ if_new (stands_in row rows) row
-different-push [] row = refl
-different-push (first ∷ rows) row =
-    ap (λ (rest : List ShownRow). first ∷ filter (λ other. not (same_row first other)) rest) (different-push rows row)
-    ∙ ap (λ (rest : List ShownRow). first ∷ rest) (filter-append (λ other. not (same_row first other)) (different rows) (if_new (stands_in row rows) row))
-    ∙ ap (λ (last : List ShownRow). first ∷ filter (λ other. not (same_row first other)) (different rows) ++ last) (new_after first row (same_row first row) (stands_in row rows) refl)
+pub different_rows-push : (rows : List ShownRow) (row : ShownRow) → different_rows (rows ++ row ∷ []) ≡ different_rows rows ++ if_new (stands_in row rows) row
+different_rows-push [] row = refl
+different_rows-push (first ∷ rows) row =
+    ap (λ (rest : List ShownRow). first ∷ filter (λ other. not (same_row first other)) rest) (different_rows-push rows row)
+    ∙ ap (λ (rest : List ShownRow). first ∷ rest) (filter-append (λ other. not (same_row first other)) (different_rows rows) (if_new (stands_in row rows) row))
+    ∙ ap (λ (last : List ShownRow). first ∷ filter (λ other. not (same_row first other)) (different_rows rows) ++ last) (new_after first row (same_row first row) (stands_in row rows) refl)
 
 -- equal values are the same
 pub value_exact : (a b : Value) → same_cell (Shown a) (Shown b) ≡ true → a ≡ b
@@ -62,13 +62,13 @@ same_row-exact (a ∷ rest) (b ∷ others) same =
     λ i. same_cell-exact a b both.0 i ∷ same_row-exact rest others both.1 i
 
 -- the different rows of a front come first
-pub different-append : (more rows : List ShownRow) → (rest : List ShownRow) × (different (rows ++ more) ≡ different rows ++ rest)
-different-append [] rows = ([], ap different (append-nil rows) ∙ sym (append-nil (different rows)))
-different-append (row ∷ more) rows =
-    let later = different-append more (rows ++ row ∷ []) in (
+pub different_rows-append : (more rows : List ShownRow) → (rest : List ShownRow) × (different_rows (rows ++ more) ≡ different_rows rows ++ rest)
+different_rows-append [] rows = ([], ap different_rows (append-nil rows) ∙ sym (append-nil (different_rows rows)))
+different_rows-append (row ∷ more) rows =
+    let later = different_rows-append more (rows ++ row ∷ []) in (
       if_new (stands_in row rows) row ++ later.0,
-      ap different (sym (append_assoc rows (row ∷ []) more)) ∙ later.1 ∙ ap (λ (front : List ShownRow). front ++ later.0) (different-push rows row)
-          ∙ append_assoc (different rows) (if_new (stands_in row rows) row) later.0,
+      ap different_rows (sym (append_assoc rows (row ∷ []) more)) ∙ later.1 ∙ ap (λ (front : List ShownRow). front ++ later.0) (different_rows-push rows row)
+          ∙ append_assoc (different_rows rows) (if_new (stands_in row rows) row) later.0,
     )
 
 or_false : (x : Bool) → (x || false) ≡ x

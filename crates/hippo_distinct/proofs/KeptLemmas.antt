@@ -11,12 +11,12 @@ use Rattle.std.proofs.lemmas.List.{append-nil}
 use Rattle.hippo_model.specs.declared.cells.Cell.{Cell}
 use Rattle.hippo_model.specs.Terms.{ShownRow}
 use Rattle.hippo_model.specs.Bags.{same_cell, same_row}
-use Rattle.hippo_model.specs.Forms.{different}
+use Rattle.hippo_model.specs.Forms.{different_rows}
 use Rattle.hippo_distinct.specs.declared.keys.CellKey.{CellKey}
 use Rattle.hippo_distinct.specs.declared.deduplication.DifferentRows.{DifferentRows}
 use Rattle.hippo_distinct.specs.RowKeys.{cell_key, row_key}
 use Rattle.hippo_distinct.specs.DistinctRows.{stands_in, KeyOrder, HasSeen, AreDifferent}
-use Rattle.hippo_distinct.proofs.DifferentLemmas.{if_new, different-push, stands-push}
+use Rattle.hippo_distinct.proofs.DifferentLemmas.{if_new, different_rows-push, stands-push}
 
 -- what a call answers by whether it is new
 pub turned : (there new : Bool) → not there ≡ not new → there ≡ new
@@ -62,7 +62,7 @@ module _ (cmp : CellKey → CellKey → Ordering) (agrees : (a b : Cell) → is_
   known found kept after row are there same inserted =
       let stands : stands_in row found ≡ true = sym (are.seen row) ∙ there in
       record {
-        rows = same ∙ are.rows ∙ sym (append-nil (different found)) ∙ ap (λ (stands : Bool). different found ++ if_new stands row) (sym stands) ∙ sym (different-push found row);
+        rows = same ∙ are.rows ∙ sym (append-nil (different_rows found)) ∙ ap (λ (stands : Bool). different_rows found ++ if_new stands row) (sym stands) ∙ sym (different_rows-push found row);
         seen = seen_more found kept after row are inserted;
       }
 
@@ -73,6 +73,6 @@ module _ (cmp : CellKey → CellKey → Ordering) (agrees : (a b : Cell) → is_
   added found kept after row are missing pushed inserted =
       let stands : stands_in row found ≡ false = sym (are.seen row) ∙ missing in
       record {
-        rows = pushed ∙ ap (λ (rows : List ShownRow). rows ++ row ∷ []) are.rows ∙ ap (λ (stands : Bool). different found ++ if_new stands row) (sym stands) ∙ sym (different-push found row);
+        rows = pushed ∙ ap (λ (rows : List ShownRow). rows ++ row ∷ []) are.rows ∙ ap (λ (stands : Bool). different_rows found ++ if_new stands row) (sym stands) ∙ sym (different_rows-push found row);
         seen = seen_more found kept after row are inserted;
       }

@@ -23,10 +23,12 @@ mark_at order marks key = unwrap_or (tree.get order marks key) Unmarked
 -- whether a combination makes this row of a query's answer
 abbrev pub makes_row : Choices → Masked → ShownRow → Combination → Bool
 makes_row choices query row rows =
-    is_guarded choices query rows && masked_passes choices query rows && same_row row (masked_items choices query rows)
+    is_guarded choices query rows && masked_passes choices query rows
+    && same_row row (masked_items choices query rows)
 
 -- the mark of the combinations that make a row, by the places of their rows of some tables
-abbrev pub row_mark : Choices → Masked → List KeyedRows → List Place → List Combination → ShownRow → Mark
+abbrev pub row_mark : Choices → Masked → List KeyedRows → List Place → List Combination → ShownRow
+    → Mark
 row_mark choices query sets tables combinations row =
     mark_of (map (row_places sets tables) (filter (makes_row choices query row) combinations))
 

@@ -5,7 +5,7 @@ use Rattle.std.specs.BTreeSet as tree
 use Rattle.std.specs.declared.cmp.Ordering.{Ordering}
 use Rattle.hippo_model.specs.Terms.{ShownRow}
 use Rattle.hippo_model.specs.Bags.{same_row}
-use Rattle.hippo_model.specs.Forms.{different}
+use Rattle.hippo_model.specs.Forms.{different_rows}
 use Rattle.hippo_distinct.specs.declared.keys.CellKey.{CellKey}
 use Rattle.hippo_distinct.specs.declared.deduplication.DifferentRows.{DifferentRows}
 use Rattle.hippo_distinct.specs.RowKeys.{row_key}
@@ -20,9 +20,11 @@ KeyOrder = List CellKey → List CellKey → Ordering
 
 -- the keys that are kept are those of the rows that were found
 abbrev pub HasSeen : KeyOrder → List ShownRow → DifferentRows → Type 0
-HasSeen order found kept = (row : ShownRow) → tree.contains order kept.seen (row_key row) ≡ stands_in row found
+HasSeen order found kept =
+    (row : ShownRow) → tree.contains order kept.seen (row_key row) ≡ stands_in row found
 
 -- the different ones of the rows that were found are kept
-pub record AreDifferent (order : KeyOrder) (found : List ShownRow) (kept : DifferentRows) : Type 0 where
-  pub rows : kept.rows ≡ different found
+pub record AreDifferent (order : KeyOrder) (found : List ShownRow) (kept : DifferentRows)
+    : Type 0 where
+  pub rows : kept.rows ≡ different_rows found
   pub seen : HasSeen order found kept

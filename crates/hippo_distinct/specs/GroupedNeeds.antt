@@ -9,20 +9,23 @@ use Rattle.hippo_model.specs.Terms.{History, ShownRow}
 use Rattle.hippo_model.specs.Verdicts.{Context}
 use Rattle.hippo_model.specs.Bags.{same_row}
 use Rattle.hippo_model.specs.Forms.{group_cell}
-use Rattle.hippo_model.specs.Answers.{passes, selected, answer_of, seen_combinations}
+use Rattle.hippo_model.specs.Answers.{passes, selected_cells, answer_of, seen_combinations}
 use Rattle.hippo_model.specs.Audits.{has_tuple, query_needs}
 
 -- whether a combination counts, and is of the group with this key
 abbrev pub is_member : Query → Shape → ShownRow → List ShownRow → Bool
 is_member query shape key combination =
-    passes query.cond combination && same_row key (take shape.keys (selected query.items combination))
+    passes query.cond combination && same_row key
+    (take shape.keys (selected_cells query.items combination))
 
 -- the row that these members of a group give
 abbrev pub group_row : Query → Shape → ShownRow → List (List ShownRow) → ShownRow
-group_row query shape key members = map (group_cell key (map (selected query.items) members)) shape.outs
+group_row query shape key members =
+    map (group_cell key (map (selected_cells query.items) members)) shape.outs
 
 -- whether a group's members without those that have a virtual tuple are none, or give another row
-abbrev pub group_changes : History → Query → Shape → List SharedRow → List (List ShownRow) → ShownRow → Bool
+abbrev pub group_changes : History → Query → Shape → List SharedRow → List (List ShownRow)
+    → ShownRow → Bool
 group_changes history query shape tuple combinations key =
     let members = filter (is_member query shape key) combinations in
     let left = filter (λ member. not (has_tuple history query.tables tuple member)) members in
@@ -31,9 +34,11 @@ group_changes history query shape tuple combinations key =
 
 -- the keys of the groups: the first cells of each combination that counts
 abbrev pub group_keys : Query → Shape → List (List ShownRow) → List ShownRow
-group_keys query shape combinations = map (take shape.keys) (answer_of query.items query.cond combinations)
+group_keys query shape combinations =
+    map (take shape.keys) (answer_of query.items query.cond combinations)
 
--- a grouped query needs a virtual tuple where some group without the tuple's combinations is gone, or has another row
+-- a grouped query needs a virtual tuple where some group without the tuple's combinations is gone,
+-- or has another row
 abbrev pub GroupedQueryNeeds : Type 0
 GroupedQueryNeeds =
     (history : History) (context : Context) (query : Query) (shape : Shape) (tuple : List SharedRow)

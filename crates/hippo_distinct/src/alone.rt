@@ -1,4 +1,5 @@
-//! The first virtual tuple that a DISTINCT query needs and an audit has, found by marks in one walk.
+//! The first virtual tuple that a DISTINCT query needs and an audit has, found by marks in one
+//! walk.
 ghost use Rattle.std.specs.Prelude.{◌≡◌, [], ◌∷◌, ◌++◌, List, IfOk, OnOk, cond};
 ghost use Rattle.std.specs.BTreeMap.{IsOrdered};
 ghost use Rattle.std.specs.List.{list_any};
@@ -25,9 +26,12 @@ use std::collections::{BTreeMap, BTreeSet};
 
 // Marks one combination more, which makes the row with this key and has the tuple of these places.
 fn mark(marks: &mut BTreeMap<RowKey, Mark>, key: RowKey, places: Places) -> Result<(), Memory>
-    ensures { (tuples : List (List Place)) → mark_at ⟦<Sequence<CellKey> as Ord>⟧.cmp marks.old key ≡ mark_of tuples
-        → OnOk result ((other : List cell_keys.CellKey) → mark_at ⟦<Sequence<CellKey> as Ord>⟧.cmp marks.new other
-        ≡ cond (is_eq (⟦<Sequence<CellKey> as Ord>⟧.cmp key other)) (mark_of (tuples ++ places ∷ []))
+    ensures { (tuples : List (List Place))
+        → mark_at ⟦<Sequence<CellKey> as Ord>⟧.cmp marks.old key ≡ mark_of tuples
+        → OnOk result ((other : List cell_keys.CellKey)
+        → mark_at ⟦<Sequence<CellKey> as Ord>⟧.cmp marks.new other
+        ≡ cond (is_eq (⟦<Sequence<CellKey> as Ord>⟧.cmp key other))
+        (mark_of (tuples ++ places ∷ []))
         (mark_at ⟦<Sequence<CellKey> as Ord>⟧.cmp marks.old other)) }
 {
     let mark = marks.get(&key).unwrap_or(&Mark::Unmarked).with(places);
@@ -50,7 +54,8 @@ impl<'a, C: ChoiceView> Visitor for Marker<'a, C> {
     type State = BTreeMap<RowKey, Mark>;
 
     ghost Keeps = { λ marker combinations marks. AreMarked ⟦<Sequence<CellKey> as Ord>⟧.cmp
-        (C.choices marker.choices.now) marker.query.now marker.sets.now marker.tables.now combinations marks };
+        (C.choices marker.choices.now) marker.query.now marker.sets.now marker.tables.now
+        combinations marks };
 
     fn visit(
         &self,
@@ -78,7 +83,8 @@ fn row_marks<C: ChoiceView>(
     tables: &[usize],
     choices: &C,
 ) -> Result<BTreeMap<RowKey, Mark>, Memory>
-    ensures { IfOk result (λ marks. AreMarked ⟦<Sequence<CellKey> as Ord>⟧.cmp (C.choices choices.now) query.now
+    ensures { IfOk result (λ marks. AreMarked ⟦<Sequence<CellKey> as Ord>⟧.cmp
+        (C.choices choices.now) query.now
         sets.now tables.now (product (rows_of sets.now)) marks) }
 {
     let marker = Marker {
@@ -96,7 +102,8 @@ fn row_marks<C: ChoiceView>(
 fn alone(alloc: Global, marks: BTreeMap<RowKey, Mark>) -> Result<BTreeSet<Places>, Memory>
     ensures order { IsOrdered ⟦<Sequence<CellKey> as Ord>⟧.cmp marks }
     ensures places { IfOk result (λ candidates. (places : List Place)
-        → has_places places candidates.keys ≡ list_any (λ entry. is_one places entry.1) marks.entries) }
+        → has_places places candidates.keys
+        ≡ list_any (λ entry. is_one places entry.1) marks.entries) }
 {
     let mut candidates = BTreeSet::new(alloc);
     for (_, mark) in marks {
@@ -105,12 +112,13 @@ fn alone(alloc: Global, marks: BTreeMap<RowKey, Mark>) -> Result<BTreeSet<Places
     Ok(candidates)
 }
 
-/// The first virtual tuple (a row of each table in both FROM lists, by its key; in the audit's order) that a DISTINCT
-/// query needs, that some row of its answer has with each expression of `seen` a shown cell, and that some combination
-/// of the audit's rows has of which its condition is true; none exactly where there is none. A tuple is needed where
-/// some row of the answer comes from combinations with the tuple alone. Wants what `first_shared` wants. Takes the time
-/// of `walk_joined` over the query's rows, unless no combination of the audit's rows counts; and memory for the
-/// different rows.
+/// The first virtual tuple (a row of each table in both FROM lists, by its key; in the audit's
+/// order) that a DISTINCT query needs, that some row of its answer has with each expression of
+/// `seen` a shown cell, and that some combination of the audit's rows has of which its condition is
+/// true; none exactly where there is none. A tuple is needed where some row of the answer comes
+/// from combinations with the tuple alone. Wants what `first_shared` wants. Takes the time of
+/// `walk_joined` over the query's rows, unless no combination of the audit's rows counts; and
+/// memory for the different rows.
 pub fn first_alone<C: ChoiceView>(
     alloc: Global,
     query: &Masked,
@@ -118,7 +126,8 @@ pub fn first_alone<C: ChoiceView>(
     audited: &Audited<'_, C>,
 ) -> Result<Option<SharedTuple>, Memory>
     requires { HasRowsFor query.now.tables audited.now }
-    ensures { IfOk result (λ shared. shared ≡ first_needed (C.choices audited.now.choices.now) query.now Distinct
+    ensures { IfOk result (λ shared. shared
+        ≡ first_needed (C.choices audited.now.choices.now) query.now Distinct
         audited.now.audit.now seen.now audited.now.query_sets.now audited.now.audit_sets.now) }
 {
     if !audit_has_any(alloc, audited)? {

@@ -1,7 +1,7 @@
 //! The different rows of a query's answer, as a walk over the combinations that count finds them.
 ghost use Rattle.std.specs.Prelude.{[], ◌∷◌, ◌++◌, List, OnOk};
 ghost use Rattle.hippo_model.specs.Terms.{ShownRow};
-ghost use Rattle.hippo_model.specs.Forms.{different};
+ghost use Rattle.hippo_model.specs.Forms.{different_rows};
 ghost use Rattle.hippo_model.specs.Masking.{masked_answer};
 ghost use Rattle.hippo_eval.specs.Answering.{IsAnswered};
 ghost use Rattle.hippo_eval.specs.Walks.{rows_of};
@@ -34,8 +34,10 @@ impl DifferentRows {
 
     // Adds a row, if no equal one was found.
     fn add(&mut self, alloc: Global, row: CellRow) -> Result<(), Memory>
-        ensures { (found : List ShownRow) → AreDifferent ⟦<Sequence<CellKey> as Ord>⟧.cmp found self.old
-            → OnOk result (AreDifferent ⟦<Sequence<CellKey> as Ord>⟧.cmp (found ++ row ∷ []) self.new) }
+        ensures { (found : List ShownRow)
+            → AreDifferent ⟦<Sequence<CellKey> as Ord>⟧.cmp found self.old
+            → OnOk result (AreDifferent ⟦<Sequence<CellKey> as Ord>⟧.cmp (found ++ row ∷ [])
+            self.new) }
     {
         let key = row_key(alloc, row.as_slice())?;
         let is_new = self.seen.insert(key)?;
@@ -52,14 +54,14 @@ impl DifferentRows {
 struct Different;
 
 impl Gatherer for Different {
-    ghost use Rattle.hippo_model.specs.Forms.{different};
+    ghost use Rattle.hippo_model.specs.Forms.{different_rows};
     ghost use Rattle.hippo_distinct.specs.DistinctRows.{AreDifferent};
 
     type Rows = DifferentRows;
 
     ghost Holds = { λ gatherer found kept. AreDifferent ⟦<Sequence<CellKey> as Ord>⟧.cmp found kept };
 
-    ghost answer = { λ gatherer found. different found };
+    ghost answer = { λ gatherer found. different_rows found };
 
     fn start(&self, alloc: Global) -> DifferentRows {
         DifferentRows::new(alloc)
@@ -79,9 +81,9 @@ impl Gatherer for Different {
     }
 }
 
-/// The different rows of a query's answer (SQL's DISTINCT), each at the place of its first, over unmasked rows and
-/// patients' choices: two cells are equal where they are the same value shown, or denied by the same rule. TooManyRows
-/// exactly where there are more than 100,000 different rows.
+/// The different rows of a query's answer (SQL's DISTINCT), each at the place of its first, over
+/// unmasked rows and patients' choices: two cells are equal where they are the same value shown, or
+/// denied by the same rule. TooManyRows exactly where there are more than 100,000 different rows.
 pub fn distinct<C: ChoiceView>(
     alloc: Global,
     query: &Masked,
@@ -89,7 +91,7 @@ pub fn distinct<C: ChoiceView>(
     choices: &C,
 ) -> Result<Answer, EvalFault>
     ensures { let rows = masked_answer (C.choices choices.now) query.now (rows_of sets.now) in
-        IsAnswered ANSWER_LIMIT (different rows) result }
+        IsAnswered ANSWER_LIMIT (different_rows rows) result }
 {
     gather_joined(alloc, query, sets, choices, &Different, ANSWER_LIMIT)
 }

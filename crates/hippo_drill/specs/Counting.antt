@@ -15,21 +15,22 @@ second_word line = before_first is_space (after_first is_space line)
 
 -- how many lines of a reply have this second word
 abbrev pub lines_with : Txt → Txt → ℕ
-lines_with word reply = count_by (λ line. bytes_eq (second_word line) word) (slice_split is_feed reply)
+lines_with word reply =
+    count_by (λ line. bytes_eq (second_word line) word) (slice_split is_feed reply)
 
 -- how many lines of some replies do
-abbrev pub count_of : Txt → List Txt → ℕ
-count_of word replies = sum_by (lines_with word) replies
+abbrev pub reply_count : Txt → List Txt → ℕ
+reply_count word replies = sum_by (lines_with word) replies
 
 -- a line with words and a number, and what follows it
-abbrev pub numbered : Txt → ℕ → Txt → Txt
-numbered words number rest = words ++ (decimal number ++ (codes "\n" ++ rest))
+abbrev pub count_line : Txt → ℕ → Txt → Txt
+count_line words number rest = words ++ (decimal number ++ (codes "\n" ++ rest))
 
 -- what is said of the replies to a script's lines, and of the entries that they left
 abbrev pub summary_of : List Txt → ℕ → Txt
 summary_of replies entries =
-    numbered (codes "lines ") (length replies)
-    (numbered (codes "entries ") entries
-    (numbered (codes "rows ") (count_of (codes "row") replies)
-    (numbered (codes "flags ") (count_of (codes "flag") replies)
-    (numbered (codes "refusals ") (count_of (codes "no") replies) []))))
+    count_line (codes "lines ") (length replies)
+    (count_line (codes "entries ") entries
+    (count_line (codes "rows ") (reply_count (codes "row") replies)
+    (count_line (codes "flags ") (reply_count (codes "flag") replies)
+    (count_line (codes "refusals ") (reply_count (codes "no") replies) []))))

@@ -7,24 +7,26 @@ use Rattle.hippo_drill.specs.declared.script_line.ScriptLine.{ScriptLine}
 use Rattle.hippo_drill.specs.declared.script_line.ScriptLine.TheVariants.{Same, Patient, Visit, Choice, Phone, Question, Audit}
 
 -- the line's text in the script of a number
-abbrev pub text_of : ℕ → ScriptLine → Txt
-text_of number (Same text) = text.now
-text_of number (Patient i) = patient_line number i
-text_of number (Visit i) = visit_line i
-text_of number (Choice i) = choice_line i
-text_of number (Phone j) = phone_line j
-text_of number (Question j) = question_line number j
-text_of number Audit = audit_line number
+abbrev pub script_text : ℕ → ScriptLine → Txt
+script_text number (Same text) = text.now
+script_text number (Patient i) = patient_line number i
+script_text number (Visit i) = visit_line i
+script_text number (Choice i) = choice_line i
+script_text number (Phone j) = phone_line j
+script_text number (Question j) = question_line number j
+script_text number Audit = audit_line number
 
 -- the lines behind the login, for so many patients
 abbrev pub behind_login : ℕ → ℕ → List Txt
 behind_login patients number =
-    flat_map (λ j. phone_line j ∷ question_line number j ∷ []) (up_to patients) ++ audit_line number ∷ []
+    flat_map (λ j. phone_line j ∷ question_line number j ∷ []) (up_to patients) ++ audit_line number
+    ∷ []
 
 -- those behind the visits
 abbrev pub behind_visits : ℕ → ℕ → List Txt
 behind_visits patients number =
-    map (λ k. choice_line (10 * k)) (up_to (patients / 10)) ++ login_line ∷ behind_login patients number
+    map (λ k. choice_line (10 * k)) (up_to (patients / 10)) ++ login_line
+    ∷ behind_login patients number
 
 -- those behind the opening
 abbrev pub behind_opening : ℕ → ℕ → List Txt

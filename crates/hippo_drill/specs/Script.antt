@@ -1,5 +1,5 @@
--- The lines of the drill: a clinic is set up and filled; then each patient's phone changes and a nurse asks, again and
--- again; and at last there is an audit.
+-- The lines of the drill: a clinic is set up and filled; then each patient's phone changes and a
+-- nurse asks, again and again; and at last there is an audit.
 use Rattle.std.specs.Prelude.{ℕ, ◌+◌, ◌*◌, ◌/◌, ◌%◌, List, [], ◌∷◌, ◌++◌, map, codes, decimal}
 use Rattle.std.specs.List.{flat_map, range_with_len}
 use Rattle.hippo_values.specs.Texts.{Txt}
@@ -30,13 +30,15 @@ opening_lines =
 -- a patient with a name, a phone and a zip
 abbrev pub patient_line : ℕ → ℕ → Txt
 patient_line number i =
-    codes "0 INSERT INTO patient VALUES (" ++ (decimal i ++ (codes ", 'p" ++ (decimal i ++ (codes "', 't" ++
+    codes "0 INSERT INTO patient VALUES ("
+    ++ (decimal i ++ (codes ", 'p" ++ (decimal i ++ (codes "', 't" ++
     (decimal i ++ (codes "', " ++ (decimal (zip_of (7 * i + number)) ++ codes ")")))))))
 
 -- this patient's visit, in one of five wards
 abbrev pub visit_line : ℕ → Txt
 visit_line i =
-    codes "0 INSERT INTO visit VALUES (" ++ (decimal i ++ (codes ", " ++ (decimal i ++ (codes ", 'w" ++
+    codes "0 INSERT INTO visit VALUES ("
+    ++ (decimal i ++ (codes ", " ++ (decimal i ++ (codes ", 'w" ++
     (decimal (i % 5) ++ codes "')")))))
 
 -- a patient opts out
@@ -54,7 +56,8 @@ phone_line j =
 -- the nurse asks for the patients of a zip
 abbrev pub question_line : ℕ → ℕ → Txt
 question_line number j =
-    codes "1 SELECT name, phone, ward FROM patient, visit WHERE patient.pid = visit.pid AND zip = " ++
+    codes "1 SELECT name, phone, ward FROM patient, visit WHERE patient.pid = visit.pid AND zip = "
+    ++
     decimal (zip_of (13 * j + number))
 
 -- who saw the phones of a zip?

@@ -3,8 +3,10 @@ use Rattle.std.specs.Prelude.{◌≡◌, Bool, true, false, List, [], ◌∷◌,
 use Rattle.hippo_values.specs.Texts.{Txt}
 use Rattle.hippo_values.specs.declared.memory.Memory.{Memory}
 
--- the first line that is left is added to a text, and the others are left; or none is left; or memory was short
-abbrev pub HandsOut : Result Bool Memory → List Txt → List Txt → Txt → Txt → Type 0
-HandsOut (Ok true) lines lines' text text' = (line : Txt) × (lines ≡ line ∷ lines') × (text' ≡ text ++ line)
-HandsOut (Ok false) lines lines' text text' = (lines ≡ []) × (lines' ≡ []) × (text' ≡ text)
-HandsOut (Err memory) lines lines' text text' = (lines' ≡ lines) × (text' ≡ text)
+-- the first line that is left is added to a text, and the others are left; or none is left; or
+-- memory was short
+abbrev pub HandsOutLine : Result Bool Memory → List Txt → List Txt → Txt → Txt → Type 0
+HandsOutLine (Ok true) lines lines' text text' =
+    (line : Txt) × (lines ≡ line ∷ lines') × (text' ≡ text ++ line)
+HandsOutLine (Ok false) lines lines' text text' = (lines ≡ []) × (lines' ≡ []) × (text' ≡ text)
+HandsOutLine (Err memory) lines lines' text text' = (lines' ≡ lines) × (text' ≡ text)

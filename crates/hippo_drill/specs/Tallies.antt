@@ -1,13 +1,13 @@
 -- What the code's counts are of some replies.
 use Rattle.std.specs.Prelude.{List, length, codes}
 use Rattle.hippo_values.specs.Texts.{Txt}
-use Rattle.hippo_drill.specs.Counting.{count_of}
+use Rattle.hippo_drill.specs.Counting.{reply_count}
 use Rattle.hippo_drill.specs.declared.counts.Counts.{Counts}
 
 abbrev pub counts_of : List Txt → Counts
 counts_of replies = record {
   replies = length replies;
-  rows = count_of (codes "row") replies;
-  flags = count_of (codes "flag") replies;
-  refusals = count_of (codes "no") replies;
+  rows = reply_count (codes "row") replies;
+  flags = reply_count (codes "flag") replies;
+  refusals = reply_count (codes "no") replies;
 }

@@ -8,7 +8,8 @@ ghost use Rattle.hippo_drill.specs.Tallies.{counts_of};
 use hippo_values::Memory;
 use std::alloc::{AllocError, Global};
 
-/// How many replies there were so far, and how many of their lines have the second words `row`, `flag` and `no`.
+/// How many replies there were so far, and how many of their lines have the second words `row`,
+/// `flag` and `no`.
 #[derive(Clone, Copy, Debug, PartialEq, Eq)]
 pub struct Counts {
     pub replies: u64,

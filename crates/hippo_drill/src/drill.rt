@@ -1,7 +1,7 @@
 //! The drill: the script's lines, one after the other.
 ghost use Rattle.std.specs.Prelude.{◌≡◌};
 ghost use Rattle.hippo_drill.specs.Script.{script};
-ghost use Rattle.hippo_drill.specs.Scripting.{HandsOut};
+ghost use Rattle.hippo_drill.specs.Scripting.{HandsOutLine};
 
 use crate::places::line_at;
 use hippo_values::{Memory, Txt};
@@ -10,9 +10,10 @@ use std::marker::Model;
 
 /// The lines of a script that were not handed out yet.
 ///
-/// A script of a size has half as many patients. A clinic is set up; the patients and their visits are inserted, and each
-/// tenth patient opts out of showing the phone; a nurse logs in. Then each patient's phone changes, and after each change
-/// the nurse asks for the patients of a zip. At last an audit asks who saw the phones of a zip. The number moves the zips.
+/// A script of a size has half as many patients. A clinic is set up; the patients and their visits
+/// are inserted, and each tenth patient opts out of showing the phone; a nurse logs in. Then each
+/// patient's phone changes, and after each change the nurse asks for the patients of a zip. At last
+/// an audit asks who saw the phones of a zip. The number moves the zips.
 #[derive(Debug, Drop)]
 pub struct Drill {
     size: u64,
@@ -42,10 +43,10 @@ impl Drill {
         }
     }
 
-    /// Adds the next line to `out`, without a line feed, and answers true; false exactly after the last line. Where
-    /// memory is short, nothing changes.
+    /// Adds the next line to `out`, without a line feed, and answers true; false exactly after the
+    /// last line. Where memory is short, nothing changes.
     pub fn next_line(&mut self, alloc: Global, out: &mut Txt) -> Result<bool, Memory>
-        ensures hands_out { HandsOut result self.old self.new out.old out.new }
+        ensures hands_out { HandsOutLine result self.old self.new out.old out.new }
     {
         let Some(line) = line_at(self.size / 2, self.place) else {
             return Ok(false);

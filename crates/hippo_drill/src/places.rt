@@ -1,7 +1,7 @@
 //! Which line stands at a place of the script.
 ghost use Rattle.std.specs.Prelude.{◌≡◌, ℕ, ◌+◌, ◌*◌, ◌≤◌, option_map, slice_get, IfSome};
 ghost use Rattle.hippo_drill.specs.Script.{lines_for};
-ghost use Rattle.hippo_drill.specs.Kinds.{text_of, behind_login, behind_visits, behind_opening};
+ghost use Rattle.hippo_drill.specs.Kinds.{script_text, behind_login, behind_visits, behind_opening};
 
 use crate::script_line::ScriptLine;
 
@@ -21,10 +21,11 @@ const OPENING: [&str; 10] = [
 
 const LOGIN: &str = "1 login ann treatment nurse";
 
-// The line at a place among those behind the login: by turns a phone changes and a question is asked, and at last there
-// is an audit.
+// The line at a place among those behind the login: by turns a phone changes and a question is
+// asked, and at last there is an audit.
 fn line_behind_login(patients: u64, place: u128) -> Option<ScriptLine>
-    ensures text { (number : ℕ) → option_map (text_of number) result ≡ slice_get (behind_login patients number) place }
+    ensures text { (number : ℕ) → option_map (script_text number) result
+        ≡ slice_get (behind_login patients number) place }
     ensures limit { IfSome result (λ line. place ≤ 2 * patients) }
 {
     let turn = place / 2;
@@ -43,9 +44,11 @@ fn line_behind_login(patients: u64, place: u128) -> Option<ScriptLine>
     }
 }
 
-// The line at a place among those behind the visits: one patient in ten opts out, and a nurse logs in.
+// The line at a place among those behind the visits: one patient in ten opts out, and a nurse logs
+// in.
 fn line_behind_visits(patients: u64, place: u128) -> Option<ScriptLine>
-    ensures text { (number : ℕ) → option_map (text_of number) result ≡ slice_get (behind_visits patients number) place }
+    ensures text { (number : ℕ) → option_map (script_text number) result
+        ≡ slice_get (behind_visits patients number) place }
     ensures limit { IfSome result (λ line. place ≤ 3 * patients + 1) }
 {
     let choices = u128::from(patients / 10);
@@ -60,7 +63,8 @@ fn line_behind_visits(patients: u64, place: u128) -> Option<ScriptLine>
 
 // The line at a place among those behind the opening: the patients and their visits are inserted.
 fn line_behind_opening(patients: u64, place: u128) -> Option<ScriptLine>
-    ensures text { (number : ℕ) → option_map (text_of number) result ≡ slice_get (behind_opening patients number) place }
+    ensures text { (number : ℕ) → option_map (script_text number) result
+        ≡ slice_get (behind_opening patients number) place }
     ensures limit { IfSome result (λ line. place ≤ 5 * patients + 1) }
 {
     let each = u128::from(patients);
@@ -76,7 +80,8 @@ fn line_behind_opening(patients: u64, place: u128) -> Option<ScriptLine>
 
 /// The line at a place, counted from 0, of the script for so many patients; none behind the last.
 pub(crate) fn line_at(patients: u64, place: u128) -> Option<ScriptLine>
-    ensures text { (number : ℕ) → option_map (text_of number) result ≡ slice_get (lines_for patients number) place }
+    ensures text { (number : ℕ) → option_map (script_text number) result
+        ≡ slice_get (lines_for patients number) place }
     ensures limit { IfSome result (λ line. place ≤ 5 * patients + 11) }
 {
     if place < 10 {

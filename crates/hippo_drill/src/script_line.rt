@@ -1,7 +1,7 @@
 //! The text of a line of the script.
 ghost use Rattle.std.specs.Prelude.{◌≡◌, ◌+◌, ◌*◌, ◌<◌, IfOk, string_bytes};
 ghost use Rattle.hippo_drill.specs.Script.{zip_of, patient_line, visit_line, choice_line, phone_line, question_line, audit_line};
-ghost use Rattle.hippo_drill.specs.Kinds.{text_of};
+ghost use Rattle.hippo_drill.specs.Kinds.{script_text};
 
 use std::alloc::{AllocError, Global};
 
@@ -72,7 +72,7 @@ fn audit_line(alloc: Global, number: u64) -> Result<String, AllocError>
 impl ScriptLine {
     /// The line's text in the script of this number.
     pub(crate) fn text(self, alloc: Global, number: u64) -> Result<String, AllocError>
-        ensures { IfOk result (λ text. string_bytes text ≡ text_of number self) }
+        ensures { IfOk result (λ text. string_bytes text ≡ script_text number self) }
     {
         match self {
             ScriptLine::Same(text) => String::from_str(alloc, text),

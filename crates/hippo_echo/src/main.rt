@@ -1,5 +1,5 @@
-//! A program that begins and ends as the others do: it writes each word that it is called with on a line, and ends with
-//! the number of the words as its status, or with 255 where a write fails.
+//! A program that begins and ends as the others do: it writes each word that it is called with on a
+//! line, and ends with the number of the words as its status, or with 255 where a write fails.
 #![tactic(auto)]
 
 use hippo_io::{Failed, Sink, Source, write_whole};

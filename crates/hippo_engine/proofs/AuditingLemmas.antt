@@ -14,7 +14,7 @@ use Rattle.hippo_model.specs.Versions.{versions}
 use Rattle.hippo_keeper.specs.Answering.{has_failed}
 use Rattle.hippo_keeper.specs.Keeping.{KeeperState}
 use Rattle.hippo_typing.specs.Meanings.{meaning}
-use Rattle.hippo_commands.specs.Commands.{Command, state, who_commands}
+use Rattle.hippo_commands.specs.Commands.{Command, make_statement, who_commands}
 use Rattle.hippo_backlog.specs.Calls as reads
 use Rattle.hippo_backlog.specs.declared.faults.ReadFault.{ReadFault}
 use Rattle.hippo_backlog.specs.declared.faults.ReadFault.TheVariants.{Keeper, Damaged, Memory}
@@ -42,14 +42,14 @@ use Rattle.hippo_world.specs.Holding.{world_of, JobsFit, taken_of, WatchesFit}
 use Rattle.hippo_engine.specs.declared.engine.Engine.{Engine}
 use Rattle.hippo_engine.specs.declared.faults.EngineFault.{EngineFault}
 use Rattle.hippo_engine.specs.declared.faults.EngineFault.TheVariants as engine
-use Rattle.hippo_engine.specs.Auditing.{FindsFlags, ended, told_flags, TellsFlags}
-use Rattle.hippo_engine.specs.Carrying.{AtWork, as_call, is_carried, Carries}
+use Rattle.hippo_engine.specs.Auditing.{FindsFlags, reading_end, told_flags, TellsFlags}
+use Rattle.hippo_engine.specs.Carrying.{AtWork, line_as_call, is_carried, Carries}
 use Rattle.hippo_judging.specs.Findings.{IsJudged, Does, may_do_nothing}
 use Rattle.hippo_judging.specs.declared.deeds.Deed.TheVariants as kinds
 use Rattle.hippo_judging.specs.Checks.{Checked}
 use Rattle.hippo_judging.specs.Deeds.{Deed}
 use Rattle.hippo_judging.specs.Deeds as deeds
-use Rattle.hippo_engine.specs.Effects.{Effect, only_reply, effect_of, audited, listed, IsEffect}
+use Rattle.hippo_engine.specs.Effects.{Effect, only_reply, effect_of, audit_effect, lines_and_count, IsEffect}
 use Rattle.hippo_judging.specs.Judging.{judged}
 use Rattle.hippo_engine.specs.Ledgers.{at_once}
 use Rattle.hippo_engine.proofs.LookingLemmas.{Carries-looked}
@@ -60,7 +60,7 @@ abbrev pub found_by : Result (Unit {0}) ReadFault → Job Combine → Result (Li
 found_by (Ok all) job = Ok job.waiting
 found_by (Err fault) job = Err fault
 
-same_call : (result : Result (Unit {0}) ReadFault) (job : Job Combine) → has_failed (reads.as_call (found_by result job)) ≡ has_failed (reads.as_call result)
+same_call : (result : Result (Unit {0}) ReadFault) (job : Job Combine) → has_failed (reads.reading_as_call (found_by result job)) ≡ has_failed (reads.reading_as_call result)
 same_call (Ok all) job = refl
 same_call (Err Keeper) job = refl
 same_call (Err (Damaged number)) job = refl
@@ -75,7 +75,7 @@ pub finds_flags : (audit : Audit) (held : State) (past : Past) (combine : Combin
     → HasStepped combine_terms held.count past result (new_job audit held.count combine) job before after steps steps'
     → FindsFlags audit held (found_by result job) before after steps steps'
 finds_flags audit held past combine result job before after steps steps' new is_past stepped = record {
-  call = IsAfterCall-as true false (reads.as_call result) (reads.as_call (found_by result job)) before after (same_call result job) stepped.looks.moves.is_after;
+  call = IsAfterCall-as true false (reads.reading_as_call result) (reads.reading_as_call (found_by result job)) before after (same_call result job) stepped.looks.moves.is_after;
   stays = stepped.looks.moves.stays;
   told = λ tells history forms stands audit_is.
       let begun : JobFits combine_terms (new_job audit held.count combine) history =
@@ -106,7 +106,7 @@ finds_flags audit held past combine result job before after steps steps' new is_
         fault_of (Err other) = Err other
 
 -- how the line ends is how its keeper's calls did
-pub ended_same : {A : Type 0} (found : Result A ReadFault) → has_failed (as_call (ended found)) ≡ has_failed (reads.as_call found)
+pub ended_same : {A : Type 0} (found : Result A ReadFault) → has_failed (line_as_call (reading_end found)) ≡ has_failed (reads.reading_as_call found)
 ended_same (Ok flags) = refl
 ended_same (Err Keeper) = refl
 ended_same (Err (Damaged number)) = refl
@@ -114,7 +114,7 @@ ended_same (Err Memory) = refl
 
 module _ (history : History) (world : World) (command : Command) (audit : Audit) (takes : may_do_nothing command ≡ true) (who : who_commands command ≡ Console)
     (judged_is : judged history world command ≡ Ok (deeds.audit audit)) where
-  done_so : effect_of history world command ≡ audited history world audit
+  done_so : effect_of history world command ≡ audit_effect history world audit
   done_so = done_for history world command (deeds.audit audit) judged_is
 
   short_of_memory : IsEffect history world command (only_reply world (refusal_line Console refusals.Memory))
@@ -122,9 +122,9 @@ module _ (history : History) (world : World) (command : Command) (audit : Audit)
 
   -- what was found has its effect
   effect_found : (found : Result (List Flag) ReadFault) (reply : Txt) → IfOk found (λ flags. flags ≡ flags_between meaning history audit 0 (length history))
-      → is_carried (ended found) ≡ true → reply ≡ told_flags world.format found → IsEffect history world command (only_reply world reply)
+      → is_carried (reading_end found) ≡ true → reply ≡ told_flags world.format found → IsEffect history world command (only_reply world reply)
   effect_found (Ok flags) reply flags_are fine said =
-      inl (ap (only_reply world) (said ∙ ap (listed 0 (flag_line world.format)) flags_are) ∙ sym done_so)
+      inl (ap (only_reply world) (said ∙ ap (lines_and_count 0 (flag_line world.format)) flags_are) ∙ sym done_so)
   effect_found (Err Keeper) reply flags_are fine said = absurd (false≢true fine)
   effect_found (Err (Damaged number)) reply flags_are fine said = absurd (false≢true fine)
   effect_found (Err Memory) reply flags_are fine said = subst (λ (r : Txt). IsEffect history world command (only_reply world r)) (sym said) short_of_memory
@@ -135,13 +135,13 @@ module _ (history : History) (world : World) (command : Command) (audit : Audit)
   unrefused : (refusal : Refusal) → judged history world command ≡ Err refusal → ⊥
   unrefused refusal refuses = let both : ◌≡◌ {A = Checked Deed} (Ok (deeds.audit audit)) (Err refusal) = sym judged_is ∙ refuses in absurd cc
 
-pub undamaged_end : {A : Type 0} (found : Result A ReadFault) (number : ℕ) → ((other : ℕ) → found ≢ Err (Damaged other)) → ended found ≢ Err (engine.Damaged number)
+pub undamaged_end : {A : Type 0} (found : Result A ReadFault) (number : ℕ) → ((other : ℕ) → found ≢ Err (Damaged other)) → reading_end found ≢ Err (engine.Damaged number)
 undamaged_end (Ok flags) number fine e = absurd cc
 undamaged_end (Err Keeper) number fine e = absurd cc
 undamaged_end (Err (Damaged other)) number fine e = fine other refl
 undamaged_end (Err Memory) number fine e = absurd cc
 
-carried_said : (found : Result (List Flag) ReadFault) (said : Type 0) → is_carried (ended found) ≡ true → OnOk (ended found) said → said
+carried_said : (found : Result (List Flag) ReadFault) (said : Type 0) → is_carried (reading_end found) ≡ true → OnOk (reading_end found) said → said
 carried_said (Ok flags) said fine is = is
 carried_said (Err Keeper) said fine is = absurd (false≢true fine)
 carried_said (Err (Damaged number)) said fine is = absurd (false≢true fine)
@@ -153,16 +153,16 @@ IsSaid format found reply = (reply ≡ told_flags format found) ⊎ (reply ≡ r
 -- DURING at the console
 module _ (text : Txt) (written : RawAudit) (audit : Audit) (old new : Engine) (before after : KeeperState) (steps steps' : ℕ) where
   abbrev audits : Command
-  audits = state 0 (stmt.Audit written) text
+  audits = make_statement 0 (stmt.Audit written) text
 
-  pub Carries-audited : (result : Result (Unit {0}) EngineFault) → AtWork old before → IsJudged audits old.state old.world (Ok (deeds.audit audit))
+  pub Carries-audit_effect : (result : Result (Unit {0}) EngineFault) → AtWork old before → IsJudged audits old.state old.world (Ok (deeds.audit audit))
       → ((history : History) → StandsFor old.state history → IsAuditOf history audit)
       → new.state ≡ old.state → new.world ≡ old.world → TellsFlags old.world.format audit old.state result new.reply before after steps steps'
       → Carries audits result old new before after steps steps'
-  Carries-audited result at_work does audit_is same_state same_world tells =
+  Carries-audit_effect result at_work does audit_is same_state same_world tells =
       subst (λ (r : Result (Unit {0}) EngineFault). Carries audits r old new before after steps steps') (sym tells.ended_so)
-      (Carries-looked audits (ended tells.found) old new before after steps steps' refl at_work same_state (ap (λ (held : HeldWorld). held.clock) same_world)
-      (IsAfterCall-as true false (reads.as_call tells.found) (as_call (ended tells.found)) before after (ended_same tells.found) tells.finds.call)
+      (Carries-looked audits (reading_end tells.found) old new before after steps steps' refl at_work same_state (ap (λ (held : HeldWorld). held.clock) same_world)
+      (IsAfterCall-as true false (reads.reading_as_call tells.found) (line_as_call (reading_end tells.found)) before after (ended_same tells.found) tells.finds.call)
       tells.finds.stays
       (λ told history holds.
       let world : World = world_of old.world in
@@ -182,7 +182,7 @@ module _ (text : Txt) (written : RawAudit) (audit : Audit) (old new : Engine) (b
       }))
     where
       either : (history : History) → judged history (world_of old.world) audits ≡ Ok (deeds.audit audit) → IfOk tells.found (λ flags. flags ≡ flags_between meaning history audit 0 (length history))
-          → is_carried (ended tells.found) ≡ true → (new.reply ≡ told_flags old.world.format tells.found) ⊎ (new.reply ≡ refusal_line Console refusals.Memory)
+          → is_carried (reading_end tells.found) ≡ true → (new.reply ≡ told_flags old.world.format tells.found) ⊎ (new.reply ≡ refusal_line Console refusals.Memory)
           → IsEffect history (world_of old.world) audits (only_reply (world_of old.world) new.reply)
       either history is flags fine (inl said) = effect_found history (world_of old.world) audits audit refl refl is tells.found new.reply flags fine said
       either history is flags fine (inr said) =
@@ -193,11 +193,11 @@ pub Carries-does : (command : Command) (audit : Audit) (old new : Engine) (befor
     → Carries command result old new before after steps steps'
 Carries-does command audit old new before after steps steps' result at_work ((written, text, is), means, does) same_state same_world tells =
     subst (λ (c : Command). Carries c result old new before after steps steps') (sym is)
-    (Carries-audited text written audit old new before after steps steps' result at_work
+    (Carries-audit_effect text written audit old new before after steps steps' result at_work
     (subst (λ (c : Command). IsJudged c old.state old.world (Ok (deeds.audit audit))) is does) means.fits same_state same_world tells)
 
 -- how the line ends, by the job or by what it found
-pub ended_view : (result : Result (Unit {0}) EngineFault) (found : Result (Job Combine) ReadFault) → result ≡ ended found → result ≡ ended (result_map_both (λ (job : Job Combine). job.waiting) (λ fault. fault) found)
+pub ended_view : (result : Result (Unit {0}) EngineFault) (found : Result (Job Combine) ReadFault) → result ≡ reading_end found → result ≡ reading_end (result_map_both (λ (job : Job Combine). job.waiting) (λ fault. fault) found)
 ended_view result (Ok job) is = is
 ended_view result (Err Keeper) is = is
 ended_view result (Err (Damaged number)) is = is

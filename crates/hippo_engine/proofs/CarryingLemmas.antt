@@ -22,7 +22,7 @@ use Rattle.hippo_report.specs.declared.format.Format.{Format}
 use Rattle.hippo_values.specs.declared.moments.Moment.{Moment}
 use Rattle.hippo_world.specs.Holding.{world_of, JobsFit, WatchesFit}
 use Rattle.hippo_world.proofs.AuditLemmas.{JobsFit-opening, WatchesFit-opening, JobsFit-same, WatchesFit-same, taken_of-same}
-use Rattle.hippo_commands.specs.Commands.{Command, nothing, wrong, ask, state, who_commands, may_want, IsCommand}
+use Rattle.hippo_commands.specs.Commands.{Command, nothing, wrong, make_request, make_statement, who_commands, may_want, IsCommand}
 use Rattle.hippo_commands.specs.Commands as commands
 use Rattle.hippo_engine.specs.declared.engine.Engine.{Engine}
 use Rattle.hippo_engine.specs.declared.faults.EngineFault.{EngineFault}
@@ -30,7 +30,7 @@ use Rattle.hippo_engine.specs.declared.faults.EngineFault.TheVariants.{Keeper, W
 use Rattle.hippo_engine.specs.Effects.{Effect, only_reply, IsEffect}
 use Rattle.hippo_judging.specs.Findings.{IsOfLine, may_do_nothing}
 use Rattle.hippo_engine.specs.Ledgers.{Tallies, none_taken, at_once, job_begun, job_stepped, job_dropped}
-use Rattle.hippo_engine.specs.Carrying.{Holds, AtWork, IsBacked, is_carried, shown, IsQuiet, AddsNothing, BreaksOff, Carries}
+use Rattle.hippo_engine.specs.Carrying.{Holds, AtWork, IsBacked, is_carried, shown_effect, IsQuiet, AddsNothing, BreaksOff, Carries}
 use Rattle.hippo_engine.proofs.ClockLemmas.{int_le-refl, clock_rises}
 use Rattle.hippo_engine.proofs.ShortLemmas.{short}
 
@@ -98,7 +98,7 @@ IsTimely-same old new state_is clock_is timely =
 pub IsTimely-risen : (command : Command) (old new : Engine) (keeper : KeeperState) → AtWork old keeper → AddsNothing command old new → IsTimely new.state new.world.clock
 IsTimely-risen command old new keeper at_work quiet =
     subst (λ (held : State). IsTimely held new.world.clock) (sym quiet.same)
-    (clock_rises at_work.sound.history (world_of old.world) command (shown new) old.state.last (quiet.effect at_work.sound.history at_work.sound.stands) at_work.timely)
+    (clock_rises at_work.sound.history (world_of old.world) command (shown_effect new) old.state.last (quiet.effect at_work.sound.history at_work.sound.stands) at_work.timely)
 
 -- a command that adds nothing leaves the keeper alone
 pub Carries-nothing : (command : Command) (old new : Engine) (keeper : KeeperState) (steps : ℕ) → AtWork old keeper → AddsNothing command old new
@@ -109,7 +109,7 @@ Carries-nothing command old new keeper steps at_work quiet = record {
   timely = λ fine. IsTimely-risen command old new keeper at_work quiet;
   idle = λ none. refl;
   carried = λ fine tells history holds. record {
-    effect = shown new;
+    effect = shown_effect new;
     is = quiet.effect history holds.stands;
     reply = refl;
     world = refl;
@@ -201,9 +201,9 @@ wanting (wrong Nobody refusal) wants = absurd (false≢true wants)
 wanting (wrong Console refusal) wants = (refl, tt)
 wanting (wrong (Session number) refusal) wants = (refl, tt)
 wanting (commands.set_clock moment) wants = absurd (false≢true wants)
-wanting (ask session request) wants = absurd (false≢true wants)
-wanting (state zero statement text) wants = (refl, tt)
-wanting (state (suc session) statement text) wants = (refl, tt)
+wanting (make_request session request) wants = absurd (false≢true wants)
+wanting (make_statement zero statement text) wants = (refl, tt)
+wanting (make_statement (suc session) statement text) wants = (refl, tt)
 
 -- what is carried out for the command that was found
 pub Carries-found : {A : Type 0} (command found : Command) (result : Result A EngineFault) (old new : Engine) (before after : KeeperState) (steps steps' : ℕ)

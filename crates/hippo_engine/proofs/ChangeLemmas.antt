@@ -25,7 +25,7 @@ use Rattle.hippo_report.specs.Refusals.{refusal_line}
 use Rattle.hippo_world.specs.declared.worlds.World.{World as HeldWorld}
 use Rattle.hippo_world.specs.Worlds.{World}
 use Rattle.hippo_tables.specs.declared.tables.Tables.{Tables}
-use Rattle.hippo_tables.specs.Standing.{StandsFor as TablesStandFor}
+use Rattle.hippo_tables.specs.Standing.{TablesStandFor}
 use Rattle.hippo_watch.specs.Watches.{ComesNext}
 use Rattle.hippo_world.specs.Auditing.{AreLooking, AreAudits, all_handed}
 use Rattle.hippo_world.specs.Holding.{world_of, WatchesFollow, WatchesGoBack}
@@ -36,13 +36,13 @@ use Rattle.hippo_engine.specs.declared.faults.EngineFault.{EngineFault}
 use Rattle.hippo_engine.specs.declared.faults.EngineFault.TheVariants.{Keeper}
 use Rattle.hippo_engine.specs.Carrying.{AtWork, IsQuiet, Carries}
 use Rattle.hippo_judging.specs.Changes.{IsChange}
-use Rattle.hippo_engine.specs.Changing.{Changes, changed}
+use Rattle.hippo_engine.specs.Changing.{Changes, change_effect}
 use Rattle.hippo_engine.specs.Performing.{SaysRefusal}
-use Rattle.hippo_judging.specs.Findings.{Adds, IsRefused, may_do_nothing}
+use Rattle.hippo_judging.specs.Findings.{AddsNextEntry, IsRefused, may_do_nothing}
 use Rattle.hippo_judging.specs.Checks.{Refuses, reply_room}
 use Rattle.hippo_judging.specs.Deeds.{Deed, next_entry}
 use Rattle.hippo_judging.specs.Deeds as deeds
-use Rattle.hippo_engine.specs.Effects.{Effect, only_reply, done, effect_of, carried_out, IsEffect}
+use Rattle.hippo_engine.specs.Effects.{Effect, only_reply, deed_effect, effect_of, judgement_effect, IsEffect}
 use Rattle.hippo_judging.specs.Judging.{judged}
 use Rattle.hippo_engine.specs.Ledgers.{none_taken}
 use Rattle.hippo_engine.proofs.CarryingLemmas.{Holds-same, Holds-more}
@@ -90,17 +90,17 @@ quiet_refusal command who refusal old new who_is is state_is world_is says = rec
 
 -- what is done for a change that adds the next entry
 next_is : (history : History) (world : World) (entry : Entry) → entry ≡ next_entry history world entry.act
-    → done history world (deeds.change entry.act) ≡ changed world entry
-next_is history world entry is = sym (ap (changed world) is)
+    → deed_effect history world (deeds.change entry.act) ≡ change_effect world entry
+next_is history world entry is = sym (ap (change_effect world) is)
 
 -- a command that is judged as a change adds its entry
 adds_change : (history : History) (world : World) (command : Command) (entry : Entry)
-    → IsChange history world (judged history world command) entry → effect_of history world command ≡ changed world entry
+    → IsChange history world (judged history world command) entry → effect_of history world command ≡ change_effect world entry
 adds_change history world command entry change =
-    ap (carried_out history world (who_commands command)) change.judged_so ∙ next_is history world entry change.next
+    ap (judgement_effect history world (who_commands command)) change.judged_so ∙ next_is history world entry change.next
 
 -- what the checks of a change found
-pub changes_by : (command : Command) (entry : Entry) (engine : Engine) → Adds command entry engine.state engine.world → Changes command entry engine
+pub changes_by : (command : Command) (entry : Entry) (engine : Engine) → AddsNextEntry command entry engine.state engine.world → Changes command entry engine
 changes_by command entry engine is = record {
   who = is.console;
   memory = is.memory;
@@ -146,7 +146,7 @@ module _ (command : Command) (entry : Entry) (old new : Engine) (before after : 
     timely = λ fine. timely_more records.ok world_is;
     idle = λ none. refl;
     carried = λ fine tells history holds. record {
-      effect = changed (world_of old.world) entry;
+      effect = change_effect (world_of old.world) entry;
       is = inl (sym (changes.adds history holds.stands));
       reply = reply_is;
       world = world_is;

@@ -25,7 +25,7 @@ use Rattle.hippo_model.specs.declared.entry.Entry.{Entry}
 use Rattle.hippo_model.specs.declared.schema.Schema.{Schema}
 use Rattle.hippo_world.specs.Worlds.{World, opening, with_session, new_session}
 use Rattle.hippo_lines.specs.Forms.{logs_in}
-use Rattle.hippo_commands.specs.Commands.{Command, set_clock, ask, state}
+use Rattle.hippo_commands.specs.Commands.{Command, set_clock, make_request, make_statement}
 use Rattle.hippo_model.specs.declared.cells.Cell.{Cell}
 use Rattle.hippo_model.specs.declared.cells.Cell.TheVariants.{Shown}
 use Rattle.hippo_model.specs.Terms.{ShownRow}
@@ -33,7 +33,7 @@ use Rattle.hippo_report.specs.declared.refusal.Refusal.{Refusal}
 use Rattle.hippo_report.specs.Cells.{answer_line}
 use Rattle.hippo_report.specs.Notices.{number_line}
 use Rattle.hippo_report.specs.Refusals.{refusal_line}
-use Rattle.hippo_engine.specs.Effects.{Effect, effect_of, listed, question_rows}
+use Rattle.hippo_engine.specs.Effects.{Effect, effect_of, lines_and_count, question_rows}
 use Rattle.hippo_judging.specs.Deeds.{Question}
 use Rattle.hippo_model.specs.declared.query.Form.TheVariants.{Plain as PlainForm}
 
@@ -59,7 +59,7 @@ ok number = number_line 0 (codes "ok") number
 
 -- the rows of an answer to session 1
 abbrev pub rows : List ShownRow → Txt
-rows answer = listed 1 (answer_line 1) answer
+rows answer = lines_and_count 1 (answer_line 1) answer
 
 abbrev pub text : Txt → Cell
 text bytes = Shown (Text bytes)
@@ -72,7 +72,7 @@ console_no refusal = refusal_line Console refusal
 
 -- a statement of the console, and one of a session with its whole text
 abbrev pub console : Stmt → Command
-console statement = state 0 statement []
+console statement = make_statement 0 statement []
 
 abbrev column : Name → ColumnKind → Column
 column name kind = record { name = name; kind = kind; not_null = false }
@@ -103,7 +103,7 @@ abbrev pub allow : List Name → Stmt
 allow columns = Allow treatment nurse patient columns None None
 
 abbrev pub ann_logs_in : Command
-ann_logs_in = ask 1 (logs_in (codes "ann") treatment nurse)
+ann_logs_in = make_request 1 (logs_in (codes "ann") treatment nurse)
 
 -- a nurse may see the number and the name of two patients
 abbrev pub morning : List Command
@@ -164,7 +164,7 @@ left (command ∷ commands) history world = left_by history (left commands) (eff
 
 -- a question of session 1; its text is not looked at here
 abbrev pub question : RawSelect → Command
-question selected = state 1 (Select selected 0 6) (codes "SELECT")
+question selected = make_statement 1 (Select selected 0 6) (codes "SELECT")
 
 -- SELECT names FROM patient
 abbrev pub all_rows : List Name → RawSelect

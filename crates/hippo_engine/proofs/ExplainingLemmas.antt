@@ -27,20 +27,20 @@ use Rattle.hippo_report.specs.Refusals.{refusal_line}
 use Rattle.hippo_world.specs.declared.worlds.World.{World as HeldWorld}
 use Rattle.hippo_world.specs.Worlds.{World}
 use Rattle.hippo_world.specs.Holding.{world_of, JobsFit, taken_of, WatchesFit}
-use Rattle.hippo_commands.specs.Commands.{Command, state}
+use Rattle.hippo_commands.specs.Commands.{Command, make_statement}
 use Rattle.hippo_engine.specs.declared.engine.Engine.{Engine}
 use Rattle.hippo_engine.specs.declared.faults.EngineFault.{EngineFault}
 use Rattle.hippo_engine.specs.declared.faults.EngineFault.TheVariants as engine
 use Rattle.hippo_judging.specs.Checks.{Checked, ◌>>=◌, question_at}
 use Rattle.hippo_judging.specs.Deeds.{Deed}
 use Rattle.hippo_judging.specs.Deeds as deeds
-use Rattle.hippo_judging.specs.Findings.{HasFound, LooksUp, LooksUpFor}
-use Rattle.hippo_engine.specs.Effects.{Effect, row_limit, only_reply, carried_out, effect_of, explained, listed, denial_line, IsEffect}
+use Rattle.hippo_judging.specs.Findings.{HasLookedUp, LooksUp, LooksUpFor}
+use Rattle.hippo_engine.specs.Effects.{Effect, row_limit, only_reply, judgement_effect, effect_of, explain_effect, lines_and_count, denial_line, IsEffect}
 use Rattle.hippo_judging.specs.Judging.{judged}
 use Rattle.hippo_engine.specs.Ledgers.{at_once}
-use Rattle.hippo_engine.specs.Carrying.{AtWork, as_call, is_carried, Carries}
+use Rattle.hippo_engine.specs.Carrying.{AtWork, line_as_call, is_carried, Carries}
 use Rattle.hippo_judging.proofs.EntryLemmas.{err_of}
-use Rattle.hippo_engine.specs.Explaining.{Explained as Explanation, AreDenied, IsFound, Explains, explained_line, told_of, told_cells, ended, TellsCells}
+use Rattle.hippo_engine.specs.Explaining.{Explanation, AreDenied, IsFound, Explains, explained_line, told_of, told_cells, explaining_end, TellsCells}
 use Rattle.hippo_engine.specs.Performing.{Explained}
 use Rattle.hippo_engine.specs.Explaining as explaining
 use Rattle.hippo_engine.proofs.LookingLemmas.{Carries-looked}
@@ -49,7 +49,7 @@ use Rattle.hippo_engine.proofs.ShortLemmas.{short, refused, done_for}
 abbrev looked_up : Option Entry → Result (Option Entry) ReadFault
 looked_up entry = Ok entry
 
-told_same : (result : Result (List Denial) DenialsFault) → has_failed (explaining.as_call (told_of result)) ≡ has_failed (listing.as_call result)
+told_same : (result : Result (List Denial) DenialsFault) → has_failed (explaining.explanation_as_call (told_of result)) ≡ has_failed (listing.listing_as_call result)
 told_same (Ok cells) = refl
 told_same (Err TooMany) = refl
 told_same (Err (Read Keeper)) = refl
@@ -74,12 +74,12 @@ module _ (number : ℤ) (held : State) (before between : KeeperState) (steps ste
   pub question_explains : (entry : Entry) (result : Result (List Denial) DenialsFault) (after : KeeperState) (steps'' : ℕ) → LooksUp number (Ok (Some entry)) held before between steps steps'
       → Denies row_limit entry held.catalog.names held.book result between after steps' steps'' → Explains number held (told_of result) before after steps steps''
   question_explains entry result after steps'' looks denies = record {
-    call = IsAfterCall-then false (reads.as_call (looked_up (Some entry))) (explaining.as_call (told_of result)) before between after refl looks.call
-        (IsAfterCall-as true false (listing.as_call result) (explaining.as_call (told_of result)) between after (told_same result) denies.call);
+    call = IsAfterCall-then false (reads.reading_as_call (looked_up (Some entry))) (explaining.explanation_as_call (told_of result)) before between after refl looks.call
+        (IsAfterCall-as true false (listing.listing_as_call result) (explaining.explanation_as_call (told_of result)) between after (told_same result) denies.call);
     stays = λ tells. KeepsSame-then before between after (looks.stays (denies.call.told tells)) (denies.stays tells);
     told = λ tells history forms stands.
         let earlier = denies.call.told tells in
-        let was : HasFound history number (Ok (Some entry)) steps steps' = looks.told earlier history forms stands in
+        let was : HasLookedUp history number (Ok (Some entry)) steps steps' = looks.told earlier history forms stands in
         let answered = denies.told tells history (record { forms = forms ∙ sym (looks.stays earlier).same; valid = stands.valid }) stands.names stands.book
         (record { valid = stands.valid; place = was.there.0; stands = was.there.1 }) in
         record { found = found_of history number entry result was.is answered.answer; few = omega (arith, answered.few, was.idle) };
@@ -96,14 +96,14 @@ module _ (number : ℤ) (held : State) (before between : KeeperState) (steps ste
   -- it was not looked up
   pub unread_explains : (fault : ReadFault) → LooksUp number (Err fault) held before between steps steps' → Explains number held (Err (Some (Read fault))) before between steps steps'
   unread_explains fault looks = record {
-    call = IsAfterCall-as true false (reads.as_call (err_of (Option Entry) fault)) (explaining.as_call (Err (Some (Read fault)))) before between (same_call fault) looks.call;
+    call = IsAfterCall-as true false (reads.reading_as_call (err_of (Option Entry) fault)) (explaining.explanation_as_call (Err (Some (Read fault)))) before between (same_call fault) looks.call;
     stays = looks.stays;
     told = λ tells history forms stands.
         let was = looks.told tells history forms stands in
         record { found = unfound history fault was.undamaged; few = was.few };
   }
     where
-      same_call : (fault : ReadFault) → has_failed (explaining.as_call (Err (Some (Read fault)))) ≡ has_failed (reads.as_call (err_of (Option Entry) fault))
+      same_call : (fault : ReadFault) → has_failed (explaining.explanation_as_call (Err (Some (Read fault)))) ≡ has_failed (reads.reading_as_call (err_of (Option Entry) fault))
       same_call Keeper = refl
       same_call (Damaged number) = refl
       same_call Memory = refl
@@ -114,7 +114,7 @@ module _ (number : ℤ) (held : State) (before between : KeeperState) (steps ste
       unfound history Memory undamaged = tt
 
 -- how the line ends is how its keeper's calls did
-ended_same : (found : Explanation) → has_failed (as_call (ended found)) ≡ has_failed (explaining.as_call found)
+ended_same : (found : Explanation) → has_failed (line_as_call (explaining_end found)) ≡ has_failed (explaining.explanation_as_call found)
 ended_same (Ok cells) = refl
 ended_same (Err None) = refl
 ended_same (Err (Some TooMany)) = refl
@@ -124,7 +124,7 @@ ended_same (Err (Some (Read Memory))) = refl
 
 module _ (history : History) (world : World) (text : Txt) (number : ℤ) where
   abbrev command : Command
-  command = state 0 (stmt.Explain number) text
+  command = make_statement 0 (stmt.Explain number) text
 
   abbrev by_found : Option Entry → Checked Deed
   by_found found = ok_or found (refusals.NoSuchQuery number) >>= λ entry. Ok (deeds.explain entry)
@@ -135,15 +135,15 @@ module _ (history : History) (world : World) (text : Txt) (number : ℤ) where
   said_so : (reply : Txt) → IsEffect history world command (only_reply world (refusal_line Console refusals.Memory))
   said_so reply = short history world command refl
 
-  denied_effect : (denied : AreDenied history number (λ cells. Unit {0})) → effect_of history world command ≡ explained history world denied.entry
+  denied_effect : (denied : AreDenied history number (λ cells. Unit {0})) → effect_of history world command ≡ explain_effect history world denied.entry
   denied_effect denied = done_for history world command (deeds.explain denied.entry) (judged_is (Some denied.entry) denied.asked)
 
   -- what was found has its effect
-  effect_found : (found : Explanation) (reply : Txt) → IsFound history number found → is_carried (ended found) ≡ true → reply ≡ explained_line number found → IsEffect history world command (only_reply world reply)
+  effect_found : (found : Explanation) (reply : Txt) → IsFound history number found → is_carried (explaining_end found) ≡ true → reply ≡ explained_line number found → IsEffect history world command (only_reply world reply)
   effect_found (Ok cells) reply is fine said =
       let few : nat_lt row_limit (length (denials meaning history is.entry)) ≡ false = not_more row_limit (length (denials meaning history is.entry)) is.cells.1 in
-      let line : (explained history world is.entry).reply ≡ listed 0 denial_line (denials meaning history is.entry) = ap (λ (b : Bool). if b then refusal_line Console refusals.TooManyRows else listed 0 denial_line (denials meaning history is.entry)) few in
-      inl (ap (only_reply world) (said ∙ ap (listed 0 denial_line) is.cells.0 ∙ sym line) ∙ sym (denied_effect (record { entry = is.entry; asked = is.asked; cells = tt })))
+      let line : (explain_effect history world is.entry).reply ≡ lines_and_count 0 denial_line (denials meaning history is.entry) = ap (λ (b : Bool). if b then refusal_line Console refusals.TooManyRows else lines_and_count 0 denial_line (denials meaning history is.entry)) few in
+      inl (ap (only_reply world) (said ∙ ap (lines_and_count 0 denial_line) is.cells.0 ∙ sym line) ∙ sym (denied_effect (record { entry = is.entry; asked = is.asked; cells = tt })))
     where
       not_more : (limit count : ℕ) → count ≤ limit → nat_lt limit count ≡ false
       not_more limit count few = grind (arith, nat_tests)
@@ -151,7 +151,7 @@ module _ (history : History) (world : World) (text : Txt) (number : ℤ) where
       subst (λ (r : Txt). IsEffect history world command (only_reply world r)) (sym said) (refused history world command (refusals.NoSuchQuery number) (judged_is None is))
   effect_found (Err (Some TooMany)) reply is fine said =
       let many : nat_lt row_limit (length (denials meaning history is.entry)) ≡ true = more row_limit (length (denials meaning history is.entry)) is.cells in
-      let line : (explained history world is.entry).reply ≡ refusal_line Console refusals.TooManyRows = ap (λ (b : Bool). if b then refusal_line Console refusals.TooManyRows else listed 0 denial_line (denials meaning history is.entry)) many in
+      let line : (explain_effect history world is.entry).reply ≡ refusal_line Console refusals.TooManyRows = ap (λ (b : Bool). if b then refusal_line Console refusals.TooManyRows else lines_and_count 0 denial_line (denials meaning history is.entry)) many in
       inl (ap (only_reply world) (said ∙ sym line) ∙ sym (denied_effect (record { entry = is.entry; asked = is.asked; cells = tt })))
     where
       more : (limit count : ℕ) → limit < count → nat_lt limit count ≡ true
@@ -161,7 +161,7 @@ module _ (history : History) (world : World) (text : Txt) (number : ℤ) where
   effect_found (Err (Some (Read Memory))) reply is fine said =
       subst (λ (r : Txt). IsEffect history world command (only_reply world r)) (sym said) (said_so reply)
 
-  undamaged : (found : Explanation) (other : ℕ) → IsFound history number found → ended found ≡ Err (engine.Damaged other) → ⊥
+  undamaged : (found : Explanation) (other : ℕ) → IsFound history number found → explaining_end found ≡ Err (engine.Damaged other) → ⊥
   undamaged (Ok cells) other is e = absurd cc
   undamaged (Err None) other is e = absurd cc
   undamaged (Err (Some TooMany)) other is e = absurd cc
@@ -174,7 +174,7 @@ module _ (history : History) (world : World) (text : Txt) (number : ℤ) where
   adds_none = by (question_at history number) refl
     where
       by : (found : Option Entry) → question_at history number ≡ found → (effect_of history world command).added ≡ []
-      by None is = ap (λ (e : Effect). e.added) (sym (ap (λ (judgement : Checked Deed). carried_out history world Console judgement) (sym (judged_is None is))))
+      by None is = ap (λ (e : Effect). e.added) (sym (ap (λ (judgement : Checked Deed). judgement_effect history world Console judgement) (sym (judged_is None is))))
       by (Some entry) is = ap (λ (e : Effect). e.added) (done_for history world command (deeds.explain entry) (judged_is (Some entry) is))
 
   only_missing : (refusal : Refusal) → judged history world command ≡ Err refusal → ((other : ℤ) → refusal ≢ refusals.NoSuchQuery other) → ⊥
@@ -187,7 +187,7 @@ module _ (history : History) (world : World) (text : Txt) (number : ℤ) where
       by None at = others number (sym (same (refusals.NoSuchQuery number) refusal (sym (judged_is None at) ∙ is)))
       by (Some entry) at = let both : ◌≡◌ {A = Checked Deed} (Ok (deeds.explain entry)) (Err refusal) = sym (judged_is (Some entry) at) ∙ is in absurd cc
 
-carried_said : (found : Explanation) (said : Type 0) → is_carried (ended found) ≡ true → OnOk (ended found) said → said
+carried_said : (found : Explanation) (said : Type 0) → is_carried (explaining_end found) ≡ true → OnOk (explaining_end found) said → said
 carried_said (Ok cells) said fine is = is
 carried_said (Err None) said fine is = is
 carried_said (Err (Some TooMany)) said fine is = is
@@ -199,21 +199,21 @@ abbrev IsSaid : ℤ → Explanation → Txt → Type 0
 IsSaid number found reply = (reply ≡ explained_line number found) ⊎ (reply ≡ refusal_line Console refusals.Memory)
 
 -- EXPLAIN at the console
-pub Carries-explained : (text : Txt) (number : ℤ) (session : ℕ) (result : Result (Unit {0}) EngineFault) (old new : Engine) (before after : KeeperState) (steps steps' : ℕ) → session ≡ 0 → AtWork old before
+pub Carries-explain_effect : (text : Txt) (number : ℤ) (session : ℕ) (result : Result (Unit {0}) EngineFault) (old new : Engine) (before after : KeeperState) (steps steps' : ℕ) → session ≡ 0 → AtWork old before
     → new.state ≡ old.state → new.world ≡ old.world → TellsCells number old.state result new.reply before after steps steps'
-    → Carries (state session (stmt.Explain number) text) result old new before after steps steps'
-Carries-explained text number session result old new before after steps steps' console at_work same_state same_world tells =
-    subst (λ (s : ℕ). Carries (state s (stmt.Explain number) text) result old new before after steps steps') (sym console)
-    (subst (λ (r : Result (Unit {0}) EngineFault). Carries (state 0 (stmt.Explain number) text) r old new before after steps steps') (sym tells.ended_so)
-    (Carries-looked (state 0 (stmt.Explain number) text) (ended tells.found) old new before after steps steps' refl at_work same_state (ap (λ (held : HeldWorld). held.clock) same_world)
-    (IsAfterCall-as true false (explaining.as_call tells.found) (as_call (ended tells.found)) before after (ended_same tells.found) tells.explains.call)
+    → Carries (make_statement session (stmt.Explain number) text) result old new before after steps steps'
+Carries-explain_effect text number session result old new before after steps steps' console at_work same_state same_world tells =
+    subst (λ (s : ℕ). Carries (make_statement s (stmt.Explain number) text) result old new before after steps steps') (sym console)
+    (subst (λ (r : Result (Unit {0}) EngineFault). Carries (make_statement 0 (stmt.Explain number) text) r old new before after steps steps') (sym tells.ended_so)
+    (Carries-looked (make_statement 0 (stmt.Explain number) text) (explaining_end tells.found) old new before after steps steps' refl at_work same_state (ap (λ (held : HeldWorld). held.clock) same_world)
+    (IsAfterCall-as true false (explaining.explanation_as_call tells.found) (line_as_call (explaining_end tells.found)) before after (ended_same tells.found) tells.explains.call)
     tells.explains.stays
     (λ told history holds.
     let world : World = world_of old.world in
     let done = tells.explains.told told history holds.forms holds.stands in
     record {
       effect = λ fine.
-          subst (λ (w : World). IsEffect history world (state 0 (stmt.Explain number) text) (only_reply w new.reply)) (ap world_of (sym same_world))
+          subst (λ (w : World). IsEffect history world (make_statement 0 (stmt.Explain number) text) (only_reply w new.reply)) (ap world_of (sym same_world))
           (either history world done.found fine (carried_said tells.found (IsSaid number tells.found new.reply) fine (subst (λ (r : Result (Unit {0}) EngineFault). OnOk r (IsSaid number tells.found new.reply)) tells.ended_so tells.said)));
       jobs = subst (JobsFit history) (sym same_world) holds.jobs;
       watches = subst (WatchesFit history) (sym same_world) holds.watches;
@@ -223,19 +223,19 @@ Carries-explained text number session result old new before after steps steps' c
       undamaged = λ other e. undamaged history world text number tells.found other done.found e;
     })))
   where
-    either : (history : History) (world : World) → IsFound history number tells.found → is_carried (ended tells.found) ≡ true
+    either : (history : History) (world : World) → IsFound history number tells.found → is_carried (explaining_end tells.found) ≡ true
         → (new.reply ≡ explained_line number tells.found) ⊎ (new.reply ≡ refusal_line Console refusals.Memory)
-        → IsEffect history world (state 0 (stmt.Explain number) text) (only_reply world new.reply)
+        → IsEffect history world (make_statement 0 (stmt.Explain number) text) (only_reply world new.reply)
     either history world is fine (inl said) = effect_found history world text number tells.found new.reply is fine said
     either history world is fine (inr said) =
-        subst (λ (r : Txt). IsEffect history world (state 0 (stmt.Explain number) text) (only_reply world r)) (sym said) (said_so history world text number new.reply)
+        subst (λ (r : Txt). IsEffect history world (make_statement 0 (stmt.Explain number) text) (only_reply world r)) (sym said) (said_so history world text number new.reply)
 
 -- it was looked up, and told of
 pub Carries-told : (asked : Command) (number : ℤ) (entry : Entry) (result : Result (Unit {0}) EngineFault) (old new : Engine) (before between after : KeeperState) (start steps steps' : ℕ) → AtWork old before
     → LooksUpFor asked number (Ok (Some entry)) old.state before between start steps → Explained entry result old new between after steps steps' → Carries asked result old new before after start steps'
 Carries-told asked number entry result old new before between after start steps steps' at_work looks told =
     subst (λ (c : Command). Carries c result old new before after start steps') (sym looks.is)
-    (Carries-explained looks.text number 0 result old new before after start steps' refl at_work told.state told.world (record {
+    (Carries-explain_effect looks.text number 0 result old new before after start steps' refl at_work told.state told.world (record {
       found = told_of told.tells.found;
       explains = question_explains number old.state before between start steps entry told.tells.found after steps' looks.looks told.tells.denies;
       ended_so = told.tells.ended_so;
@@ -248,16 +248,16 @@ pub Carries-unasked : (asked : Command) (number : ℤ) (old new : Engine) (befor
     → (new.reply ≡ refusal_line Console (refusals.NoSuchQuery number)) ⊎ (new.reply ≡ refusal_line Console refusals.Memory) → Carries {A = Unit {0}} asked (Ok tt) old new before after steps steps'
 Carries-unasked asked number old new before after steps steps' at_work looks same_state same_world said =
     subst (λ (c : Command). Carries {A = Unit {0}} c (Ok tt) old new before after steps steps') (sym looks.is)
-    (Carries-explained looks.text number 0 (Ok tt) old new before after steps steps' refl at_work same_state same_world
+    (Carries-explain_effect looks.text number 0 (Ok tt) old new before after steps steps' refl at_work same_state same_world
     (record { found = Err None; explains = none_explains number old.state before after steps steps' looks.looks; ended_so = refl; said = said }))
 
 -- it was not read
 pub Carries-unread : (asked : Command) (number : ℤ) (fault : ReadFault) (result : Result (Unit {0}) EngineFault) (old new : Engine) (before after : KeeperState) (steps steps' : ℕ) → AtWork old before
     → LooksUpFor asked number (Err fault) old.state before after steps steps' → new.state ≡ old.state → new.world ≡ old.world
-    → result ≡ ended (Err (Some (Read fault))) → OnOk result (new.reply ≡ refusal_line Console refusals.Memory) → Carries asked result old new before after steps steps'
+    → result ≡ explaining_end (Err (Some (Read fault))) → OnOk result (new.reply ≡ refusal_line Console refusals.Memory) → Carries asked result old new before after steps steps'
 Carries-unread asked number fault result old new before after steps steps' at_work looks same_state same_world ends said =
     subst (λ (c : Command). Carries c result old new before after steps steps') (sym looks.is)
-    (Carries-explained looks.text number 0 result old new before after steps steps' refl at_work same_state same_world
+    (Carries-explain_effect looks.text number 0 result old new before after steps steps' refl at_work same_state same_world
     (record { found = Err (Some (Read fault)); explains = unread_explains number old.state before after steps steps' fault looks.looks; ended_so = ends; said = on_ok result said }))
   where
     on_ok : (r : Result (Unit {0}) EngineFault) → OnOk r (new.reply ≡ refusal_line Console refusals.Memory) → OnOk r ((new.reply ≡ explained_line number (Err (Some (Read fault)))) ⊎ (new.reply ≡ refusal_line Console refusals.Memory))

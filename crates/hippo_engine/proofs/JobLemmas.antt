@@ -10,7 +10,7 @@ use Rattle.hippo_model.specs.Versions.{versions}
 use Rattle.hippo_keeper.specs.Keeping.{KeeperState}
 use Rattle.hippo_typing.specs.Meanings.{meaning}
 use Rattle.hippo_lines.specs.Forms as requests
-use Rattle.hippo_commands.specs.Commands.{Command, ask}
+use Rattle.hippo_commands.specs.Commands.{Command, make_request}
 use Rattle.hippo_backlog.specs.Calls as reads
 use Rattle.hippo_backlog.specs.declared.faults.ReadFault.{ReadFault}
 use Rattle.hippo_backlog.specs.declared.faults.ReadFault.TheVariants as faults
@@ -29,20 +29,20 @@ use Rattle.hippo_flags.specs.Flags.{flag_line}
 use Rattle.hippo_report.specs.Notices.{done_line, number_line}
 use Rattle.hippo_report.specs.Refusals.{refusal_line}
 use Rattle.hippo_world.specs.declared.worlds.World.{World as HeldWorld}
-use Rattle.hippo_world.specs.Auditing.{HeldJob, taken_by, HasBegun, LooksAt, AreLooking, all_handed}
+use Rattle.hippo_world.specs.Auditing.{HeldJob, taken_by_job, HasBegun, IsLooking, AreLooking, all_handed}
 use Rattle.hippo_world.specs.Holding.{world_of, WatchesFit}
 use Rattle.hippo_world.specs.Worlds.{World, at_number, with_at, free_number}
 use Rattle.hippo_world.proofs.NumberLemmas.{put_back}
 use Rattle.hippo_world.proofs.HeldLemmas.{seen-at, seen-with, StandsAt, held_stands, free_stands}
-use Rattle.hippo_world.proofs.AuditLemmas.{all_with, one_has, handed-parted, handed-with, LooksAt-begun, LooksAt-written, none_taken_yet}
+use Rattle.hippo_world.proofs.AuditLemmas.{all_with, one_has, handed-parted, handed-with, IsLooking-begun, IsLooking-written, none_taken_yet}
 use Rattle.hippo_engine.specs.declared.engine.Engine.{Engine}
 use Rattle.hippo_engine.specs.declared.faults.EngineFault.{EngineFault}
-use Rattle.hippo_engine.specs.Auditing.{ended}
+use Rattle.hippo_engine.specs.Auditing.{reading_end}
 use Rattle.hippo_judging.specs.Checks.{Checked, ◌>>=◌}
-use Rattle.hippo_engine.specs.Carrying.{AtWork, as_call, is_carried, shown, AddsNothing, Carries}
+use Rattle.hippo_engine.specs.Carrying.{AtWork, line_as_call, is_carried, shown_effect, AddsNothing, Carries}
 use Rattle.hippo_judging.specs.Deeds.{Deed}
 use Rattle.hippo_judging.specs.Deeds as deeds
-use Rattle.hippo_engine.specs.Effects.{Effect, only_reply, effect_of, stepped, step_flags, step_line, looked_upto, with_job, new_job, IsShort, IsShortStep, IsEffect}
+use Rattle.hippo_engine.specs.Effects.{Effect, only_reply, effect_of, job_step_effect as stepped, step_flags, step_line, job_up_to, with_job, new_open_audit, IsShort, IsShortStep, IsEffect}
 use Rattle.hippo_engine.specs.Jobs.{BeginsAt, progress_line, step_text, TellsStep}
 use Rattle.hippo_judging.specs.Judging.{judged}
 use Rattle.hippo_engine.specs.Ledgers.{begins_job, job_begun, job_stepped, job_dropped}
@@ -69,7 +69,7 @@ module _ (command : Command) (number : ℕ) (audit : Audit) (old new : Engine) (
     effect = λ history stands. inl (effect_is history stands ∙ sym (done_for history (world_of old.world) command (deeds.begin_audit number audit) (does history stands)));
     jobs = λ history stands fit.
         subst (AreLooking history) (sym jobs_are)
-        (all_with (LooksAt history) old.world.jobs number (Some begun.job) fit (LooksAt-begun history audit begun.job stands.valid (audit_is history stands) (begun_over history stands)));
+        (all_with (IsLooking history) old.world.jobs number (Some begun.job) fit (IsLooking-begun history audit begun.job stands.valid (audit_is history stands) (begun_over history stands)));
     watches = λ history stands stand. subst (WatchesFit history) (sym begun.world) stand;
     counts = λ versions steps. job_begun (all_handed there.front) (all_handed there.behind) begins refl (handed-parted old.world.jobs number None there)
         (ap all_handed jobs_are ∙ handed-with old.world.jobs number None there (Some begun.job)
@@ -85,13 +85,13 @@ module _ (command : Command) (number : ℕ) (audit : Audit) (old new : Engine) (
       begun_over : (history : History) → StandsFor old.state history → HasBegun audit (length history) begun.job
       begun_over history stands = subst (λ (count : ℕ). HasBegun audit count begun.job) stands.count begun.begun
 
-      job_is : (history : History) → StandsFor old.state history → open_audit begun.job ≡ new_job history audit
+      job_is : (history : History) → StandsFor old.state history → open_audit begun.job ≡ new_open_audit history audit
       job_is history stands = ap (λ (job : HeldJob). open_audit job) (begun_over history stands).is
 
       effect_is : (history : History) → StandsFor old.state history
-          → shown new ≡ only_reply (with_job (world_of old.world) number (Some (new_job history audit))) (number_line 0 (codes "job") number)
+          → shown_effect new ≡ only_reply (with_job (world_of old.world) number (Some (new_open_audit history audit))) (number_line 0 (codes "job") number)
       effect_is history stands =
-          let worlds : world_of new.world ≡ with_job (world_of old.world) number (Some (new_job history audit)) =
+          let worlds : world_of new.world ≡ with_job (world_of old.world) number (Some (new_open_audit history audit)) =
           ap world_of begun.world ∙ world_with old.world number (Some begun.job) (with_at old.world.jobs number (Some begun.job)) refl
           ∙ ap (λ (job : OpenAudit). with_job (world_of old.world) number (Some job)) (job_is history stands) in
           λ i. only_reply (worlds i) (begun.reply i)
@@ -99,7 +99,7 @@ module _ (command : Command) (number : ℕ) (audit : Audit) (old new : Engine) (
 -- ---- a job is dropped
 module _ (number : ℕ) (old new : Engine) where
   abbrev drops : Command
-  drops = ask 0 (requests.drops number)
+  drops = make_request 0 (requests.drops number)
 
   judged_dropped : (history : History) (found : Option HeldJob) → at_number old.world.jobs number ≡ found
       → judged history (world_of old.world) drops ≡ (ok_or (option_map open_audit found) (refusals.NoJob number) >>= λ job. Ok (deeds.drop_job number))
@@ -111,9 +111,9 @@ module _ (number : ℕ) (old new : Engine) where
   AddsNothing-dropped job is same_state world_is said = record {
     same = same_state;
     effect = λ history stands. inl (effect_is ∙ sym (done_for history (world_of old.world) drops (deeds.drop_job number) (judged_dropped history (Some job) is)));
-    jobs = λ history stands fit. subst (AreLooking history) (sym jobs_are) (all_with (LooksAt history) old.world.jobs number None fit tt);
+    jobs = λ history stands fit. subst (AreLooking history) (sym jobs_are) (all_with (IsLooking history) old.world.jobs number None fit tt);
     watches = λ history stands stand. subst (WatchesFit history) (sym world_is) stand;
-    counts = λ versions steps. job_dropped (taken_by job) (all_handed there.front) (all_handed there.behind) refl refl (handed-parted old.world.jobs number (Some job) there)
+    counts = λ versions steps. job_dropped (taken_by_job job) (all_handed there.front) (all_handed there.behind) refl refl (handed-parted old.world.jobs number (Some job) there)
         (ap all_handed jobs_are ∙ handed-with old.world.jobs number (Some job) there None);
   }
     where
@@ -123,7 +123,7 @@ module _ (number : ℕ) (old new : Engine) where
       jobs_are : new.world.jobs ≡ with_at old.world.jobs number None
       jobs_are = ap (λ (held : HeldWorld). held.jobs) world_is
 
-      effect_is : shown new ≡ only_reply (with_job (world_of old.world) number None) (done_line Console)
+      effect_is : shown_effect new ≡ only_reply (with_job (world_of old.world) number None) (done_line Console)
       effect_is =
           let worlds : world_of new.world ≡ with_job (world_of old.world) number None = ap world_of world_is ∙ world_with old.world number None (with_at old.world.jobs number None) refl in
           λ i. only_reply (worlds i) (said i)
@@ -170,7 +170,7 @@ pub record StepsHeld (number count : ℕ) (past : Past) (looked : Result (Unit {
 module _ (number count : ℕ) (past : Past) (looked : Result (Unit {0}) ReadFault) (old new : Engine) (before after : KeeperState) (steps steps' : ℕ)
     (held : StepsHeld number count past looked old new before after steps steps') where
   abbrev steps_it : Command
-  steps_it = ask 0 (requests.steps number count)
+  steps_it = make_request 0 (requests.steps number count)
 
   abbrev world : World
   world = world_of old.world
@@ -198,44 +198,44 @@ module _ (number count : ℕ) (past : Past) (looked : Result (Unit {0}) ReadFaul
   place_there : StandsAt old.world.jobs number (Some held.job)
   place_there = held_stands old.world.jobs number held.job held.there
 
-  same_taken : taken_by held.told ≡ taken_by held.mid
+  same_taken : taken_by_job held.told ≡ taken_by_job held.mid
   same_taken = elim (left_so looked old.world.format held.mid held.told new.reply held.tells) [
-    | inl is ↦ ap taken_by is
-    | inr is ↦ ap taken_by is
+    | inl is ↦ ap taken_by_job is
+    | inr is ↦ ap taken_by_job is
   ]
 
   module _ (history : History) (over : LooksOver combine_terms history looked held.job held.mid) where
-    told_looks : LooksAt history held.told
+    told_looks : IsLooking history held.told
     told_looks =
-        let mid_looks : LooksAt history held.mid = record { sound = held.stepped.looks.is_sound; fits = over.fits_still } in
+        let mid_looks : IsLooking history held.mid = record { sound = held.stepped.looks.is_sound; fits = over.fits_still } in
         elim (left_so looked old.world.format held.mid held.told new.reply held.tells) [
-          | inl is ↦ subst (LooksAt history) (sym is) (LooksAt-written history held.mid mid_looks)
-          | inr is ↦ subst (LooksAt history) (sym is) mid_looks
+          | inl is ↦ subst (IsLooking history) (sym is) (IsLooking-written history held.mid mid_looks)
+          | inr is ↦ subst (IsLooking history) (sym is) mid_looks
         ]
 
     -- memory was short, and the job stands between
-    short_step : held.told ≡ held.mid → new.reply ≡ refusal_line Console refusals.Memory → IsEffect history world steps_it (shown new)
+    short_step : held.told ≡ held.mid → new.reply ≡ refusal_line Console refusals.Memory → IsEffect history world steps_it (shown_effect new)
     short_step same said =
         let line : Txt = refusal_line Console refusals.Memory in
-        let job_is : open_audit held.told ≡ looked_upto job held.mid.place (step_flags history job held.mid.place) =
+        let job_is : open_audit held.told ≡ job_up_to job held.mid.place (step_flags history job held.mid.place) =
         ap (λ (one : HeldJob). open_audit one) same ∙ (λ i. record { audit = held.stepped.looks.same_audit i; length = held.stepped.looks.same_length i; place = held.mid.place; waiting = over.flags i }) in
-        let worlds : world_of new.world ≡ with_job world number (Some (looked_upto job held.mid.place (step_flags history job held.mid.place))) =
+        let worlds : world_of new.world ≡ with_job world number (Some (job_up_to job held.mid.place (step_flags history job held.mid.place))) =
         world_is ∙ ap (λ (one : OpenAudit). with_job world number (Some one)) job_is in
-        let so : IsShortStep history world line number job count (shown new) = record {
+        let so : IsShortStep history world line number job count (shown_effect new) = record {
           upto = held.mid.place;
           from = held.stepped.looks.forward;
           to = held.stepped.looks.limit;
           is = λ i. only_reply (worlds i) (said i);
         } in
-        inr (refl, subst (λ (judgement : Checked Deed). IsShort history world line judgement (shown new)) (sym (judged_is history)) so)
+        inr (refl, subst (λ (judgement : Checked Deed). IsShort history world line judgement (shown_effect new)) (sym (judged_is history)) so)
 
     -- what was found is said
-    whole_step : held.mid.place ≡ upto → held.told ≡ record (held.mid) { waiting = [] } → new.reply ≡ step_text old.world.format held.mid → IsEffect history world steps_it (shown new)
+    whole_step : held.mid.place ≡ upto → held.told ≡ record (held.mid) { waiting = [] } → new.reply ≡ step_text old.world.format held.mid → IsEffect history world steps_it (shown_effect new)
     whole_step place written said =
         let looks = held.stepped.looks in
-        let job_is : open_audit held.told ≡ looked_upto job upto [] =
+        let job_is : open_audit held.told ≡ job_up_to job upto [] =
         ap (λ (one : HeldJob). open_audit one) written ∙ (λ i. record { audit = looks.same_audit i; length = looks.same_length i; place = place i; waiting = [] }) in
-        let worlds : world_of new.world ≡ with_job world number (Some (looked_upto job upto [])) =
+        let worlds : world_of new.world ≡ with_job world number (Some (job_up_to job upto [])) =
         world_is ∙ ap (λ (one : OpenAudit). with_job world number (Some one)) job_is in
         let flags : held.mid.waiting ≡ step_flags history job upto =
         over.flags ∙ ap (λ (to : ℕ). held.job.waiting ++ flags_between meaning history held.job.audit held.job.place to) place in
@@ -247,11 +247,11 @@ module _ (number count : ℕ) (past : Past) (looked : Result (Unit {0}) ReadFaul
         said ∙ (λ i. flat_map (flag_line old.world.format) (flags i) ++ far i) in
         inl ((λ i. only_reply (worlds i) (reply i)) ∙ sym (done_so history))
 
-    step_effect : is_carried (ended looked) ≡ true → IsEffect history world steps_it (shown new)
+    step_effect : is_carried (reading_end looked) ≡ true → IsEffect history world steps_it (shown_effect new)
     step_effect = by looked held.tells held.stepped.place_is
       where
         by : (answer : Result (Unit {0}) ReadFault) → TellsStep answer old.world.format held.mid held.told new.reply → OnOk answer (held.mid.place ≡ upto)
-            → is_carried (ended answer) ≡ true → IsEffect history world steps_it (shown new)
+            → is_carried (reading_end answer) ≡ true → IsEffect history world steps_it (shown_effect new)
         by (Ok all) (inl so) place fine = whole_step place so.0 so.1
         by (Ok all) (inr short) place fine = short_step short.0 short.1
         by (Err faults.Memory) so place fine = short_step so.0 so.1
@@ -262,22 +262,22 @@ module _ (number count : ℕ) (past : Past) (looked : Result (Unit {0}) ReadFaul
   unrefused history refusal refuses = let both : ◌≡◌ {A = Checked Deed} (Ok (deeds.step_job number job count)) (Err refusal) = sym (judged_is history) ∙ refuses in absurd cc
 
   -- `step` at the console
-  pub Carries-stepped : (result : Result (Unit {0}) EngineFault) → result ≡ ended looked → AtWork old before → ((history : History) → StandsFor old.state history → IsPastOf past history)
+  pub Carries-job_step_effect : (result : Result (Unit {0}) EngineFault) → result ≡ reading_end looked → AtWork old before → ((history : History) → StandsFor old.state history → IsPastOf past history)
       → Carries steps_it result old new before after steps steps'
-  Carries-stepped result ends at_work is_past =
+  Carries-job_step_effect result ends at_work is_past =
       subst (λ (r : Result (Unit {0}) EngineFault). Carries steps_it r old new before after steps steps') (sym ends)
-      (Carries-looked steps_it (ended looked) old new before after steps steps' refl at_work held.same (ap (λ (w : HeldWorld). w.clock) held.world)
-      (IsAfterCall-as true false (reads.as_call looked) (as_call (ended looked)) before after (ended_same looked) held.stepped.looks.moves.is_after)
+      (Carries-looked steps_it (reading_end looked) old new before after steps steps' refl at_work held.same (ap (λ (w : HeldWorld). w.clock) held.world)
+      (IsAfterCall-as true false (reads.reading_as_call looked) (line_as_call (reading_end looked)) before after (ended_same looked) held.stepped.looks.moves.is_after)
       held.stepped.looks.moves.stays
       (λ told history holds.
-      let looks : LooksAt history held.job = one_has (LooksAt history) old.world.jobs number (Some held.job) place_there holds.jobs in
+      let looks : IsLooking history held.job = one_has (IsLooking history) old.world.jobs number (Some held.job) place_there holds.jobs in
       let over : LooksOver combine_terms history looked held.job held.mid = held.stepped.looks.told told history holds.forms (is_past history holds.stands) looks.fits in
-      let few : taken_by held.mid ≤ versions history = taken_within combine_terms held.mid history (taken_by held.mid) over.fits_still refl in
+      let few : taken_by_job held.mid ≤ versions history = taken_within combine_terms held.mid history (taken_by_job held.mid) over.fits_still refl in
       record {
         effect = step_effect history over;
-        jobs = subst (AreLooking history) (sym jobs_are) (all_with (LooksAt history) old.world.jobs number (Some held.told) holds.jobs (told_looks history over));
+        jobs = subst (AreLooking history) (sym jobs_are) (all_with (IsLooking history) old.world.jobs number (Some held.told) holds.jobs (told_looks history over));
         watches = subst (WatchesFit history) (sym held.world) holds.watches;
-        counts = job_stepped (taken_by held.job) (taken_by held.told) (all_handed place_there.front) (all_handed place_there.behind) refl
+        counts = job_stepped (taken_by_job held.job) (taken_by_job held.told) (all_handed place_there.front) (all_handed place_there.behind) refl
             (omega (arith, held.stepped.looks.moves.ledger, same_taken)) (omega (arith, few, same_taken))
             (handed-parted old.world.jobs number (Some held.job) place_there)
             (ap all_handed jobs_are ∙ handed-with old.world.jobs number (Some held.job) place_there (Some held.told));

@@ -4,7 +4,7 @@ use Rattle.std.proofs.Math.Nat.{mul-add, mul_comm, mul-le-mul_right}
 use Rattle.std.proofs.lemmas.Bool.{false≢true}
 use Rattle.std.proofs.lemmas.List.Elements.{All-nil, All-cons, All-head, All-tail, All-append, All-weaker}
 use Rattle.std.proofs.lemmas.List.Sums.{sum_by-cons, sum_by-append, sum_by-le}
-use Rattle.hippo_commands.specs.Commands.{Command, ask}
+use Rattle.hippo_commands.specs.Commands.{Command, make_request}
 use Rattle.hippo_engine.specs.Ledgers.{looks_back, begins_job, steps_job, drops_job, audits_of, Tallies, none_taken, at_once, job_begun, job_stepped, job_dropped, RunSum}
 
 -- a command that looks back is an audit
@@ -20,11 +20,11 @@ begins_once false false begun = absurd (false≢true begun)
 
 -- one that steps or drops a job is none
 stepped_none : (command : Command) → steps_job command ≡ true → audits_of command ≡ 0
-stepped_none (ask session request) stepped = refl
+stepped_none (make_request session request) stepped = refl
 stepped_none command stepped = absurd (false≢true stepped)
 
 dropped_none : (command : Command) → drops_job command ≡ true → audits_of command ≡ 0
-dropped_none (ask session request) dropped = refl
+dropped_none (make_request session request) dropped = refl
 dropped_none command dropped = absurd (false≢true dropped)
 
 -- what holds of all members holds of a front and of the rest

@@ -8,8 +8,8 @@ use Rattle.hippo_model.specs.declared.statement.Stmt.{Stmt}
 use Rattle.hippo_report.specs.declared.refusal.Refusal.{Refusal}
 use Rattle.hippo_report.specs.declared.speaker.Speaker.TheVariants.{Nobody}
 use Rattle.hippo_report.specs.Speakers.{speaker_at}
-use Rattle.hippo_lines.specs.Forms.{Form, says_nothing, sets_clock, asks, states, line_form}
-use Rattle.hippo_commands.specs.Commands.{wrong, clock_command, state_command, statement_in, command_by, command_of, commanded}
+use Rattle.hippo_lines.specs.Forms.{Form, says_nothing, sets_clock, makes_request, makes_statement, line_form}
+use Rattle.hippo_commands.specs.Commands.{wrong, clock_command, state_command, statement_in, command_by, command_of, input_command}
 use Rattle.hippo_commands.specs.Moments.{moment_in}
 use Rattle.hippo_following.proofs.CommandTheorem.{commands_are_written}
 use Rattle.hippo_engine.specs.Carrying.{IsText}
@@ -34,8 +34,8 @@ module _ (line : Txt) (utf8 : IsUtf8 line) where
   by_form None is = plain_fits Nobody (codes "10 BadLine") tt (omega arith)
   by_form (Some says_nothing) is = tt
   by_form (Some (sets_clock moment)) is = clock (moment_in moment)
-  by_form (Some (asks session request)) is = tt
-  by_form (Some (states session text)) is = statement session text (statement_in text) is
+  by_form (Some (makes_request session request)) is = tt
+  by_form (Some (makes_statement session text)) is = statement session text (statement_in text) is
 
 -- a refusal of nobody's line is short, and a statement stands in its line
 IsOfLine-line : (line : LineText) → IsText (Some line) → IsOfLine (command_of line)
@@ -43,6 +43,6 @@ IsOfLine-line (text_line text) utf8 = by_form text utf8 (line_form text) refl
 IsOfLine-line too_long_line utf8 = plain_fits Nobody (codes "11 LineTooLong") tt (omega arith)
 IsOfLine-line not_utf8_line utf8 = plain_fits Nobody (codes "10 BadLine") tt (omega arith)
 
-pub IsOfLine-commanded : (line : Option LineText) → IsText line → IsOfLine (commanded line)
-IsOfLine-commanded None utf8 = tt
-IsOfLine-commanded (Some line) utf8 = IsOfLine-line line utf8
+pub IsOfLine-input_command : (line : Option LineText) → IsText line → IsOfLine (input_command line)
+IsOfLine-input_command None utf8 = tt
+IsOfLine-input_command (Some line) utf8 = IsOfLine-line line utf8

@@ -16,12 +16,12 @@ use Rattle.hippo_engine.specs.declared.faults.EngineFault.TheVariants.{Damaged}
 use Rattle.hippo_judging.specs.Judging.{judged}
 use Rattle.hippo_engine.specs.Effects.{effect_of, IsEffect}
 use Rattle.hippo_engine.specs.Ledgers.{reads_kept, Tallies}
-use Rattle.hippo_engine.specs.Carrying.{Holds, AtWork, as_call, is_carried, shown, Carries}
+use Rattle.hippo_engine.specs.Carrying.{Holds, AtWork, line_as_call, is_carried, shown_effect, Carries}
 use Rattle.hippo_engine.proofs.CarryingLemmas.{Holds-same, IsTimely-same}
 
 -- what a command did that read what is kept of a history
 pub record HasLooked (history : History) (command : Command) (result : Result (Unit {0}) EngineFault) (old new : Engine) (steps steps' : ℕ) : Type 0 where
-  pub effect : is_carried result ≡ true → IsEffect history (world_of old.world) command (shown new)
+  pub effect : is_carried result ≡ true → IsEffect history (world_of old.world) command (shown_effect new)
   pub jobs : JobsFit history new.world
   pub watches : WatchesFit history new.world
   pub counts : Tallies command (versions history) steps steps' (taken_of old.world) (taken_of new.world)
@@ -30,7 +30,7 @@ pub record HasLooked (history : History) (command : Command) (result : Result (U
   pub undamaged : (number : ℕ) → result ≢ Err (Damaged number)
 
 pub Carries-looked : (command : Command) (result : Result (Unit {0}) EngineFault) (old new : Engine) (before after : KeeperState) (steps steps' : ℕ) → reads_kept command ≡ true → AtWork old before
-    → new.state ≡ old.state → new.world.clock ≡ old.world.clock → IsAfterCall true false (as_call result) before after → (after.tells → KeepsSame before after)
+    → new.state ≡ old.state → new.world.clock ≡ old.world.clock → IsAfterCall true false (line_as_call result) before after → (after.tells → KeepsSame before after)
     → (after.tells → (history : History) → Holds history old before → HasLooked history command result old new steps steps')
     → Carries command result old new before after steps steps'
 Carries-looked command result old new before after steps steps' reads at_work same clock call stays told = record {
@@ -42,7 +42,7 @@ Carries-looked command result old new before after steps steps' reads at_work sa
       let looked = told tells history holds in
       let keeps = stays tells in
       record {
-        effect = shown new;
+        effect = shown_effect new;
         is = looked.effect fine;
         reply = refl;
         world = refl;

@@ -22,8 +22,8 @@ use Rattle.hippo_judging.specs.Deeds as deeds
 use Rattle.hippo_judging.specs.Findings.{IsJudged, Judges, is_still, may_do_nothing}
 use Rattle.hippo_engine.specs.declared.engine.Engine.{Engine}
 use Rattle.hippo_engine.specs.declared.faults.EngineFault.{EngineFault}
-use Rattle.hippo_engine.specs.Carrying.{AtWork, shown, IsQuiet, Carries}
-use Rattle.hippo_engine.specs.Effects.{Effect, only_reply, done, IsEffect}
+use Rattle.hippo_engine.specs.Carrying.{AtWork, shown_effect, IsQuiet, Carries}
+use Rattle.hippo_engine.specs.Effects.{Effect, only_reply, deed_effect, IsEffect}
 use Rattle.hippo_engine.specs.Performing.{Needs, Performs, SaysUnjudged}
 use Rattle.hippo_engine.proofs.CarryingLemmas.{Carries-quiet}
 use Rattle.hippo_engine.proofs.ChangeLemmas.{quiet_refusal}
@@ -32,7 +32,7 @@ use Rattle.hippo_engine.proofs.ShortLemmas.{short, done_for}
 
 -- a deed that leaves state, jobs and watches alone is done
 pub quiet_done : (command : Command) (deed : deeds.Deed) (old new : Engine) → IsJudged command old.state old.world (Ok deed) → new.state ≡ old.state → KeepsAudits old.world new.world
-    → ((history : History) → shown new ≡ done history (world_of old.world) deed) → IsQuiet command old new
+    → ((history : History) → shown_effect new ≡ deed_effect history (world_of old.world) deed) → IsQuiet command old new
 quiet_done command deed old new does same audits shows = record {
   same = same;
   effect = λ history stands. inl (shows history ∙ sym (done_for history (world_of old.world) command deed (does history stands)));
@@ -51,7 +51,7 @@ quiet_short command session old new who takes same world_is said = record {
     line_is : refusal_line (who_commands command) Memory ≡ new.reply
     line_is = ap (λ (one : Speaker). refusal_line one Memory) who ∙ sym said
 
-    shown_is : only_reply (world_of old.world) (refusal_line (who_commands command) Memory) ≡ shown new
+    shown_is : only_reply (world_of old.world) (refusal_line (who_commands command) Memory) ≡ shown_effect new
     shown_is = λ i. only_reply (world_of (sym world_is i)) (line_is i)
 
 module _ (command : Command) (old new : Engine) (before between after : KeeperState) (start steps steps' : ℕ) (at_work : AtWork old before) where
@@ -85,12 +85,12 @@ Carries-refused command who (Unread fault) result old new before after steps ste
     Carries-unread command number fault result old new before after steps steps' at_work looks says.state says.world says.says.0 says.says.1
 
 -- looking up leaves an engine at work
-AtWork-looked : (engine : Engine) (result : Result (Option Entry) ReadFault) (before after : KeeperState) → AtWork engine before → has_failed (reads.as_call result) ≡ false
-    → IsAfterCall true false (reads.as_call result) before after → (after.tells → KeepsSame before after) → AtWork engine after
+AtWork-looked : (engine : Engine) (result : Result (Option Entry) ReadFault) (before after : KeeperState) → AtWork engine before → has_failed (reads.reading_as_call result) ≡ false
+    → IsAfterCall true false (reads.reading_as_call result) before after → (after.tells → KeepsSame before after) → AtWork engine after
 AtWork-looked engine result before after at_work fine call stays = record {
   sound = at_work.sound;
   timely = at_work.timely;
-  ready = IsReady-after (reads.as_call result) before after fine call;
+  ready = IsReady-after (reads.reading_as_call result) before after fine call;
   told = λ tells.
       let holds = at_work.told (call.told tells) in
       (holds.0, record { forms = holds.1.forms ∙ sym (stays tells).same; stands = holds.1.stands; jobs = holds.1.jobs; watches = holds.1.watches });

@@ -16,7 +16,7 @@ use Rattle.hippo_eval.specs.declared.answers.EvalFault.{EvalFault}
 use Rattle.hippo_eval.specs.Answering.{IsAnswered}
 use Rattle.hippo_replay.specs.declared.state.State.{State}
 use Rattle.hippo_replay.specs.Standing.{StandsFor, IsSound, IsTimely}
-use Rattle.hippo_replay.specs.Recording.{Keeps}
+use Rattle.hippo_replay.specs.Recording.{KeepsEntry}
 use Rattle.hippo_replay.proofs.StateLemmas.{latest_moment-append}
 use Rattle.hippo_keeper.proofs.CallLemmas.{IsAfterCall-as}
 use Rattle.hippo_keeper.proofs.Results.{ok_of, err_of, well}
@@ -34,9 +34,9 @@ use Rattle.hippo_judging.specs.declared.asking.Asking.{Asking}
 use Rattle.hippo_judging.specs.declared.asking.Delivery.{Delivery}
 use Rattle.hippo_judging.specs.declared.asking.Delivery.TheVariants as delivered
 use Rattle.hippo_judging.specs.Checks.{Checked}
-use Rattle.hippo_judging.specs.Deeds.{Deed, Question, asked_by, next_entry}
+use Rattle.hippo_judging.specs.Deeds.{Deed, Question, question_act, next_entry}
 use Rattle.hippo_judging.specs.Judging.{deed_for, judged}
-use Rattle.hippo_engine.specs.Effects.{Effect, only_reply, row_limit, question_rows, within_limit, asked, done, effect_of, IsShortAnswer, IsShort, IsEffect}
+use Rattle.hippo_engine.specs.Effects.{Effect, only_reply, row_limit, question_rows, within_limit, question_effect, deed_effect, effect_of, IsShortAnswer, IsShort, IsEffect}
 use Rattle.hippo_judging.specs.Findings.{may_do_nothing}
 use Rattle.hippo_judging.specs.declared.deeds.Question.{Question as AskedQuestion}
 use Rattle.hippo_judging.specs.Findings.{IsJudged, question_by}
@@ -44,14 +44,14 @@ use Rattle.hippo_engine.specs.Ledgers.{none_taken}
 use Rattle.hippo_engine.specs.Carrying.{Carries}
 use Rattle.hippo_engine.proofs.CarryingLemmas.{Holds-same, Holds-more, IsTimely-same}
 use Rattle.hippo_engine.proofs.ClockLemmas.{int_le-refl, either_clock}
-use Rattle.hippo_judging.specs.Asking.{question_of, deed_asked, entry_of}
-use Rattle.hippo_engine.specs.Questions.{KeptAnswer, Asks, answer_said, world_left, HandsOut, Replies}
+use Rattle.hippo_judging.specs.Asking.{question_of, deed_asked, question_entry}
+use Rattle.hippo_engine.specs.Questions.{KeptAnswer, Asks, answer_said, world_left, HandsOutAnswer, Replies}
 use Rattle.hippo_engine.specs.Watching.{alarms_now}
 use Rattle.hippo_engine.proofs.ShortLemmas.{takes_some, short, done_for}
 
 -- what is kept does not hang on what is answered
-pub Keeps-ok : {A B : Type 0} (one : A) (other : B) (entry : Entry) (held : State) (before after : KeeperState) → Keeps entry (ok_of KeeperFault one) held before after → Keeps entry (ok_of KeeperFault other) held before after
-Keeps-ok one other entry held before after keeps = record {
+pub KeepsEntry-ok : {A B : Type 0} (one : A) (other : B) (entry : Entry) (held : State) (before after : KeeperState) → KeepsEntry entry (ok_of KeeperFault one) held before after → KeepsEntry entry (ok_of KeeperFault other) held before after
+KeepsEntry-ok one other entry held before after keeps = record {
   call = IsAfterCall-as true false (ok_of KeeperFault one) (ok_of KeeperFault other) before after refl keeps.call;
   follows = keeps.follows;
   kept = keeps.kept;
@@ -61,14 +61,14 @@ Keeps-ok one other entry held before after keeps = record {
 
 -- the entry of a question is the next one
 next_is : (history : History) (held : State) (world : HeldWorld) (question : Question) → StandsFor held history
-    → entry_of held world.clock question ≡ next_entry history (world_of world) (asked_by question)
+    → question_entry held world.clock question ≡ next_entry history (world_of world) (question_act question)
 next_is history held world question stands =
     let number : held.count + 1 ≡ length history + 1 = ap (λ (n : ℕ). n + 1) stands.count in
-    λ i. record { seq = number i; moment = world.clock; act = asked_by question }
+    λ i. record { seq = number i; moment = world.clock; act = question_act question }
 
 -- a deed that asks a question, says this of its rows, and leaves this world
 record IsQuestion (world : World) (deed : Deed) (question : Question) (said : List ShownRow → Txt) (left : List ShownRow → World) : Type 0 where
-  effect : (history : History) → done history world deed ≡ asked history world question (said (question_rows history world question)) (left (question_rows history world question))
+  effect : (history : History) → deed_effect history world deed ≡ question_effect history world question (said (question_rows history world question)) (left (question_rows history world question))
   short : (history : History) (reply : Txt) (result : Effect) → IsShortAnswer history world reply question result → IsShort history world reply (Ok deed) result
 
 -- an engine says that memory was short, and its world is the same
@@ -86,10 +86,10 @@ module _ (command : Command) (deed : Deed) (question : Question) (said : List Sh
     (judged_is : (history : History) → StandsFor old.state history → judged history (world_of old.world) command ≡ Ok deed)
     (asks : IsQuestion (world_of old.world) deed question said left) where
   abbrev entry : Entry
-  entry = entry_of old.state old.world.clock question
+  entry = question_entry old.state old.world.clock question
 
   effect_is : (history : History) → StandsFor old.state history
-      → effect_of history (world_of old.world) command ≡ asked history (world_of old.world) question (said (question_rows history (world_of old.world) question)) (left (question_rows history (world_of old.world) question))
+      → effect_of history (world_of old.world) command ≡ question_effect history (world_of old.world) question (said (question_rows history (world_of old.world) question)) (left (question_rows history (world_of old.world) question))
   effect_is history stands = done_for history (world_of old.world) command deed (judged_is history stands) ∙ asks.effect history
 
   abbrev shown : Effect
@@ -101,7 +101,7 @@ module _ (command : Command) (deed : Deed) (question : Question) (said : List Sh
   has_effect history stands (inl so) =
       let rows : List ShownRow = question_rows history (world_of old.world) question in
       let next = next_is history old.state old.world question stands in
-      let shown_is : shown ≡ asked history (world_of old.world) question (said rows) (left rows) = λ i. record { reply = so.reply i; added = next i ∷ []; world = so.world i } in
+      let shown_is : shown ≡ question_effect history (world_of old.world) question (said rows) (left rows) = λ i. record { reply = so.reply i; added = next i ∷ []; world = so.world i } in
       inl (shown_is ∙ sym (effect_is history stands))
   has_effect history stands (inr none) =
       let line : Txt = refusal_line (who_commands command) Memory in
@@ -216,7 +216,7 @@ module _ (session : ℕ) (asks_it : Command) (asked_for : Asking) (who : who_com
   said_to = ap (λ (one : Speaker). refusal_line one Memory) (sym who)
 
   says : session_at (world_of old.world) session ≡ Some asked_for.asker.now → (rows : List ShownRow) (alarms : Result Txt NoMemory) (more : Txt) → IfOk alarms (λ said. said ≡ more)
-      → HandsOut session asked_for.delivery rows alarms new.reply (world_of old.world) (world_of new.world)
+      → HandsOutAnswer session asked_for.delivery rows alarms new.reply (world_of old.world) (world_of new.world)
       → SaysSo new is_said is_left more rows ⊎ SaysShort asks_it old new
   says there rows (Ok said) more is (inl out) =
       inl (record { reply = out.said ∙ ap (λ (behind : Txt). is_said rows ++ behind) is; world = out.left asked_for.asker.now there })
@@ -230,7 +230,7 @@ module _ (session : ℕ) (asks_it : Command) (asked_for : Asking) (who : who_com
   delivery_clock (delivered.Cursor cursor) rows = either_clock (nat_lt row_limit (length rows)) (world_of old.world) _ refl
 
   clock_left : session_at (world_of old.world) session ≡ Some asked_for.asker.now → (rows : List ShownRow) (alarms : Result Txt NoMemory)
-      → HandsOut session asked_for.delivery rows alarms new.reply (world_of old.world) (world_of new.world) → new.world.clock ≡ old.world.clock
+      → HandsOutAnswer session asked_for.delivery rows alarms new.reply (world_of old.world) (world_of new.world) → new.world.clock ≡ old.world.clock
   clock_left there rows (Ok said) (inl out) = ap (λ (w : World). w.clock) (out.left asked_for.asker.now there) ∙ delivery_clock asked_for.delivery rows
   clock_left there rows (Ok said) (inr none) = ap (λ (w : World). w.clock) none.same
   clock_left there rows (Err fault) none = ap (λ (w : World). w.clock) none.same
@@ -248,7 +248,7 @@ module _ (session : ℕ) (asks_it : Command) (asked_for : Asking) (who : who_com
 
   pub Carries-question : session_at (world_of old.world) session ≡ Some asked_for.asker.now
       → ((history : History) → StandsFor old.state history → judged history (world_of old.world) asks_it ≡ Ok (deed_asked session asked_for))
-      → (kept : KeptAnswer) → Asks (entry_of old.state old.world.clock question) (world_of old.world) question kept old.state new.state before after
+      → (kept : KeptAnswer) → Asks (question_entry old.state old.world.clock question) (world_of old.world) question kept old.state new.state before after
       → (alarms : Result Txt NoMemory) → AreAlarms alarms
       → (result : Result (Unit {0}) EngineFault) → Replies session asked_for.delivery alarms kept result new.reply (world_of old.world) (world_of new.world)
       → Carries asks_it result old new before after steps steps

@@ -18,7 +18,7 @@ use Rattle.hippo_values.specs.declared.names.Name.{Name}
 use Rattle.hippo_catalog.specs.Catalogs.{known_at}
 use Rattle.hippo_catalog.specs.ChangesRefused.{change_refused}
 use Rattle.hippo_catalog.specs.ChangesWanted.{wanted_by}
-use Rattle.hippo_tables.specs.Finished.{finished}
+use Rattle.hippo_tables.specs.Finished.{finished_act}
 use Rattle.hippo_report.specs.declared.refusal.Refusal.{Refusal}
 use Rattle.hippo_report.specs.declared.refusal.Refusal.TheVariants.{Memory, BadSyntax, NoCursor, NoSuchQuery, NoWatch, WatchLimit, JobLimit, NoJob}
 use Rattle.hippo_report.specs.Refusals.{refusal_line}
@@ -27,7 +27,7 @@ use Rattle.hippo_world.specs.declared.cursors.Cursor.{Cursor as HeldCursor}
 use Rattle.hippo_world.specs.declared.sessions.Session.{Session}
 use Rattle.hippo_world.specs.Worlds.{World, at_number, free_number}
 use Rattle.hippo_lines.specs.Forms.{logs_in, logs_out, fetches, closes, steps, drops, unwatches, loads}
-use Rattle.hippo_commands.specs.Commands.{Command, nothing, wrong, ask, state, who_commands, takes_memory}
+use Rattle.hippo_commands.specs.Commands.{Command, nothing, wrong, make_request, make_statement, who_commands, takes_memory}
 use Rattle.hippo_commands.specs.Commands as commands
 use Rattle.hippo_judging.specs.declared.asking.Delivery.{Delivery}
 use Rattle.hippo_judging.specs.declared.asking.Delivery.TheVariants as delivered
@@ -35,16 +35,16 @@ use Rattle.hippo_judging.specs.declared.asking.Handing.{Handing}
 use Rattle.hippo_judging.specs.declared.asking.Handing.TheVariants.{Rows, Records, Cursor}
 use Rattle.hippo_judging.specs.Deeds.{Deed, Question}
 use Rattle.hippo_judging.specs.Deeds as deeds
-use Rattle.hippo_judging.specs.Checks.{Checked, ◌>>=◌, by_console, open_session, may_log_in, meant, act_made, has_room, question_at}
-use Rattle.hippo_judging.specs.Judging.{judged, judged_login, judged_fetch, judged_close, judged_wanted, judged_change, insert_of, judged_load, text_between, question_in, delivery_for, deed_for, judged_question, audit_in, judged_begin, judged_drop}
-use Rattle.hippo_engine.specs.Effects.{only_reply, carried_out, effect_of, IsShort, IsEffect}
+use Rattle.hippo_judging.specs.Checks.{Checked, ◌>>=◌, by_console, open_session, may_log_in, unless_refused, act_made, has_room, question_at}
+use Rattle.hippo_judging.specs.Judging.{judged, judged_login, judged_fetch, judged_close, judged_wanted, judged_change, loaded_insert, judged_load, text_between, question_in, delivery_for, deed_for, judged_question, audit_in, judged_begin, judged_drop}
+use Rattle.hippo_engine.specs.Effects.{only_reply, judgement_effect, effect_of, IsShort, IsEffect}
 use Rattle.hippo_judging.specs.Findings.{may_do_nothing}
 use Rattle.hippo_engine.specs.Ledgers.{steps_job}
 
 -- a command is no step of a job, and does not set the clock
 abbrev pub is_plain : Command → Bool
 is_plain (commands.set_clock moment) = false
-is_plain (ask session (steps job count)) = false
+is_plain (make_request session (steps job count)) = false
 is_plain command = true
 
 -- nor does what is done for it
@@ -59,7 +59,7 @@ check (Err refusal) next all = tt
 
 made : (history : History) (world : World) (wanted : Wanted) → IsPlain (judged_wanted history world wanted)
 made history world wanted =
-    check {A = Act} (act_made (finished history wanted)) (λ act. has_room history world >>= λ room. Ok (deeds.change act))
+    check {A = Act} (act_made (finished_act history wanted)) (λ act. has_room history world >>= λ room. Ok (deeds.change act))
     (λ act. check {A = Unit {0}} (has_room history world) (λ room. Ok (deeds.change act)) (λ room. tt))
 
 named : (history : History) (world : World) (wanted : Option Wanted) → IsPlain (ok_or wanted BadSyntax >>= λ one. judged_wanted history world one)
@@ -70,13 +70,13 @@ change history world number statement =
     let refusals : List NameFault = change_refused (known_at history) statement in
     let wanted : Option Wanted = wanted_by (known_at history) statement in
     check {A = Unit {0}} (by_console number)
-    (λ console. meant refusals wanted >>= λ found. ok_or found BadSyntax >>= λ one. judged_wanted history world one)
-    (λ console. check {A = Option Wanted} (meant refusals wanted) (λ found. ok_or found BadSyntax >>= λ one. judged_wanted history world one) (λ found. named history world found))
+    (λ console. unless_refused refusals wanted >>= λ found. ok_or found BadSyntax >>= λ one. judged_wanted history world one)
+    (λ console. check {A = Option Wanted} (unless_refused refusals wanted) (λ found. ok_or found BadSyntax >>= λ one. judged_wanted history world one) (λ found. named history world found))
 
 load : (history : History) (world : World) (number : ℕ) (table : Name) (text : Txt) → IsPlain (judged_load history world number table text)
 load history world number table text =
-    check {A = Unit {0}} (by_console number) (λ console. insert_of (known_at history) table text >>= λ insert. judged_change history world number insert)
-    (λ console. check {A = Stmt} (insert_of (known_at history) table text) (λ insert. judged_change history world number insert)
+    check {A = Unit {0}} (by_console number) (λ console. loaded_insert (known_at history) table text >>= λ insert. judged_change history world number insert)
+    (λ console. check {A = Stmt} (loaded_insert (known_at history) table text) (λ insert. judged_change history world number insert)
     (λ insert. change history world number insert))
 
 delivery_step : (session : Session) (question : Question) (delivery : Delivery) → IsPlain (Ok (deed_for session question delivery))
@@ -128,36 +128,36 @@ pub plain : (history : History) (world : World) (command : Command) → is_plain
 plain history world nothing other = tt
 plain history world (wrong who refusal) other = tt
 plain history world (commands.set_clock moment) other = absurd (false≢true other)
-plain history world (ask number (logs_in user purpose recipient)) other =
+plain history world (make_request number (logs_in user purpose recipient)) other =
     login history world number user (record { purpose = purpose; recipient = recipient })
-plain history world (ask number logs_out) other = check {A = Session} (open_session world number) (λ session. Ok (deeds.log_out number)) (λ session. tt)
-plain history world (ask number (fetches cursor count)) other = fetch world number cursor count
-plain history world (ask number (closes cursor)) other = close world number cursor
-plain history world (ask number (steps job count)) other = absurd (false≢true other)
-plain history world (ask number (drops job)) other = dropped world number job
-plain history world (ask number (unwatches watch)) other =
+plain history world (make_request number logs_out) other = check {A = Session} (open_session world number) (λ session. Ok (deeds.log_out number)) (λ session. tt)
+plain history world (make_request number (fetches cursor count)) other = fetch world number cursor count
+plain history world (make_request number (closes cursor)) other = close world number cursor
+plain history world (make_request number (steps job count)) other = absurd (false≢true other)
+plain history world (make_request number (drops job)) other = dropped world number job
+plain history world (make_request number (unwatches watch)) other =
     check {A = Unit {0}} (by_console number) (λ console. ok_or (at_number world.watches watch) (NoWatch watch) >>= λ audit. Ok (deeds.end_watch watch))
     (λ console. check {A = Audit} (ok_or (at_number world.watches watch) (NoWatch watch)) (λ audit. Ok (deeds.end_watch watch)) (λ audit. tt))
-plain history world (ask number (loads table text)) other = load history world number table text
-plain history world (state number (stmt.Select written start end) text) other =
+plain history world (make_request number (loads table text)) other = load history world number table text
+plain history world (make_statement number (stmt.Select written start end) text) other =
     question history world Rows number written (text_between text start end)
-plain history world (state number (stmt.Ask written start end) text) other =
+plain history world (make_statement number (stmt.Ask written start end) text) other =
     question history world Cursor number written (text_between text start end)
-plain history world (state number (stmt.Extract written start end) text) other =
+plain history world (make_statement number (stmt.Extract written start end) text) other =
     question history world Records number written (text_between text start end)
-plain history world (state number (stmt.Explain question) text) other =
+plain history world (make_statement number (stmt.Explain question) text) other =
     check {A = Unit {0}} (by_console number) (λ console. ok_or (question_at history question) (NoSuchQuery question) >>= λ entry. Ok (deeds.explain entry))
     (λ console. check {A = Entry} (ok_or (question_at history question) (NoSuchQuery question)) (λ entry. Ok (deeds.explain entry)) (λ entry. tt))
-plain history world (state number (stmt.Audit written) text) other =
+plain history world (make_statement number (stmt.Audit written) text) other =
     check {A = Audit} (audit_in history number written) (λ audit. Ok (deeds.audit audit)) (λ audit. tt)
-plain history world (state number (stmt.BeginAudit audit) text) other = begun history world number audit
-plain history world (state number (stmt.Watch written) text) other =
+plain history world (make_statement number (stmt.BeginAudit audit) text) other = begun history world number audit
+plain history world (make_statement number (stmt.Watch written) text) other =
     check {A = Audit} (audit_in history number written) (λ audit. ok_or (free_number world.watches) WatchLimit >>= λ free. Ok (deeds.watch free audit))
     (λ audit. check {A = ℕ} (ok_or (free_number world.watches) WatchLimit) (λ free. Ok (deeds.watch free audit)) (λ free. tt))
-plain history world (state number statement text) other = change history world number statement
+plain history world (make_statement number statement text) other = change history world number statement
 
 short_of : (history : History) (world : World) (reply : Txt) (judgement : Checked Deed) → IsPlain judgement → IsShort history world reply judgement (only_reply world reply)
-short_of history world reply (Ok (deeds.answer question)) none = record { said = refl; kept = inl refl; same = refl }
+short_of history world reply (Ok (deeds.answer_question question)) none = record { said = refl; kept = inl refl; same = refl }
 short_of history world reply (Ok (deeds.open_cursor session number question)) none = record { said = refl; kept = inl refl; same = refl }
 short_of history world reply (Ok (deeds.extract question)) none = record { said = refl; kept = inl refl; same = refl }
 short_of history world reply (Ok (deeds.step_job number job count)) none = absurd none
@@ -165,22 +165,22 @@ short_of history world reply judgement none = refl
 
 -- what may do nothing takes memory, and is no step
 pub takes_some : (command : Command) → may_do_nothing command ≡ true → (takes_memory command ≡ true) × (steps_job command ≡ false)
-takes_some (ask session (steps job count)) takes = absurd (false≢true takes)
-takes_some (ask session (logs_in user purpose recipient)) takes = (takes, refl)
-takes_some (ask session logs_out) takes = (takes, refl)
-takes_some (ask session (fetches cursor count)) takes = (takes, refl)
-takes_some (ask session (closes cursor)) takes = (takes, refl)
-takes_some (ask session (drops job)) takes = (takes, refl)
-takes_some (ask session (unwatches watch)) takes = (takes, refl)
-takes_some (ask session (loads table text)) takes = (takes, refl)
+takes_some (make_request session (steps job count)) takes = absurd (false≢true takes)
+takes_some (make_request session (logs_in user purpose recipient)) takes = (takes, refl)
+takes_some (make_request session logs_out) takes = (takes, refl)
+takes_some (make_request session (fetches cursor count)) takes = (takes, refl)
+takes_some (make_request session (closes cursor)) takes = (takes, refl)
+takes_some (make_request session (drops job)) takes = (takes, refl)
+takes_some (make_request session (unwatches watch)) takes = (takes, refl)
+takes_some (make_request session (loads table text)) takes = (takes, refl)
 takes_some nothing takes = (takes, refl)
 takes_some (wrong who refusal) takes = (takes, refl)
 takes_some (commands.set_clock moment) takes = (takes, refl)
-takes_some (state session statement text) takes = (takes, refl)
+takes_some (make_statement session statement text) takes = (takes, refl)
 
 takes_plain : (command : Command) → may_do_nothing command ≡ true → is_plain command ≡ true
 takes_plain (commands.set_clock moment) takes = absurd (false≢true takes)
-takes_plain (ask session (steps job count)) takes = absurd (false≢true takes)
+takes_plain (make_request session (steps job count)) takes = absurd (false≢true takes)
 takes_plain command takes = refl
 
 -- a command that takes memory, and is no step, may be answered by want of it, and nothing changes
@@ -194,9 +194,9 @@ short history world command takes =
 pub refused : (history : History) (world : World) (command : Command) (refusal : Refusal) → judged history world command ≡ Err refusal
     → IsEffect history world command (only_reply world (refusal_line (who_commands command) refusal))
 refused history world command refusal is =
-    inl (sym (ap (λ (judgement : Checked Deed). carried_out history world (who_commands command) judgement) is))
+    inl (sym (ap (λ (judgement : Checked Deed). judgement_effect history world (who_commands command) judgement) is))
 
 -- a command that is judged to be carried out has what is done as its effect
 pub done_for : (history : History) (world : World) (command : Command) (deed : Deed) → judged history world command ≡ Ok deed
-    → effect_of history world command ≡ carried_out history world (who_commands command) (Ok deed)
-done_for history world command deed is = ap (λ (judgement : Checked Deed). carried_out history world (who_commands command) judgement) is
+    → effect_of history world command ≡ judgement_effect history world (who_commands command) (Ok deed)
+done_for history world command deed is = ap (λ (judgement : Checked Deed). judgement_effect history world (who_commands command) judgement) is

@@ -11,14 +11,14 @@ use Rattle.hippo_model.specs.declared.audit.Audit.{Audit}
 use Rattle.hippo_model.specs.declared.audit.SharedRow.{SharedRow}
 use Rattle.hippo_model.specs.declared.entry.Entry.{Entry}
 use Rattle.hippo_model.specs.declared.query.Query.{Query}
-use Rattle.hippo_model.specs.Audits.{shared, shared_by}
+use Rattle.hippo_model.specs.Audits.{shared_tuple, shared_by}
 use Rattle.hippo_model.specs.Terms.{History}
 use Rattle.hippo_model.specs.Verdicts.{Context}
 use Rattle.hippo_catalog.specs.Catalogs.{KnownNames}
 use Rattle.hippo_typing.specs.Meanings.{meaning_in, meaning}
 use Rattle.hippo_audit_job.specs.Examining.{IsAuditOf}
 use Rattle.hippo_watch.specs.declared.alarms.AskedNow.{AskedNow}
-use Rattle.hippo_tables.specs.Standing.{StandsFor as TablesStandFor}
+use Rattle.hippo_tables.specs.Standing.{TablesStandFor}
 use Rattle.hippo_hits.specs.declared.counts.AuditHits.{AuditHits}
 use Rattle.hippo_hits.specs.Counts.{AreHits}
 use Rattle.hippo_watch.specs.Alarms.{IsPresentOf, asked_next, IsAskedNext}
@@ -38,10 +38,10 @@ use Rattle.hippo_world.proofs.AuditLemmas.{all_with}
 use Rattle.hippo_world.proofs.HeldLemmas.{seen-with}
 use Rattle.hippo_commands.specs.Commands.{Command, who_commands}
 use Rattle.hippo_engine.specs.declared.engine.Engine.{Engine}
-use Rattle.hippo_engine.specs.Carrying.{AddsNothing, shown}
-use Rattle.hippo_judging.specs.Deeds.{Deed, Question, asked_by, next_entry}
+use Rattle.hippo_engine.specs.Carrying.{AddsNothing, shown_effect}
+use Rattle.hippo_judging.specs.Deeds.{Deed, Question, question_act, next_entry}
 use Rattle.hippo_judging.specs.Deeds as deeds
-use Rattle.hippo_engine.specs.Effects.{only_reply, done, alarms_from}
+use Rattle.hippo_engine.specs.Effects.{only_reply, deed_effect, alarms_from}
 use Rattle.hippo_engine.specs.Ledgers.{none_taken}
 use Rattle.hippo_engine.specs.Watching.{AddsAlarm, AddsAlarms, alarms_now}
 use Rattle.hippo_judging.specs.declared.deeds.Deed.TheVariants as kinds
@@ -98,7 +98,7 @@ IsPresent asked kept = (history : History) → StandsFor kept history → IsPres
 adds_now : (asked : AskedNow) (kept : State) (held : HeldWorld) (old new : Txt) → IsPresent asked kept → asked.moment ≡ held.clock
     → AddsAlarms asked held.watches old new → AddsNow asked kept held old new
 adds_now asked kept held old new present clock adds history question stands fit same means =
-    adds history (next_entry history (world_of held) (asked_by question))
+    adds history (next_entry history (world_of held) (question_act question))
     (record {
       present = present history stands;
       user = question.user;
@@ -117,18 +117,18 @@ front_is : (history : History) → take (length history + 1 - 1) history ≡ his
 front_is history = take_all (length history + 1 - 1) history (omega arith)
 
 -- a text that means nothing shares nothing
-unmeant : (history : History) (world : World) (question : Question) (audit : Audit) → meaning history question.text ≡ None → shared meaning history audit (next_entry history world (asked_by question)) ≡ None
+unmeant : (history : History) (world : World) (question : Question) (audit : Audit) → meaning history question.text ≡ None → shared_tuple meaning history audit (next_entry history world (question_act question)) ≡ None
 unmeant history world question audit none =
     let context : Context = record { purpose = question.pair.purpose; recipient = question.pair.recipient; moment = world.clock } in
     ap (λ (h : History). option_and_then (λ q. shared_by h context q audit) (meaning h question.text)) (front_is history)
     ∙ ap (option_and_then (λ q. shared_by history context q audit)) none
 
 none_from : (history : History) (world : World) (question : Question) → meaning history question.text ≡ None → (number : ℕ) (watches : List (Option Audit))
-    → alarms_from history (next_entry history world (asked_by question)) number watches ≡ []
+    → alarms_from history (next_entry history world (question_act question)) number watches ≡ []
 none_from history world question none number [] = refl
 none_from history world question none number (None ∷ rest) = none_from history world question none (number + 1) rest
 none_from history world question none number (Some audit ∷ rest) =
-    let entry : Entry = next_entry history world (asked_by question) in
+    let entry : Entry = next_entry history world (question_act question) in
     (λ i. option_map_or (alarm_text number entry.seq) (unmeant history world question audit none i) [] ++ alarms_from history entry (number + 1) rest)
     ∙ none_from history world question none (number + 1) rest
 
@@ -144,7 +144,7 @@ unwatched history entry number (Some watch ∷ rest) none = absurd (false≢true
 
 pub nobody_now : (history : History) (held : HeldWorld) (question : Question) (old : Txt) → list_any is_some held.watches ≡ false → old ≡ old ++ alarms_now history (world_of held) question
 nobody_now history held question old none =
-    sym (append-nil old) ∙ ap (λ (text : Txt). old ++ text) (sym (unwatched history (next_entry history (world_of held) (asked_by question)) 1 held.watches none))
+    sym (append-nil old) ∙ ap (λ (text : Txt). old ++ text) (sym (unwatched history (next_entry history (world_of held) (question_act question)) 1 held.watches none))
 
 -- ---- setting and ending a watch
 -- the world with another watch at a number, as it is seen
@@ -157,7 +157,7 @@ world_with held number watch new is =
 module _ (command : Command) (deed : Deed) (number : ℕ) (held : Option AuditHits) (old new : Engine) (same : new.state ≡ old.state) (does : IsJudged command old.state old.world (Ok deed)) where
   pub puts_watch : new.world ≡ record old.world { watches = with_at old.world.watches number held }
       → ((history : History) → StandsFor old.state history → IfSome held (IsWatchOf history))
-      → ((history : History) → shown new ≡ done history (world_of old.world) deed) → AddsNothing command old new
+      → ((history : History) → shown_effect new ≡ deed_effect history (world_of old.world) deed) → AddsNothing command old new
   puts_watch world_is fits shows = record {
     same = same;
     effect = λ history stands. inl (shows history ∙ sym (done_for history (world_of old.world) command deed (does history stands)));

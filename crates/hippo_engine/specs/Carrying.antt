@@ -33,9 +33,9 @@ pub record Holds (history : History) (engine : Engine) (keeper : KeeperState) : 
   pub jobs : JobsFit history engine.world
   pub watches : WatchesFit history engine.world
 
--- what carrying out asks of an engine and its keeper: there is a history for which the state stands, the clock is not
--- before its last entry, the keeper is started and neither spent nor closed, and where it tells what it keeps, both hold
--- a history
+-- what carrying out asks of an engine and its keeper: there is a history for which the state
+-- stands, the clock is not before its last entry, the keeper is started and neither spent nor
+-- closed, and where it tells what it keeps, both hold a history
 pub record AtWork (engine : Engine) (keeper : KeeperState) : Type 0 where
   pub sound : IsSound engine.state
   pub timely : IsTimely engine.state engine.world.clock
@@ -49,11 +49,11 @@ pub record IsBacked (state : State) (keeper : KeeperState) : Type 0 where
   pub told : keeper.tells → HasLoaded state keeper.kept
 
 -- a line as one call of its keeper
-abbrev pub as_call : {A : Type 0} → Result A EngineFault → Result (Unit {0}) KeeperFault
-as_call (Ok value) = Ok tt
-as_call (Err Keeper) = Err Failed
-as_call (Err Write) = Ok tt
-as_call (Err (Damaged number)) = Ok tt
+abbrev pub line_as_call : {A : Type 0} → Result A EngineFault → Result (Unit {0}) KeeperFault
+line_as_call (Ok value) = Ok tt
+line_as_call (Err Keeper) = Err Failed
+line_as_call (Err Write) = Ok tt
+line_as_call (Err (Damaged number)) = Ok tt
 
 -- a line was carried out, though its reply may not have been written
 abbrev pub is_carried : {A : Type 0} → Result A EngineFault → Bool
@@ -68,31 +68,32 @@ IsText (Some (text_line text)) = IsUtf8 text
 IsText line = Unit {0}
 
 -- what an engine shows after a command that added nothing
-abbrev pub shown : Engine → Effect
-shown engine = only_reply (world_of engine.world) engine.reply
+abbrev pub shown_effect : Engine → Effect
+shown_effect engine = only_reply (world_of engine.world) engine.reply
 
--- a command that neither adds an entry nor reads what is kept has its effect, whatever history the state stands for;
--- jobs and watches are the same
+-- a command that neither adds an entry nor reads what is kept has its effect, whatever history the
+-- state stands for; jobs and watches are the same
 pub record IsQuiet (command : Command) (old new : Engine) : Type 0 where
   pub same : new.state ≡ old.state
   pub effect : (history : History) → StandsFor old.state history
-      → IsEffect history (world_of old.world) command (shown new)
+      → IsEffect history (world_of old.world) command (shown_effect new)
   pub audits : KeepsAudits old.world new.world
 
 -- or jobs and watches that fitted the history still do, and no step is taken
 pub record AddsNothing (command : Command) (old new : Engine) : Type 0 where
   pub same : new.state ≡ old.state
   pub effect : (history : History) → StandsFor old.state history
-      → IsEffect history (world_of old.world) command (shown new)
+      → IsEffect history (world_of old.world) command (shown_effect new)
   pub jobs : (history : History) → StandsFor old.state history → JobsFit history old.world
       → JobsFit history new.world
   pub watches : (history : History) → StandsFor old.state history → WatchesFit history old.world
       → WatchesFit history new.world
-  pub counts : (versions steps : ℕ) → Tallies command versions steps steps (taken_of old.world) (taken_of new.world)
+  pub counts : (versions steps : ℕ) → Tallies command versions steps steps (taken_of old.world)
+      (taken_of new.world)
 
--- a command has its effect after a history: the engine shows the reply and the world, it and its keeper hold the
--- history with what was added, the steps are tallied unless memory was short for reading, and a refusal takes none, but
--- for one that is found by reading
+-- a command has its effect after a history: the engine shows the reply and the world, it and its
+-- keeper hold the history with what was added, the steps are tallied unless memory was short for
+-- reading, and a refusal takes none, but for one that is found by reading
 pub record HasEffect (history : History) (command : Command) (old new : Engine)
     (before after : KeeperState) (steps steps' : ℕ) : Type 0 where
   pub effect : Effect
@@ -124,20 +125,24 @@ pub record BreaksOffReading (history : History) (command : Command) (old : Engin
 -- the keeper failed while it was to keep an entry, or while it was read
 abbrev pub BreaksOff : History → Command → Engine → KeeperState → KeeperState → Type 0
 BreaksOff history command old before after =
-    BreaksOffAdding history command old before after ⊎ BreaksOffReading history command old before after
+    BreaksOffAdding history command old before after
+    ⊎ BreaksOffReading history command old before after
 
--- a command is carried out, or the keeper fails, or hands over what it did not keep; where it tells what it keeps, the
--- command has its effect over that, or the keeper breaks off, and nothing is damaged. The clock is not before the last
--- entry
-pub record Carries {A : Type 0} (command : Command) (result : Result A EngineFault) (old new : Engine)
+-- a command is carried out, or the keeper fails, or hands over what it did not keep; where it tells
+-- what it keeps, the command has its effect over that, or the keeper breaks off, and nothing is
+-- damaged. The clock is not before the last entry
+pub record Carries {A : Type 0} (command : Command) (result : Result A EngineFault)
+    (old new : Engine)
     (before after : KeeperState) (steps steps' : ℕ) : Type 0 where
-  pub call : IsAfterCall true false (as_call result) before after
-  pub sound : has_failed (as_call result) ≡ false → IsSound new.state
-  pub timely : has_failed (as_call result) ≡ false → IsTimely new.state new.world.clock
+  pub call : IsAfterCall true false (line_as_call result) before after
+  pub sound : has_failed (line_as_call result) ≡ false → IsSound new.state
+  pub timely : has_failed (line_as_call result) ≡ false → IsTimely new.state new.world.clock
   pub idle : reads_kept command ≡ false → steps' ≡ steps
-  pub carried : is_carried result ≡ true → after.tells → (history : History) → Holds history old before
+  pub carried : is_carried result ≡ true → after.tells → (history : History)
+      → Holds history old before
       → HasEffect history command old new before after steps steps'
-  pub failed : has_failed (as_call result) ≡ true → after.tells → (history : History) → Holds history old before
+  pub failed : has_failed (line_as_call result) ≡ true → after.tells → (history : History)
+      → Holds history old before
       → BreaksOff history command old before after
   pub undamaged : after.tells → (history : History) → Holds history old before
       → (number : ℕ) → result ≢ Err (Damaged number)

@@ -14,14 +14,17 @@ use Rattle.hippo_engine.specs.Effects.{Effect, effect_of}
 use Rattle.hippo_judging.specs.Findings.{may_do_nothing}
 
 -- an entry is added, and its number is said
-abbrev pub changed : World → Entry → Effect
-changed world entry = record { reply = number_line 0 (codes "ok") entry.seq; added = entry ∷ []; world = world }
+abbrev pub change_effect : World → Entry → Effect
+change_effect world entry =
+    record { reply = number_line 0 (codes "ok") entry.seq; added = entry ∷ []; world = world }
 
--- a command of the console adds an entry by the rules, which is the next one, whatever history the state stands for
+-- a command of the console adds an entry by the rules, which is the next one, whatever history the
+-- state stands for
 pub record Changes (command : Command) (entry : Entry) (engine : Engine) : Type 0 where
   pub who : who_commands command ≡ Console
   pub memory : may_do_nothing command ≡ true
   pub adds : (history : History) → StandsFor engine.state history
-      → effect_of history (world_of engine.world) command ≡ changed (world_of engine.world) entry
+      → effect_of history (world_of engine.world) command
+      ≡ change_effect (world_of engine.world) entry
   pub next : (history : History) → StandsFor engine.state history
       → entry ≡ next_entry history (world_of engine.world) entry.act

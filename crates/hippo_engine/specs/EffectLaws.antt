@@ -18,7 +18,8 @@ pub record ChangesNothing (world : World) (effect : Effect) : Type 0 where
 abbrev pub RefusalsChangeNothing : Type 0
 RefusalsChangeNothing =
     (history : History) (world : World) (command : Command) (refusal : Refusal)
-    → judged history world command ≡ Err refusal → ChangesNothing world (effect_of history world command)
+    → judged history world command ≡ Err refusal
+    → ChangesNothing world (effect_of history world command)
 
 -- an effect adds nothing, or an act as the next entry, at the clock's moment
 abbrev pub AddsNext : History → World → Effect → Type 0
@@ -28,4 +29,5 @@ AddsNext history world effect =
 -- a line adds at most one entry, and that is the next one
 abbrev pub LinesAddTheNextEntry : Type 0
 LinesAddTheNextEntry =
-    (history : History) (world : World) (command : Command) → AddsNext history world (effect_of history world command)
+    (history : History) (world : World) (command : Command)
+    → AddsNext history world (effect_of history world command)

@@ -41,5 +41,6 @@ SaysStep format job told reply =
 -- what is said of a step, by how it ended, and which flags wait behind it
 abbrev pub TellsStep : Result (Unit {0}) ReadFault → Format → HeldJob → HeldJob → Txt → Type 0
 TellsStep (Ok all) format job told reply = SaysStep format job told reply
-TellsStep (Err faults.Memory) format job told reply = (told ≡ job) × (reply ≡ refusal_line Console Memory)
+TellsStep (Err faults.Memory) format job told reply =
+    (told ≡ job) × (reply ≡ refusal_line Console Memory)
 TellsStep (Err fault) format job told reply = told ≡ job

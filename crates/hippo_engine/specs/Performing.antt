@@ -24,7 +24,7 @@ use Rattle.hippo_engine.specs.declared.engine.Engine.{Engine}
 use Rattle.hippo_engine.specs.declared.faults.EngineFault.{EngineFault}
 use Rattle.hippo_engine.specs.Carrying.{Carries}
 use Rattle.hippo_engine.specs.Effects.{row_limit}
-use Rattle.hippo_engine.specs.Explaining.{told_of, told_cells, ended}
+use Rattle.hippo_engine.specs.Explaining.{told_of, told_cells, explaining_end}
 
 -- there is a command for which this is to be done
 abbrev pub MayDo : Deed → Engine → Type 0
@@ -36,12 +36,14 @@ Needs (kinds.Explain entry) engine = Unit {0}
 Needs deed engine = MayDo deed engine
 
 -- the denied cells of an entry are found and told, or memory was short
-pub record TellsEntry (entry : Entry) (state : State) (result : Result (Unit {0}) EngineFault) (reply : Txt)
+pub record TellsEntry (entry : Entry) (state : State) (result : Result (Unit {0}) EngineFault)
+    (reply : Txt)
     (before after : KeeperState) (steps steps' : ℕ) : Type 0 where
   pub found : Result (List Denial) DenialsFault
   pub denies : Denies row_limit entry state.catalog.names state.book found before after steps steps'
-  pub ended_so : result ≡ ended (told_of found)
-  pub said : OnOk result ((reply ≡ told_cells found) ⊎ (reply ≡ refusal_line Console refusals.Memory))
+  pub ended_so : result ≡ explaining_end (told_of found)
+  pub said : OnOk result ((reply ≡ told_cells found)
+      ⊎ (reply ≡ refusal_line Console refusals.Memory))
 
 -- and nothing else changes
 pub record Explained (entry : Entry) (result : Result (Unit {0}) EngineFault) (old new : Engine)
@@ -52,7 +54,8 @@ pub record Explained (entry : Entry) (result : Result (Unit {0}) EngineFault) (o
 
 -- what is to be done for a command is done
 abbrev pub Performs :
-    Deed → Result (Unit {0}) EngineFault → Engine → Engine → KeeperState → KeeperState → ℕ → ℕ → Type 0
+    Deed → Result (Unit {0}) EngineFault → Engine → Engine → KeeperState → KeeperState → ℕ → ℕ
+    → Type 0
 Performs (kinds.Explain entry) result old new before after steps steps' =
     Explained entry result old new before after steps steps'
 Performs deed result old new before after steps steps' =
@@ -71,10 +74,12 @@ SaysReason who (Refused refusal) result reply = (result ≡ Ok tt) × SaysRefusa
 SaysReason who (NoQuestion number) result reply =
     (result ≡ Ok tt) × SaysRefusal Console (refusals.NoSuchQuery number) reply
 SaysReason who (Unread fault) result reply =
-    (result ≡ ended (Err (Some (Read fault)))) × OnOk result (reply ≡ refusal_line Console refusals.Memory)
+    (result ≡ explaining_end (Err (Some (Read fault))))
+    × OnOk result (reply ≡ refusal_line Console refusals.Memory)
 
 -- and nothing changes
-pub record SaysUnjudged (who : Speaker) (unjudged : Unjudged) (result : Result (Unit {0}) EngineFault)
+pub record SaysUnjudged (who : Speaker) (unjudged : Unjudged)
+    (result : Result (Unit {0}) EngineFault)
     (old new : Engine) : Type 0 where
   pub state : new.state ≡ old.state
   pub world : new.world ≡ old.world

@@ -1,4 +1,5 @@
--- A run: the lines of an input, each with its effect on the history and the world that the line before it left.
+-- A run: the lines of an input, each with its effect on the history and the world that the line
+-- before it left.
 use Rattle.std.specs.Prelude.{◌≡◌, ℕ, true, List, [], ◌∷◌, ◌++◌, flat_map, sum_by}
 use Rattle.hippo_values.specs.Texts.{Txt}
 use Rattle.hippo_io.specs.Lines.{LineText}
@@ -12,11 +13,13 @@ use Rattle.hippo_engine.specs.Ledgers.{reads_kept, audits_of}
 abbrev pub IsRun : History → World → List LineText → List Effect → Type 0
 IsRun history world [] [] = Unit {0}
 IsRun history world (line ∷ lines) (effect ∷ effects) =
-    IsEffect history world (command_of line) effect × IsRun (history ++ effect.added) effect.world lines effects
+    IsEffect history world (command_of line) effect
+    × IsRun (history ++ effect.added) effect.world lines effects
 IsRun history world [] (effect ∷ effects) = ⊥
 IsRun history world (line ∷ lines) [] = ⊥
 
--- memory was ample for the lines that read the history that is kept: each has the effect that the rules make
+-- memory was ample for the lines that read the history that is kept: each has the effect that the
+-- rules make
 abbrev pub IsAmple : History → World → List LineText → List Effect → Type 0
 IsAmple history world [] [] = Unit {0}
 IsAmple history world (line ∷ lines) (effect ∷ effects) =

@@ -10,7 +10,7 @@ use Rattle.hippo_watch.specs.Alarms.{IsAskedNext}
 use Rattle.hippo_watch.specs.Watches.{IsWatchOf}
 use Rattle.hippo_world.specs.Worlds.{World}
 use Rattle.hippo_world.specs.Auditing.{watched, AreWatching}
-use Rattle.hippo_judging.specs.Deeds.{Question, asked_by, next_entry}
+use Rattle.hippo_judging.specs.Deeds.{Question, question_act, next_entry}
 use Rattle.hippo_engine.specs.Effects.{alarm_line, alarms_from, alarms}
 
 -- what stands at a watch's number says of a question that is asked now is added to a text
@@ -24,8 +24,10 @@ AddsAlarm asked number held old new =
 abbrev pub AddsAlarms : AskedNow → List (Option AuditHits) → Txt → Txt → Type 0
 AddsAlarms asked watches old new =
     (history : History) (entry : Entry) → IsAskedNext asked history entry
-    → AreWatching history watches → new ≡ old ++ alarms_from history entry 1 (map (option_map watched) watches)
+    → AreWatching history watches → new ≡ old
+    ++ alarms_from history entry 1 (map (option_map watched) watches)
 
 -- what the watches of a world say of a question that is asked in it
 abbrev pub alarms_now : History → World → Question → Txt
-alarms_now history world question = alarms history world (next_entry history world (asked_by question))
+alarms_now history world question =
+    alarms history world (next_entry history world (question_act question))

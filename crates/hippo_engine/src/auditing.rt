@@ -12,9 +12,9 @@ ghost use Rattle.hippo_commands.specs.Commands.{Command};
 ghost use Rattle.hippo_judging.specs.declared.deeds.Deed.TheVariants as deeds;
 ghost use Rattle.hippo_judging.specs.Findings.{Does};
 ghost use Rattle.hippo_engine.specs.declared.faults.EngineFault.TheVariants.{Write as WriteFailed};
-ghost use Rattle.hippo_engine.specs.Auditing.{FindsFlags, ended, told_flags, TellsFlags};
+ghost use Rattle.hippo_engine.specs.Auditing.{FindsFlags, reading_end, told_flags, TellsFlags};
 ghost use Rattle.hippo_engine.specs.Carrying.{AtWork, Carries};
-ghost use Rattle.hippo_engine.specs.Effects.{listed};
+ghost use Rattle.hippo_engine.specs.Effects.{lines_and_count};
 
 use crate::engine::{Engine, Reply};
 use crate::faults::EngineFault;
@@ -41,7 +41,8 @@ fn looked_over<P: Keeper, L: Ledger>(
 ) -> Result<Job<Combine>, ReadFault>
     requires ready { IsReady true (P.state keeper.old) }
     requires differ { IsDistinct bytes_eq audit.tables }
-    ensures finds { FindsFlags audit state.now (result_map_both (λ job. job.waiting) (λ fault. fault) result)
+    ensures finds { FindsFlags audit state.now
+        (result_map_both (λ job. job.waiting) (λ fault. fault) result)
         (P.state keeper.old) (P.state keeper.new) steps.old steps.new }
 {
     let past = Past {
@@ -81,7 +82,7 @@ fn print_flags(
     flags: &[Flag],
     reply: &mut Reply,
 ) -> Result<(), Memory>
-    ensures { OnOk result (reply.new ≡ listed 0 (flag_line format) flags.now) }
+    ensures { OnOk result (reply.new ≡ lines_and_count 0 (flag_line format) flags.now) }
 {
     reply.clear();
     append_flags(alloc, format, flags, reply)?;
@@ -95,7 +96,7 @@ fn say_flags(
     found: Result<Job<Combine>, ReadFault>,
     reply: &mut Reply,
 ) -> Result<(), EngineFault>
-    ensures ended { result ≡ ended found }
+    ensures ended { result ≡ reading_end found }
     ensures said { OnOk result ((reply.new
         ≡ told_flags format (result_map_both (λ job. job.waiting) (λ fault. fault) found))
         ⊎ (reply.new ≡ refusal_line Console refusals.Memory)) }
@@ -148,7 +149,8 @@ impl Engine {
     ) -> Result<(), EngineFault>
         requires at_work { AtWork self.old (P.state keeper.old) }
         requires differ { IsDistinct bytes_eq audit.tables }
-        ensures carries { (command : Command) → Does command (deeds.Audit audit) self.old.state self.old.world
+        ensures carries { (command : Command)
+            → Does command (deeds.Audit audit) self.old.state self.old.world
             → Carries command result self.old self.new
             (P.state keeper.old) (P.state keeper.new) steps.old steps.new }
         ensures unwritten { result ≢ Bad WriteFailed }

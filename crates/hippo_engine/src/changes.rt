@@ -15,8 +15,8 @@ use hippo_report::{Refusal, Speaker};
 use std::alloc::Global;
 
 impl Engine {
-    // Replies with an entry's number, has the watches count what it changes, and records it; or replies that memory was
-    // short, and the watches count as before.
+    // Replies with an entry's number, has the watches count what it changes, and records it; or
+    // replies that memory was short, and the watches count as before.
     fn record_change<P: Keeper>(
         &mut self,
         alloc: Global,
@@ -27,7 +27,8 @@ impl Engine {
         requires number { entry.now.seq < 2 ^ 63 }
         requires follows { MayFollow self.old.state entry.now }
         ensures carries { (command : Command) (steps : ℕ) → Changes command entry.now self.old
-            → Carries command result self.old self.new (P.state keeper.old) (P.state keeper.new) steps steps }
+            → Carries command result self.old self.new (P.state keeper.old) (P.state keeper.new)
+            steps steps }
         ensures unwritten { result ≢ Err WriteFailed }
     {
         say_number(0, "ok", entry.seq, &mut self.reply);
@@ -54,7 +55,8 @@ impl Engine {
         requires number { entry.seq < 2 ^ 63 }
         requires follows { MayFollow self.old.state entry }
         ensures carries { (command : Command) (steps : ℕ) → Changes command entry self.old
-            → Carries command result self.old self.new (P.state keeper.old) (P.state keeper.new) steps steps }
+            → Carries command result self.old self.new (P.state keeper.old) (P.state keeper.new)
+            steps steps }
         ensures unwritten { result ≢ Err WriteFailed }
     {
         let recorded = self.record_change(alloc, keeper, &entry);

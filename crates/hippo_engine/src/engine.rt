@@ -5,7 +5,7 @@ ghost use Rattle.hippo_io.specs.LineTexts.{line_text};
 ghost use Rattle.hippo_io.specs.Told.{Appends, AppendsFront};
 ghost use Rattle.hippo_world.specs.Worlds.{opening};
 ghost use Rattle.hippo_world.specs.Holding.{world_of};
-ghost use Rattle.hippo_commands.specs.Commands.{commanded};
+ghost use Rattle.hippo_commands.specs.Commands.{input_command};
 ghost use Rattle.hippo_commands.specs.Lent.{command};
 ghost use Rattle.hippo_engine.specs.declared.faults.EngineFault.TheVariants.{Write as WriteFailed};
 ghost use Rattle.hippo_judging.specs.Findings.{IsOfLine};
@@ -24,7 +24,8 @@ use hippo_world::World;
 use std::alloc::Global;
 use std::sync::ledger::Ledger;
 
-/// How many bytes of a reply there is always room for: each reply that must not want memory is shorter.
+/// How many bytes of a reply there is always room for: each reply that must not want memory is
+/// shorter.
 pub const REPLY_ROOM: usize = 64;
 
 /// What a line is replied, in memory that has room for the replies that must not want memory.
@@ -68,11 +69,12 @@ fn has_text(line: &Line<'_>)
 }
 
 impl Engine {
-    /// An engine that begins where a history ends: the clock stands at its last entry's moment, no session is open, and
-    /// the history may have so many entries. Or want of memory.
+    /// An engine that begins where a history ends: the clock stands at its last entry's moment, no
+    /// session is open, and the history may have so many entries. Or want of memory.
     pub fn new(alloc: Global, state: State, limit: u32, format: Format) -> Result<Engine, Memory>
         ensures state { IfOk result (λ engine. engine.state ≡ state) }
-        ensures world { IfOk result (λ engine. world_of engine.world ≡ opening state.last limit format) }
+        ensures world { IfOk result (λ engine. world_of engine.world
+            ≡ opening state.last limit format) }
         ensures reply { IfOk result (λ engine. engine.reply ≡ []) }
     {
         match at_beginning(alloc, state.last, limit, format) {
@@ -147,7 +149,8 @@ impl Engine {
         Ok(())
     }
 
-    // Carries out what a line commands: it is judged, and what is found is performed, or the refusal is said.
+    // Carries out what a line commands: it is judged, and what is found is performed, or the
+    // refusal is said.
     fn carry_out<P: Keeper, L: Ledger>(
         &mut self,
         alloc: Global,
@@ -168,10 +171,10 @@ impl Engine {
         }
     }
 
-    /// Carries out a line and makes its reply whole in memory; what it adds to the history is kept when the call
-    /// returns. Answers `Keeper` only where the keeper's count of faults rose: the engine is then of no more use.
-    /// Answers `Damaged` only where the keeper does not tell what it keeps. Each version that is read counts as a step.
-    /// The end of the input commands nothing.
+    /// Carries out a line and makes its reply whole in memory; what it adds to the history is kept
+    /// when the call returns. Answers `Keeper` only where the keeper's count of faults rose: the
+    /// engine is then of no more use. Answers `Damaged` only where the keeper does not tell what it
+    /// keeps. Each version that is read counts as a step. The end of the input commands nothing.
     pub fn answer<P: Keeper, L: Ledger>(
         &mut self,
         alloc: Global,
@@ -180,7 +183,7 @@ impl Engine {
         steps: &mut Steps<L>,
     ) -> Result<(), EngineFault>
         requires at_work { AtWork self.old (P.state keeper.old) }
-        ensures carries { Carries (commanded (line_text line.entry)) result self.old self.new
+        ensures carries { Carries (input_command (line_text line.entry)) result self.old self.new
             (P.state keeper.old) (P.state keeper.new) steps.old steps.new }
         ensures unwritten { result ≢ Err WriteFailed }
     {
@@ -189,10 +192,11 @@ impl Engine {
         self.carry_out(alloc, keeper, found, steps)
     }
 
-    /// Carries out a line, as `answer` does, and writes its reply, if it was carried out. Answers `Write` only where the
-    /// sink's count of faults rose: a front of the reply is then written.
+    /// Carries out a line, as `answer` does, and writes its reply, if it was carried out. Answers
+    /// `Write` only where the sink's count of faults rose: a front of the reply is then written.
     ///
-    /// Where session 1 is ann's, for `treatment` as a `nurse`, who may see of a patient `pid` and `name` alone:
+    /// Where session 1 is ann's, for `treatment` as a `nurse`, who may see of a patient `pid` and
+    /// `name` alone:
     ///
     /// ```text
     /// line     1 SELECT name, phone FROM patient
@@ -209,10 +213,12 @@ impl Engine {
         steps: &mut Steps<L>,
     ) -> Result<(), EngineFault>
         requires at_work { AtWork self.old (P.state keeper.old) }
-        ensures carries { Carries (commanded (line_text line.entry)) result self.old self.new
+        ensures carries { Carries (input_command (line_text line.entry)) result self.old self.new
             (P.state keeper.old) (P.state keeper.new) steps.old steps.new }
-        ensures written { OnOk result (Appends (K.written sink.old) (K.written sink.new) self.new.reply) }
-        ensures cut { result ≡ Err WriteFailed → AppendsFront (K.written sink.old) (K.written sink.new) self.new.reply
+        ensures written { OnOk result (Appends (K.written sink.old) (K.written sink.new)
+            self.new.reply) }
+        ensures cut { result ≡ Err WriteFailed
+            → AppendsFront (K.written sink.old) (K.written sink.new) self.new.reply
             × HasRisen (K.faults sink.old) (K.faults sink.new) }
         ensures unwritten { is_carried result ≡ false → sink.new ≡ sink.old }
         ensures unfailed { result ≢ Err WriteFailed → K.faults sink.new ≡ K.faults sink.old }

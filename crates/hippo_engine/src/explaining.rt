@@ -5,8 +5,8 @@ ghost use Rattle.hippo_report.specs.declared.refusal.Refusal.TheVariants as refu
 ghost use Rattle.hippo_report.specs.declared.speaker.Speaker.TheVariants.{Console};
 ghost use Rattle.hippo_report.specs.Refusals.{refusal_line};
 ghost use Rattle.hippo_engine.specs.declared.faults.EngineFault.TheVariants.{Write as WriteFailed};
-ghost use Rattle.hippo_engine.specs.Effects.{denial_line, listed};
-ghost use Rattle.hippo_engine.specs.Explaining.{told_of, told_cells, ended};
+ghost use Rattle.hippo_engine.specs.Effects.{denial_line, lines_and_count};
+ghost use Rattle.hippo_engine.specs.Explaining.{told_of, told_cells, explaining_end};
 ghost use Rattle.hippo_engine.specs.Performing.{TellsEntry, Explained};
 
 use crate::engine::{Engine, Reply};
@@ -35,7 +35,7 @@ fn append_cells(cells: &[Denied<'_>], reply: &mut Reply) -> Result<(), Memory>
 
 // Makes the reply that lists cells.
 fn print_cells(cells: &[Denied<'_>], reply: &mut Reply) -> Result<(), Memory>
-    ensures { OnOk result (reply.new ≡ listed 0 denial_line cells.now) }
+    ensures { OnOk result (reply.new ≡ lines_and_count 0 denial_line cells.now) }
 {
     reply.clear();
     append_cells(cells, reply)?;
@@ -47,7 +47,7 @@ fn say_cells(
     found: Result<Sequence<Denied<'_>>, DenialsFault>,
     reply: &mut Reply,
 ) -> Result<(), EngineFault>
-    ensures ended { result ≡ ended (told_of found.entry) }
+    ensures ended { result ≡ explaining_end (told_of found.entry) }
     ensures said { OnOk result ((reply.new ≡ told_cells found.entry)
         ⊎ (reply.new ≡ refusal_line Console refusals.Memory)) }
 {
@@ -98,8 +98,9 @@ fn tell_cells<P: Keeper, L: Ledger>(
 }
 
 impl Engine {
-    /// Tells the console which cells were denied to a question, and by which rules, at the question's own time. Answers
-    /// `Keeper` only where the keeper failed, `Damaged` only where it does not tell what it keeps.
+    /// Tells the console which cells were denied to a question, and by which rules, at the
+    /// question's own time. Answers `Keeper` only where the keeper failed, `Damaged` only where it
+    /// does not tell what it keeps.
     pub(crate) fn explain<P: Keeper, L: Ledger>(
         &mut self,
         alloc: Global,

@@ -44,7 +44,8 @@ fn given_after(cursor: &Cursor, count: u32) -> usize
     given.min(cursor.answer.len())
 }
 
-/// Makes the reply that hands out at most so many further rows of a session's cursor, which is to be moved on.
+/// Makes the reply that hands out at most so many further rows of a session's cursor, which is to
+/// be moved on.
 pub(crate) fn print_next(
     session: u8,
     cursor: &Cursor,

@@ -2,10 +2,10 @@
 ghost use Rattle.std.specs.Prelude.{◌≡◌, ◌≢◌, ◌++◌, bytes_eq, OnOk, Err as Bad};
 ghost use Rattle.std.specs.List.{IsDistinct};
 ghost use Rattle.hippo_lines.specs.Forms as requests;
-ghost use Rattle.hippo_commands.specs.Commands.{ask};
+ghost use Rattle.hippo_commands.specs.Commands.{make_request};
 ghost use Rattle.hippo_engine.specs.declared.faults.EngineFault.TheVariants.{Write as WriteFailed};
 ghost use Rattle.hippo_judging.specs.Checks.{StandsJob};
-ghost use Rattle.hippo_engine.specs.Auditing.{ended};
+ghost use Rattle.hippo_engine.specs.Auditing.{reading_end};
 ghost use Rattle.hippo_engine.specs.Carrying.{AtWork, AddsNothing, Carries};
 ghost use Rattle.hippo_engine.specs.Jobs.{BeginsAt, progress_line, step_text, SaysStep, TellsStep};
 
@@ -67,7 +67,7 @@ fn tell_step(
     job: &mut AuditJob,
     reply: &mut Reply,
 ) -> Result<(), EngineFault>
-    ensures ended { result ≡ ended looked }
+    ensures ended { result ≡ reading_end looked }
     ensures told { TellsStep looked format job.old job.new reply.new }
 {
     match looked {
@@ -95,9 +95,10 @@ impl Engine {
         say_number(0, "job", number as u64, &mut self.reply);
     }
 
-    /// Lets the job at a number look at so many further entries. The flags that it finds are printed, or they wait where
-    /// memory is short. Answers `Keeper` only where the keeper failed, and `Damaged` only where it does not tell what it
-    /// keeps. Each version that is read counts as a step.
+    /// Lets the job at a number look at so many further entries. The flags that it finds are
+    /// printed, or they wait where memory is short. Answers `Keeper` only where the keeper failed,
+    /// and `Damaged` only where it does not tell what it keeps. Each version that is read counts as
+    /// a step.
     pub(crate) fn step_job<P: Keeper, L: Ledger>(
         &mut self,
         alloc: Global,
@@ -108,7 +109,8 @@ impl Engine {
     ) -> Result<(), EngineFault>
         requires at_work { AtWork self.old (P.state keeper.old) }
         requires there { StandsJob self.old.world number }
-        ensures carries { Carries (ask 0 (requests.steps number count)) result self.old self.new
+        ensures carries { Carries (make_request 0 (requests.steps number count)) result self.old
+            self.new
             (P.state keeper.old) (P.state keeper.new) steps.old steps.new }
         ensures unwritten { result ≢ Bad WriteFailed }
     {
@@ -132,7 +134,7 @@ impl Engine {
     /// Gives up the job at a number. Takes no memory.
     pub(crate) fn drop_job(&mut self, number: u8)
         requires there { StandsJob self.old.world number }
-        ensures { AddsNothing (ask 0 (requests.drops number)) self.old self.new }
+        ensures { AddsNothing (make_request 0 (requests.drops number)) self.old self.new }
     {
         self.world.jobs.put(usize::from(number), None);
         say_done(Speaker::Console, &mut self.reply);

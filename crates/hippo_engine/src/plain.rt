@@ -15,8 +15,8 @@ use hippo_judging::Unjudged;
 use hippo_report::{Refusal, Speaker};
 
 impl Engine {
-    /// Says why nothing is done for a command. Answers `Keeper` only where the keeper failed, and `Damaged` only where
-    /// it does not tell what it keeps.
+    /// Says why nothing is done for a command. Answers `Keeper` only where the keeper failed, and
+    /// `Damaged` only where it does not tell what it keeps.
     pub(crate) fn refuse_unjudged(
         &mut self,
         who: Speaker,
@@ -50,8 +50,10 @@ impl Engine {
 
     /// Writes the reply to the last line.
     pub(crate) fn write_reply<K: Sink>(&self, sink: &mut K) -> Result<(), EngineFault>
-        ensures written { OnOk result (Appends (K.written sink.old) (K.written sink.new) self.now.reply) }
-        ensures cut { result ≡ Err WriteFailed → AppendsFront (K.written sink.old) (K.written sink.new) self.now.reply
+        ensures written { OnOk result (Appends (K.written sink.old) (K.written sink.new)
+            self.now.reply) }
+        ensures cut { result ≡ Err WriteFailed
+            → AppendsFront (K.written sink.old) (K.written sink.new) self.now.reply
             × HasRisen (K.faults sink.old) (K.faults sink.new) }
         ensures only { is_carried result ≡ true }
         ensures unfailed { result ≢ Err WriteFailed → K.faults sink.new ≡ K.faults sink.old }

@@ -18,11 +18,11 @@ ghost use Rattle.hippo_world.specs.Holding.{world_of, KeepsAudits};
 ghost use Rattle.hippo_commands.specs.Commands.{Command};
 ghost use Rattle.hippo_engine.specs.declared.faults.EngineFault.TheVariants.{Write as WriteFailed};
 ghost use Rattle.hippo_engine.specs.Carrying.{AtWork, IsBacked, Carries};
-ghost use Rattle.hippo_engine.specs.Effects.{row_limit, question_rows, listed};
-ghost use Rattle.hippo_judging.specs.Asking.{question_of, entry_of, IsAnswerable};
+ghost use Rattle.hippo_engine.specs.Effects.{row_limit, question_rows, lines_and_count};
+ghost use Rattle.hippo_judging.specs.Asking.{question_of, question_entry, IsAnswerable};
 ghost use Rattle.hippo_judging.specs.Findings.{MayBeAsked};
 ghost use Rattle.hippo_engine.specs.Questions.{Asks, short_line, answer_said, world_left};
-ghost use Rattle.hippo_engine.specs.Questions.{IsUnkept, IsHandedOut, IsShort, HandsOut, Replies};
+ghost use Rattle.hippo_engine.specs.Questions.{IsUnkept, IsHandedOut, IsShortReply, HandsOutAnswer, Replies};
 
 use crate::engine::{Engine, Reply};
 use crate::faults::EngineFault;
@@ -64,7 +64,8 @@ fn entry_of(
     asking: &Asking<'_>,
 ) -> Result<Entry, Memory>
     requires { state.now.count + 1 < 2 ^ 63 }
-    ensures { IfOk result (λ entry. entry ≡ entry_of state.now clock.now (question_of 0 asking.now)) }
+    ensures { IfOk result (λ entry. entry
+        ≡ question_entry state.now clock.now (question_of 0 asking.now)) }
 {
     let act = asked_act(alloc, asking.asker, asking.text)?;
     Ok(Entry {
@@ -83,7 +84,8 @@ fn answered(
 ) -> Result<Answer, EvalFault>
     requires { IsAnswerable state.now asking.now.query }
     ensures { (session : ℕ) (history : History) → StandsFor state.now history
-        → IsAnswered row_limit (question_rows history (world_of world.now) (question_of session asking.now)) result }
+        → IsAnswered row_limit (question_rows history (world_of world.now)
+        (question_of session asking.now)) result }
 {
     answer(
         alloc,
@@ -100,7 +102,8 @@ fn answered(
 fn take_in(alloc: Global, state: &mut State, entry: &Entry)
     requires next { IsNext state.old entry.now }
     requires room { takes_no_memory entry.now.act ≡ true }
-    ensures { (history : History) → StandsFor state.old history → may_follow meaning history entry.now ≡ true
+    ensures { (history : History) → StandsFor state.old history
+        → may_follow meaning history entry.now ≡ true
         → StandsFor state.new (history ++ entry.now ∷ []) }
 {
     state.add(alloc, entry).unwrap();
@@ -120,7 +123,8 @@ fn keep_entry<P: Keeper>(
     requires follows { MayFollow state.old entry.now }
     requires room { takes_no_memory entry.now.act ≡ true }
     requires answerable { IsAnswerable state.old asking.now.query }
-    ensures asks { (session : ℕ) → Asks entry.now (world_of world.now) (question_of session asking.now) result
+    ensures asks { (session : ℕ) → Asks entry.now (world_of world.now)
+        (question_of session asking.now) result
         state.old state.new (P.state keeper.old) (P.state keeper.new) }
 {
     match state.keep(alloc, keeper, entry) {
@@ -144,9 +148,11 @@ fn keep_and_answer<P: Keeper>(
 ) -> Result<Result<Answer, EvalFault>, KeeperFault>
     requires backed { IsBacked state.old (P.state keeper.old) }
     requires number { state.old.count + 1 < 2 ^ 63 }
-    requires follows { MayFollow state.old (entry_of state.old world.now.clock (question_of 0 asking.now)) }
+    requires follows { MayFollow state.old
+        (question_entry state.old world.now.clock (question_of 0 asking.now)) }
     requires answerable { IsAnswerable state.old asking.now.query }
-    ensures asks { (session : ℕ) → Asks (entry_of state.old world.now.clock (question_of session asking.now))
+    ensures asks { (session : ℕ) → Asks (question_entry state.old world.now.clock
+        (question_of session asking.now))
         (world_of world.now) (question_of session asking.now) result
         state.old state.new (P.state keeper.old) (P.state keeper.new) }
 {
@@ -161,7 +167,8 @@ fn keep_and_answer<P: Keeper>(
 }
 
 fn append_rows(session: u8, rows: &[CellRow], reply: &mut Reply) -> Result<(), Memory>
-    ensures { OnOk result (reply.new ≡ reply.old ++ listed session (answer_line session) rows.now) }
+    ensures { OnOk result (reply.new ≡ reply.old
+        ++ lines_and_count session (answer_line session) rows.now) }
 {
     answer_lines(session, rows, reply)?;
     number_line(session, "end", rows.len() as u64, reply)
@@ -173,7 +180,8 @@ fn append_records(
     rows: &[CellRow],
     reply: &mut Reply,
 ) -> Result<(), Memory>
-    ensures { OnOk result (reply.new ≡ reply.old ++ listed session (extract_line session) rows.now) }
+    ensures { OnOk result (reply.new ≡ reply.old
+        ++ lines_and_count session (extract_line session) rows.now) }
 {
     extract_lines(alloc, session, rows, reply)?;
     number_line(session, "end", rows.len() as u64, reply)
@@ -261,8 +269,9 @@ fn hand_out_rows(
     reply: &mut Reply,
 )
     ensures said { length rows ≤ row_limit
-        → IsHandedOut session delivery rows alarms.now reply.new (world_of world.old) (world_of world.new)
-        ⊎ IsShort session reply.new (world_of world.old) (world_of world.new) }
+        → IsHandedOut session delivery rows alarms.now reply.new (world_of world.old)
+        (world_of world.new)
+        ⊎ IsShortReply session reply.new (world_of world.old) (world_of world.new) }
     ensures audits { KeepsAudits world.old world.new }
 {
     match print_answer(alloc, session, delivery, rows.as_slice(), alarms, reply) {
@@ -276,7 +285,8 @@ fn hand_out_rows(
 
 // Says that an answer has too many rows; or that memory was short.
 fn say_too_many(session: u8, alarms: &str, reply: &mut Reply)
-    ensures { (reply.new ≡ refusal_line (speaker_at session) TooMany ++ alarms.now) ⊎ (reply.new ≡ short_line session) }
+    ensures { (reply.new ≡ refusal_line (speaker_at session) TooMany ++ alarms.now)
+        ⊎ (reply.new ≡ short_line session) }
 {
     if print_too_many(session, alarms, reply).is_err() {
         refuse_session(session, reply);
@@ -295,8 +305,9 @@ fn hand_out_answer(
     reply: &mut Reply,
 )
     ensures said { (rows : List ShownRow) → IsAnswered row_limit rows answer
-        → IsHandedOut session delivery rows alarms.now reply.new (world_of world.old) (world_of world.new)
-        ⊎ IsShort session reply.new (world_of world.old) (world_of world.new) }
+        → IsHandedOut session delivery rows alarms.now reply.new (world_of world.old)
+        (world_of world.new)
+        ⊎ IsShortReply session reply.new (world_of world.old) (world_of world.new) }
     ensures audits { KeepsAudits world.old world.new }
 {
     match answer {
@@ -317,7 +328,8 @@ fn hand_out(
     reply: &mut Reply,
 )
     ensures said { (rows : List ShownRow) → IsAnswered row_limit rows answer
-        → HandsOut session delivery rows alarms reply.new (world_of world.old) (world_of world.new) }
+        → HandsOutAnswer session delivery rows alarms reply.new (world_of world.old)
+        (world_of world.new) }
     ensures audits { KeepsAudits world.old world.new }
 {
     match alarms {
@@ -350,7 +362,8 @@ fn reply_to(
     world: &mut World,
     reply: &mut Reply,
 ) -> Result<(), EngineFault>
-    ensures said { Replies session delivery alarms kept result reply.new (world_of world.old) (world_of world.new) }
+    ensures said { Replies session delivery alarms kept result reply.new (world_of world.old)
+        (world_of world.new) }
     ensures audits { KeepsAudits world.old world.new }
     ensures unwritten { result ≢ Bad WriteFailed }
 {
@@ -378,10 +391,12 @@ impl Engine {
         delivery: Delivery,
     ) -> Result<(), EngineFault>
         requires at_work { AtWork self.old (P.state keeper.old) }
-        requires needs { (command : Command) × MayBeAsked command question delivery self.old.state self.old.world }
+        requires needs { (command : Command)
+            × MayBeAsked command question delivery self.old.state self.old.world }
         ensures carries { (command : Command) (steps : ℕ)
             → MayBeAsked command question.entry delivery self.old.state self.old.world
-            → Carries command result self.old self.new (P.state keeper.old) (P.state keeper.new) steps steps }
+            → Carries command result self.old self.new (P.state keeper.old) (P.state keeper.new)
+            steps steps }
         ensures unwritten { result ≢ Bad WriteFailed }
     {
         let session = question.session;

@@ -61,8 +61,10 @@ pub fn refuse_session(number: u8, reply: &mut Reply)
 /// Makes the reply to a line that is not carried out: that of its refusal, or that of want of
 /// memory where the refusal is longer than the room and memory is short.
 pub fn refuse(who: Speaker, refusal: &Refusal, reply: &mut Reply)
-    ensures said { (reply.new ≡ refusal_line who refusal.now) ⊎ (reply.new ≡ refusal_line who NoMemory) }
-    ensures fits { length (refusal_line who refusal.now) ≤ reply_room → reply.new ≡ refusal_line who refusal.now }
+    ensures said { (reply.new ≡ refusal_line who refusal.now)
+        ⊎ (reply.new ≡ refusal_line who NoMemory) }
+    ensures fits { length (refusal_line who refusal.now) ≤ reply_room
+        → reply.new ≡ refusal_line who refusal.now }
 {
     reply.clear();
     if refusal_line(who, refusal, reply).is_err() {

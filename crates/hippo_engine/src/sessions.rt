@@ -20,7 +20,8 @@ use std::alloc::Global;
 // The cursor at a number of an open session.
 fn cursor_at(world: &World, session: u8, cursor: u8) -> Option<&Cursor>
     ensures { option_copied result
-        ≡ option_and_then (λ held. at_number held.cursors cursor) (session_at (world_of world.now) session) }
+        ≡ option_and_then (λ held. at_number held.cursors cursor)
+        (session_at (world_of world.now) session) }
 {
     match world.session(session) {
         Some(held) => held.cursors.at(usize::from(cursor)),
@@ -39,7 +40,8 @@ impl Engine {
 
     /// Sets the clock. Takes no memory.
     pub(crate) fn set_clock(&mut self, moment: Moment)
-        ensures { (command : Command) → Does command (deeds.SetClock moment) self.old.state self.old.world
+        ensures { (command : Command) → Does command (deeds.SetClock moment) self.old.state
+            self.old.world
             → IsQuiet command self.old self.new }
     {
         self.world.clock = moment;
@@ -48,7 +50,8 @@ impl Engine {
 
     /// Opens a session, or says that memory was short.
     pub(crate) fn log_in(&mut self, alloc: Global, session: u8, user: Name, pair: Pair)
-        ensures { (command : Command) → Does command (deeds.LogIn session user pair) self.old.state self.old.world
+        ensures { (command : Command) → Does command (deeds.LogIn session user pair) self.old.state
+            self.old.world
             → IsQuiet command self.old self.new }
     {
         match self.world.log_in(alloc, session, user, pair) {
@@ -59,15 +62,16 @@ impl Engine {
 
     /// Closes a session. Takes no memory.
     pub(crate) fn log_out(&mut self, session: u8)
-        ensures { (command : Command) → Does command (deeds.LogOut session) self.old.state self.old.world
+        ensures { (command : Command) → Does command (deeds.LogOut session) self.old.state
+            self.old.world
             → IsQuiet command self.old self.new }
     {
         self.world.log_out(session);
         say_done_to_session(session, &mut self.reply);
     }
 
-    /// Hands out rows of a cursor: they are printed first, and the cursor moves on where the reply is whole. Or says
-    /// that memory was short.
+    /// Hands out rows of a cursor: they are printed first, and the cursor moves on where the reply
+    /// is whole. Or says that memory was short.
     pub(crate) fn hand_out(&mut self, session: u8, cursor: u8, count: u32)
         requires { MayDo (deeds.HandOut session cursor count) self.old }
         ensures { (command : Command)
@@ -85,7 +89,8 @@ impl Engine {
 
     /// Closes a cursor. Takes no memory.
     pub(crate) fn close_cursor(&mut self, session: u8, cursor: u8)
-        ensures { (command : Command) → Does command (deeds.CloseCursor session cursor) self.old.state self.old.world
+        ensures { (command : Command) → Does command (deeds.CloseCursor session cursor)
+            self.old.state self.old.world
             → IsQuiet command self.old self.new }
     {
         self.world.close_cursor(session, cursor);

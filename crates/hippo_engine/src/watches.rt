@@ -37,7 +37,8 @@ fn append_found(
     found: Option<SharedTuple>,
     out: &mut Reply,
 ) -> Result<(), Memory>
-    ensures { OnOk result (out.new ≡ out.old ++ option_map_or (alarm_text number question) found []) }
+    ensures { OnOk result (out.new ≡ out.old
+        ++ option_map_or (alarm_text number question) found []) }
 {
     match found {
         Some(shared) => {
@@ -112,8 +113,10 @@ fn print_alarms(
 ) -> Result<(), Memory>
     requires sound { IsSound state.now }
     requires below { state.now.count + 1 < 2 ^ 63 }
-    ensures { OnOk result ((history : History) (question : AskedQuestion) → StandsFor state.now history
-        → WatchesFit history world.now → question.pair ≡ pair.now → meaning history question.text ≡ meant
+    ensures { OnOk result ((history : History) (question : AskedQuestion)
+        → StandsFor state.now history
+        → WatchesFit history world.now → question.pair ≡ pair.now
+        → meaning history question.text ≡ meant
         → out.new ≡ out.old ++ alarms_now history (world_of world.now) question) }
 {
     match meant {
@@ -150,7 +153,8 @@ fn tell_alarms(
     requires below { state.now.count + 1 < 2 ^ 63 }
     ensures { OnOk result ((session : ℕ) (history : History) → StandsFor state.now history
         → WatchesFit history world.now
-        → out.new ≡ out.old ++ alarms_now history (world_of world.now) (question_of session asking.now)) }
+        → out.new ≡ out.old ++ alarms_now history (world_of world.now)
+        (question_of session asking.now)) }
 {
     if are_watching(world.watches.as_slice()) {
         let meant = read_meaning(alloc, &state.catalog, asking.text)?;
@@ -183,7 +187,8 @@ impl Engine {
     /// Sets a watch at a number that is free; or says that memory was short for it.
     pub(crate) fn watch(&mut self, alloc: Global, number: usize, audit: Audit)
         requires differ { IsDistinct bytes_eq audit.tables }
-        ensures { (command : Command) → Does command (deeds.Watch number audit) self.old.state self.old.world
+        ensures { (command : Command) → Does command (deeds.Watch number audit) self.old.state
+            self.old.world
             → AddsNothing command self.old self.new }
     {
         match Watch::new(alloc, audit, &self.state.tables) {
@@ -197,7 +202,8 @@ impl Engine {
 
     /// Ends a watch. Takes no memory.
     pub(crate) fn end_watch(&mut self, number: u8)
-        ensures { (command : Command) → Does command (deeds.EndWatch number) self.old.state self.old.world
+        ensures { (command : Command) → Does command (deeds.EndWatch number) self.old.state
+            self.old.world
             → AddsNothing command self.old self.new }
     {
         self.world.watches.put(usize::from(number), None);

@@ -35,10 +35,10 @@ use Rattle.hippo_model.specs.Keepable.{is_folded_name, is_text, has_count, is_sh
 use Rattle.hippo_model.specs.Keepable.{cells_are_keepable, places_are_keepable, columns_are_keepable, key_is_keepable}
 use Rattle.hippo_model.specs.Keepable.{subject_is_keepable, schema_is_keepable, item_is_keepable, days_are_keepable}
 use Rattle.hippo_model.specs.Keepable.{question_is_keepable, rule_is_keepable, act_is_keepable, is_keepable}
-use Rattle.hippo_entry.specs.Readings.{◌>>=◌, leading_byte, leading_list, leading_value, column_kind_of, bool_of}
-use Rattle.hippo_entry.specs.Readings.{item_kind_of, subject_of_byte, leading_column, leading_schema, leading_create}
+use Rattle.hippo_entry.specs.Readings.{◌>>=◌, leading_byte, leading_list, leading_value, stored_column_kind, bool_of}
+use Rattle.hippo_entry.specs.Readings.{item_kind_of, subject_of_byte, leading_stored_column, leading_schema, leading_create}
 use Rattle.hippo_entry.specs.Readings.{change_of, leading_change, leading_new_name, leading_new_item, grant_of}
-use Rattle.hippo_entry.specs.Readings.{leading_grant, leading_item, leading_days, leading_allow, leading_revoke}
+use Rattle.hippo_entry.specs.Readings.{leading_stored_grant, leading_stored_item, leading_days, leading_allow, leading_revoke}
 use Rattle.hippo_entry.specs.Readings.{leading_choice, leading_question, act_of_kind, leading_entry}
 use Rattle.hippo_entry.specs.Forms.{HasForm, IsEntryOf}
 use Rattle.hippo_entry.proofs.Fields.{ReadsAgain, short_again, long_again, signed_again, short_signed_again, text_again}
@@ -88,7 +88,7 @@ places_again : (places : List Place) (rest : List ℕ) → places_are_keepable p
 places_again places rest fits =
     list_again a_place places rest (and_parts (has_count places) (list_all is_place places) fits).1
 
-kind_again : (kind : ColumnKind) → column_kind_of (column_kind kind) ≡ Some kind
+kind_again : (kind : ColumnKind) → stored_column_kind (column_kind kind) ≡ Some kind
 kind_again Integer = refl
 kind_again TextColumn = refl
 kind_again Date = refl
@@ -102,14 +102,14 @@ item_kind_again OptIn = refl
 item_kind_again OptOut = refl
 
 column_again : (x : Column) (rest : List ℕ) → is_folded_name x.name ≡ true
-    → leading_column (column_bytes x ++ rest) ≡ Some (x, rest)
-unfolding leading_column
+    → leading_stored_column (column_bytes x ++ rest) ≡ Some (x, rest)
+unfolding leading_stored_column
 column_again x rest fits =
     let behind : List ℕ = column_kind x.kind ∷ from_bool x.not_null ∷ [] in
-    ap leading_column (append_assoc (name_bytes x.name) behind rest)
+    ap leading_stored_column (append_assoc (name_bytes x.name) behind rest)
     ∙ rw (name_again x.name (behind ++ rest) fits, kind_again x.kind, bool_again x.not_null) refl
 
-a_column : ReadsAgain leading_column (λ column. is_folded_name column.name) column_bytes
+a_column : ReadsAgain leading_stored_column (λ column. is_folded_name column.name) column_bytes
 a_column = record { again = column_again }
 
 subject_again : (subject : Option Place) → subject_of_byte (subject_byte subject) ≡ subject
@@ -202,12 +202,12 @@ three_fit x y z behind fits =
 
 grant_again : (kind : ℕ) (u p r : Name) (rest : List ℕ)
     → (is_folded_name u && is_folded_name p && is_folded_name r) ≡ true
-    → leading_grant kind ((name_bytes u ++ name_bytes p ++ name_bytes r) ++ rest) ≡ Some (grant_of kind u p r, rest)
-unfolding leading_grant
+    → leading_stored_grant kind ((name_bytes u ++ name_bytes p ++ name_bytes r) ++ rest) ≡ Some (grant_of kind u p r, rest)
+unfolding leading_stored_grant
 grant_again kind u p r rest fits =
     let all = and_parts (is_folded_name u && is_folded_name p) (is_folded_name r) fits in
     let front = and_parts (is_folded_name u) (is_folded_name p) all.0 in
-    ap (leading_grant kind) (three (name_bytes u) (name_bytes p) (name_bytes r) rest)
+    ap (leading_stored_grant kind) (three (name_bytes u) (name_bytes p) (name_bytes r) rest)
     ∙ rw (
       name_again u (name_bytes p ++ (name_bytes r ++ rest)) front.0,
       name_again p (name_bytes r ++ rest) front.1,
@@ -215,8 +215,8 @@ grant_again kind u p r rest fits =
     ) refl
 
 item_again : (x : Option Name) (rest : List ℕ) → item_is_keepable x ≡ true
-    → leading_item (item_bytes x ++ rest) ≡ Some (x, rest)
-unfolding leading_item
+    → leading_stored_item (item_bytes x ++ rest) ≡ Some (x, rest)
+unfolding leading_stored_item
 item_again None rest fits = refl
 item_again (Some x) rest fits = rw (name_again x rest fits) refl
 

@@ -16,10 +16,10 @@ use Rattle.std.proofs.lemmas.Slice.Eq.{bytes_eq-Decides}
 use Rattle.std.proofs.lemmas.Str.{is_utf8-from_IsUtf8, IsUtf8-from_ascii}
 use Rattle.std.proofs.lemmas.Str.Ascii.{IsAscii-nil, IsAscii-cons}
 use Rattle.hippo_values.specs.declared.names.Name.{Name}
-use Rattle.hippo_values.specs.Names.{folded, is_word_byte, begins_with_letter, is_word, is_name}
+use Rattle.hippo_values.specs.Names.{lower_case, is_word_byte, begins_with_letter, is_word, is_name}
 use Rattle.hippo_model.specs.StoredForms.{name_bytes, text_bytes, list_bytes}
 use Rattle.hippo_model.specs.Keepable.{is_folded_name, is_text}
-use Rattle.hippo_entry.specs.Readings.{◌>>=◌, leading_bytes, leading_number, leading_signed, leading_text, leading_name}
+use Rattle.hippo_entry.specs.Readings.{◌>>=◌, leading_bytes, leading_stored_number, leading_signed, leading_text, leading_stored_name}
 use Rattle.hippo_entry.specs.Readings.{leading_parts, leading_list}
 
 -- where a part that fits was written, the reading gives the part, and what stands behind it
@@ -36,16 +36,16 @@ bytes_again count front rest same =
     rw (long, take_at front rest count same, drop_at front rest count same) refl
 
 pub number_again : (w : Width) (n : ℕ) (rest : List ℕ) → length (to_be_bytes w n) ≡ byte_len w
-    → from_be_bytes w (to_be_bytes w n) ≡ n → leading_number w (to_be_bytes w n ++ rest) ≡ Some (n, rest)
+    → from_be_bytes w (to_be_bytes w n) ≡ n → leading_stored_number w (to_be_bytes w n ++ rest) ≡ Some (n, rest)
 number_again w n rest len back =
     let front = bytes_again (byte_len w) (to_be_bytes w n) rest len in
     ap (λ (found : Option (List ℕ × List ℕ)). found >>= λ n. Some (from_be_bytes w n.0, n.1)) front
     ∙ ap (λ (m : ℕ). Some (m, rest)) back
 
-pub short_again : (n : ℕ) (rest : List ℕ) → n < 2 ^ 32 → leading_number w32 (to_be_bytes w32 n ++ rest) ≡ Some (n, rest)
+pub short_again : (n : ℕ) (rest : List ℕ) → n < 2 ^ 32 → leading_stored_number w32 (to_be_bytes w32 n ++ rest) ≡ Some (n, rest)
 short_again n rest lt = number_again w32 n rest refl (from_be_bytes-to_be_bytes_4 n lt)
 
-pub long_again : (n : ℕ) (rest : List ℕ) → n < 2 ^ 64 → leading_number w64 (to_be_bytes w64 n ++ rest) ≡ Some (n, rest)
+pub long_again : (n : ℕ) (rest : List ℕ) → n < 2 ^ 64 → leading_stored_number w64 (to_be_bytes w64 n ++ rest) ≡ Some (n, rest)
 long_again n rest lt = number_again w64 n rest refl (from_be_bytes-to_be_bytes_8 n lt)
 
 unsigned64 : (x : ℤ) → FitsSigned w64 x → cast_unsigned w64 x < 2 ^ 64
@@ -56,7 +56,7 @@ unsigned32 x f = omega (arith, ints)
 
 -- a signed number, where the unsigned one in its place is read again
 signed_of : (w : Width) (x : ℤ) (rest : List ℕ)
-    → leading_number w (to_be_bytes w (cast_unsigned w x) ++ rest) ≡ Some (cast_unsigned w x, rest)
+    → leading_stored_number w (to_be_bytes w (cast_unsigned w x) ++ rest) ≡ Some (cast_unsigned w x, rest)
     → cast_signed w (cast_unsigned w x) ≡ x
     → leading_signed w (to_be_bytes w (cast_unsigned w x) ++ rest) ≡ Some (x, rest)
 signed_of w x rest again same =
@@ -100,14 +100,14 @@ name_is_utf8 name holds =
     is_utf8-from_IsUtf8 name (IsUtf8-from_ascii name (are_ascii name letters.1))
 
 pub name_again : (name : Name) (rest : List ℕ) → is_folded_name name ≡ true
-    → leading_name (name_bytes name ++ rest) ≡ Some (name, rest)
-unfolding leading_name
+    → leading_stored_name (name_bytes name ++ rest) ≡ Some (name, rest)
+unfolding leading_stored_name
 name_again name rest fits =
-    let parts = and_parts (is_name name) (bytes_eq (folded name) name) fits in
-    let same : folded name ≡ name = (bytes_eq-Decides (folded name) name).0 parts.1 in
+    let parts = and_parts (is_name name) (bytes_eq (lower_case name) name) fits in
+    let same : lower_case name ≡ name = (bytes_eq-Decides (lower_case name) name).0 parts.1 in
     rw (bytes_again (length name) name rest refl, name_is_utf8 name parts.0, parts.0, same) refl
 
-pub a_name : ReadsAgain leading_name is_folded_name name_bytes
+pub a_name : ReadsAgain leading_stored_name is_folded_name name_bytes
 a_name = record { again = name_again }
 
 -- ---- lists

@@ -4,7 +4,7 @@ use Rattle.std.proofs.Common.{◌∙◌, append_assoc, arith}
 use Rattle.std.proofs.lemmas.List.{append-nil}
 use Rattle.hippo_entry.specs.declared.fault.Fault.{Fault}
 use Rattle.hippo_entry.specs.declared.fault.Fault.TheVariants as fault
-use Rattle.hippo_entry.specs.Readings.{◌>>=◌, Fails, leading_parts}
+use Rattle.hippo_entry.specs.Readings.{◌>>=◌, FailsReading, leading_parts}
 
 module _ {A : Type 0} (reading : List ℕ → Option (A × List ℕ)) where
   -- what was read before, and what is still read
@@ -28,8 +28,8 @@ module _ {A : Type 0} (reading : List ℕ → Option (A × List ℕ)) where
       rw pushed (sym one ∙ so_far)
 
   pub ends : (e : Fault) (front : List A) (count i : ℕ) (bytes : List ℕ) (total : Option (List A × List ℕ)) → i < count
-      → Fails e (reading bytes)
-      → with_front front (leading_parts reading (count - i) bytes) ≡ total → Fails e total
+      → FailsReading e (reading bytes)
+      → with_front front (leading_parts reading (count - i) bytes) ≡ total → FailsReading e total
   ends fault.Memory front count i bytes total lt h so_far = tt
   ends fault.NoPart front count i bytes total lt h so_far =
       let k : count - i ≡ suc (count - (i + 1)) = omega arith in

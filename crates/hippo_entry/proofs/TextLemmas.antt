@@ -4,17 +4,17 @@ use Rattle.std.proofs.Common.{nat_le}
 use Rattle.std.specs.Str.{IsUtf8, is_utf8}
 use Rattle.std.proofs.lemmas.Str.{IsUtf8-from_is_utf8, is_utf8-from_IsUtf8}
 use Rattle.hippo_model.specs.Keepable.{is_text}
-use Rattle.hippo_entry.specs.Readings.{text_of}
+use Rattle.hippo_entry.specs.Readings.{stored_text}
 
-pub text_of-some : (bytes text : List ℕ) → text ≡ bytes → IsUtf8 bytes → text_of bytes ≡ Some text
-text_of-some bytes text same utf8 = rw (is_utf8-from_IsUtf8 bytes utf8, same) refl
+pub stored_text-some : (bytes text : List ℕ) → text ≡ bytes → IsUtf8 bytes → stored_text bytes ≡ Some text
+stored_text-some bytes text same utf8 = rw (is_utf8-from_IsUtf8 bytes utf8, same) refl
 
 unless : (test : Bool) (bytes : List ℕ) → (test ≡ true → ⊥) → (if test then Some bytes else None) ≡ None
 unless true bytes never = absurd (never refl)
 unless false bytes never = refl
 
-pub text_of-none : (bytes : List ℕ) → ¬ IsUtf8 bytes → text_of bytes ≡ None
-text_of-none bytes never = unless (is_utf8 bytes) bytes (λ holds. never (IsUtf8-from_is_utf8 bytes holds))
+pub stored_text-none : (bytes : List ℕ) → ¬ IsUtf8 bytes → stored_text bytes ≡ None
+stored_text-none bytes never = unless (is_utf8 bytes) bytes (λ holds. never (IsUtf8-from_is_utf8 bytes holds))
 
 also : (a b : Bool) → b ≡ true → a ≡ (a && b)
 also true b holds = sym holds

@@ -9,7 +9,8 @@ use Rattle.hippo_model.specs.Keepable.{is_keepable}
 abbrev pub HasForm : StoredEntry → Entry → Type 0
 HasForm kept entry = (is_keepable entry ≡ true) × (stored entry ≡ kept)
 
--- an entry that is found has this form, and each entry that has it is the one that is found: none just where none has
+-- an entry that is found has this form, and each entry that has it is the one that is found: none
+-- just where none has
 pub record IsEntryOf (kept : StoredEntry) (found : Option Entry) : Type 0 where
   pub sound : IfSome found (HasForm kept)
   pub only : (entry : Entry) → HasForm kept entry → found ≡ Some entry

@@ -19,11 +19,13 @@ three_names act = None
 -- their bytes
 abbrev pub names_bytes : Act → List ℕ
 names_bytes act =
-    option_map_or (λ (first, second, third). name_bytes first ++ name_bytes second ++ name_bytes third)
+    option_map_or (λ (first, second, third). name_bytes first ++ name_bytes second
+    ++ name_bytes third)
     (three_names act) []
 
 -- whether they can be kept
 abbrev pub names_are_keepable : Act → Bool
 names_are_keepable act =
-    option_map_or (λ (first, second, third). is_folded_name first && is_folded_name second && is_folded_name third)
+    option_map_or (λ (first, second, third). is_folded_name first && is_folded_name second
+    && is_folded_name third)
     (three_names act) true

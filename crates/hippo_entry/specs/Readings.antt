@@ -1,5 +1,5 @@
--- How an entry is read from bytes, part by part. What is read from a body is its entry only where the bytes of that
--- entry are the body: nothing here looks at what stands behind the last part.
+-- How an entry is read from bytes, part by part. What is read from a body is its entry only where
+-- the bytes of that entry are the body: nothing here looks at what stands behind the last part.
 use Rattle.std.specs.Prelude.{◌≡◌, ℕ, zero, suc, ◌-◌, ◌==◌, ◌||◌, ℤ, Bool, true, false, nat_lt, List, [], ◌∷◌, length}
 use Rattle.std.specs.Prelude.{take, drop, Option, Some, None, option_and_then, if◌then◌else◌, Result, Ok, Err}
 use denote.Ref.{Bor}
@@ -34,18 +34,18 @@ found >>= next = option_and_then next found
 abbrev pub Reading : Type 0 → Type 0
 Reading A = List ℕ → Option (A × List ℕ)
 
-abbrev pub Fails : {Y : Type 0} → Fault → Option Y → Type 0
-Fails fault.NoPart found = found ≡ None
-Fails fault.Memory found = Unit {0}
+abbrev pub FailsReading : {Y : Type 0} → Fault → Option Y → Type 0
+FailsReading fault.NoPart found = found ≡ None
+FailsReading fault.Memory found = Unit {0}
 
 -- what a call made, seen by view, is what is there, unless memory ran out
-abbrev pub Gives : {X Y : Type 0} → (X → Y) → Result X Fault → Option Y → Type 0
-Gives view (Ok x) found = found ≡ Some (view x)
-Gives view (Err e) found = Fails e found
+abbrev pub GivesReading : {X Y : Type 0} → (X → Y) → Result X Fault → Option Y → Type 0
+GivesReading view (Ok x) found = found ≡ Some (view x)
+GivesReading view (Err e) found = FailsReading e found
 
 -- a call reads the part that stands first, and hands out the bytes behind it
-abbrev pub Reads : {X : Type 0} → Reading X → List ℕ → Result (X × Bor (List ℕ)) Fault → Type 0
-Reads reading bytes result = Gives (λ x. (x.0, x.1.now)) result (reading bytes)
+abbrev pub ReadsFront : {X : Type 0} → Reading X → List ℕ → Result (X × Bor (List ℕ)) Fault → Type 0
+ReadsFront reading bytes result = GivesReading (λ x. (x.0, x.1.now)) result (reading bytes)
 
 -- ---- bytes, numbers and texts
 
@@ -55,29 +55,31 @@ leading_byte (byte ∷ rest) = Some (byte, rest)
 
 -- so many bytes
 abbrev pub leading_bytes : ℕ → Reading (List ℕ)
-leading_bytes count bytes = if nat_lt (length bytes) count then None else Some (take count bytes, drop count bytes)
+leading_bytes count bytes =
+    if nat_lt (length bytes) count then None else Some (take count bytes, drop count bytes)
 
-abbrev pub leading_number : Width → Reading ℕ
-leading_number w bytes = leading_bytes (byte_len w) bytes >>= λ n. Some (from_be_bytes w n.0, n.1)
+abbrev pub leading_stored_number : Width → Reading ℕ
+leading_stored_number w bytes =
+    leading_bytes (byte_len w) bytes >>= λ n. Some (from_be_bytes w n.0, n.1)
 
 abbrev pub leading_signed : Width → Reading ℤ
-leading_signed w bytes = leading_number w bytes >>= λ n. Some (cast_signed w n.0, n.1)
+leading_signed w bytes = leading_stored_number w bytes >>= λ n. Some (cast_signed w n.0, n.1)
 
-abbrev pub text_of : List ℕ → Option Txt
-text_of bytes = if is_utf8 bytes then Some bytes else None
+abbrev pub stored_text : List ℕ → Option Txt
+stored_text bytes = if is_utf8 bytes then Some bytes else None
 
 unfoldable pub leading_text : Reading Txt
 leading_text bytes = do
-  count ← leading_number w32 bytes
+  count ← leading_stored_number w32 bytes
   inside ← leading_bytes count.0 count.1
-  text ← text_of inside.0
+  text ← stored_text inside.0
   Some (text, inside.1)
 
-unfoldable pub leading_name : Reading Name
-leading_name bytes = do
+unfoldable pub leading_stored_name : Reading Name
+leading_stored_name bytes = do
   count ← leading_byte bytes
   inside ← leading_bytes count.0 count.1
-  text ← text_of inside.0
+  text ← stored_text inside.0
   name ← name_of text
   Some (name, inside.1)
 
@@ -103,13 +105,13 @@ leading_int bytes = leading_signed w64 bytes >>= λ number. Some (Int number.0, 
 abbrev pub leading_text_value : Reading Value
 leading_text_value bytes = leading_text bytes >>= λ text. Some (Text text.0, text.1)
 
-abbrev pub day_of : ℤ → Option ℤ
-day_of day = if is_day day then Some day else None
+abbrev pub stored_day : ℤ → Option ℤ
+stored_day day = if is_day day then Some day else None
 
 abbrev pub leading_day : Reading Value
 leading_day bytes = do
   number ← leading_signed w32 bytes
-  day ← day_of number.0
+  day ← stored_day number.0
   Some (Day day, number.1)
 
 abbrev pub value_of_kind : ℕ → Reading Value
@@ -123,9 +125,10 @@ value_of_kind kind bytes =
 unfoldable pub leading_value : Reading Value
 leading_value bytes = leading_byte bytes >>= λ kind. value_of_kind kind.0 kind.1
 
-abbrev pub column_kind_of : ℕ → Option ColumnKind
-column_kind_of byte =
-    if byte == 1 then Some Integer else if byte == 2 then Some TextColumn else if byte == 3 then Some Date else None
+abbrev pub stored_column_kind : ℕ → Option ColumnKind
+stored_column_kind byte =
+    if byte == 1 then Some Integer else if byte == 2 then Some TextColumn else if byte == 3
+    then Some Date else None
 
 abbrev pub bool_of : ℕ → Option Bool
 bool_of byte = if byte == 0 then Some false else if byte == 1 then Some true else None
@@ -136,22 +139,31 @@ item_kind_of byte = if byte == 1 then Some OptIn else if byte == 2 then Some Opt
 abbrev pub subject_of_byte : ℕ → Option Place
 subject_of_byte byte = if byte == 0 then None else Some (byte - 1)
 
-unfoldable pub leading_column : Reading Column
-leading_column bytes = do
-  name ← leading_name bytes
+unfoldable pub leading_stored_column : Reading Column
+leading_stored_column bytes = do
+  name ← leading_stored_name bytes
   kind_byte ← leading_byte name.1
-  kind ← column_kind_of kind_byte.0
+  kind ← stored_column_kind kind_byte.0
   null_byte ← leading_byte kind_byte.1
   not_null ← bool_of null_byte.0
   Some (record { name = name.0; kind = kind; not_null = not_null }, null_byte.1)
 
 unfoldable pub leading_schema : Reading Schema
 leading_schema bytes = do
-  name ← leading_name bytes
-  columns ← leading_list leading_column name.1
+  name ← leading_stored_name bytes
+  columns ← leading_list leading_stored_column name.1
   key ← leading_list leading_byte columns.1
   subject ← leading_byte key.1
-  Some (record { name = name.0; columns = columns.0; key = key.0; subject = subject_of_byte subject.0 }, subject.1)
+  Some (
+    record {
+      name = name.0;
+      columns = columns.0;
+      key = key.0;
+      subject = subject_of_byte
+          subject.0;
+    },
+    subject.1,
+  )
 
 -- ---- acts
 
@@ -165,18 +177,19 @@ change_of kind table row =
 
 unfoldable pub leading_change : ℕ → Reading Act
 leading_change kind bytes = do
-  table ← leading_name bytes
+  table ← leading_stored_name bytes
   row ← leading_list leading_value table.1
   Some (change_of kind table.0 row.0, row.1)
 
 -- a purpose or a recipient, of kind 5 or 6
 unfoldable pub leading_new_name : ℕ → Reading Act
 leading_new_name kind bytes =
-    leading_name bytes >>= λ name. Some (if kind == 5 then Purpose name.0 else Recipient name.0, name.1)
+    leading_stored_name bytes >>= λ name. Some
+    (if kind == 5 then Purpose name.0 else Recipient name.0, name.1)
 
 unfoldable pub leading_new_item : Reading Act
 leading_new_item bytes = do
-  item ← leading_name bytes
+  item ← leading_stored_name bytes
   byte ← leading_byte item.1
   kind ← item_kind_of byte.0
   Some (Item item.0 kind, byte.1)
@@ -186,58 +199,59 @@ abbrev pub grant_of : ℕ → Name → Name → Name → Act
 grant_of kind user purpose recipient =
     if kind == 8 then Authorize user purpose recipient else Deauthorize user purpose recipient
 
-unfoldable pub leading_grant : ℕ → Reading Act
-leading_grant kind bytes = do
-  user ← leading_name bytes
-  purpose ← leading_name user.1
-  recipient ← leading_name purpose.1
+unfoldable pub leading_stored_grant : ℕ → Reading Act
+leading_stored_grant kind bytes = do
+  user ← leading_stored_name bytes
+  purpose ← leading_stored_name user.1
+  recipient ← leading_stored_name purpose.1
   Some (grant_of kind user.0 purpose.0 recipient.0, recipient.1)
 
 abbrev pub item_of_byte : ℕ → Reading (Option Name)
 item_of_byte byte bytes =
     if byte == 0 then Some (None, bytes)
-    else if byte == 1 then (leading_name bytes >>= λ item. Some (Some item.0, item.1))
+    else if byte == 1 then (leading_stored_name bytes >>= λ item. Some (Some item.0, item.1))
     else None
 
-unfoldable pub leading_item : Reading (Option Name)
-leading_item bytes = leading_byte bytes >>= λ byte. item_of_byte byte.0 byte.1
+unfoldable pub leading_stored_item : Reading (Option Name)
+leading_stored_item bytes = leading_byte bytes >>= λ byte. item_of_byte byte.0 byte.1
 
 -- days stand only in format 2
 unfoldable pub leading_days : ℕ → Reading (Option ℕ)
 leading_days format bytes =
-    if format == 2 then (leading_number w32 bytes >>= λ days. Some (Some days.0, days.1)) else Some (None, bytes)
+    if format == 2 then (leading_stored_number w32 bytes >>= λ days. Some (Some days.0, days.1))
+    else Some (None, bytes)
 
 unfoldable pub leading_allow : ℕ → Reading Act
 leading_allow format bytes = do
-  purpose ← leading_name bytes
-  recipient ← leading_name purpose.1
-  table ← leading_name recipient.1
+  purpose ← leading_stored_name bytes
+  recipient ← leading_stored_name purpose.1
+  table ← leading_stored_name recipient.1
   columns ← leading_list leading_byte table.1
-  item ← leading_item columns.1
+  item ← leading_stored_item columns.1
   days ← leading_days format item.1
   Some (Allow purpose.0 recipient.0 table.0 columns.0 item.0 days.0, days.1)
 
 unfoldable pub leading_revoke : Reading Act
 leading_revoke bytes = do
-  purpose ← leading_name bytes
-  recipient ← leading_name purpose.1
-  table ← leading_name recipient.1
+  purpose ← leading_stored_name bytes
+  recipient ← leading_stored_name purpose.1
+  table ← leading_stored_name recipient.1
   columns ← leading_list leading_byte table.1
   Some (Revoke purpose.0 recipient.0 table.0 columns.0, columns.1)
 
 unfoldable pub leading_choice : Reading Act
 leading_choice bytes = do
   subject ← leading_signed w64 bytes
-  item ← leading_name subject.1
+  item ← leading_stored_name subject.1
   byte ← leading_byte item.1
   agreed ← bool_of byte.0
   Some (Choice subject.0 item.0 agreed, byte.1)
 
 unfoldable pub leading_question : Reading Act
 leading_question bytes = do
-  user ← leading_name bytes
-  purpose ← leading_name user.1
-  recipient ← leading_name purpose.1
+  user ← leading_stored_name bytes
+  purpose ← leading_stored_name user.1
+  recipient ← leading_stored_name purpose.1
   text ← leading_text recipient.1
   Some (Asked user.0 purpose.0 recipient.0 text.0, text.1)
 
@@ -247,7 +261,7 @@ act_of_kind format kind bytes =
     else if kind == 2 || kind == 3 || kind == 4 then leading_change kind bytes
     else if kind == 5 || kind == 6 then leading_new_name kind bytes
     else if kind == 7 then leading_new_item bytes
-    else if kind == 8 || kind == 9 then leading_grant kind bytes
+    else if kind == 8 || kind == 9 then leading_stored_grant kind bytes
     else if kind == 10 then leading_allow format bytes
     else if kind == 11 then leading_revoke bytes
     else if kind == 12 then leading_choice bytes
@@ -261,7 +275,7 @@ moment_of seconds = if is_moment seconds then Some seconds else None
 unfoldable pub leading_entry : Reading Entry
 leading_entry bytes = do
   format ← leading_byte bytes
-  number ← leading_number w64 format.1
+  number ← leading_stored_number w64 format.1
   seconds ← leading_signed w64 number.1
   moment ← moment_of seconds.0
   kind ← leading_byte seconds.1

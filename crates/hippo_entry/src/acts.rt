@@ -1,7 +1,7 @@
 //! The act of an entry, and the entry, read from bytes.
 ghost use Rattle.std.specs.Prelude.{◌≡◌};
-ghost use Rattle.hippo_entry.specs.Readings.{Gives, Reads, leading_create, change_of, leading_change, leading_new_name};
-ghost use Rattle.hippo_entry.specs.Readings.{leading_new_item, leading_grant, leading_item, leading_days};
+ghost use Rattle.hippo_entry.specs.Readings.{GivesReading, ReadsFront, leading_create, change_of, leading_change, leading_new_name};
+ghost use Rattle.hippo_entry.specs.Readings.{leading_new_item, leading_stored_grant, leading_stored_item, leading_days};
 ghost use Rattle.hippo_entry.specs.Readings.{leading_allow, leading_revoke, leading_choice, leading_question};
 ghost use Rattle.hippo_entry.specs.Readings.{act_of_kind, moment_of, leading_entry};
 
@@ -15,7 +15,7 @@ use std::alloc::Global;
 
 #[tactic(auto, unfolding(crate::specs::Readings::leading_create))]
 fn read_create(alloc: Global, bytes: &[u8]) -> Result<(Act, &[u8]), Fault>
-    ensures { Reads leading_create bytes.now result }
+    ensures { ReadsFront leading_create bytes.now result }
 {
     let (schema, rest) = Schema::read(alloc, bytes)?;
     Ok((Act::Create(schema), rest))
@@ -34,7 +34,7 @@ fn change_of(kind: u8, table: Name, row: Cells) -> Act
 
 #[tactic(auto, unfolding(crate::specs::Readings::leading_change))]
 fn read_change(alloc: Global, kind: u8, bytes: &[u8]) -> Result<(Act, &[u8]), Fault>
-    ensures { Reads (leading_change kind) bytes.now result }
+    ensures { ReadsFront (leading_change kind) bytes.now result }
 {
     let (table, rest) = Name::read(alloc, bytes)?;
     let (row, rest) = Cells::read(alloc, rest)?;
@@ -44,7 +44,7 @@ fn read_change(alloc: Global, kind: u8, bytes: &[u8]) -> Result<(Act, &[u8]), Fa
 // A purpose or a recipient, of kind 5 or 6.
 #[tactic(auto, unfolding(crate::specs::Readings::leading_new_name))]
 fn read_new_name(alloc: Global, kind: u8, bytes: &[u8]) -> Result<(Act, &[u8]), Fault>
-    ensures { Reads (leading_new_name kind) bytes.now result }
+    ensures { ReadsFront (leading_new_name kind) bytes.now result }
 {
     let (name, rest) = Name::read(alloc, bytes)?;
     if kind == 5 {
@@ -56,7 +56,7 @@ fn read_new_name(alloc: Global, kind: u8, bytes: &[u8]) -> Result<(Act, &[u8]), 
 
 #[tactic(auto, unfolding(crate::specs::Readings::leading_new_item))]
 fn read_new_item(alloc: Global, bytes: &[u8]) -> Result<(Act, &[u8]), Fault>
-    ensures { Reads leading_new_item bytes.now result }
+    ensures { ReadsFront leading_new_item bytes.now result }
 {
     let (item, rest) = Name::read(alloc, bytes)?;
     let (byte, rest) = read_byte(rest)?;
@@ -65,9 +65,9 @@ fn read_new_item(alloc: Global, bytes: &[u8]) -> Result<(Act, &[u8]), Fault>
 }
 
 // Of kind 8 or 9.
-#[tactic(auto, unfolding(crate::specs::Readings::leading_grant))]
+#[tactic(auto, unfolding(crate::specs::Readings::leading_stored_grant))]
 fn read_grant(alloc: Global, kind: u8, bytes: &[u8]) -> Result<(Act, &[u8]), Fault>
-    ensures { Reads (leading_grant kind) bytes.now result }
+    ensures { ReadsFront (leading_stored_grant kind) bytes.now result }
 {
     let (user, rest) = Name::read(alloc, bytes)?;
     let (purpose, rest) = Name::read(alloc, rest)?;
@@ -93,9 +93,9 @@ fn read_grant(alloc: Global, kind: u8, bytes: &[u8]) -> Result<(Act, &[u8]), Fau
     }
 }
 
-#[tactic(auto, unfolding(crate::specs::Readings::leading_item))]
+#[tactic(auto, unfolding(crate::specs::Readings::leading_stored_item))]
 fn read_item(alloc: Global, bytes: &[u8]) -> Result<(Option<Name>, &[u8]), Fault>
-    ensures { Reads leading_item bytes.now result }
+    ensures { ReadsFront leading_stored_item bytes.now result }
 {
     let (byte, rest) = read_byte(bytes)?;
     match byte {
@@ -111,7 +111,7 @@ fn read_item(alloc: Global, bytes: &[u8]) -> Result<(Option<Name>, &[u8]), Fault
 // Only in format 2 an act has days.
 #[tactic(auto, unfolding(crate::specs::Readings::leading_days))]
 fn read_days(format: u8, bytes: &[u8]) -> Result<(Option<u32>, &[u8]), Fault>
-    ensures { Reads (leading_days format) bytes.now result }
+    ensures { ReadsFront (leading_days format) bytes.now result }
 {
     if format != 2 {
         return Ok((None, bytes));
@@ -122,7 +122,7 @@ fn read_days(format: u8, bytes: &[u8]) -> Result<(Option<u32>, &[u8]), Fault>
 
 #[tactic(auto, unfolding(crate::specs::Readings::leading_allow))]
 fn read_allow(alloc: Global, format: u8, bytes: &[u8]) -> Result<(Act, &[u8]), Fault>
-    ensures { Reads (leading_allow format) bytes.now result }
+    ensures { ReadsFront (leading_allow format) bytes.now result }
 {
     let (purpose, rest) = Name::read(alloc, bytes)?;
     let (recipient, rest) = Name::read(alloc, rest)?;
@@ -145,7 +145,7 @@ fn read_allow(alloc: Global, format: u8, bytes: &[u8]) -> Result<(Act, &[u8]), F
 
 #[tactic(auto, unfolding(crate::specs::Readings::leading_revoke))]
 fn read_revoke(alloc: Global, bytes: &[u8]) -> Result<(Act, &[u8]), Fault>
-    ensures { Reads leading_revoke bytes.now result }
+    ensures { ReadsFront leading_revoke bytes.now result }
 {
     let (purpose, rest) = Name::read(alloc, bytes)?;
     let (recipient, rest) = Name::read(alloc, rest)?;
@@ -164,7 +164,7 @@ fn read_revoke(alloc: Global, bytes: &[u8]) -> Result<(Act, &[u8]), Fault>
 
 #[tactic(auto, unfolding(crate::specs::Readings::leading_choice))]
 fn read_choice(alloc: Global, bytes: &[u8]) -> Result<(Act, &[u8]), Fault>
-    ensures { Reads leading_choice bytes.now result }
+    ensures { ReadsFront leading_choice bytes.now result }
 {
     let (subject, rest) = read_signed(bytes)?;
     let (item, rest) = Name::read(alloc, rest)?;
@@ -175,7 +175,7 @@ fn read_choice(alloc: Global, bytes: &[u8]) -> Result<(Act, &[u8]), Fault>
 
 #[tactic(auto, unfolding(crate::specs::Readings::leading_question))]
 fn read_question(alloc: Global, bytes: &[u8]) -> Result<(Act, &[u8]), Fault>
-    ensures { Reads leading_question bytes.now result }
+    ensures { ReadsFront leading_question bytes.now result }
 {
     let (user, rest) = Name::read(alloc, bytes)?;
     let (purpose, rest) = Name::read(alloc, rest)?;
@@ -193,7 +193,7 @@ fn read_question(alloc: Global, bytes: &[u8]) -> Result<(Act, &[u8]), Fault>
 }
 
 fn act_of_kind(alloc: Global, format: u8, kind: u8, bytes: &[u8]) -> Result<(Act, &[u8]), Fault>
-    ensures { Reads (act_of_kind format kind) bytes.now result }
+    ensures { ReadsFront (act_of_kind format kind) bytes.now result }
 {
     match kind {
         1 => read_create(alloc, bytes),
@@ -210,7 +210,7 @@ fn act_of_kind(alloc: Global, format: u8, kind: u8, bytes: &[u8]) -> Result<(Act
 }
 
 fn moment_of(seconds: i64) -> Result<Moment, Fault>
-    ensures { Gives (λ moment. moment) result (moment_of seconds) }
+    ensures { GivesReading (λ moment. moment) result (moment_of seconds) }
 {
     match Moment::new(seconds) {
         Some(moment) => Ok(moment),
@@ -221,7 +221,7 @@ fn moment_of(seconds: i64) -> Result<Moment, Fault>
 /// The entry that has to stand first, and the bytes behind it.
 #[tactic(auto, unfolding(crate::specs::Readings::leading_entry))]
 pub fn read_entry(alloc: Global, bytes: &[u8]) -> Result<(Entry, &[u8]), Fault>
-    ensures { Reads leading_entry bytes.now result }
+    ensures { ReadsFront leading_entry bytes.now result }
 {
     let (format, rest) = read_byte(bytes)?;
     let (seq, rest) = read_number(rest)?;

@@ -22,7 +22,8 @@ fn is_same(form: &StoredEntry, kept: &StoredEntry) -> bool
         && form.body.as_slice() == kept.body.as_slice()
 }
 
-// What was read is the entry only where it can be kept and this is its stored form: so no second spelling is accepted.
+// What was read is the entry only where it can be kept and this is its stored form: so no second
+// spelling is accepted.
 fn has_form(alloc: Global, entry: &Entry, kept: &StoredEntry) -> Result<bool, Memory>
     ensures { IfOk result (λ same. IsTrue same ↔ HasForm kept.now entry.now) }
 {
@@ -40,9 +41,9 @@ fn only_if<T: Drop>(test: Result<bool, Memory>, value: T) -> Result<Option<T>, M
     if test? { Ok(Some(value)) } else { Ok(None) }
 }
 
-/// The entry that can be kept and has this stored form; none just where no entry has. The only error is want of memory.
-/// It takes time in the length of the form, and no memory that a number in the form asks for before its bytes are
-/// there.
+/// The entry that can be kept and has this stored form; none just where no entry has. The only
+/// error is want of memory. It takes time in the length of the form, and no memory that a number in
+/// the form asks for before its bytes are there.
 pub fn decode(alloc: Global, kept: &StoredEntry) -> Result<Option<Entry>, Memory>
     ensures found { IfOk result (IsEntryOf kept.now) }
 {

@@ -65,7 +65,8 @@ fn write_schema(schema: &Schema, out: &mut Vec<u8>) -> Result<(), Memory>
 
 fn write_row(table: &Name, row: &Cells, out: &mut Vec<u8>) -> Result<(), Memory>
     ensures { OnOk result
-        (out.new.items ≡ out.old.items ++ (name_bytes table.now ++ list_bytes value_bytes row.now)) }
+        (out.new.items ≡ out.old.items ++ (name_bytes table.now
+        ++ list_bytes value_bytes row.now)) }
 {
     table.write(out)?;
     row.write(out)
@@ -81,7 +82,8 @@ fn item_kind(kind: ItemKind) -> u8
 }
 
 fn write_new_item(item: &Name, kind: ItemKind, out: &mut Vec<u8>) -> Result<(), Memory>
-    ensures { OnOk result (out.new.items ≡ out.old.items ++ (name_bytes item.now ++ item_kind kind ∷ [])) }
+    ensures { OnOk result (out.new.items
+        ≡ out.old.items ++ (name_bytes item.now ++ item_kind kind ∷ [])) }
 {
     item.write(out)?;
     write_byte(item_kind(kind), out)
@@ -101,7 +103,8 @@ fn write_names(act: &Act, out: &mut Vec<u8>) -> Result<(), Memory>
 
 fn write_cells(act: &Act, columns: &Places, out: &mut Vec<u8>) -> Result<(), Memory>
     ensures { OnOk result
-        (out.new.items ≡ out.old.items ++ (names_bytes act.now ++ list_bytes place_bytes columns.now)) }
+        (out.new.items ≡ out.old.items ++ (names_bytes act.now
+        ++ list_bytes place_bytes columns.now)) }
 {
     write_names(act, out)?;
     columns.write(out)
@@ -141,7 +144,8 @@ fn write_choice(subject: i64, item: &Name, yes: bool, out: &mut Vec<u8>) -> Resu
 }
 
 fn write_question(act: &Act, text: &Txt, out: &mut Vec<u8>) -> Result<(), Memory>
-    ensures { OnOk result (out.new.items ≡ out.old.items ++ (names_bytes act.now ++ text_bytes text.now)) }
+    ensures { OnOk result (out.new.items
+        ≡ out.old.items ++ (names_bytes act.now ++ text_bytes text.now)) }
 {
     write_names(act, out)?;
     write_text(text, out)
@@ -155,7 +159,8 @@ fn write_rule(
     out: &mut Vec<u8>,
 ) -> Result<(), Memory>
     ensures { OnOk result (out.new.items ≡ out.old.items
-        ++ (names_bytes act.now ++ list_bytes place_bytes columns.now ++ item_bytes item.now ++ days_bytes days)) }
+        ++ (names_bytes act.now ++ list_bytes place_bytes columns.now ++ item_bytes item.now
+        ++ days_bytes days)) }
 {
     write_cells(act, columns, out)?;
     write_item(item, out)?;
@@ -216,8 +221,9 @@ fn table_changed(alloc: Global, act: &Act) -> Result<Txt, Memory>
     }
 }
 
-/// The stored form of an entry that can be kept: its number, moment, kind, the table whose row it changes, and its
-/// body, in format 2 for a rule with days, else in format 1. It takes time in the length of the body.
+/// The stored form of an entry that can be kept: its number, moment, kind, the table whose row it
+/// changes, and its body, in format 2 for a rule with days, else in format 1. It takes time in the
+/// length of the body.
 pub fn encode(alloc: Global, entry: &Entry) -> Result<StoredEntry, Memory>
     requires keepable { is_keepable entry.now ≡ true }
     ensures form { IfOk result (λ kept. kept ≡ stored entry.now) }

@@ -52,9 +52,9 @@ fn is_short(length: usize) -> bool
     length >= 1 && length <= COLUMN_LIMIT
 }
 
-// By its type every name is one in lower case, every day and moment one of the years 0001 to 9999, every text UTF-8,
-// every number one of 64 bits and every number of days one of 32; so where a test of the definitions says no more,
-// there is nothing to look at.
+// By its type every name is one in lower case, every day and moment one of the years 0001 to 9999,
+// every text UTF-8, every number one of 64 bits and every number of days one of 32; so where a test
+// of the definitions says no more, there is nothing to look at.
 impl Keepable for Name {
     ghost use Rattle.hippo_model.specs.Keepable.{is_folded_name};
 
@@ -197,7 +197,8 @@ fn question_is_keepable(text: &Txt) -> bool
 }
 
 fn are_names(first: &Name, second: &Name, third: &Name) -> bool
-    ensures { result ≡ is_folded_name first.now && is_folded_name second.now && is_folded_name third.now }
+    ensures { result ≡ is_folded_name first.now && is_folded_name second.now
+        && is_folded_name third.now }
 {
     first.is_keepable() && second.is_keepable() && third.is_keepable()
 }

@@ -5,9 +5,11 @@ ghost use Rattle.hippo_entry.specs.Names.{three_names};
 use hippo_model::Act;
 use hippo_values::Name;
 
-/// The user, purpose and recipient of a grant and of a question; the purpose, recipient and table of a rule.
+/// The user, purpose and recipient of a grant and of a question; the purpose, recipient and table
+/// of a rule.
 pub fn three_names(act: &Act) -> Option<(&Name, &Name, &Name)>
-    ensures { option_map (λ names. (names.0.now, names.1.now, names.2.now)) result ≡ three_names act.now }
+    ensures { option_map (λ names. (names.0.now, names.1.now, names.2.now)) result
+        ≡ three_names act.now }
 {
     match act {
         Act::Authorize {

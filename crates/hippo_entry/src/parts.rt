@@ -18,8 +18,8 @@ pub trait Part {
         ensures { OnOk result (out.new.items ≡ out.old.items ++ bytes self.now) };
 }
 
-/// A number in one byte. Each count and place of an entry that can be kept has room in one; the case that cannot come
-/// is answered with want of memory.
+/// A number in one byte. Each count and place of an entry that can be kept has room in one; the
+/// case that cannot come is answered with want of memory.
 pub fn one_byte(number: usize) -> Result<u8, Memory>
     ensures { IfOk result (λ byte. byte ≡ number) }
 {

@@ -2,10 +2,10 @@
 ghost use Rattle.std.specs.Prelude.{◌≡◌};
 ghost use Rattle.std.specs.Int.{w32, w64};
 ghost use Rattle.hippo_values.specs.Names.{name_of};
-ghost use Rattle.hippo_entry.specs.Readings.{Gives, Reads, leading_byte, leading_bytes, leading_number, leading_signed};
-ghost use Rattle.hippo_entry.specs.Readings.{text_of, leading_text, leading_name, leading_parts, leading_list, day_of};
-ghost use Rattle.hippo_entry.specs.Readings.{leading_value, column_kind_of, bool_of, item_kind_of, subject_of_byte};
-ghost use Rattle.hippo_entry.specs.Readings.{leading_column, leading_schema};
+ghost use Rattle.hippo_entry.specs.Readings.{GivesReading, ReadsFront, leading_byte, leading_bytes, leading_stored_number, leading_signed};
+ghost use Rattle.hippo_entry.specs.Readings.{stored_text, leading_text, leading_stored_name, leading_parts, leading_list, stored_day};
+ghost use Rattle.hippo_entry.specs.Readings.{leading_value, stored_column_kind, bool_of, item_kind_of, subject_of_byte};
+ghost use Rattle.hippo_entry.specs.Readings.{leading_stored_column, leading_schema};
 
 use crate::fault::Fault;
 use hippo_model::{Column, ColumnKind, ItemKind, Schema};
@@ -14,7 +14,7 @@ use std::alloc::Global;
 
 /// A part of an entry that can be read.
 pub trait Readable {
-    ghost use Rattle.hippo_entry.specs.Readings.{Reading, Reads};
+    ghost use Rattle.hippo_entry.specs.Readings.{Reading, ReadsFront};
 
     ghost reading: { Reading Self };
 
@@ -22,12 +22,12 @@ pub trait Readable {
     fn read(alloc: Global, bytes: &[u8]) -> Result<(Self, &[u8]), Fault>
     where
         Self: Sized,
-        ensures { Reads reading bytes.now result };
+        ensures { ReadsFront reading bytes.now result };
 }
 
 /// The first byte, and those behind it.
 pub fn read_byte(bytes: &[u8]) -> Result<(u8, &[u8]), Fault>
-    ensures { Reads leading_byte bytes.now result }
+    ensures { ReadsFront leading_byte bytes.now result }
 {
     match bytes {
         [] => Err(Fault::NoPart),
@@ -36,7 +36,7 @@ pub fn read_byte(bytes: &[u8]) -> Result<(u8, &[u8]), Fault>
 }
 
 fn read_bytes(count: usize, bytes: &[u8]) -> Result<(&[u8], &[u8]), Fault>
-    ensures { Gives (λ x. (x.0.now, x.1.now)) result (leading_bytes count bytes.now) }
+    ensures { GivesReading (λ x. (x.0.now, x.1.now)) result (leading_bytes count bytes.now) }
 {
     if bytes.len() < count {
         return Err(Fault::NoPart);
@@ -46,7 +46,7 @@ fn read_bytes(count: usize, bytes: &[u8]) -> Result<(&[u8], &[u8]), Fault>
 
 /// The number of 32 bits that has to stand first.
 pub fn read_short(bytes: &[u8]) -> Result<(u32, &[u8]), Fault>
-    ensures { Reads (leading_number w32) bytes.now result }
+    ensures { ReadsFront (leading_stored_number w32) bytes.now result }
 {
     if bytes.len() < 4 {
         return Err(Fault::NoPart);
@@ -58,7 +58,7 @@ pub fn read_short(bytes: &[u8]) -> Result<(u32, &[u8]), Fault>
 
 /// The number of 64 bits that has to stand first.
 pub fn read_number(bytes: &[u8]) -> Result<(u64, &[u8]), Fault>
-    ensures { Reads (leading_number w64) bytes.now result }
+    ensures { ReadsFront (leading_stored_number w64) bytes.now result }
 {
     if bytes.len() < 8 {
         return Err(Fault::NoPart);
@@ -72,14 +72,14 @@ pub fn read_number(bytes: &[u8]) -> Result<(u64, &[u8]), Fault>
 
 /// The signed number of 64 bits that has to stand first.
 pub fn read_signed(bytes: &[u8]) -> Result<(i64, &[u8]), Fault>
-    ensures { Reads (leading_signed w64) bytes.now result }
+    ensures { ReadsFront (leading_signed w64) bytes.now result }
 {
     let (number, rest) = read_number(bytes)?;
     Ok((number.cast_signed(), rest))
 }
 
 fn text_of(bytes: &[u8]) -> Result<&str, Fault>
-    ensures { Gives (λ text. text.now) result (text_of bytes.now) }
+    ensures { GivesReading (λ text. text.now) result (stored_text bytes.now) }
 {
     match str::from_utf8(bytes) {
         Ok(text) => Ok(text),
@@ -90,7 +90,7 @@ fn text_of(bytes: &[u8]) -> Result<&str, Fault>
 /// The text that has to stand first, behind its length.
 #[tactic(auto, unfolding(crate::specs::Readings::leading_text))]
 pub fn read_text(alloc: Global, bytes: &[u8]) -> Result<(Txt, &[u8]), Fault>
-    ensures { Reads leading_text bytes.now result }
+    ensures { ReadsFront leading_text bytes.now result }
 {
     let (count, rest) = read_short(bytes)?;
     let (inside, rest) = read_bytes(count as usize, rest)?;
@@ -99,7 +99,7 @@ pub fn read_text(alloc: Global, bytes: &[u8]) -> Result<(Txt, &[u8]), Fault>
 }
 
 fn name_of(alloc: Global, word: &str) -> Result<Name, Fault>
-    ensures { Gives (λ name. name) result (name_of word.now) }
+    ensures { GivesReading (λ name. name) result (name_of word.now) }
 {
     match Name::from_word(alloc, word)? {
         Some(name) => Ok(name),
@@ -108,11 +108,11 @@ fn name_of(alloc: Global, word: &str) -> Result<Name, Fault>
 }
 
 impl Readable for Name {
-    ghost use Rattle.hippo_entry.specs.Readings.{leading_name};
+    ghost use Rattle.hippo_entry.specs.Readings.{leading_stored_name};
 
-    ghost reading = { leading_name };
+    ghost reading = { leading_stored_name };
 
-    #[tactic(auto, unfolding(crate::specs::Readings::leading_name))]
+    #[tactic(auto, unfolding(crate::specs::Readings::leading_stored_name))]
     fn read(alloc: Global, bytes: &[u8]) -> Result<(Name, &[u8]), Fault> {
         let (count, rest) = read_byte(bytes)?;
         let (inside, rest) = read_bytes(usize::from(count), rest)?;
@@ -138,7 +138,7 @@ fn read_parts<T: Readable + Drop>(
     count: u8,
     bytes: &[u8],
 ) -> Result<(Sequence<T>, &[u8]), Fault>
-    ensures { Reads (leading_parts T.reading count) bytes.now result }
+    ensures { ReadsFront (leading_parts T.reading count) bytes.now result }
 {
     let mut parts = Sequence::new(alloc);
     let mut rest = bytes;
@@ -163,7 +163,7 @@ impl<T: Readable + Drop> Readable for Sequence<T> {
 }
 
 fn day_of(number: i32) -> Result<DayNumber, Fault>
-    ensures { Gives (λ day. day) result (day_of number) }
+    ensures { GivesReading (λ day. day) result (stored_day number) }
 {
     match DayNumber::new(number) {
         Some(day) => Ok(day),
@@ -200,7 +200,7 @@ impl Readable for Value {
 }
 
 fn column_kind_of(byte: u8) -> Result<ColumnKind, Fault>
-    ensures { Gives (λ kind. kind) result (column_kind_of byte) }
+    ensures { GivesReading (λ kind. kind) result (stored_column_kind byte) }
 {
     match byte {
         1 => Ok(ColumnKind::Integer),
@@ -212,7 +212,7 @@ fn column_kind_of(byte: u8) -> Result<ColumnKind, Fault>
 
 /// What a byte says of yes and no.
 pub fn bool_of(byte: u8) -> Result<bool, Fault>
-    ensures { Gives (λ yes. yes) result (bool_of byte) }
+    ensures { GivesReading (λ yes. yes) result (bool_of byte) }
 {
     match byte {
         0 => Ok(false),
@@ -223,7 +223,7 @@ pub fn bool_of(byte: u8) -> Result<bool, Fault>
 
 /// The kind of an item, from its byte.
 pub fn item_kind_of(byte: u8) -> Result<ItemKind, Fault>
-    ensures { Gives (λ kind. kind) result (item_kind_of byte) }
+    ensures { GivesReading (λ kind. kind) result (item_kind_of byte) }
 {
     match byte {
         1 => Ok(ItemKind::OptIn),
@@ -243,11 +243,11 @@ fn subject_of_byte(byte: u8) -> Option<usize>
 }
 
 impl Readable for Column {
-    ghost use Rattle.hippo_entry.specs.Readings.{leading_column};
+    ghost use Rattle.hippo_entry.specs.Readings.{leading_stored_column};
 
-    ghost reading = { leading_column };
+    ghost reading = { leading_stored_column };
 
-    #[tactic(auto, unfolding(crate::specs::Readings::leading_column))]
+    #[tactic(auto, unfolding(crate::specs::Readings::leading_stored_column))]
     fn read(alloc: Global, bytes: &[u8]) -> Result<(Column, &[u8]), Fault> {
         let (name, rest) = Name::read(alloc, bytes)?;
         let (byte, rest) = read_byte(rest)?;

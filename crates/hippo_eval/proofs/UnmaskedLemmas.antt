@@ -15,7 +15,7 @@ use Rattle.hippo_model.specs.Forms.{value_in}
 use Rattle.hippo_model.specs.Answers.{operand_value}
 use Rattle.hippo_model.specs.Masking.{Choices}
 use Rattle.hippo_eval.specs.MaskedTruth.{masked_value}
-use Rattle.hippo_eval.specs.Unmasked.{unmasked, all_shown}
+use Rattle.hippo_eval.specs.Unmasked.{unmasked_operand, all_shown}
 
 abbrev shown_row : Row → ShownRow
 shown_row row = map Shown row
@@ -34,7 +34,7 @@ row_is rows table =
     sym (unwrap_or-slice_get (all_shown rows) table [])
     ∙ ap (λ (row : Option ShownRow). unwrap_or row []) (slice_get-map (λ kept. shown_row kept.row) rows table)
 
-pub value_is : (choices : Choices) (rows : Combination) (operand : Operand) → masked_value choices rows (unmasked operand) ≡ operand_value (all_shown rows) operand
+pub value_is : (choices : Choices) (rows : Combination) (operand : Operand) → masked_value choices rows (unmasked_operand operand) ≡ operand_value (all_shown rows) operand
 value_is choices rows (Literal value) = refl
 value_is choices rows (Column column) = by (slice_get rows column.table) ∙ sym (ap (λ (row : ShownRow). value_in (get_or row column.column (Denied 0))) (row_is rows column.table))
   where

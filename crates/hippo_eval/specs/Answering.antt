@@ -10,7 +10,8 @@ use Rattle.hippo_eval.specs.declared.answers.EvalFault.TheVariants.{TooManyRows,
 abbrev pub masked_rows : Choices → Masked → List Combination → List ShownRow
 masked_rows choices query combinations =
     map (masked_items choices query)
-    (filter (λ rows. is_guarded choices query rows && masked_passes choices query rows) combinations)
+    (filter (λ rows. is_guarded choices query rows && masked_passes choices query rows)
+    combinations)
 
 -- what is answered where these are the rows: them, or that they are too many; or want of memory
 abbrev pub IsAnswered : ℕ → List ShownRow → Result (List ShownRow) EvalFault → Type 0

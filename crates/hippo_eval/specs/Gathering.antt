@@ -2,8 +2,10 @@
 use Rattle.std.specs.Prelude.{◌≡◌, ℕ, ◌≤◌, List, [], ◌++◌, length}
 use Rattle.hippo_model.specs.Terms.{ShownRow}
 
--- the first rows of those that were found are gathered; all of them, unless more than a limit are answered
-pub record IsGathered {R : Type 0} (Holds : List ShownRow → R → Type 0) (answer : List ShownRow → List ShownRow)
+-- the first rows of those that were found are gathered; all of them, unless more than a limit are
+-- answered
+pub record IsGathered {R : Type 0} (Holds : List ShownRow → R → Type 0)
+    (answer : List ShownRow → List ShownRow)
     (limit : ℕ) (found : List ShownRow) (rows : R) : Type 0 where
   pub front : List ShownRow
   pub later : List ShownRow
@@ -11,7 +13,9 @@ pub record IsGathered {R : Type 0} (Holds : List ShownRow → R → Type 0) (ans
   pub holds : Holds front rows
   pub whole : length (answer front) ≤ limit → later ≡ []
 
--- rows are those that are answered where these are found; with more that are found, they do not get fewer
-pub record IsFinished (answer : List ShownRow → List ShownRow) (found rows : List ShownRow) : Type 0 where
+-- rows are those that are answered where these are found; with more that are found, they do not get
+-- fewer
+pub record IsFinished (answer : List ShownRow → List ShownRow) (found rows : List ShownRow)
+    : Type 0 where
   pub rows_are : rows ≡ answer found
   pub not_fewer : (later : List ShownRow) → length rows ≤ length (answer (found ++ later))

@@ -10,12 +10,12 @@ use Rattle.hippo_model.specs.Terms.{Combination, ShownRow}
 use Rattle.hippo_model.specs.Conditions.{changed_operands}
 
 -- what stands for an operand where no cell is masked
-abbrev pub unmasked : Operand → Expr
-unmasked (Column column) = exprs.Keep column
-unmasked (Literal value) = exprs.Literal value
+abbrev pub unmasked_operand : Operand → Expr
+unmasked_operand (Column column) = exprs.Keep column
+unmasked_operand (Literal value) = exprs.Literal value
 
 abbrev pub unmasked_condition : CondOf Operand → CondOf Expr
-unmasked_condition condition = changed_operands unmasked condition
+unmasked_condition condition = changed_operands unmasked_operand condition
 
 -- a combination of rows with every cell shown
 abbrev pub all_shown : Combination → List ShownRow

@@ -12,13 +12,14 @@ abbrev pub rows_of : List KeyedRows → List (List BornRow)
 rows_of sets = map (λ set. set.rows) sets
 
 -- combinations with these rows in front of each
-abbrev pub continued : Combination → List Combination → List Combination
-continued front combinations = map (λ others. front ++ others) combinations
+abbrev pub combinations_behind : Combination → List Combination → List Combination
+combinations_behind front combinations = map (λ others. front ++ others) combinations
 
--- what a state keeps, after combinations that were visited before, of some more; where a visitor has enough, what it
--- keeps of them holds with whatever follows them
+-- what a state keeps, after combinations that were visited before, of some more; where a visitor
+-- has enough, what it keeps of them holds with whatever follows them
 abbrev pub KeptAfter : {S : Type 0} → (List Combination → S → Type 0) → Result Onward Memory
     → List Combination → List Combination → S → Type 0
 KeptAfter keeps (Ok More) before these state = keeps (before ++ these) state
-KeptAfter keeps (Ok Enough) before these state = (later : List Combination) → keeps (before ++ these ++ later) state
+KeptAfter keeps (Ok Enough) before these state =
+    (later : List Combination) → keeps (before ++ these ++ later) state
 KeptAfter keeps (Err wanted) before these state = Unit {0}

@@ -59,16 +59,18 @@ impl Gatherer for Every {
     }
 }
 
-/// The answer of a query with the policy written into it, over unmasked rows and patients' choices: the items of the
-/// combinations whose guards are shown and whose condition is true, in the order of the product, the first table
-/// slowest; equal rows stay. TooManyRows exactly where it has more than 100,000 rows.
+/// The answer of a query with the policy written into it, over unmasked rows and patients' choices:
+/// the items of the combinations whose guards are shown and whose condition is true, in the order
+/// of the product, the first table slowest; equal rows stay. TooManyRows exactly where it has more
+/// than 100,000 rows.
 pub fn evaluate<C: ChoiceView>(
     alloc: Global,
     query: &Masked,
     sets: &Sets<'_>,
     choices: &C,
 ) -> Result<Answer, EvalFault>
-    ensures { IsAnswered ANSWER_LIMIT (masked_answer (C.choices choices.now) query.now (rows_of sets.now)) result }
+    ensures { IsAnswered ANSWER_LIMIT (masked_answer (C.choices choices.now) query.now
+        (rows_of sets.now)) result }
 {
     gather(alloc, query, sets, choices, &Every, ANSWER_LIMIT)
 }

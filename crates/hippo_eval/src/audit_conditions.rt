@@ -1,7 +1,7 @@
 //! Conditions of audit expressions, over unmasked rows.
 ghost use Rattle.std.specs.Prelude.{◌≡◌, IfOk};
 ghost use Rattle.hippo_model.specs.declared.query.Expr.TheVariants.{Literal as LiteralExpr};
-ghost use Rattle.hippo_eval.specs.Unmasked.{unmasked, unmasked_condition};
+ghost use Rattle.hippo_eval.specs.Unmasked.{unmasked_operand, unmasked_condition};
 
 use hippo_model::{Change, CondOf, Expr, Operand, changed_condition};
 use hippo_values::{Duplicate, Memory, Value};
@@ -17,9 +17,9 @@ fn literal(alloc: Global, value: &Value) -> Result<Expr, Memory>
 struct Unmasked;
 
 impl Change<Operand, Expr> for Unmasked {
-    ghost use Rattle.hippo_eval.specs.Unmasked.{unmasked};
+    ghost use Rattle.hippo_eval.specs.Unmasked.{unmasked_operand};
 
-    ghost to = { λ _ operand. unmasked operand };
+    ghost to = { λ _ operand. unmasked_operand operand };
 
     fn change(&self, alloc: Global, operand: &Operand) -> Result<Expr, Memory> {
         match operand {
@@ -29,8 +29,8 @@ impl Change<Operand, Expr> for Unmasked {
     }
 }
 
-/// A condition over columns and literals as one over expressions, for `test`: each column is kept, each literal stands
-/// for itself.
+/// A condition over columns and literals as one over expressions, for `test`: each column is kept,
+/// each literal stands for itself.
 pub fn unmasked_condition(
     alloc: Global,
     condition: &CondOf<Operand>,

@@ -110,7 +110,8 @@ pub fn cell<'a, C: ChoiceView>(expr: &'a Expr, combo: &'a Combo<'_>, choices: &C
 }
 
 impl<'a> LentCell<'a> {
-    /// The value that a comparison sees; none, for null, where the cell is denied or no value stands there.
+    /// The value that a comparison sees; none, for null, where the cell is denied or no value
+    /// stands there.
     pub fn value(&self) -> Option<&'a Value>
         ensures { or_null (option_copied result) ≡ value_in (lent_cell self.now) }
     {

@@ -26,7 +26,8 @@ fn is_true(truth: Truth) -> bool
 
 // What a comparison of two cells says, where a denied one counts as null.
 fn compared(op: CompareOp, left: &LentCell<'_>, right: &LentCell<'_>) -> Truth
-    ensures { result ≡ comparison op (value_in (lent_cell left.now)) (value_in (lent_cell right.now)) }
+    ensures { result ≡ comparison op (value_in (lent_cell left.now))
+        (value_in (lent_cell right.now)) }
 {
     let left = left.value().unwrap_or(&Value::Null);
     compare(op, left, right.value().unwrap_or(&Value::Null))
@@ -67,7 +68,8 @@ fn is_between<C: ChoiceView>(
 
 fn is_among<C: ChoiceView>(value: &Expr, list: &Exprs, combo: &Combo<'_>, choices: &C) -> Truth
     ensures { let value_of = masked_value (C.choices choices.now) combo.now in
-        result ≡ greatest (map (λ member. comparison Equal (value_of value.now) (value_of member)) list.now) }
+        result ≡ greatest (map (λ member. comparison Equal (value_of value.now) (value_of member))
+        list.now) }
 {
     let value = cell(value, combo, choices);
     let mut so_far = Truth::False;
@@ -82,7 +84,8 @@ fn is_among<C: ChoiceView>(value: &Expr, list: &Exprs, combo: &Combo<'_>, choice
 }
 
 fn is_missing<C: ChoiceView>(value: &Expr, combo: &Combo<'_>, choices: &C) -> Truth
-    ensures { result ≡ truth_of (is_null (masked_value (C.choices choices.now) combo.now value.now)) }
+    ensures { result ≡ truth_of (is_null
+        (masked_value (C.choices choices.now) combo.now value.now)) }
 {
     match cell(value, combo, choices).value().unwrap_or(&Value::Null) {
         Value::Null => Truth::True,
@@ -118,8 +121,8 @@ fn greatest<C: ChoiceView>(parts: &Sequence<CondOf<Expr>>, combo: &Combo<'_>, ch
     so_far
 }
 
-/// SQL's truth of a condition in a combination of rows, where each expression has the value of the cell that it stands
-/// for, and a denied cell counts as null. Takes no memory.
+/// SQL's truth of a condition in a combination of rows, where each expression has the value of the
+/// cell that it stands for, and a denied cell counts as null. Takes no memory.
 #[cycle(truth)]
 pub fn test<C: ChoiceView>(cond: &CondOf<Expr>, combo: &Combo<'_>, choices: &C) -> Truth
     ensures { result ≡ masked_truth (C.choices choices.now) combo.now cond.now }

@@ -1,4 +1,5 @@
-//! The rows of an answer, gathered while combinations of rows are visited, and one at most beyond a limit.
+//! The rows of an answer, gathered while combinations of rows are visited, and one at most beyond a
+//! limit.
 ghost use Rattle.std.specs.Prelude.{◌≡◌, ◌<◌, ◌≤◌, List, length};
 ghost use Rattle.hippo_model.specs.Terms.{ShownRow};
 ghost use Rattle.hippo_model.specs.Masking.{masked_answer};
@@ -32,7 +33,8 @@ pub trait Gatherer {
 
     /// How many rows are answered so far.
     fn len(&self, rows: &Self::Rows) -> usize
-        ensures { (found : List ShownRow) → Holds self.now found rows.now → result ≡ length (answer self.now found) };
+        ensures { (found : List ShownRow) → Holds self.now found rows.now
+            → result ≡ length (answer self.now found) };
 
     /// Takes in one row more.
     fn add(&self, alloc: Global, rows: &mut Self::Rows, row: CellRow) -> Result<(), Memory>
@@ -41,7 +43,8 @@ pub trait Gatherer {
 
     /// The rows that are answered. Where more are found, they do not get fewer.
     fn finish(&self, rows: Self::Rows) -> Answer
-        ensures { (found : List ShownRow) → Holds self.now found rows → IsFinished (answer self.now) found result };
+        ensures { (found : List ShownRow) → Holds self.now found rows
+            → IsFinished (answer self.now) found result };
 }
 
 // Gathers the rows of a query, and one at most beyond the limit.
@@ -59,7 +62,8 @@ impl<'a, C: ChoiceView, G: Gatherer> Visitor for Finder<'a, C, G> {
 
     type State = G::Rows;
 
-    ghost Keeps = { λ finder combinations rows. IsGathered (G.Holds finder.gatherer.now) (G.answer finder.gatherer.now)
+    ghost Keeps = { λ finder combinations rows. IsGathered (G.Holds finder.gatherer.now)
+        (G.answer finder.gatherer.now)
         finder.limit (masked_rows (C.choices finder.choices.now) finder.query.now combinations) rows };
 
     fn visit(
@@ -81,7 +85,8 @@ impl<'a, C: ChoiceView, G: Gatherer> Visitor for Finder<'a, C, G> {
 
 /// These rows as an answer, unless they are more than the limit.
 pub fn limited(rows: Answer, limit: usize) -> Result<Answer, EvalFault>
-    ensures { (whole : List ShownRow) → (length rows ≤ limit → rows ≡ whole) → (limit < length rows → limit < length whole)
+    ensures { (whole : List ShownRow) → (length rows ≤ limit → rows ≡ whole)
+        → (limit < length rows → limit < length whole)
         → IsAnswered limit whole result }
 {
     if rows.len() > limit {
@@ -91,8 +96,8 @@ pub fn limited(rows: Answer, limit: usize) -> Result<Answer, EvalFault>
     }
 }
 
-/// What is answered of the rows that a query with the policy written into it makes, over unmasked rows and patients'
-/// choices. TooManyRows exactly where these are more than the limit.
+/// What is answered of the rows that a query with the policy written into it makes, over unmasked
+/// rows and patients' choices. TooManyRows exactly where these are more than the limit.
 pub fn gather<C: ChoiceView, G: Gatherer>(
     alloc: Global,
     query: &Masked,

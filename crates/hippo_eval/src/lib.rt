@@ -1,4 +1,5 @@
-//! What a query with the policy written into it answers, over unmasked rows: its definition, carried out.
+//! What a query with the policy written into it answers, over unmasked rows: its definition,
+//! carried out.
 #![tactic(auto)]
 
 mod answers;

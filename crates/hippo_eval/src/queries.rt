@@ -32,8 +32,8 @@ fn is_true(truth: Truth) -> bool
     matches!(truth, Truth::True)
 }
 
-/// Whether a combination of rows makes a row of a query's answer: each guard is shown, and the condition is true. Takes
-/// no memory.
+/// Whether a combination of rows makes a row of a query's answer: each guard is shown, and the
+/// condition is true. Takes no memory.
 pub fn passes<C: ChoiceView>(query: &Masked, combo: &Combo<'_>, choices: &C) -> bool
     ensures { result ≡ (is_guarded (C.choices choices.now) query.now combo.now
         && masked_passes (C.choices choices.now) query.now combo.now) }

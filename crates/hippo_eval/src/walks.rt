@@ -2,7 +2,7 @@
 ghost use Rattle.std.specs.Prelude.{◌≡◌, [], ◌∷◌, ◌++◌, List, drop, OnOk};
 ghost use Rattle.hippo_model.specs.Terms.{Combination};
 ghost use Rattle.hippo_model.specs.Answers.{product};
-ghost use Rattle.hippo_eval.specs.Walks.{rows_of, continued, KeptAfter};
+ghost use Rattle.hippo_eval.specs.Walks.{rows_of, combinations_behind, KeptAfter};
 
 use hippo_model::{Combo, Sets};
 use hippo_values::Memory;
@@ -16,7 +16,8 @@ pub enum Onward {
     Enough,
 }
 
-/// What is told of combinations of rows, one after the other, and keeps something of them in a state.
+/// What is told of combinations of rows, one after the other, and keeps something of them in a
+/// state.
 pub trait Visitor {
     ghost use Rattle.std.specs.Prelude.{List};
     ghost use Rattle.hippo_model.specs.Terms.{Combination};
@@ -49,7 +50,7 @@ fn walk_from<'a, V: Visitor>(
     ensures same { OnOk result (combo.new ≡ combo.old) }
     ensures kept { (before : List Combination) → V.Keeps visitor.now before state.old
         → KeptAfter (V.Keeps visitor.now) result before
-        (continued combo.old (product (rows_of (drop place sets.now)))) state.new }
+        (combinations_behind combo.old (product (rows_of (drop place sets.now)))) state.new }
 {
     if place >= sets.len() {
         return visitor.visit(alloc, state, combo);
@@ -66,8 +67,9 @@ fn walk_from<'a, V: Visitor>(
     Ok(Onward::More)
 }
 
-/// Visits each combination of one row of each table, in the order of the product, the first table slowest, until the
-/// visitor has enough. Takes memory for one combination only, beside what the visitor takes.
+/// Visits each combination of one row of each table, in the order of the product, the first table
+/// slowest, until the visitor has enough. Takes memory for one combination only, beside what the
+/// visitor takes.
 pub fn walk<V: Visitor>(
     alloc: Global,
     sets: &Sets<'_>,

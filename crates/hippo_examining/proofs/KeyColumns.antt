@@ -18,7 +18,7 @@ use Rattle.hippo_model.specs.Answers.{cell_in}
 use Rattle.hippo_model.specs.Audits.{key_at as key_at_history}
 use Rattle.hippo_model.specs.Masking.{raw_value}
 use Rattle.hippo_join.specs.Places.{blank}
-use Rattle.hippo_shared.specs.Sharing.{place_in, key_at}
+use Rattle.hippo_shared.specs.Sharing.{place_in, shared_key_in}
 use Rattle.hippo_shared.specs.HistoryLaws.{sets_at}
 use Rattle.hippo_shared.proofs.HistoryLemmas.{rows_by, set_is}
 
@@ -60,7 +60,7 @@ module _ (history : History) (tables : List Name) where
           (value_got (get_or rows (place_in tables table) [])) schema.key
 
   pub key-raw : (rows : Combination) (table : Name) → list_any (bytes_eq table) tables ≡ true
-      → map (λ column. raw_value rows (at (place_in tables table) column)) (key_by (schema_at history table)) ≡ key_at tables (sets_at history tables) rows table
+      → map (λ column. raw_value rows (at (place_in tables table) column)) (key_by (schema_at history table)) ≡ shared_key_in tables (sets_at history tables) rows table
   key-raw rows table stands =
       sym (map_same (λ column. cell_at (get_or rows (place_in tables table) blank).row column) (λ column. raw_value rows (at (place_in tables table) column))
       (raw_got rows (place_in tables table)) (key_by (schema_at history table)))

@@ -14,16 +14,16 @@ use Rattle.hippo_model.specs.Terms.{Combination, ShownRow}
 use Rattle.hippo_model.specs.Rules.{choice_at}
 use Rattle.hippo_model.specs.RowSets.{KeyedRows}
 use Rattle.hippo_model.specs.Bags.{occurrences, same_bag}
-use Rattle.hippo_model.specs.Forms.{formed}
+use Rattle.hippo_model.specs.Forms.{rows_by_form}
 use Rattle.hippo_model.specs.Answers.{product}
 use Rattle.hippo_model.specs.Masking.{Choices, is_guarded, masked_passes, masked_items}
 use Rattle.hippo_laws.proofs.NeededTuples.{needs_what_is_lost}
-use Rattle.hippo_rewrite.specs.Rewriting.{rewritten}
+use Rattle.hippo_rewrite.specs.Rewriting.{rewritten_query}
 use Rattle.hippo_rewrite.specs.RewritingLaws.{rules_at}
 use Rattle.hippo_eval.specs.Answering.{masked_rows}
 use Rattle.hippo_eval.specs.Walks.{rows_of}
 use Rattle.hippo_join.specs.Existence.{are_shown}
-use Rattle.hippo_shared.specs.Sharing.{common_tables, virtual_tuples, has_tuple, query_has, audit_has, first_shared}
+use Rattle.hippo_shared.specs.Sharing.{common_tables, virtual_tuples_in, has_tuple_in, query_has, audit_has, first_shared}
 use Rattle.hippo_shared.specs.Needs.{needs_by, first_needed}
 use Rattle.hippo_shared.specs.HistoryLaws.{sets_at}
 use Rattle.hippo_examining.specs.Seen.{to_be_seen}
@@ -67,7 +67,7 @@ module _ (choices : Choices) (query : Masked) (sets : List KeyedRows) (tuple : L
   counts rows = is_guarded choices query rows && masked_passes choices query rows
 
   abbrev is_out : Combination → Bool
-  is_out rows = has_tuple query.tables sets tuple rows
+  is_out rows = has_tuple_in query.tables sets tuple rows
 
   abbrev combinations : List Combination
   combinations = product (rows_of sets)
@@ -77,8 +77,8 @@ module _ (choices : Choices) (query : Masked) (sets : List KeyedRows) (tuple : L
 
   not_needed : (form : Form) → query_has choices query [] sets tuple ≡ false → needs_by choices query form sets tuple ≡ false
   not_needed form none =
-      ap (λ (left : List Combination). not (same_bag (formed form (map (masked_items choices query) left)) (formed form (masked_rows choices query combinations)))) (same_left is_out counts combinations (had_is ∙ none))
-      ∙ ap not (same_counts (formed form (masked_rows choices query combinations)) (formed form (masked_rows choices query combinations) ++ formed form (masked_rows choices query combinations)))
+      ap (λ (left : List Combination). not (same_bag (rows_by_form form (map (masked_items choices query) left)) (rows_by_form form (masked_rows choices query combinations)))) (same_left is_out counts combinations (had_is ∙ none))
+      ∙ ap not (same_counts (rows_by_form form (masked_rows choices query combinations)) (rows_by_form form (masked_rows choices query combinations) ++ rows_by_form form (masked_rows choices query combinations)))
 
   -- a tuple that is needed is had by some combination that counts
   pub needed-had : (form : Form) → needs_by choices query form sets tuple ≡ true → query_has choices query [] sets tuple ≡ true
@@ -107,7 +107,7 @@ pub first-plain : (choices : Choices) (query : Masked) (audit : Audit) (seen : L
 first-plain choices query audit seen query_sets audit_sets =
     λ i. find (λ tuple. passed_over (needs_by choices query Plain query_sets tuple) (query_has choices query seen query_sets tuple) (audit_has audit audit_sets tuple)
     (λ had. plain-needs choices query query_sets tuple ∙ had_less choices query query_sets tuple seen had) i)
-    (virtual_tuples audit.tables audit_sets (common_tables query.tables audit.tables))
+    (virtual_tuples_in audit.tables audit_sets (common_tables query.tables audit.tables))
   where
     passed_over : (needs has audits : Bool) → (has ≡ true → needs ≡ true) → (needs && has && audits) ≡ (has && audits)
     passed_over needs true audits from = ap (λ (b : Bool). b && true && audits) (from refl)
@@ -116,7 +116,7 @@ first-plain choices query audit seen query_sets audit_sets =
 
 pub query-needs : QueryNeedsOverRows → QueryNeedsWhatItHas
 query-needs over_rows = λ meaning history context query schemas tuple has is_plain stand.
-    let masked = rewritten (rules_at history context schemas) query in
+    let masked = rewritten_query (rules_at history context schemas) query in
     over_rows meaning history context query schemas tuple has stand
     ∙ ap (λ (form : Form). needs_by (choice_at history) masked form (sets_at history query.tables) tuple) is_plain
     ∙ plain-needs (choice_at history) masked (sets_at history query.tables) tuple
@@ -125,6 +125,6 @@ pub shared-serves : NeededServesFirst → SharedServesFirst
 shared-serves needed = λ meaning history context query schemas audit has is_plain columns.
     let rules = rules_at history context schemas in
     let seen = to_be_seen rules query audit in
-    sym (first-plain (choice_at history) (rewritten rules query) audit seen (sets_at history query.tables) (sets_at history audit.tables))
-    ∙ sym (ap (λ (form : Form). first_needed (choice_at history) (rewritten rules query) form audit seen (sets_at history query.tables) (sets_at history audit.tables)) is_plain)
+    sym (first-plain (choice_at history) (rewritten_query rules query) audit seen (sets_at history query.tables) (sets_at history audit.tables))
+    ∙ sym (ap (λ (form : Form). first_needed (choice_at history) (rewritten_query rules query) form audit seen (sets_at history query.tables) (sets_at history audit.tables)) is_plain)
     ∙ needed meaning history context query schemas audit has columns

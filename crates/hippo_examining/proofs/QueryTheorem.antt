@@ -24,17 +24,17 @@ use Rattle.hippo_model.specs.Histories.{schema_at}
 use Rattle.hippo_model.specs.Rules.{choice_at}
 use Rattle.hippo_model.specs.Verdicts.{Context}
 use Rattle.hippo_model.specs.Bags.{same_bag}
-use Rattle.hippo_model.specs.Forms.{value_in, formed}
-use Rattle.hippo_model.specs.Answers.{product, cell_in, passes, selected, answer_of, seen_combinations}
+use Rattle.hippo_model.specs.Forms.{value_in, rows_by_form}
+use Rattle.hippo_model.specs.Answers.{product, cell_in, passes, selected_cells, answer_of, seen_combinations}
 use Rattle.hippo_model.specs.Audits.{key_at as key_at_history, has_tuple as has_tuple_at, query_needs}
 use Rattle.hippo_model.specs.Masking.{Choices, raw_value, shown_if, masked_cell, is_shown_cell, is_guarded, masked_passes, masked_items}
 use Rattle.hippo_policy.specs.Gates.{gate_in, table_rules}
-use Rattle.hippo_rewrite.specs.Rewriting.{expr_by, column_expr, masked_column, key_guard, table_guards, guards_from, rewritten}
+use Rattle.hippo_rewrite.specs.Rewriting.{expr_by, column_expr, masked_column, key_guard, table_guards, guards_from, rewritten_query}
 use Rattle.hippo_rewrite.specs.RewritingLaws.{rules_at, tables_at, HasTables, RewritingAnswers}
 use Rattle.hippo_rewrite.proofs.RulesInForce.{table_by_table}
 use Rattle.hippo_eval.specs.Answering.{masked_rows}
 use Rattle.hippo_eval.specs.Walks.{rows_of}
-use Rattle.hippo_shared.specs.Sharing.{place_in, key_at, has_tuple}
+use Rattle.hippo_shared.specs.Sharing.{place_in, shared_key_in, has_tuple_in}
 use Rattle.hippo_shared.specs.Needs.{needs_by}
 use Rattle.hippo_shared.specs.HistoryLaws.{sets_at}
 use Rattle.hippo_shared.proofs.CommonLemmas.{place-found}
@@ -156,7 +156,7 @@ module _ (meaning : Meaning) (history : History) (context : Context) (query : Qu
   cell rows column = masked_cell choices rows (masked_column rules column)
 
   -- where the guards are shown, the columns of keys have the rows' values
-  raw_key : (rows : Combination) → is_guarded choices (rewritten rules query) rows ≡ true → (table : Name) → list_any (bytes_eq table) query.tables ≡ true
+  raw_key : (rows : Combination) → is_guarded choices (rewritten_query rules query) rows ≡ true → (table : Name) → list_any (bytes_eq table) query.tables ≡ true
       → AllByRecursion (λ column. value_in (cell rows (at (place_in query.tables table) column)) ≡ raw_value rows (at (place_in query.tables table) column)) (key_by history query.tables (schema_at history table))
   raw_key rows guarded table stands =
       let place = place_in query.tables table in
@@ -183,14 +183,14 @@ module _ (meaning : Meaning) (history : History) (context : Context) (query : Qu
     abbrev Agree : List Ref → Type 0
     Agree columns = AllByRecursion (λ column. cell_in seen column ≡ cell rows column) columns
 
-    cells_agree : (columns : List Ref) → selected columns seen ≡ map (masked_cell choices rows) (map (masked_column rules) columns) → Agree columns
+    cells_agree : (columns : List Ref) → selected_cells columns seen ≡ map (masked_cell choices rows) (map (masked_column rules) columns) → Agree columns
     cells_agree [] same = tt
     cells_agree (column ∷ columns) same =
         let first : cell_in seen column ≡ cell rows column = cc in
-        let rest : selected columns seen ≡ map (masked_cell choices rows) (map (masked_column rules) columns) = cc in
+        let rest : selected_cells columns seen ≡ map (masked_cell choices rows) (map (masked_column rules) columns) = cc in
         (first, cells_agree columns rest)
 
-    agreed_cells : (columns : List Ref) → Agree columns → selected columns seen ≡ map (masked_cell choices rows) (map (masked_column rules) columns)
+    agreed_cells : (columns : List Ref) → Agree columns → selected_cells columns seen ≡ map (masked_cell choices rows) (map (masked_column rules) columns)
     agreed_cells [] all = refl
     agreed_cells (column ∷ columns) all = λ i. all.0 i ∷ agreed_cells columns all.1 i
 
@@ -199,16 +199,16 @@ module _ (meaning : Meaning) (history : History) (context : Context) (query : Qu
     keys_agree place [] all raw = refl
     keys_agree place (column ∷ key) all raw = λ i. (ap value_in all.0 ∙ raw.0) i ∷ keys_agree place key all.1 raw.1 i
 
-    module _ (guarded : is_guarded choices (rewritten rules query) rows ≡ true) where
+    module _ (guarded : is_guarded choices (rewritten_query rules query) rows ≡ true) where
       key_agrees : (table : Name) → list_any (bytes_eq table) query.tables ≡ true → Agree (key_columns history query.tables table)
-          → key_at_history history query.tables seen table ≡ key_at query.tables (sets_at history query.tables) rows table
+          → key_at_history history query.tables seen table ≡ shared_key_in query.tables (sets_at history query.tables) rows table
       key_agrees table stands all =
           key-seen history query.tables seen table
           ∙ keys_agree (place_in query.tables table) (key_by history query.tables (schema_at history table)) all (raw_key rows guarded table stands)
           ∙ key-raw history query.tables rows table stands
 
       tuple_agrees : (some : List SharedRow) → AllByRecursion (λ shared. list_any (bytes_eq shared.table) query.tables ≡ true) some → Agree (tuple_columns history query.tables some)
-          → has_tuple_at history query.tables some seen ≡ has_tuple query.tables (sets_at history query.tables) some rows
+          → has_tuple_at history query.tables some seen ≡ has_tuple_in query.tables (sets_at history query.tables) some rows
       tuple_agrees [] all agree = refl
       tuple_agrees (shared ∷ some) all agree =
           let parts = both_parts (λ column. cell_in seen column ≡ cell rows column) (key_columns history query.tables shared.table) (tuple_columns history query.tables some) agree in
@@ -219,37 +219,37 @@ module _ (meaning : Meaning) (history : History) (context : Context) (query : Qu
   keyed = record { items = tuple_columns history query.tables tuple ++ query.items; tables = query.tables; cond = query.cond; form = query.form }
 
   abbrev counts : Combination → Bool
-  counts rows = is_guarded choices (rewritten rules query) rows && masked_passes choices (rewritten rules query) rows
+  counts rows = is_guarded choices (rewritten_query rules query) rows && masked_passes choices (rewritten_query rules query) rows
 
   abbrev is_left : Combination → Bool
-  is_left rows = not (has_tuple query.tables (sets_at history query.tables) tuple rows)
+  is_left rows = not (has_tuple_in query.tables (sets_at history query.tables) tuple rows)
 
   abbrev is_left_seen : List ShownRow → Bool
   is_left_seen seen = not (has_tuple_at history query.tables tuple seen)
 
-  agreed : (seen : List ShownRow) (rows : Combination) → counts rows ≡ true → selected keyed.items seen ≡ masked_items choices (rewritten rules keyed) rows
-      → (is_left_seen seen ≡ is_left rows) × (selected query.items seen ≡ masked_items choices (rewritten rules query) rows)
+  agreed : (seen : List ShownRow) (rows : Combination) → counts rows ≡ true → selected_cells keyed.items seen ≡ masked_items choices (rewritten_query rules keyed) rows
+      → (is_left_seen seen ≡ is_left rows) × (selected_cells query.items seen ≡ masked_items choices (rewritten_query rules query) rows)
   agreed seen rows counted same =
-      let guarded = (and_parts (is_guarded choices (rewritten rules query) rows) (masked_passes choices (rewritten rules query) rows) counted).0 in
+      let guarded = (and_parts (is_guarded choices (rewritten_query rules query) rows) (masked_passes choices (rewritten_query rules query) rows) counted).0 in
       let parts = both_parts (λ column. cell_in seen column ≡ cell rows column) (tuple_columns history query.tables tuple) query.items (cells_agree seen rows keyed.items same) in
       (ap not (tuple_agrees seen rows guarded tuple stand parts.0), agreed_cells seen rows query.items parts.1)
 
   -- what the rewritten query makes of the combinations that are left is what the query makes of those left of the views
-  rows_left : RewritingAnswers → answer_of query.items query.cond (filter is_left_seen (seen_combinations history context query)) ≡ masked_rows choices (rewritten rules query) (filter is_left (product (tables_at history schemas)))
+  rows_left : RewritingAnswers → answer_of query.items query.cond (filter is_left_seen (seen_combinations history context query)) ≡ masked_rows choices (rewritten_query rules query) (filter is_left (product (tables_at history schemas)))
   rows_left rewriting =
       let combinations = product (tables_at history schemas) in
       let views = seen_combinations history context query in
       let law = (rewriting meaning history context keyed schemas (record { valid = has.valid; schemas_are = has.schemas_are })).0 in
-      ap (map (selected query.items)) (filter-turned (passes query.cond) is_left_seen views)
-      ∙ left-same (selected keyed.items) (masked_items choices (rewritten rules keyed)) is_left_seen is_left (selected query.items) (masked_items choices (rewritten rules query)) (λ rows. counts rows ≡ true) agreed
+      ap (map (selected_cells query.items)) (filter-turned (passes query.cond) is_left_seen views)
+      ∙ left-same (selected_cells keyed.items) (masked_items choices (rewritten_query rules keyed)) is_left_seen is_left (selected_cells query.items) (masked_items choices (rewritten_query rules query)) (λ rows. counts rows ≡ true) agreed
       (filter (passes query.cond) views) (filter counts combinations) (kept_pass counts combinations) (sym law)
-      ∙ ap (map (masked_items choices (rewritten rules query))) (filter-turned is_left counts combinations)
+      ∙ ap (map (masked_items choices (rewritten_query rules query))) (filter-turned is_left counts combinations)
 
-  needs_same : RewritingAnswers → query_needs history context query tuple ≡ needs_by choices (rewritten rules query) query.form (sets_at history query.tables) tuple
+  needs_same : RewritingAnswers → query_needs history context query tuple ≡ needs_by choices (rewritten_query rules query) query.form (sets_at history query.tables) tuple
   needs_same rewriting =
       let whole = sym (rewriting meaning history context query schemas has).0 in
-      (λ i. not (same_bag (formed query.form (rows_left rewriting i)) (formed query.form (whole i))))
-      ∙ ap (λ (tables : List (List BornRow)). not (same_bag (formed query.form (masked_rows choices (rewritten rules query) (filter is_left (product tables)))) (formed query.form (masked_rows choices (rewritten rules query) (product tables)))))
+      (λ i. not (same_bag (rows_by_form query.form (rows_left rewriting i)) (rows_by_form query.form (whole i))))
+      ∙ ap (λ (tables : List (List BornRow)). not (same_bag (rows_by_form query.form (masked_rows choices (rewritten_query rules query) (filter is_left (product tables)))) (rows_by_form query.form (masked_rows choices (rewritten_query rules query) (product tables)))))
       (rows_are history query.tables schemas has.schemas_are)
 
 pub query-needs-over-rows : RewritingAnswers → QueryNeedsOverRows

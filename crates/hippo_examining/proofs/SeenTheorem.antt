@@ -31,10 +31,10 @@ use Rattle.hippo_model.proofs.RowsAfter.{IsAscending-table_rows, row_with-table_
 use Rattle.hippo_rewrite.specs.Rewriting.{masked_column}
 use Rattle.hippo_rewrite.specs.RewritingLaws.{rules_at, ColumnsShowVerdicts}
 use Rattle.hippo_rewrite.proofs.FittingRows.{schema_named}
-use Rattle.hippo_join.specs.Places.{blank, row_at, chosen, in_range}
+use Rattle.hippo_join.specs.Places.{blank, row_at_place, chosen_rows, in_range}
 use Rattle.hippo_join.proofs.SlotLemmas.{row-at, length-in_range}
 use Rattle.hippo_join.proofs.PruneLemmas.{below-rows}
-use Rattle.hippo_shared.specs.Sharing.{common_tables, place_in, key_at, has_tuple}
+use Rattle.hippo_shared.specs.Sharing.{common_tables, place_in, shared_key_in, has_tuple_in}
 use Rattle.hippo_shared.specs.HistoryLaws.{sets_at}
 use Rattle.hippo_shared.proofs.CommonLemmas.{same_name, same_as_itself, place-found}
 use Rattle.hippo_shared.proofs.KeyLemmas.{below_at}
@@ -110,11 +110,11 @@ found_named (first ∷ tuple) table has = by (bytes_eq first.table table) refl h
     by false e has later = let found = later has in (found.0, found.1, found.2, λ test all. found.3 test (and_parts (test first) (list_all test tuple) all).1)
 
 -- the row with a row's key is that row
-find_key : (key : List Place) (rows : List BornRow) (place : Place) → IsAscending (map (key_in key) rows) → place < length rows → find (λ kept. same_cells (key_in key kept) (key_in key (row_at rows place))) rows ≡ Some (row_at rows place)
+find_key : (key : List Place) (rows : List BornRow) (place : Place) → IsAscending (map (key_in key) rows) → place < length rows → find (λ kept. same_cells (key_in key kept) (key_in key (row_at_place rows place))) rows ≡ Some (row_at_place rows place)
 find_key key [] place ascends within = absurd (omega arith)
 find_key key (row ∷ rows) zero ascends within = ap (λ b. cond b (Some row) (find (λ kept. same_cells (key_in key kept) (key_in key row)) rows)) ((eq_by_cmp_equiv cells_total).refl (key_in key row))
 find_key key (row ∷ rows) (suc place) ascends within =
-    ap (λ b. cond b (Some row) (find (λ kept. same_cells (key_in key kept) (key_in key (row_at rows place))) rows)) (ap is_eq (below_at key (key_in key row) rows place ascends.0 (omega arith)))
+    ap (λ b. cond b (Some row) (find (λ kept. same_cells (key_in key kept) (key_in key (row_at_place rows place))) rows)) (ap is_eq (below_at key (key_in key row) rows place ascends.0 (omega arith)))
     ∙ find_key key rows place ascends.1 (omega arith)
 
 shown_by : (verdict : Verdict) (value : Value) → is_shown_cell (cell_by verdict value) ≡ is_shown verdict
@@ -123,10 +123,10 @@ shown_by (Denied rule) value = refl
 
 -- what stands for an audited column is shown where the tuple's cell is seen
 pub seen-column : ColumnsShowVerdicts → (history : History) (context : Context) (tables audits : List Name) (schemas : List Schema) (tuple : List SharedRow) (places : List Place) (column : Ref)
-    → map (schema_at history) tables ≡ map Some schemas → in_range (sets_at history tables) places ≡ true → has_tuple tables (sets_at history tables) tuple (chosen (sets_at history tables) places) ≡ true
+    → map (schema_at history) tables ≡ map Some schemas → in_range (sets_at history tables) places ≡ true → has_tuple_in tables (sets_at history tables) tuple (chosen_rows (sets_at history tables) places) ≡ true
     → list_any (λ shared. bytes_eq shared.table (get_or audits column.table [])) tuple ≡ true → list_any (bytes_eq (get_or audits column.table [])) tables ≡ true
     → IfSome (schema_at history (get_or audits column.table [])) (λ schema. column.column < length schema.columns)
-    → is_shown_cell (masked_cell (choice_at history) (chosen (sets_at history tables) places) (masked_column (rules_at history context schemas) (record { table = place_in tables (get_or audits column.table []); column = column.column })))
+    → is_shown_cell (masked_cell (choice_at history) (chosen_rows (sets_at history tables) places) (masked_column (rules_at history context schemas) (record { table = place_in tables (get_or audits column.table []); column = column.column })))
     ≡ is_seen history context audits tuple column
 seen-column shows history context tables audits schemas tuple places column are within has member stands in_schema =
     let table = get_or audits column.table [] in
@@ -142,14 +142,14 @@ seen-column shows history context tables audits schemas tuple places column are 
     let p = get_or places place 0 in
     let at_place : slice_get places place ≡ Some p = slice_get-get_or places place 0 (subst (λ (n : ℕ). place < n) (sym (length-in_range sets places within ∙ long)) found.0) in
     let below : p < length set.rows = below-rows sets places place set p within at_set at_place in
-    let kept = row_at set.rows p in
-    let at_row : slice_get (chosen sets places) place ≡ Some kept = row-at sets places place set p at_set at_place in
+    let kept = row_at_place set.rows p in
+    let at_row : slice_get (chosen_rows sets places) place ≡ Some kept = row-at sets places place set p at_set at_place in
     let row = found_named tuple table member in
     let same_table : row.0.table ≡ table = same_name row.0.table table row.2 in
-    let keys : key_at tables sets (chosen sets places) table ≡ row.0.key =
-    ap (key_at tables sets (chosen sets places)) (sym same_table) ∙ same_exact (key_at tables sets (chosen sets places) row.0.table) row.0.key (row.3 (λ shared. same_cells (key_at tables sets (chosen sets places) shared.table) shared.key) has) in
-    let own : key_at tables sets (chosen sets places) table ≡ key_in schema.0.key kept =
-    (λ i. key_in (set_found i).key (get_or_of (chosen sets places) place kept at_row i)) in
+    let keys : shared_key_in tables sets (chosen_rows sets places) table ≡ row.0.key =
+    ap (shared_key_in tables sets (chosen_rows sets places)) (sym same_table) ∙ same_exact (shared_key_in tables sets (chosen_rows sets places) row.0.table) row.0.key (row.3 (λ shared. same_cells (shared_key_in tables sets (chosen_rows sets places) shared.table) shared.key) has) in
+    let own : shared_key_in tables sets (chosen_rows sets places) table ≡ key_in schema.0.key kept =
+    (λ i. key_in (set_found i).key (get_or_of (chosen_rows sets places) place kept at_row i)) in
     let born : born_row_at schema.0 history row.0.key ≡ Some kept =
     sym (row_with-table_rows schema.0 history row.0.key)
     ∙ ap (λ (key : Key). find (λ k. same_cells (key_in schema.0.key k) key) set.rows) (sym keys ∙ own)
@@ -162,7 +162,7 @@ seen-column shows history context tables audits schemas tuple places column are 
     ∙ ap (λ (o : Option SharedRow). option_map_or (sees schema.0) (option_and_then (λ shared. born_row_at schema.0 history shared.key) o) false) named
     ∙ ap (λ (o : Option BornRow). option_map_or (sees schema.0) o false) born in
     let wide : column.column < length schema.0.columns = of_some made in_schema in
-    ap is_shown_cell (shows history context schemas (chosen sets places) (record { table = place; column = column.column }) schema.0 kept schema.1 at_row wide)
+    ap is_shown_cell (shows history context schemas (chosen_rows sets places) (record { table = place; column = column.column }) schema.0 kept schema.1 at_row wide)
     ∙ shown_by (verdict history context schema.0 kept column.column) _ ∙ sym seen
   where
     long_map : (names : List Name) → length (sets_at history names) ≡ length names

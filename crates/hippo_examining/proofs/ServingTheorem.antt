@@ -22,17 +22,17 @@ use Rattle.hippo_model.specs.Rules.{choice_at}
 use Rattle.hippo_model.specs.Verdicts.{Context}
 use Rattle.hippo_model.specs.Answers.{product}
 use Rattle.hippo_model.specs.Audits.{common, shared_rows as rows_at_history, virtual_tuples as tuples_at, query_needs, audit_needs, is_seen, serves}
-use Rattle.hippo_rewrite.specs.Rewriting.{masked_column, rewritten}
+use Rattle.hippo_rewrite.specs.Rewriting.{masked_column, rewritten_query}
 use Rattle.hippo_rewrite.specs.RewritingLaws.{rules_at, ColumnsShowVerdicts}
 use Rattle.hippo_eval.specs.Walks.{rows_of}
-use Rattle.hippo_join.specs.Places.{chosen, in_range}
+use Rattle.hippo_join.specs.Places.{chosen_rows, in_range}
 use Rattle.hippo_join.specs.Existence.{are_shown}
-use Rattle.hippo_shared.specs.Sharing.{common_tables, place_in, has_tuple, query_has, audit_has}
+use Rattle.hippo_shared.specs.Sharing.{common_tables, place_in, has_tuple_in, query_has, audit_has}
 use Rattle.hippo_shared.specs.Needs.{needs_by}
 use Rattle.hippo_shared.specs.HistoryLaws.{sets_at, TuplesAreThoseOfHistory, AuditNeedsWhatItHas}
 use Rattle.hippo_shared.proofs.CommonLemmas.{same_as_itself, common-in-query, common-in-audit}
 use Rattle.hippo_shared.proofs.SideLemmas.{one-of-product, any-of-product}
-use Rattle.hippo_examining.specs.Seen.{column_in, to_be_seen, IsCommon}
+use Rattle.hippo_examining.specs.Seen.{column_in_query, to_be_seen, IsCommon}
 use Rattle.hippo_examining.specs.SharedLaws.{QueryNeedsOverRows, NeededServesFirst}
 use Rattle.hippo_examining.proofs.PlainTheorem.{and_true, needed-had}
 use Rattle.hippo_examining.proofs.SeenTheorem.{stands-at, in-common, product-has, seen-column}
@@ -77,22 +77,22 @@ same_tests false true there back = back refl
 same_tests false false there back = refl
 
 -- a test that depends on the tuple alone
-any_and : (sets : List KeyedRows) (has counts shows : Combination → Bool) (seen : Bool) → ((places : List Place) → in_range sets places ≡ true → has (chosen sets places) ≡ true → shows (chosen sets places) ≡ seen)
+any_and : (sets : List KeyedRows) (has counts shows : Combination → Bool) (seen : Bool) → ((places : List Place) → in_range sets places ≡ true → has (chosen_rows sets places) ≡ true → shows (chosen_rows sets places) ≡ seen)
     → list_any (λ rows. has rows && (counts rows && shows rows)) (product (rows_of sets)) ≡ (list_any (λ rows. has rows && (counts rows && true)) (product (rows_of sets)) && seen)
 any_and sets has counts shows seen same =
     same_tests (list_any (λ rows. has rows && (counts rows && shows rows)) (product (rows_of sets))) (list_any (λ rows. has rows && (counts rows && true)) (product (rows_of sets)) && seen)
     (λ passed.
     let found = one-of-product sets (λ rows. has rows && (counts rows && shows rows)) passed in
-    let both = and_parts (has (chosen sets found.0)) (counts (chosen sets found.0) && shows (chosen sets found.0)) found.2 in
-    let parts = and_parts (counts (chosen sets found.0)) (shows (chosen sets found.0)) both.1 in
+    let both = and_parts (has (chosen_rows sets found.0)) (counts (chosen_rows sets found.0) && shows (chosen_rows sets found.0)) found.2 in
+    let parts = and_parts (counts (chosen_rows sets found.0)) (shows (chosen_rows sets found.0)) both.1 in
     let one = any-of-product sets (λ rows. has rows && (counts rows && true)) found.0 found.1 (λ i. both.0 i && (parts.0 i && true)) in
     let is_seen_here = sym (same found.0 found.1 both.0) ∙ parts.1 in
     λ i. one i && is_seen_here i)
     (λ passed.
     let outer = and_parts (list_any (λ rows. has rows && (counts rows && true)) (product (rows_of sets))) seen passed in
     let found = one-of-product sets (λ rows. has rows && (counts rows && true)) outer.0 in
-    let both = and_parts (has (chosen sets found.0)) (counts (chosen sets found.0) && true) found.2 in
-    let parts = and_parts (counts (chosen sets found.0)) true both.1 in
+    let both = and_parts (has (chosen_rows sets found.0)) (counts (chosen_rows sets found.0) && true) found.2 in
+    let parts = and_parts (counts (chosen_rows sets found.0)) true both.1 in
     let shown = same found.0 found.1 both.0 ∙ outer.1 in
     any-of-product sets (λ rows. has rows && (counts rows && shows rows)) found.0 found.1 (λ i. both.0 i && (parts.0 i && shown i)))
 
@@ -156,9 +156,9 @@ module _ (history : History) (query : Query) (audit : Audit) where
 
   -- what is to be seen, in a combination that has a tuple
   seen_columns : ColumnsShowVerdicts → (context : Context) (schemas : List Schema) → map (schema_at history) query.tables ≡ map Some schemas → (tuple : List SharedRow) (places : List Place)
-      → in_range (sets_at history query.tables) places ≡ true → has_tuple query.tables (sets_at history query.tables) tuple (chosen (sets_at history query.tables) places) ≡ true
+      → in_range (sets_at history query.tables) places ≡ true → has_tuple_in query.tables (sets_at history query.tables) tuple (chosen_rows (sets_at history query.tables) places) ≡ true
       → (columns : List Ref) → AllByRecursion (IsCommon history query audit) columns → HasColumns columns tuple
-      → are_shown (choice_at history) (map (masked_column (rules_at history context schemas)) (map (column_in query.tables audit.tables) columns)) (chosen (sets_at history query.tables) places)
+      → are_shown (choice_at history) (map (masked_column (rules_at history context schemas)) (map (column_in_query query.tables audit.tables) columns)) (chosen_rows (sets_at history query.tables) places)
       ≡ list_all (is_seen history context audit.tables tuple) columns
   seen_columns shows context schemas are tuple places within has [] all members = refl
   seen_columns shows context schemas are tuple places within has (column ∷ columns) all members = λ i.
@@ -167,15 +167,15 @@ module _ (history : History) (query : Query) (audit : Audit) where
       && seen_columns shows context schemas are tuple places within has columns all.1 members.1 i
     where
       shown_at : Ref → Bool
-      shown_at column = is_shown_cell (masked_cell (choice_at history) (chosen (sets_at history query.tables) places) (masked_column (rules_at history context schemas) column))
+      shown_at column = is_shown_cell (masked_cell (choice_at history) (chosen_rows (sets_at history query.tables) places) (masked_column (rules_at history context schemas) column))
 
 pub needed-serves : QueryNeedsOverRows → AuditNeedsWhatItHas → TuplesAreThoseOfHistory → ColumnsShowVerdicts → NeededServesFirst
 needed-serves of_query of_audit of_tuples shows = λ meaning history context query schemas audit has columns.
     let rules = rules_at history context schemas in
     let sets = sets_at history query.tables in
-    let exprs : List Expr = map (masked_column rules) (map (column_in query.tables audit.tables) audit.columns) in
-    let needed : List SharedRow → Bool = needs_by (choice_at history) (rewritten rules query) query.form sets in
-    let had : List Expr → List SharedRow → Bool = λ seen. query_has (choice_at history) (rewritten rules query) seen sets in
+    let exprs : List Expr = map (masked_column rules) (map (column_in_query query.tables audit.tables) audit.columns) in
+    let needed : List SharedRow → Bool = needs_by (choice_at history) (rewritten_query rules query) query.form sets in
+    let had : List Expr → List SharedRow → Bool = λ seen. query_has (choice_at history) (rewritten_query rules query) seen sets in
     let here : List SharedRow → Bool = λ tuple. needed tuple && had (to_be_seen rules query audit) tuple && audit_has audit (sets_at history audit.tables) tuple in
     ap (find here) (of_tuples history query audit)
     ∙ find_same here (serves history context query audit) (tuples_at history (common query audit))
@@ -185,12 +185,12 @@ needed-serves of_query of_audit of_tuples shows = λ meaning history context que
     let audits = of_audit history audit tuple (all_from (StandsRow history query audit) (λ shared. list_any (bytes_eq shared.table) audit.tables ≡ true) (λ shared s. s.1) tuple known.0) in
     let all_seen : Bool = list_all (is_seen history context audit.tables tuple) audit.columns in
     let with_seen : had exprs tuple ≡ (had [] tuple && all_seen) =
-    any_and sets (has_tuple query.tables sets tuple) (λ rows. is_guarded (choice_at history) (rewritten rules query) rows && masked_passes (choice_at history) (rewritten rules query) rows)
+    any_and sets (has_tuple_in query.tables sets tuple) (λ rows. is_guarded (choice_at history) (rewritten_query rules query) rows && masked_passes (choice_at history) (rewritten_query rules query) rows)
     (are_shown (choice_at history) exprs) all_seen
     (λ places within tupled. seen_columns history query audit shows context schemas has.schemas_are tuple places within tupled audit.columns columns known.1) in
     (λ i. sym asks i && had (to_be_seen rules query audit) tuple && sym audits i)
     ∙ by_need (query_needs history context query tuple) (audit_needs history audit tuple) all_seen (λ seen. had seen tuple) exprs
-    (λ needs. needed-had (choice_at history) (rewritten rules query) sets tuple query.form (sym asks ∙ needs)) with_seen audit.shown)
+    (λ needs. needed-had (choice_at history) (rewritten_query rules query) sets tuple query.form (sym asks ∙ needs)) with_seen audit.shown)
     (tuples_at history (common query audit))
     (both_all (AllByRecursion (StandsRow history query audit)) (HasColumns history query audit audit.columns) (tuples_at history (common query audit)) (tuples_stand history query audit) (tuples_have history query audit audit.columns columns)))
   where

@@ -12,16 +12,18 @@ use Rattle.hippo_model.specs.Rules.{choice_at}
 use Rattle.hippo_model.specs.Verdicts.{Context}
 use Rattle.hippo_rewrite.specs.RewritingLaws.{rules_at, HasTables}
 use Rattle.hippo_shared.specs.HistoryLaws.{sets_at}
-use Rattle.hippo_examining.specs.Seen.{AreCommon}
+use Rattle.hippo_examining.specs.Seen.{AreCommonColumns}
 use Rattle.hippo_model.specs.Audits.{first_serving}
 
--- rules, rows and choices are those of a valid history, for a query and an audit whose columns they have in common
+-- rules, rows and choices are those of a valid history, for a query and an audit whose columns they
+-- have in common
 pub record AreOfHistory
     (meaning : Meaning) (history : History) (context : Context) (query : Query) (audit : Audit)
-    (rules : List TableRules) (query_sets audit_sets : List KeyedRows) (choices : Choices) : Type 0 where
+    (rules : List TableRules) (query_sets audit_sets : List KeyedRows) (choices : Choices)
+    : Type 0 where
   pub schemas : List Schema
   pub tables : HasTables meaning history query schemas
-  pub columns : AreCommon history query audit
+  pub columns : AreCommonColumns history query audit
   pub rules_are : rules ≡ rules_at history context schemas
   pub query_rows : query_sets ≡ sets_at history query.tables
   pub audit_rows : audit_sets ≡ sets_at history audit.tables
@@ -29,7 +31,8 @@ pub record AreOfHistory
 
 -- a tuple is the first one that serves in each history that rules, rows and choices are those of
 abbrev pub ServesFirst :
-    Query → Audit → List TableRules → List KeyedRows → List KeyedRows → Choices → Option (List SharedRow) → Type 0
+    Query → Audit → List TableRules → List KeyedRows → List KeyedRows → Choices
+    → Option (List SharedRow) → Type 0
 ServesFirst query audit rules query_sets audit_sets choices shared =
     (meaning : Meaning) (history : History) (context : Context)
     → AreOfHistory meaning history context query audit rules query_sets audit_sets choices

@@ -14,17 +14,18 @@ use Rattle.hippo_rewrite.specs.Rewriting.{masked_column}
 use Rattle.hippo_shared.specs.Sharing.{place_in}
 
 -- an audited column by its table's place in the query; of no table, it has none
-abbrev pub column_in : List Name → List Name → Ref → Ref
-column_in query audit column = record {
+abbrev pub column_in_query : List Name → List Name → Ref → Ref
+column_in_query query audit column = record {
   table = option_map_or (place_in query) (slice_get audit column.table) (length query);
   column = column.column;
 }
 
--- what is to be seen of a query's rows: where an audit asks for cells that were shown, what stands for each audited
--- column
+-- what is to be seen of a query's rows: where an audit asks for cells that were shown, what stands
+-- for each audited column
 abbrev pub to_be_seen : List TableRules → Query → Audit → List Expr
 to_be_seen rules query audit =
-    if audit.shown then map (masked_column rules) (map (column_in query.tables audit.tables) audit.columns) else []
+    if audit.shown then map (masked_column rules)
+    (map (column_in_query query.tables audit.tables) audit.columns) else []
 
 -- an audited column is one of a table that the query has, too
 abbrev pub IsCommon : History → Query → Audit → Ref → Type 0
@@ -33,5 +34,5 @@ IsCommon history query audit column =
     (column.table < length audit.tables) × (list_any (bytes_eq table) query.tables ≡ true)
     × IfSome (schema_at history table) (λ schema. column.column < length schema.columns)
 
-abbrev pub AreCommon : History → Query → Audit → Type 0
-AreCommon history query audit = AllByRecursion (IsCommon history query audit) audit.columns
+abbrev pub AreCommonColumns : History → Query → Audit → Type 0
+AreCommonColumns history query audit = AllByRecursion (IsCommon history query audit) audit.columns

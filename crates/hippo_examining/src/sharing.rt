@@ -2,7 +2,7 @@
 ghost use Rattle.std.specs.Prelude.{◌≡◌, IfOk, map};
 ghost use Rattle.hippo_shared.specs.Audited.{HasRowsFor};
 ghost use Rattle.hippo_shared.specs.Needs.{first_needed};
-ghost use Rattle.hippo_examining.specs.Seen.{column_in, to_be_seen};
+ghost use Rattle.hippo_examining.specs.Seen.{column_in_query, to_be_seen};
 ghost use Rattle.hippo_examining.specs.Examining.{ServesFirst};
 
 use crate::laws::needed_serves_first;
@@ -18,7 +18,7 @@ use std::alloc::Global;
 
 // An audited column, by its table's place in the query.
 fn column_in(query: &[Name], audit: &[Name], column: Ref) -> Ref
-    ensures { result ≡ column_in query.now audit.now column }
+    ensures { result ≡ column_in_query query.now audit.now column }
 {
     let table = match audit.get(column.table) {
         Some(table) => place_in(query, table),
@@ -31,7 +31,8 @@ fn column_in(query: &[Name], audit: &[Name], column: Ref) -> Ref
 }
 
 fn columns_in(alloc: Global, query: &[Name], audit: &Audit) -> Result<Refs, Memory>
-    ensures { IfOk result (λ columns. columns ≡ map (column_in query.now audit.now.tables) audit.now.columns) }
+    ensures { IfOk result (λ columns. columns
+        ≡ map (column_in_query query.now audit.now.tables) audit.now.columns) }
 {
     let tables = audit.tables.as_slice();
     let mut columns = Sequence::new(alloc);
@@ -41,8 +42,8 @@ fn columns_in(alloc: Global, query: &[Name], audit: &Audit) -> Result<Refs, Memo
     Ok(columns)
 }
 
-/// What is to be seen of the query's rows, where the audit asks for cells that were shown: what stands for each audited
-/// column, by the rules in force.
+/// What is to be seen of the query's rows, where the audit asks for cells that were shown: what
+/// stands for each audited column, by the rules in force.
 pub fn to_be_seen(
     alloc: Global,
     query: &Query,
@@ -67,7 +68,8 @@ fn first_needed<C: ChoiceView>(
     audited: &Audited<'_, C>,
 ) -> Result<Option<SharedTuple>, Memory>
     requires { HasRowsFor query.now.tables audited.now }
-    ensures { IfOk result (λ shared. shared ≡ first_needed (C.choices audited.now.choices.now) query.now form.now
+    ensures { IfOk result (λ shared. shared
+        ≡ first_needed (C.choices audited.now.choices.now) query.now form.now
         audited.now.audit.now seen.now audited.now.query_sets.now audited.now.audit_sets.now) }
 {
     match form {
@@ -77,11 +79,12 @@ fn first_needed<C: ChoiceView>(
     }
 }
 
-/// The first virtual tuple (a row of each table in both FROM lists, by its key; in the audit's order) that serves: that
-/// the query needs, as it was seen with the rules in force, and the audit needs, and, where the audit asks for cells
-/// that were shown, whose audited cells were; none exactly where none serves. Whether the query is a candidate is left
-/// to the caller. Wants the rules in force of the query's tables, the rows of each side's tables, in the order of FROM,
-/// the same ones of a table that both have, and an audit that names no table twice.
+/// The first virtual tuple (a row of each table in both FROM lists, by its key; in the audit's
+/// order) that serves: that the query needs, as it was seen with the rules in force, and the audit
+/// needs, and, where the audit asks for cells that were shown, whose audited cells were; none
+/// exactly where none serves. Whether the query is a candidate is left to the caller. Wants the
+/// rules in force of the query's tables, the rows of each side's tables, in the order of FROM, the
+/// same ones of a table that both have, and an audit that names no table twice.
 pub fn shared_of<C: ChoiceView>(
     alloc: Global,
     query: &Query,
@@ -92,7 +95,12 @@ pub fn shared_of<C: ChoiceView>(
     choices: &C,
 ) -> Result<Option<SharedTuple>, Memory>
     requires { HasRowsFor query.now.tables
-        (record { audit = audit; query_sets = query_sets; audit_sets = audit_sets; choices = choices }) }
+        (record {
+          audit = audit;
+          query_sets = query_sets;
+          audit_sets = audit_sets;
+          choices = choices;
+        }) }
     ensures { IfOk result (λ shared. let choices = C.choices choices.now in
         ServesFirst query.now audit.now rules.now query_sets.now audit_sets.now choices shared) }
 {

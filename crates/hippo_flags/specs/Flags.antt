@@ -14,12 +14,13 @@ use Rattle.hippo_model.specs.declared.audit.Flag.{Flag}
 use Rattle.hippo_model.specs.declared.audit.SharedRow.{SharedRow}
 use Rattle.hippo_report.specs.declared.format.Format.{Format}
 use Rattle.hippo_report.specs.declared.format.Format.TheVariants as formats
-use Rattle.hippo_report.specs.Cells.{joined, shared_text, tuple_text}
+use Rattle.hippo_report.specs.Cells.{separated_text, shared_text, tuple_text}
 
 -- the number, moment, user, purpose and recipient of a flagged question, with spaces between them
 abbrev pub question_text : Flag → Txt
 question_text flag =
-    concat (decimal flag.seq ∷ codes " " ∷ moment_text flag.moment ∷ codes " " ∷ flag.user ∷ codes " "
+    concat (decimal flag.seq ∷ codes " " ∷ moment_text flag.moment ∷ codes " " ∷ flag.user
+    ∷ codes " "
     ∷ flag.pair.purpose ∷ codes " " ∷ flag.pair.recipient ∷ [])
 
 abbrev pub flag_text : Flag → Txt
@@ -35,13 +36,15 @@ value_data (Day day) = string (day_text day)
 -- a table's name and a list of the key's values
 abbrev pub shared_data : SharedRow → Data
 shared_data shared =
-    array (item (string shared.table) (item (array (items_of (map value_data shared.key))) no_items))
+    array (item (string shared.table) (item (array (items_of (map value_data shared.key)))
+    no_items))
 
 -- an object with its members in the order of their keys
 abbrev pub flag_data : Flag → Data
 flag_data flag =
     object (member (codes "moment") (string (moment_text flag.moment))
-    (member (codes "pair") (array (item (string flag.pair.purpose) (item (string flag.pair.recipient) no_items)))
+    (member (codes "pair") (array (item (string flag.pair.purpose)
+    (item (string flag.pair.recipient) no_items)))
     (member (codes "query") (number (unsigned flag.seq))
     (member (codes "shared") (array (items_of (map shared_data flag.shared)))
     (member (codes "user") (string flag.user) no_members)))))
@@ -50,13 +53,13 @@ flag_data flag =
 abbrev pub flag_fields : Flag → List Txt
 flag_fields flag =
     decimal flag.seq ∷ moment_text flag.moment ∷ flag.user ∷ flag.pair.purpose ∷ flag.pair.recipient
-    ∷ joined shared_text (codes " ") flag.shared ∷ []
+    ∷ separated_text shared_text (codes " ") flag.shared ∷ []
 
-abbrev pub flag_by : Format → Flag → Txt
-flag_by formats.Text flag = flag_text flag
-flag_by formats.Json flag = compact_text (flag_data flag) ++ codes "\n"
-flag_by formats.Csv flag = row_text default_writer (flag_fields flag)
+abbrev pub formatted_flag : Format → Flag → Txt
+formatted_flag formats.Text flag = flag_text flag
+formatted_flag formats.Json flag = compact_text (flag_data flag) ++ codes "\n"
+formatted_flag formats.Csv flag = row_text default_writer (flag_fields flag)
 
 -- one flagged question
 abbrev pub flag_line : Format → Flag → Txt
-flag_line format flag = codes "0 flag " ++ flag_by format flag
+flag_line format flag = codes "0 flag " ++ formatted_flag format flag

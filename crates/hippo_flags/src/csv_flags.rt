@@ -3,7 +3,7 @@ ghost use Rattle.std.specs.Prelude.{◌≡◌, IfOk, codes};
 ghost use Rattle.csv.specs.Records.{fields_of};
 ghost use Rattle.csv.specs.Writing.{default_writer, row_text};
 ghost use Rattle.hippo_values.specs.Dates.{moment_text};
-ghost use Rattle.hippo_report.specs.Cells.{joined, shared_text};
+ghost use Rattle.hippo_report.specs.Cells.{separated_text, shared_text};
 ghost use Rattle.hippo_flags.specs.Flags.{flag_fields};
 
 use csv::{Error, StringRecord, WriterBuilder};
@@ -26,7 +26,7 @@ fn record_text(alloc: Global, fields: &StringRecord) -> Result<Vec<u8>, Error>
 }
 
 fn tuple_field(alloc: Global, flag: &Flag) -> Result<Txt, Memory>
-    ensures { IfOk result (λ text. text ≡ joined shared_text (codes " ") flag.now.shared) }
+    ensures { IfOk result (λ text. text ≡ separated_text shared_text (codes " ") flag.now.shared) }
 {
     let mut text = Txt::new(alloc);
     append_joined(" ", flag.shared.as_slice(), &mut text)?;
@@ -40,7 +40,7 @@ fn flag_record(
     tuple: &str,
 ) -> Result<StringRecord, AllocError>
     requires moment { moment.now ≡ moment_text flag.now.moment }
-    requires tuple { tuple.now ≡ joined shared_text (codes " ") flag.now.shared }
+    requires tuple { tuple.now ≡ separated_text shared_text (codes " ") flag.now.shared }
     ensures { IfOk result (λ made. fields_of made ≡ flag_fields flag.now) }
 {
     let mut record = StringRecord::new(alloc);
@@ -53,7 +53,8 @@ fn flag_record(
     Ok(record)
 }
 
-/// The bytes of a flag as one record. Every fault of the writer is want of memory, since it writes into memory.
+/// The bytes of a flag as one record. Every fault of the writer is want of memory, since it writes
+/// into memory.
 pub fn flag_bytes(alloc: Global, flag: &Flag, moment: &str) -> Result<Vec<u8>, Memory>
     requires moment { moment.now ≡ moment_text flag.now.moment }
     ensures { IfOk result (λ text. text.items ≡ row_text default_writer (flag_fields flag.now)) }

@@ -4,7 +4,7 @@ ghost use Rattle.csv.specs.Writing.{default_writer, row_text};
 ghost use Rattle.serde_json.specs.Written.{compact_text};
 ghost use Rattle.hippo_values.specs.Printing.{KeepsFront};
 ghost use Rattle.hippo_report.specs.Cells.{tuple_text};
-ghost use Rattle.hippo_flags.specs.Flags.{question_text, flag_text, flag_data, flag_fields, flag_by, flag_line};
+ghost use Rattle.hippo_flags.specs.Flags.{question_text, flag_text, flag_data, flag_fields, formatted_flag, flag_line};
 
 use crate::csv_flags::flag_bytes;
 use crate::json_flags::flag_json;
@@ -74,7 +74,8 @@ fn append_json<const ROOM: usize>(
     dated: &DatedFlag<'_>,
     out: &mut RoomyTxt<ROOM>,
 ) -> Result<(), Memory>
-    ensures ok { OnOk result (out.new ≡ out.old ++ (compact_text (flag_data dated.now) ++ codes "\n")) }
+    ensures ok { OnOk result (out.new ≡ out.old
+        ++ (compact_text (flag_data dated.now) ++ codes "\n")) }
     ensures err { OnErr result (KeepsFront out.old out.new) }
 {
     let text = flag_json(alloc, dated.flag, dated.moment)?;
@@ -88,7 +89,8 @@ fn append_csv<const ROOM: usize>(
     dated: &DatedFlag<'_>,
     out: &mut RoomyTxt<ROOM>,
 ) -> Result<(), Memory>
-    ensures ok { OnOk result (out.new ≡ out.old ++ row_text default_writer (flag_fields dated.now)) }
+    ensures ok { OnOk result (out.new ≡ out.old
+        ++ row_text default_writer (flag_fields dated.now)) }
     ensures err { OnErr result (KeepsFront out.old out.new) }
 {
     let bytes = flag_bytes(alloc, dated.flag, dated.moment)?;
@@ -148,8 +150,9 @@ impl<'a, const ROOM: usize> Printed<ROOM> for FlagLine<'a> {
     }
 }
 
-/// Adds one flagged question: `0 flag` and its number, moment, user, purpose, recipient and shared tuple, as words, as
-/// a JSON object or as a CSV record. The text is unchanged where memory is short.
+/// Adds one flagged question: `0 flag` and its number, moment, user, purpose, recipient and shared
+/// tuple, as words, as a JSON object or as a CSV record. The text is unchanged where memory is
+/// short.
 pub fn flag_line<const ROOM: usize>(
     alloc: Global,
     format: Format,

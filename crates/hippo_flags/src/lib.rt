@@ -1,4 +1,5 @@
-//! A flagged question as a line, in each of three formats: as words, as an object of JSON, and as a record of CSV.
+//! A flagged question as a line, in each of three formats: as words, as an object of JSON, and as a
+//! record of CSV.
 #![tactic(auto)]
 
 mod csv_flags;

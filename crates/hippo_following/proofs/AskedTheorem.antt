@@ -14,12 +14,12 @@ use Rattle.hippo_model.specs.Terms.{History}
 use Rattle.hippo_model.specs.Validity.{is_authorized}
 use Rattle.hippo_catalog.specs.Catalogs.{known_at}
 use Rattle.hippo_catalog.specs.Selects.{query_of}
-use Rattle.hippo_typing.specs.Meanings.{unrefused, meaning}
-use Rattle.hippo_following.specs.QuestionLaws.{MayBeAsked, QuestionsMayFollow}
+use Rattle.hippo_typing.specs.Meanings.{query_unless_refused, meaning}
+use Rattle.hippo_following.specs.QuestionLaws.{PassesChecks, QuestionsMayFollow}
 use Rattle.hippo_following.proofs.FitActs.{IsFit, fit_follows}
 
 module _ (history : History) (user purpose recipient : Name) (text : Txt) (select : RawSelect) (start end : ℕ)
-    (may : MayBeAsked history user purpose recipient text select start end) where
+    (may : PassesChecks history user purpose recipient text select start end) where
   -- its text has some bytes, no more than a line, and is UTF-8
   text_kept : question_is_keepable (slice_range text start end) ≡ true
   text_kept =
@@ -34,7 +34,7 @@ module _ (history : History) (user purpose recipient : Name) (text : Txt) (selec
   text_means : is_some (meaning history (slice_range text start end)) ≡ true
   text_means =
       ap is_some (may.reads.meant (known_at history))
-      ∙ ap (λ (refusals : List NameFault). is_some (unrefused refusals (query_of (known_at history) select))) may.unrefused
+      ∙ ap (λ (refusals : List NameFault). is_some (query_unless_refused refusals (query_of (known_at history) select))) may.unrefused
 
   pub asked_fits : IsFit meaning history (Asked user purpose recipient (slice_range text start end))
   asked_fits = record {

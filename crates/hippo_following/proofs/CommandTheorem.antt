@@ -7,7 +7,7 @@ use Rattle.std.proofs.lemmas.Bool.{ltb-true, eqb-true}
 use Rattle.std.proofs.lemmas.List.Sums.{passes_at_first}
 use Rattle.std.proofs.lemmas.Str.{IsUtf8-drop, IsCharBoundary-after_ascii}
 use Rattle.hippo_values.specs.Limits.{session_limit}
-use Rattle.hippo_values.specs.Names.{folded}
+use Rattle.hippo_values.specs.Names.{lower_case}
 use Rattle.hippo_values.specs.Texts.{Txt}
 use Rattle.hippo_values.specs.declared.moments.Moment.{Moment}
 use Rattle.hippo_lexer.specs.Cutting.{outcome_of}
@@ -15,17 +15,17 @@ use Rattle.hippo_lexer.specs.Words.{words_check}
 use Rattle.hippo_lexer.specs.declared.faults.LexFault.{LexFault}
 use Rattle.hippo_lexer.specs.declared.faults.SyntaxFault.{SyntaxFault}
 use Rattle.hippo_lexer.specs.declared.kinds.Token.{Token}
-use Rattle.hippo_lines.specs.Forms.{Request, Form, says_nothing, sets_clock, asks, states, ◌>>=◌, short_word_of, request_by, form_in, form_with, session_form, at_of, is_silent, form_by, line_form}
-use Rattle.hippo_lines.specs.Numbers.{number_in}
+use Rattle.hippo_lines.specs.Forms.{Request, Form, says_nothing, sets_clock, makes_request, makes_statement, ◌>>=◌, short_word_of, request_by, form_in, form_with, session_form, at_of, is_silent, form_by, line_form}
+use Rattle.hippo_lines.specs.Numbers.{numeral_value}
 use Rattle.hippo_lines.specs.Words.{is_space, words_of, around_space, only}
 use Rattle.hippo_lines.specs.declared.short_words.ShortWord.{ShortWord}
-use Rattle.hippo_lines.proofs.FormLemmas.{states-within}
+use Rattle.hippo_lines.proofs.FormLemmas.{makes_statement-within}
 use Rattle.hippo_model.specs.declared.statement.Stmt.{Stmt}
 use Rattle.hippo_report.specs.declared.refusal.Refusal.{Refusal}
 use Rattle.hippo_report.specs.declared.refusal.Refusal.TheVariants.{BadSyntax}
 use Rattle.hippo_report.specs.Speakers.{speaker_at}
 use Rattle.hippo_stmt_reader.specs.StatementFinder.{statement_of}
-use Rattle.hippo_commands.specs.Commands.{state, wrong, statement_by, statement_among, statement_in, state_command, clock_command, command_by}
+use Rattle.hippo_commands.specs.Commands.{make_statement, wrong, statement_by, statement_among, statement_in, state_command, clock_command, command_by}
 use Rattle.hippo_commands.specs.Moments.{moment_in}
 use Rattle.hippo_reading_laws.proofs.QuestionTheorem.{found_read_by_themselves}
 use Rattle.hippo_following.specs.CommandLaws.{CommandsAreWritten}
@@ -33,38 +33,38 @@ use Rattle.hippo_following.proofs.TokenTheorem.{tokens_are_typed}
 use Rattle.hippo_following.proofs.WrittenTheorem.{statements_are_written}
 
 abbrev States : ℕ → Txt → Option Form → Type 0
-States session text form = form ≡ Some (states session text)
+States session text form = form ≡ Some (makes_statement session text)
 
 -- the text of a statement
 abbrev text_in : Option Form → Txt
-text_in (Some (states session text)) = text
+text_in (Some (makes_statement session text)) = text
 text_in form = []
 
 stated : (session number : ℕ) (behind text : Txt) (words : List Txt) → States session text (form_with number behind words) → behind ≡ text
-stated session number behind text [] found = let nothing : None ≡ Some (states session text) = found in cc
+stated session number behind text [] found = let nothing : None ≡ Some (makes_statement session text) = found in cc
 stated session number behind text (word ∷ words) found = by_word (short_word_of word) found
   where
-    by_request : (request : Option Request) → States session text (option_map (asks number) request) → behind ≡ text
-    by_request None e = let nothing : None ≡ Some (states session text) = e in cc
-    by_request (Some request) e = let other : Some (asks number request) ≡ Some (states session text) = e in cc
+    by_request : (request : Option Request) → States session text (option_map (makes_request number) request) → behind ≡ text
+    by_request None e = let nothing : None ≡ Some (makes_statement session text) = e in cc
+    by_request (Some request) e = let other : Some (makes_request number request) ≡ Some (makes_statement session text) = e in cc
 
     by_word : (short : Option ShortWord) → States session text (form_in number behind short words) → behind ≡ text
     by_word (Some short) e = by_request (request_by short behind words) e
     by_word None e = ap text_in e
 
 behind_session : (session : ℕ) (first behind text : Txt) → States session text (session_form first behind) → behind ≡ text
-behind_session session first behind text found = by_number (number_in 0 session_limit first) found
+behind_session session first behind text found = by_number (numeral_value 0 session_limit first) found
   where
     by_number : (number : Option ℕ) → States session text (number >>= λ n. form_with n behind (words_of behind)) → behind ≡ text
-    by_number None e = let nothing : None ≡ Some (states session text) = e in cc
+    by_number None e = let nothing : None ≡ Some (makes_statement session text) = e in cc
     by_number (Some number) e = stated session number behind text (words_of behind) e
 
 behind_word : (session : ℕ) (first behind text : Txt) → States session text (form_by first behind) → behind ≡ text
-behind_word session first behind text found = by_at (bytes_eq (codes "at") (folded first)) found
+behind_word session first behind text found = by_at (bytes_eq (codes "at") (lower_case first)) found
   where
     by_moment : (moment : Option Txt) → States session text (moment >>= λ m. Some (sets_clock m)) → behind ≡ text
-    by_moment None e = let nothing : None ≡ Some (states session text) = e in cc
-    by_moment (Some moment) e = let other : Some (sets_clock moment) ≡ Some (states session text) = e in cc
+    by_moment None e = let nothing : None ≡ Some (makes_statement session text) = e in cc
+    by_moment (Some moment) e = let other : Some (sets_clock moment) ≡ Some (makes_statement session text) = e in cc
 
     by_at : (at : Bool) → States session text (if at then at_of behind else session_form first behind) → behind ≡ text
     by_at true e = by_moment (only (words_of behind)) e
@@ -80,11 +80,11 @@ line_states line text session found = by_silence (is_silent line) found
   where
     by_space : (space : Bool) → nat_lt (position_or_len is_space line) (length line) ≡ space
         → States session text (then_some space (before_first is_space line, after_first is_space line) >>= λ (first, rest). form_by first rest) → IsBehind line text
-    by_space false there e = let nothing : None ≡ Some (states session text) = e in absurd cc
+    by_space false there e = let nothing : None ≡ Some (makes_statement session text) = e in absurd cc
     by_space true there e = record { some = ltb-true _ _ there; rest = behind_word session (before_first is_space line) (after_first is_space line) text e }
 
     by_silence : (silent : Bool) → States session text (if silent then Some says_nothing else (around_space line >>= λ (first, rest). form_by first rest)) → IsBehind line text
-    by_silence true e = let other : Some says_nothing ≡ Some (states session text) = e in absurd cc
+    by_silence true e = let other : Some says_nothing ≡ Some (makes_statement session text) = e in absurd cc
     by_silence false e = by_space (nat_lt (position_or_len is_space line) (length line)) refl e
 
 -- what stands behind a space of a line of UTF-8 is UTF-8
@@ -97,32 +97,32 @@ text_utf8 line text utf8 is =
 
 -- the form of the line, and the statement that its text is
 record IsCommanded (line : Txt) (session : ℕ) (statement : Stmt) (text : Txt) : Type 0 where
-  form : line_form line ≡ Some (states session text)
+  form : line_form line ≡ Some (makes_statement session text)
   found : statement_in text ≡ Ok statement
 
-by_statement : (line : Txt) (number : ℕ) (behind : Txt) (session : ℕ) (statement : Stmt) (text : Txt) (read : Result Stmt Refusal) → line_form line ≡ Some (states number behind) → statement_in behind ≡ read
-    → state_command number behind read ≡ state session statement text → IsCommanded line session statement text
+by_statement : (line : Txt) (number : ℕ) (behind : Txt) (session : ℕ) (statement : Stmt) (text : Txt) (read : Result Stmt Refusal) → line_form line ≡ Some (makes_statement number behind) → statement_in behind ≡ read
+    → state_command number behind read ≡ make_statement session statement text → IsCommanded line session statement text
 by_statement line number behind session statement text (Ok other) form found is =
-    let same : state number other behind ≡ state session statement text = is in
+    let same : make_statement number other behind ≡ make_statement session statement text = is in
     let numbers : number ≡ session = cc in
     let statements : other ≡ statement = cc in
     let texts : behind ≡ text = cc in
     record {
-      form = form ∙ (λ i. Some (states (numbers i) (texts i)));
+      form = form ∙ (λ i. Some (makes_statement (numbers i) (texts i)));
       found = subst (λ (text : Txt). statement_in text ≡ Ok statement) texts (found ∙ (λ i. Ok (statements i)));
     }
-by_statement line number behind session statement text (Err refusal) form found is = let other : wrong (speaker_at number) refusal ≡ state session statement text = is in absurd cc
+by_statement line number behind session statement text (Err refusal) form found is = let other : wrong (speaker_at number) refusal ≡ make_statement session statement text = is in absurd cc
 
-by_moment : (line : Txt) (moment : Option Moment) (session : ℕ) (statement : Stmt) (text : Txt) → clock_command moment ≡ state session statement text → IsCommanded line session statement text
+by_moment : (line : Txt) (moment : Option Moment) (session : ℕ) (statement : Stmt) (text : Txt) → clock_command moment ≡ make_statement session statement text → IsCommanded line session statement text
 by_moment line None session statement text is = absurd cc
 by_moment line (Some moment) session statement text is = absurd cc
 
-by_form : (line : Txt) (form : Option Form) (session : ℕ) (statement : Stmt) (text : Txt) → line_form line ≡ form → command_by form ≡ state session statement text → IsCommanded line session statement text
+by_form : (line : Txt) (form : Option Form) (session : ℕ) (statement : Stmt) (text : Txt) → line_form line ≡ form → command_by form ≡ make_statement session statement text → IsCommanded line session statement text
 by_form line None session statement text form is = absurd cc
 by_form line (Some says_nothing) session statement text form is = absurd cc
 by_form line (Some (sets_clock moment)) session statement text form is = by_moment line (moment_in moment) session statement text is
-by_form line (Some (asks number request)) session statement text form is = absurd cc
-by_form line (Some (states number behind)) session statement text form is = by_statement line number behind session statement text (statement_in behind) form refl is
+by_form line (Some (makes_request number request)) session statement text form is = absurd cc
+by_form line (Some (makes_statement number behind)) session statement text form is = by_statement line number behind session statement text (statement_in behind) form refl is
 
 -- the tokens of a text, and the statement that they are
 record IsRead (text : Txt) (statement : Stmt) : Type 0 where
@@ -152,6 +152,6 @@ commands_are_written line session statement text utf8 commands =
     record {
       written = statements_are_written read.tokens statement (tokens_are_typed text read.tokens inside read.cut) read.found;
       utf8 = inside;
-      shorter = (states-within line text session commanded.form).0;
+      shorter = (makes_statement-within line text session commanded.form).0;
       reads = λ select start end asks. found_read_by_themselves text read.tokens statement select start end read.cut read.words read.found asks;
     }

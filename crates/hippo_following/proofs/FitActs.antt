@@ -8,8 +8,8 @@ use Rattle.hippo_model.specs.declared.statement.Wanted.TheVariants.{Ready}
 use Rattle.hippo_model.specs.Keepable.{act_is_keepable}
 use Rattle.hippo_model.specs.Terms.{History, Meaning}
 use Rattle.hippo_model.specs.Validity.{is_acceptable, may_follow}
-use Rattle.hippo_tables.specs.Finished.{finished}
-use Rattle.hippo_following.specs.FollowingLaws.{next_entry, HasRoomAt}
+use Rattle.hippo_tables.specs.Finished.{finished_act}
+use Rattle.hippo_following.specs.FollowingLaws.{following_entry, HasRoomAt}
 
 -- an act that can be kept and may follow
 pub record IsFit (meaning : Meaning) (history : History) (act : Act) : Type 0 where
@@ -17,12 +17,12 @@ pub record IsFit (meaning : Meaning) (history : History) (act : Act) : Type 0 wh
   pub acceptable : is_acceptable meaning history act ≡ true
 
 -- the act that waits for no row is the act that it comes to
-pub at_once : (history : History) (made act : Act) (wanted : Wanted) → Ready made ≡ wanted → finished history wanted ≡ Ok act → made ≡ act
+pub at_once : (history : History) (made act : Act) (wanted : Wanted) → Ready made ≡ wanted → finished_act history wanted ≡ Ok act → made ≡ act
 at_once history made act wanted is comes =
-    let same : finished history (Ready made) ≡ Ok act = ap (finished history) is ∙ comes in cc
+    let same : finished_act history (Ready made) ≡ Ok act = ap (finished_act history) is ∙ comes in cc
 
 -- such an act makes an entry that may follow
-pub fit_follows : (meaning : Meaning) (history : History) (moment : Moment) (act : Act) → HasRoomAt history moment → IsFit meaning history act → may_follow meaning history (next_entry history moment act) ≡ true
+pub fit_follows : (meaning : Meaning) (history : History) (moment : Moment) (act : Act) → HasRoomAt history moment → IsFit meaning history act → may_follow meaning history (following_entry history moment act) ≡ true
 fit_follows meaning history moment act room fit =
     let kept = and_from _ _ (and_from _ _ room.number room.moment_fits) fit.keepable in
     and_from _ _ (and_from _ _ (and_from _ _ kept (eq-eqb (length history + 1) (length history + 1) refl)) room.order) fit.acceptable

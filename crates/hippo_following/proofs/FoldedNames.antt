@@ -10,7 +10,7 @@ use Rattle.std.proofs.lemmas.Bool.{and_from}
 use Rattle.std.proofs.lemmas.Bool.Decides.{nat_tests}
 use Rattle.std.proofs.lemmas.List.{length-map}
 use Rattle.std.proofs.lemmas.Str.Ascii.{lowercase-lowercase}
-use Rattle.hippo_values.specs.Names.{keywords, unsupported_words, folded, reserved_of, is_word_byte, begins_with_letter, is_name}
+use Rattle.hippo_values.specs.Names.{keywords, unsupported_words, lower_case, reserved_of, is_word_byte, begins_with_letter, is_name}
 use Rattle.hippo_values.specs.declared.keywords.Reserved.{Reserved}
 use Rattle.hippo_values.specs.declared.keywords.Reserved.TheVariants as reserved
 use Rattle.hippo_model.specs.Keepable.{is_folded_name}
@@ -21,17 +21,17 @@ is_ascii_alphabetic-lowercase b = grind (arith, nat_tests)
 is_word_byte-lowercase : (b : ℕ) → is_word_byte (to_ascii_lowercase b) ≡ is_word_byte b
 is_word_byte-lowercase b = grind (arith, nat_tests)
 
-folded-folded : (word : List ℕ) → folded (folded word) ≡ folded word
-folded-folded [] = refl
-folded-folded (b ∷ bs) = rw (lowercase-lowercase b, folded-folded bs)
+lower_case-lower_case : (word : List ℕ) → lower_case (lower_case word) ≡ lower_case word
+lower_case-lower_case [] = refl
+lower_case-lower_case (b ∷ bs) = rw (lowercase-lowercase b, lower_case-lower_case bs)
 
-all_word_bytes-folded : (word : List ℕ) → list_all is_word_byte (folded word) ≡ list_all is_word_byte word
-all_word_bytes-folded [] = refl
-all_word_bytes-folded (b ∷ bs) = rw (is_word_byte-lowercase b, all_word_bytes-folded bs)
+all_word_bytes-lower_case : (word : List ℕ) → list_all is_word_byte (lower_case word) ≡ list_all is_word_byte word
+all_word_bytes-lower_case [] = refl
+all_word_bytes-lower_case (b ∷ bs) = rw (is_word_byte-lowercase b, all_word_bytes-lower_case bs)
 
-begins_with_letter-folded : (word : List ℕ) → begins_with_letter (folded word) ≡ begins_with_letter word
-begins_with_letter-folded [] = refl
-begins_with_letter-folded (b ∷ bs) = is_ascii_alphabetic-lowercase b
+begins_with_letter-lower_case : (word : List ℕ) → begins_with_letter (lower_case word) ≡ begins_with_letter word
+begins_with_letter-lower_case [] = refl
+begins_with_letter-lower_case (b ∷ bs) = is_ascii_alphabetic-lowercase b
 
 -- why a word in lower case is no name
 abbrev reserved_in : List ℕ → Option Reserved
@@ -39,11 +39,11 @@ reserved_in word =
     option_or (option_map reserved.Keyword (lookup (λ known. bytes_eq known word) keywords))
     (if list_any (λ known. bytes_eq known word) unsupported_words then Some reserved.Unsupported else None)
 
-is_name-folded : (word : List ℕ) → is_name (folded word) ≡ is_name word
-is_name-folded word =
-    let reserves : reserved_of (folded word) ≡ reserved_of word = ap reserved_in (folded-folded word) in
-    cc (begins_with_letter-folded word, all_word_bytes-folded word, length-map word to_ascii_lowercase, reserves)
+is_name-lower_case : (word : List ℕ) → is_name (lower_case word) ≡ is_name word
+is_name-lower_case word =
+    let reserves : reserved_of (lower_case word) ≡ reserved_of word = ap reserved_in (lower_case-lower_case word) in
+    cc (begins_with_letter-lower_case word, all_word_bytes-lower_case word, length-map word to_ascii_lowercase, reserves)
 
-pub folded_so : (word : List ℕ) → is_name word ≡ true → is_folded_name (folded word) ≡ true
+pub folded_so : (word : List ℕ) → is_name word ≡ true → is_folded_name (lower_case word) ≡ true
 folded_so word named =
-    and_from _ _ (is_name-folded word ∙ named) (ap (λ (other : List ℕ). bytes_eq other (folded word)) (folded-folded word) ∙ nat_list_eq_equiv.refl (folded word))
+    and_from _ _ (is_name-lower_case word ∙ named) (ap (λ (other : List ℕ). bytes_eq other (lower_case word)) (lower_case-lower_case word) ∙ nat_list_eq_equiv.refl (lower_case word))

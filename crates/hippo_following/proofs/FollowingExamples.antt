@@ -11,7 +11,7 @@ use Rattle.hippo_model.specs.declared.statement.Stmt.TheVariants as stmt
 use Rattle.hippo_model.specs.declared.statement.Wanted.TheVariants.{Ready}
 use Rattle.hippo_model.specs.Terms.{Meaning}
 use Rattle.hippo_model.specs.Validity.{may_follow}
-use Rattle.hippo_following.specs.FollowingLaws.{next_entry, HasRoomAt, ComesTo}
+use Rattle.hippo_following.specs.FollowingLaws.{following_entry, HasRoomAt, ComesTo}
 use Rattle.hippo_following.specs.Written.{is_written}
 use Rattle.hippo_following.proofs.FollowingTheorem.{changes_may_follow}
 
@@ -44,7 +44,7 @@ unfolding reading
 makes_patients = record { written = refl; unrefused = refl; wanted = Ready (acts.Create patient); wants = refl; comes = refl }
 
 -- so its entry may come first
-patients_may_follow : (meaning : Meaning) → may_follow meaning [] (next_entry [] (pos 0) (acts.Create patient)) ≡ true
+patients_may_follow : (meaning : Meaning) → may_follow meaning [] (following_entry [] (pos 0) (acts.Create patient)) ≡ true
 patients_may_follow meaning = changes_may_follow meaning [] (pos 0) patients (acts.Create patient) refl at_first makes_patients
 
 -- a rule without columns, and one for no day, are not written

@@ -25,11 +25,11 @@ use Rattle.hippo_model.specs.Validity.{is_valid, days_fit, has_columns, column_p
 use Rattle.hippo_model.specs.Versions.{is_live, key_fits, version_fits}
 use Rattle.hippo_model.proofs.RowsAfter.{key_of-row_at}
 use Rattle.hippo_catalog.specs.Catalogs.{known_at, table_of}
-use Rattle.hippo_catalog.specs.ChangesRefused.{places_of, unknown_columns, in_table, unknown_item_if_any, rule_refused, item_refused, insert_refused, update_refused, key_refused, key_changed, assignments_refused, change_refused}
+use Rattle.hippo_catalog.specs.ChangesRefused.{places_named, unknown_columns, in_table, unknown_item_if_any, rule_refused, rule_item_refused, insert_refused, update_refused, key_refused, key_changed, assignments_refused, change_refused}
 use Rattle.hippo_catalog.specs.ChangesWanted.{key_written, table_made, wanted_by}
 use Rattle.hippo_catalog.specs.WrittenColumns.{place_of}
-use Rattle.hippo_catalog.specs.Refusals.{refused, unknown_table, unknown_pair, repeated_names}
-use Rattle.hippo_tables.specs.Finished.{live_row, live_number, written, finished}
+use Rattle.hippo_catalog.specs.Refusals.{fault_if, unknown_table, unknown_pair, repeated_names}
+use Rattle.hippo_tables.specs.Finished.{live_row, live_number, written_row, finished_act}
 use Rattle.hippo_tables.proofs.StandingLemmas.{schema_at-named}
 use Rattle.hippo_typing.specs.ResolutionLaws.{NamesAreThoseOf}
 use Rattle.hippo_typing.proofs.CatalogTheorem.{valid_names}
@@ -44,7 +44,7 @@ use Rattle.hippo_following.proofs.RowActs.{row_kept, row_typed, inserted_fits, w
 use Rattle.hippo_following.proofs.RuleActs.{few_columns, few_key, columns_there, columns_kept, days_kept, table_so, item_there}
 
 -- a statement's one act, which waits for no row
-ready_act : (meaning : Meaning) (history : History) (made act : Act) (wanted : Wanted) → ◌≡◌ {A = Option Wanted} (Some (Ready made)) (Some wanted) → finished history wanted ≡ Ok act → IsFit meaning history made → IsFit meaning history act
+ready_act : (meaning : Meaning) (history : History) (made act : Act) (wanted : Wanted) → ◌≡◌ {A = Option Wanted} (Some (Ready made)) (Some wanted) → finished_act history wanted ≡ Ok act → IsFit meaning history made → IsFit meaning history act
 ready_act meaning history made act wanted is comes fit =
     let same : Ready made ≡ wanted = cc in
     subst (IsFit meaning history) (at_once history made act wanted same comes) fit
@@ -71,7 +71,7 @@ not_live (Some row) number e = absurd cc
 first_known : (schema : Schema) (columns keys : List Name) → unknown_columns schema (columns ++ keys) ≡ [] → unknown_columns schema columns ≡ []
 first_known schema columns keys none =
     (none_of_both (unknown_columns schema columns) (unknown_columns schema keys)
-    (sym (flat_map-append (λ (name : Name). refused (is_none (place_of schema name)) (UnknownColumn name)) columns keys) ∙ none)).0
+    (sym (flat_map-append (λ (name : Name). fault_if (is_none (place_of schema name)) (UnknownColumn name)) columns keys) ∙ none)).0
 
 module _ (meaning : Meaning) (history : History) (valid : is_valid meaning history ≡ true) where
   names : NamesAreThoseOf history
@@ -98,16 +98,16 @@ module _ (meaning : Meaning) (history : History) (valid : is_valid meaning histo
       }
 
   revoke_fits : (purpose recipient table : Name) (columns : List Name) (schema : Schema) → IsTable table schema → (names_fit purpose recipient table && has_members columns) ≡ true
-      → unknown_pair (known_at history) purpose recipient ≡ [] → rule_refused columns schema ≡ [] → IsFit meaning history (acts.Revoke purpose recipient table (places_of schema columns))
+      → unknown_pair (known_at history) purpose recipient ≡ [] → rule_refused columns schema ≡ [] → IsFit meaning history (acts.Revoke purpose recipient table (places_named schema columns))
   revoke_fits purpose recipient table columns schema there spelled pair none =
       let parts = and_parts (names_fit purpose recipient table) (has_members columns) spelled in
       record {
         keepable = and_from _ _ parts.0 (columns_kept schema columns none there.kept);
-        acceptable = and_from _ _ (known_pair history names purpose recipient pair) (table_so history names table schema there.found (has_columns (places_of schema columns)) (columns_there schema columns none parts.1));
+        acceptable = and_from _ _ (known_pair history names purpose recipient pair) (table_so history names table schema there.found (has_columns (places_named schema columns)) (columns_there schema columns none parts.1));
       }
 
   allow_fits : (purpose recipient table : Name) (columns : List Name) (item : Option Name) (days : Option ℕ) (schema : Schema) → IsTable table schema → (names_fit purpose recipient table && has_members columns && item_is_keepable item && days_fit days) ≡ true
-      → unknown_pair (known_at history) purpose recipient ≡ [] → rule_refused columns schema ≡ [] → unknown_item_if_any (known_at history) item ≡ [] → item_refused item schema ≡ [] → IsFit meaning history (acts.Allow purpose recipient table (places_of schema columns) item days)
+      → unknown_pair (known_at history) purpose recipient ≡ [] → rule_refused columns schema ≡ [] → unknown_item_if_any (known_at history) item ≡ [] → rule_item_refused item schema ≡ [] → IsFit meaning history (acts.Allow purpose recipient table (places_named schema columns) item days)
   allow_fits purpose recipient table columns item days schema there spelled pair none unknown subject =
       let outer = and_parts (names_fit purpose recipient table && has_members columns && item_is_keepable item) (days_fit days) spelled in
       let inner = and_parts (names_fit purpose recipient table && has_members columns) (item_is_keepable item) outer.0 in
@@ -118,7 +118,7 @@ module _ (meaning : Meaning) (history : History) (valid : is_valid meaning histo
       }
 
   insert_fits : (table : Name) (values : Row) (schema : Schema) (act : Act) → IsTable table schema → (is_folded_name table && list_all is_typed values) ≡ true → insert_refused values schema ≡ []
-      → finished history (Add table values (key_of schema.key values)) ≡ Ok act → IsFit meaning history act
+      → finished_act history (Add table values (key_of schema.key values)) ≡ Ok act → IsFit meaning history act
   insert_fits table values schema act there spelled none comes =
       let parts = and_parts (is_folded_name table) (list_all is_typed values) spelled in
       let key : Key = key_of schema.key values in
@@ -136,7 +136,7 @@ module _ (meaning : Meaning) (history : History) (valid : is_valid meaning histo
   row_there : (table : Name) (schema : Schema) (key row : Row) → IsTable table schema → live_row history table key ≡ Some row → row_at schema history key ≡ Some row
   row_there table schema key row there live = sym (ap (option_and_then (λ schema. row_at schema history key)) there.found) ∙ live
 
-  delete_fits : (table : Name) (key : Key) (schema : Schema) (act : Act) → IsTable table schema → is_folded_name table ≡ true → finished history (Remove table key) ≡ Ok act → IsFit meaning history act
+  delete_fits : (table : Name) (key : Key) (schema : Schema) (act : Act) → IsTable table schema → is_folded_name table ≡ true → finished_act history (Remove table key) ≡ Ok act → IsFit meaning history act
   delete_fits table key schema act there spelled comes =
       let live = live_so (λ row. acts.Delete table key) (live_row history table key) act comes in
       let found = row_there table schema key live.row there live.is in
@@ -154,9 +154,9 @@ module _ (meaning : Meaning) (history : History) (valid : is_valid meaning histo
       })
 
   update_fits : (table : Name) (columns : List Name) (values : Row) (keys : List Name) (key_values : Row) (key : Key) (schema : Schema) (act : Act) → IsTable table schema → (is_folded_name table && list_all is_typed values) ≡ true
-      → update_refused columns values keys key_values schema ≡ [] → finished history (Set table key (places_of schema columns) values) ≡ Ok act → IsFit meaning history act
+      → update_refused columns values keys key_values schema ≡ [] → finished_act history (Set table key (places_named schema columns) values) ≡ Ok act → IsFit meaning history act
   update_fits table columns values keys key_values key schema act there spelled none comes =
-      let live = live_so (λ row. acts.Update table (written (places_of schema columns) values row)) (live_row history table key) act comes in
+      let live = live_so (λ row. acts.Update table (written_row (places_named schema columns) values row)) (live_row history table key) act comes in
       let found = row_there table schema key live.row there live.is in
       let kept = rows_fit meaning history table schema key live.row valid there.found found in
       let key_is : key_of schema.key live.row ≡ key = key_of-row_at schema history key live.row found in
@@ -168,15 +168,15 @@ module _ (meaning : Meaning) (history : History) (valid : is_valid meaning histo
       let known = first_known schema columns keys two.1 in
       let fit = written_fits schema columns values live.row known (first_unrefused schema (zip columns values) (zip keys key_values) five.1) kept.fits in
       let cells = (and_parts (has_count live.row) (list_all value_is_keepable live.row) kept.keepable).1 in
-      let typed = written_typed (places_of schema columns) values live.row parts.1 (row_typed live.row cells) in
+      let typed = written_typed (places_named schema columns) values live.row parts.1 (row_typed live.row cells) in
       let stays = key_stays schema columns values live.row known four.1 ∙ key_is in
-      let row : Row = written (places_of schema columns) values live.row in
+      let row : Row = written_row (places_named schema columns) values live.row in
       subst (IsFit meaning history) live.gives (record {
         keepable = and_from _ _ parts.0 (row_kept schema row (few_columns schema there.kept) fit typed);
         acceptable = table_so history names table schema there.found (λ schema. version_fits schema history (acts.Update table row)) (and_from _ _ (and_from _ _ there.named fit) (ap (is_live schema history) stays ∙ ap is_some found));
       })
 
-  by_statement : (statement : Stmt) (wanted : Wanted) (act : Act) → is_written statement ≡ true → change_refused (known_at history) statement ≡ [] → wanted_by (known_at history) statement ≡ Some wanted → finished history wanted ≡ Ok act → IsFit meaning history act
+  by_statement : (statement : Stmt) (wanted : Wanted) (act : Act) → is_written statement ≡ true → change_refused (known_at history) statement ≡ [] → wanted_by (known_at history) statement ≡ Some wanted → finished_act history wanted ≡ Ok act → IsFit meaning history act
   by_statement (CreateTable table columns key subject) wanted act spelled none wants comes =
       ready_act meaning history (acts.Create (table_made table columns key subject)) act wanted wants comes
       (record { keepable = created_kept history names table columns key subject none spelled; acceptable = created_fits history names table columns key subject none })
@@ -191,39 +191,39 @@ module _ (meaning : Meaning) (history : History) (valid : is_valid meaning histo
   by_statement (Deauthorize user purpose recipient) wanted act spelled none wants comes =
       ready_act meaning history (acts.Deauthorize user purpose recipient) act wanted wants comes (record { keepable = spelled; acceptable = known_pair history names purpose recipient none })
   by_statement (Allow purpose recipient table columns item days) wanted act spelled none wants comes =
-      let from = mapped (λ (schema : Schema). Ready (acts.Allow purpose recipient table (places_of schema columns) item days)) (table_of (known_at history) table) wanted wants in
+      let from = mapped (λ (schema : Schema). Ready (acts.Allow purpose recipient table (places_named schema columns) item days)) (table_of (known_at history) table) wanted wants in
       let there = table_there table from.from from.is in
       let known = known_at history in
-      let four = none_of_both (unknown_table known table ++ unknown_pair known purpose recipient ++ unknown_item_if_any known item ++ in_table known table (rule_refused columns)) (in_table known table (item_refused item)) none in
+      let four = none_of_both (unknown_table known table ++ unknown_pair known purpose recipient ++ unknown_item_if_any known item ++ in_table known table (rule_refused columns)) (in_table known table (rule_item_refused item)) none in
       let three = none_of_both (unknown_table known table ++ unknown_pair known purpose recipient ++ unknown_item_if_any known item) (in_table known table (rule_refused columns)) four.0 in
       let two = none_of_both (unknown_table known table ++ unknown_pair known purpose recipient) (unknown_item_if_any known item) three.0 in
       let one = none_of_both (unknown_table known table) (unknown_pair known purpose recipient) two.0 in
-      let fit = allow_fits purpose recipient table columns item days from.from there spelled one.1 (refused_there (rule_refused columns) (table_of known table) from.from from.is three.1) two.1 (refused_there (item_refused item) (table_of known table) from.from from.is four.1) in
-      subst (IsFit meaning history) (at_once history (acts.Allow purpose recipient table (places_of from.from columns) item days) act wanted from.gives comes) fit
+      let fit = allow_fits purpose recipient table columns item days from.from there spelled one.1 (refused_there (rule_refused columns) (table_of known table) from.from from.is three.1) two.1 (refused_there (rule_item_refused item) (table_of known table) from.from from.is four.1) in
+      subst (IsFit meaning history) (at_once history (acts.Allow purpose recipient table (places_named from.from columns) item days) act wanted from.gives comes) fit
   by_statement (Revoke purpose recipient table columns) wanted act spelled none wants comes =
-      let from = mapped (λ (schema : Schema). Ready (acts.Revoke purpose recipient table (places_of schema columns))) (table_of (known_at history) table) wanted wants in
+      let from = mapped (λ (schema : Schema). Ready (acts.Revoke purpose recipient table (places_named schema columns))) (table_of (known_at history) table) wanted wants in
       let there = table_there table from.from from.is in
       let known = known_at history in
       let two = none_of_both (unknown_table known table ++ unknown_pair known purpose recipient) (in_table known table (rule_refused columns)) none in
       let one = none_of_both (unknown_table known table) (unknown_pair known purpose recipient) two.0 in
       let fit = revoke_fits purpose recipient table columns from.from there spelled one.1 (refused_there (rule_refused columns) (table_of known table) from.from from.is two.1) in
-      subst (IsFit meaning history) (at_once history (acts.Revoke purpose recipient table (places_of from.from columns)) act wanted from.gives comes) fit
+      subst (IsFit meaning history) (at_once history (acts.Revoke purpose recipient table (places_named from.from columns)) act wanted from.gives comes) fit
   by_statement (Choice subject item agreed) wanted act spelled none wants comes =
       ready_act meaning history (acts.Choice subject item agreed) act wanted wants comes (record { keepable = spelled; acceptable = known_item history names item none })
   by_statement (Insert table values) wanted act spelled none wants comes =
       let from = mapped (λ (schema : Schema). Add table values (key_of schema.key values)) (table_of (known_at history) table) wanted wants in
       let there = table_there table from.from from.is in
       let both = none_of_both (unknown_table (known_at history) table) (in_table (known_at history) table (insert_refused values)) none in
-      insert_fits table values from.from act there spelled (refused_there (insert_refused values) (table_of (known_at history) table) from.from from.is both.1) (ap (finished history) from.gives ∙ comes)
+      insert_fits table values from.from act there spelled (refused_there (insert_refused values) (table_of (known_at history) table) from.from from.is both.1) (ap (finished_act history) from.gives ∙ comes)
   by_statement (Update table columns values keys key_values) wanted act spelled none wants comes =
-      let from = mapped (λ (schema : Schema). Set table (key_written schema keys key_values) (places_of schema columns) values) (table_of (known_at history) table) wanted wants in
+      let from = mapped (λ (schema : Schema). Set table (key_written schema keys key_values) (places_named schema columns) values) (table_of (known_at history) table) wanted wants in
       let there = table_there table from.from from.is in
       let both = none_of_both (unknown_table (known_at history) table) (in_table (known_at history) table (update_refused columns values keys key_values)) none in
-      update_fits table columns values keys key_values (key_written from.from keys key_values) from.from act there spelled (refused_there (update_refused columns values keys key_values) (table_of (known_at history) table) from.from from.is both.1) (ap (finished history) from.gives ∙ comes)
+      update_fits table columns values keys key_values (key_written from.from keys key_values) from.from act there spelled (refused_there (update_refused columns values keys key_values) (table_of (known_at history) table) from.from from.is both.1) (ap (finished_act history) from.gives ∙ comes)
   by_statement (Delete table keys values) wanted act spelled none wants comes =
       let from = mapped (λ (schema : Schema). Remove table (key_written schema keys values)) (table_of (known_at history) table) wanted wants in
       let there = table_there table from.from from.is in
-      delete_fits table (key_written from.from keys values) from.from act there spelled (ap (finished history) from.gives ∙ comes)
+      delete_fits table (key_written from.from keys values) from.from act there spelled (ap (finished_act history) from.gives ∙ comes)
   by_statement statement wanted act spelled none wants comes = absurd cc
 
 -- what the checks let pass may follow

@@ -12,7 +12,7 @@ use Rattle.hippo_model.specs.declared.entry.Act.TheVariants.{Create, Insert, Upd
 use Rattle.hippo_model.specs.declared.entry.Entry.{Entry}
 use Rattle.hippo_model.specs.declared.schema.Schema.{Schema}
 use Rattle.hippo_model.specs.Terms.{History, Meaning, Row, Key}
-use Rattle.hippo_model.specs.Histories.{last_word, created, schema_at}
+use Rattle.hippo_model.specs.Histories.{last_word, schema_created, schema_at}
 use Rattle.hippo_model.specs.Keepable.{is_keepable, act_is_keepable, cells_are_keepable, schema_is_keepable, is_folded_name}
 use Rattle.hippo_model.specs.Rows.{key_of, names_key, row_left, row_at}
 use Rattle.hippo_model.specs.Validity.{is_acceptable, is_valid, is_well_formed, keeps_order, may_follow}
@@ -56,7 +56,7 @@ passes_so test None passes = absurd cc
 passes_so test (Some x) passes = record { what = x; is = refl; fits = passes }
 
 -- a table that is created has this act
-created_by : (table : Name) (schema : Schema) (act : Act) → created table act ≡ Some schema → act ≡ Create schema
+created_by : (table : Name) (schema : Schema) (act : Act) → schema_created table act ≡ Some schema → act ≡ Create schema
 created_by table schema (Create made) is = ap Create (then_some_parts (bytes_eq made.name table) made schema is).1
 created_by table schema act is = absurd cc
 
@@ -87,7 +87,7 @@ module _ (meaning : Meaning) where
   -- a schema can be kept and is well formed
   pub schema_kept : (history : History) (table : Name) (schema : Schema) → is_valid meaning history ≡ true → schema_at history table ≡ Some schema → (schema_is_keepable schema ≡ true) × (is_well_formed schema ≡ true)
   schema_kept history table schema valid found =
-      let said = said_where (λ (entry : Entry). created table entry.act) history schema found in
+      let said = said_where (λ (entry : Entry). schema_created table entry.act) history schema found in
       let may = followed said.front said.entry said.later (ap (is_valid meaning) (sym said.parts) ∙ valid) in
       let act = created_by table schema said.entry.act said.says in
       let kept : act_is_keepable (Create schema) ≡ true = subst (λ (act : Act). act_is_keepable act ≡ true) act (keepable said.front said.entry may) in

@@ -14,8 +14,8 @@ use Rattle.hippo_model.specs.declared.schema.Column.{Column}
 use Rattle.hippo_model.specs.declared.schema.Schema.{Schema}
 use Rattle.hippo_model.specs.Terms.{Place}
 use Rattle.hippo_model.specs.Validity.{all_differ}
-use Rattle.hippo_catalog.specs.ChangesRefused.{places_of, unknown_columns}
-use Rattle.hippo_catalog.specs.Refusals.{refused, repeated_after, repeated_names}
+use Rattle.hippo_catalog.specs.ChangesRefused.{places_named, unknown_columns}
+use Rattle.hippo_catalog.specs.Refusals.{fault_if, repeated_after, repeated_names}
 use Rattle.hippo_catalog.specs.WrittenColumns.{place_of}
 use Rattle.hippo_following.proofs.RefusalLemmas.{none_of_both, not_refused}
 
@@ -49,24 +49,24 @@ pub record IsParted (schema : Schema) (name : Name) (rest : List Name) : Type 0 
 
 pub parted : (schema : Schema) (name : Name) (rest : List Name) → unknown_columns schema (name ∷ rest) ≡ [] → IsParted schema name rest
 parted schema name rest none =
-    let both = none_of_both (refused (is_none (place_of schema name)) (UnknownColumn name)) (unknown_columns schema rest) none in
-    elim (place_of schema name) as (λ found. place_of schema name ≡ found → refused (is_none found) (UnknownColumn name) ≡ [] → IsParted schema name rest) [
+    let both = none_of_both (fault_if (is_none (place_of schema name)) (UnknownColumn name)) (unknown_columns schema rest) none in
+    elim (place_of schema name) as (λ found. place_of schema name ≡ found → fault_if (is_none found) (UnknownColumn name) ≡ [] → IsParted schema name rest) [
       | None ↦ λ e none. absurd cc
       | Some place ↦ λ e none. record { place = place; found = e; known = both.1 }
     ] refl both.0
 
 -- each name has a place
-pub length-places : (schema : Schema) (names : List Name) → unknown_columns schema names ≡ [] → length (places_of schema names) ≡ length names
+pub length-places : (schema : Schema) (names : List Name) → unknown_columns schema names ≡ [] → length (places_named schema names) ≡ length names
 length-places schema [] none = refl
 length-places schema (name ∷ rest) none =
     let first = parted schema name rest none in
-    ap (λ (found : Option Place). length (cons_option found (places_of schema rest))) first.found ∙ ap suc (length-places schema rest first.known)
+    ap (λ (found : Option Place). length (cons_option found (places_named schema rest))) first.found ∙ ap suc (length-places schema rest first.known)
 
 -- places lie among the columns
-pub places_within : (schema : Schema) (names : List Name) → list_all (λ (place : Place). nat_lt place (length schema.columns)) (places_of schema names) ≡ true
+pub places_within : (schema : Schema) (names : List Name) → list_all (λ (place : Place). nat_lt place (length schema.columns)) (places_named schema names) ≡ true
 places_within schema [] = refl
 places_within schema (name ∷ rest) =
-    elim (place_of schema name) as (λ found. place_of schema name ≡ found → list_all (λ (place : Place). nat_lt place (length schema.columns)) (cons_option found (places_of schema rest)) ≡ true) [
+    elim (place_of schema name) as (λ found. place_of schema name ≡ found → list_all (λ (place : Place). nat_lt place (length schema.columns)) (cons_option found (places_named schema rest)) ≡ true) [
       | None ↦ λ e. places_within schema rest
       | Some place ↦ λ e. and_from _ _ (lt-ltb place (length schema.columns) (found_at schema name place e).within) (places_within schema rest)
     ] refl
@@ -97,7 +97,7 @@ new_of_two before name (other ∷ rest) all =
 differ_after : (before names : List Name) → repeated_after before names ≡ [] → (are_new before names ≡ true) × (all_differ bytes_eq names ≡ true)
 differ_after before [] none = (refl, refl)
 differ_after before (name ∷ rest) none =
-    let both = none_of_both (refused (list_any (bytes_eq name) before) (RepeatedName name)) (repeated_after (before ++ name ∷ []) rest) none in
+    let both = none_of_both (fault_if (list_any (bytes_eq name) before) (RepeatedName name)) (repeated_after (before ++ name ∷ []) rest) none in
     let new = not_refused (list_any (bytes_eq name) before) (RepeatedName name) both.0 in
     let later = differ_after (before ++ name ∷ []) rest both.1 in
     let parts = new_of_two before name rest later.0 in
@@ -119,26 +119,26 @@ one_name schema name other place is too =
     bytes_eq-is : (a b : Name) → a ≡ b → bytes_eq a b ≡ true
     bytes_eq-is a b same = subst (λ (c : Name). bytes_eq a c ≡ true) same (nat_list_eq_equiv.refl a)
 
-other_places : (schema : Schema) (name : Name) (place : Place) → place_of schema name ≡ Some place → (rest : List Name) → list_any (bytes_eq name) rest ≡ false → list_any (nat_eq place) (places_of schema rest) ≡ false
+other_places : (schema : Schema) (name : Name) (place : Place) → place_of schema name ≡ Some place → (rest : List Name) → list_any (bytes_eq name) rest ≡ false → list_any (nat_eq place) (places_named schema rest) ≡ false
 other_places schema name place is [] none = refl
 other_places schema name place is (other ∷ rest) none =
     let parts = or_parts (bytes_eq name other) (list_any (bytes_eq name) rest) none in
     let later = other_places schema name place is rest parts.1 in
-    elim (place_of schema other) as (λ found. place_of schema other ≡ found → list_any (nat_eq place) (cons_option found (places_of schema rest)) ≡ false) [
+    elim (place_of schema other) as (λ found. place_of schema other ≡ found → list_any (nat_eq place) (cons_option found (places_named schema rest)) ≡ false) [
       | None ↦ λ e. later
-      | Some second ↦ λ e. or_none (nat_eq place second) (list_any (nat_eq place) (places_of schema rest))
+      | Some second ↦ λ e. or_none (nat_eq place second) (list_any (nat_eq place) (places_named schema rest))
           (false_from_ne_true (nat_eq place second) (λ same.
           let twice : bytes_eq name other ≡ true = one_name schema name other second (is ∙ ap Some (eqb-true place second same)) e in
           false≢true (sym parts.0 ∙ twice))) later
     ] refl
 
 -- the places of names that differ, differ
-pub places_differ : (schema : Schema) (names : List Name) → all_differ bytes_eq names ≡ true → all_differ nat_eq (places_of schema names) ≡ true
+pub places_differ : (schema : Schema) (names : List Name) → all_differ bytes_eq names ≡ true → all_differ nat_eq (places_named schema names) ≡ true
 places_differ schema [] differ = refl
 places_differ schema (name ∷ rest) differ =
     let parts = and_parts (not (list_any (bytes_eq name) rest)) (all_differ bytes_eq rest) differ in
     let later = places_differ schema rest parts.1 in
-    elim (place_of schema name) as (λ found. place_of schema name ≡ found → all_differ nat_eq (cons_option found (places_of schema rest)) ≡ true) [
+    elim (place_of schema name) as (λ found. place_of schema name ≡ found → all_differ nat_eq (cons_option found (places_named schema rest)) ≡ true) [
       | None ↦ λ e. later
       | Some place ↦ λ e. and_from _ _ (not_from_false _ (other_places schema name place e rest (not-true _ parts.0))) later
     ] refl

@@ -3,25 +3,25 @@ use Rattle.std.proofs.Common.{◌≡◌, Bool, true, false, List, [], ◌∷◌,
 use Rattle.std.specs.Prelude.{is_none, is_some, not, option_map}
 use Rattle.std.specs.Option.{option_map_or}
 use Rattle.hippo_model.specs.declared.name_fault.NameFault.{NameFault}
-use Rattle.hippo_catalog.specs.Refusals.{refused}
+use Rattle.hippo_catalog.specs.Refusals.{fault_if}
 
 pub none_of_both : {A : Type 0} (first second : List A) → first ++ second ≡ [] → (first ≡ []) × (second ≡ [])
 none_of_both [] second none = (refl, none)
 none_of_both (x ∷ rest) second none = absurd cc
 
-pub not_refused : (test : Bool) (fault : NameFault) → refused test fault ≡ [] → test ≡ false
+pub not_refused : (test : Bool) (fault : NameFault) → fault_if test fault ≡ [] → test ≡ false
 not_refused true fault none = absurd cc
 not_refused false fault none = refl
 
-pub passed : (test : Bool) (fault : NameFault) → refused (not test) fault ≡ [] → test ≡ true
+pub passed : (test : Bool) (fault : NameFault) → fault_if (not test) fault ≡ [] → test ≡ true
 passed true fault none = refl
 passed false fault none = absurd cc
 
-pub there : {A : Type 0} (found : Option A) (fault : NameFault) → refused (is_none found) fault ≡ [] → is_some found ≡ true
+pub there : {A : Type 0} (found : Option A) (fault : NameFault) → fault_if (is_none found) fault ≡ [] → is_some found ≡ true
 there (Some x) fault none = refl
 there None fault none = absurd cc
 
-pub absent : {A : Type 0} (found : Option A) (fault : NameFault) → refused (is_some found) fault ≡ [] → is_none found ≡ true
+pub absent : {A : Type 0} (found : Option A) (fault : NameFault) → fault_if (is_some found) fault ≡ [] → is_none found ≡ true
 absent (Some x) fault none = absurd cc
 absent None fault none = refl
 

@@ -23,10 +23,10 @@ use Rattle.hippo_model.specs.Terms.{Row, Place}
 use Rattle.hippo_model.specs.Validity.{column_passes, key_column_fits}
 use Rattle.hippo_model.specs.Values.{has_kind, fits}
 use Rattle.hippo_model.specs.Versions.{row_fits}
-use Rattle.hippo_catalog.specs.ChangesRefused.{places_of, unknown_columns, in_column, column_named, kind_refused, null_refused, text_refused, row_refused, assigned_refused, assignments_refused, count_refused, insert_refused, key_changed, is_of_key}
-use Rattle.hippo_catalog.specs.Refusals.{refused}
+use Rattle.hippo_catalog.specs.ChangesRefused.{places_named, unknown_columns, in_column, column_named, kind_refused, null_refused, text_refused, row_refused, assigned_refused, assignments_refused, count_refused, insert_refused, key_changed, is_of_key}
+use Rattle.hippo_catalog.specs.Refusals.{fault_if}
 use Rattle.hippo_catalog.specs.WrittenColumns.{place_of}
-use Rattle.hippo_tables.specs.Finished.{written}
+use Rattle.hippo_tables.specs.Finished.{written_row}
 use Rattle.hippo_following.specs.Written.{is_typed}
 use Rattle.hippo_following.proofs.PlaceLemmas.{found_at, parted}
 use Rattle.hippo_following.proofs.RefusalLemmas.{none_of_both, not_refused, passed}
@@ -122,7 +122,7 @@ typed-set (first ∷ row) (suc place) value typed all =
     and_from _ _ parts.0 (typed-set row place value typed parts.1)
 
 -- a row with values written in it is of its types
-pub written_typed : (places : List Place) (values : List Value) (row : Row) → list_all is_typed values ≡ true → list_all is_typed row ≡ true → list_all is_typed (written places values row) ≡ true
+pub written_typed : (places : List Place) (values : List Value) (row : Row) → list_all is_typed values ≡ true → list_all is_typed row ≡ true → list_all is_typed (written_row places values row) ≡ true
 written_typed [] values row types all = all
 written_typed (place ∷ places) [] row types all = all
 written_typed (place ∷ places) (value ∷ values) row types all =
@@ -143,11 +143,11 @@ module _ (schema : Schema) where
       sym (ap (λ (c : Option Column). option_map_or (λ column. refusals column value) c []) is) ∙ none
 
   -- a row fits when values are written that fit
-  pub written_fits : (names : List Name) (values : List Value) (row : Row) → unknown_columns schema names ≡ [] → AreUnrefused (zip names values) → row_fits schema row ≡ true → row_fits schema (written (places_of schema names) values row) ≡ true
+  pub written_fits : (names : List Name) (values : List Value) (row : Row) → unknown_columns schema names ≡ [] → AreUnrefused (zip names values) → row_fits schema row ≡ true → row_fits schema (written_row (places_named schema names) values row) ≡ true
   written_fits [] values row known u fit = fit
   written_fits (name ∷ names) [] row known u fit =
       let first = parted schema name names known in
-      subst (λ (found : Option Place). row_fits schema (written (cons_option found (places_of schema names)) [] row) ≡ true) (sym first.found) fit
+      subst (λ (found : Option Place). row_fits schema (written_row (cons_option found (places_named schema names)) [] row) ≡ true) (sym first.found) fit
   written_fits (name ∷ names) (value ∷ values) row known u fit =
       let first = parted schema name names known in
       let there = found_at schema name first.place first.found in
@@ -160,7 +160,7 @@ module _ (schema : Schema) where
         text = in_found text_refused name value first.place there.column first.found there.at texts.0;
       }) in
       let set = pointwise-set schema.columns row first.place there.column value there.at here fit in
-      subst (λ (found : Option Place). row_fits schema (written (cons_option found (places_of schema names)) (value ∷ values) row) ≡ true) (sym first.found)
+      subst (λ (found : Option Place). row_fits schema (written_row (cons_option found (places_named schema names)) (value ∷ values) row) ≡ true) (sym first.found)
       (written_fits names values (slice_set row first.place value) first.known (record { kinds = kinds.1; nulls = nulls.1; texts = texts.1 }) set)
 
   -- of assignments and keys, nothing is refused of the assignments
@@ -186,17 +186,17 @@ module _ (schema : Schema) where
       λ i. here i ∷ later i
 
   -- a row's key stays where no column of the key is written
-  pub key_stays : (names : List Name) (values : List Value) (row : Row) → unknown_columns schema names ≡ [] → key_changed schema names ≡ [] → key_of schema.key (written (places_of schema names) values row) ≡ key_of schema.key row
+  pub key_stays : (names : List Name) (values : List Value) (row : Row) → unknown_columns schema names ≡ [] → key_changed schema names ≡ [] → key_of schema.key (written_row (places_named schema names) values row) ≡ key_of schema.key row
   key_stays [] values row known unchanged = refl
   key_stays (name ∷ names) [] row known unchanged =
       let first = parted schema name names known in
-      ap (λ (found : Option Place). key_of schema.key (written (cons_option found (places_of schema names)) [] row)) first.found
+      ap (λ (found : Option Place). key_of schema.key (written_row (cons_option found (places_named schema names)) [] row)) first.found
   key_stays (name ∷ names) (value ∷ values) row known unchanged =
       let first = parted schema name names known in
-      let both = none_of_both (refused (is_of_key schema name) (KeyChanged name)) (key_changed schema names) unchanged in
+      let both = none_of_both (fault_if (is_of_key schema name) (KeyChanged name)) (key_changed schema names) unchanged in
       let apart : list_any (nat_eq first.place) schema.key ≡ false =
       sym (ap (λ (found : Option Place). option_map_or (λ place. list_any (nat_eq place) schema.key) found false) first.found) ∙ not_refused (is_of_key schema name) (KeyChanged name) both.0 in
-      ap (λ (found : Option Place). key_of schema.key (written (cons_option found (places_of schema names)) (value ∷ values) row)) first.found
+      ap (λ (found : Option Place). key_of schema.key (written_row (cons_option found (places_named schema names)) (value ∷ values) row)) first.found
       ∙ key_stays names values (slice_set row first.place value) first.known both.1
       ∙ cell-set schema.key first.place value row apart
 

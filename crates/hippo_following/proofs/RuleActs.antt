@@ -14,8 +14,8 @@ use Rattle.hippo_model.specs.Keepable.{is_folded_name, is_short, columns_are_kee
 use Rattle.hippo_model.specs.Terms.{History}
 use Rattle.hippo_model.specs.Validity.{all_differ, has_columns, has_subject, item_fits, table_passes, days_fit}
 use Rattle.hippo_catalog.specs.Catalogs.{known_at}
-use Rattle.hippo_catalog.specs.ChangesRefused.{places_of, unknown_columns, unknown_item_if_any, rule_refused, item_refused}
-use Rattle.hippo_catalog.specs.Refusals.{refused, repeated_names, unknown_item}
+use Rattle.hippo_catalog.specs.ChangesRefused.{places_named, unknown_columns, unknown_item_if_any, rule_refused, rule_item_refused}
+use Rattle.hippo_catalog.specs.Refusals.{fault_if, repeated_names, unknown_item}
 use Rattle.hippo_typing.specs.ResolutionLaws.{NamesAreThoseOf}
 use Rattle.hippo_following.specs.Written.{has_members}
 use Rattle.hippo_following.proofs.NameActs.{known_item}
@@ -43,20 +43,20 @@ module _ (schema : Schema) (columns : List Name) (none : rule_refused columns sc
   parts : (repeated_names columns ≡ []) × (unknown_columns schema columns ≡ [])
   parts = none_of_both (repeated_names columns) (unknown_columns schema columns) none
 
-  differ : all_differ nat_eq (places_of schema columns) ≡ true
+  differ : all_differ nat_eq (places_named schema columns) ≡ true
   differ = places_differ schema columns (names_differ columns parts.0)
 
-  pub columns_there : has_members columns ≡ true → has_columns (places_of schema columns) schema ≡ true
+  pub columns_there : has_members columns ≡ true → has_columns (places_named schema columns) schema ≡ true
   columns_there some =
-      let count : length (places_of schema columns) ≡ length columns = length-places schema columns parts.1 in
+      let count : length (places_named schema columns) ≡ length columns = length-places schema columns parts.1 in
       let one : 1 ≤ length columns = leb-true 1 (length columns) some in
-      and_from _ _ (and_from _ _ (lt-ltb 0 (length (places_of schema columns)) (omega arith)) differ) (places_within schema columns)
+      and_from _ _ (and_from _ _ (lt-ltb 0 (length (places_named schema columns)) (omega arith)) differ) (places_within schema columns)
 
-  pub columns_kept : schema_is_keepable schema ≡ true → places_are_keepable (places_of schema columns) ≡ true
+  pub columns_kept : schema_is_keepable schema ≡ true → places_are_keepable (places_named schema columns) ≡ true
   columns_kept kept =
       let few = few_columns schema kept in
-      let count = no_more_than (length schema.columns) (places_of schema columns) differ (places_within schema columns) in
-      and_from _ _ (lt-ltb (length (places_of schema columns)) 256 (omega arith)) (below_more (length schema.columns) 256 (places_of schema columns) (omega arith) (places_within schema columns))
+      let count = no_more_than (length schema.columns) (places_named schema columns) differ (places_within schema columns) in
+      and_from _ _ (lt-ltb (length (places_named schema columns)) 256 (omega arith)) (below_more (length schema.columns) 256 (places_named schema columns) (omega arith) (places_within schema columns))
 
 -- days within their limits have room
 pub days_kept : (days : Option ℕ) → days_fit days ≡ true → days_are_keepable days ≡ true
@@ -70,13 +70,13 @@ module _ (history : History) (names : NamesAreThoseOf history) (table : Name) (s
   pub table_so : (test : Schema → Bool) → test schema ≡ true → table_passes history test table ≡ true
   table_so test passes = ap (λ (found : Option Schema). option_map_or test found false) found ∙ passes
 
-  pub item_there : (item : Option Name) → unknown_item_if_any (known_at history) item ≡ [] → item_refused item schema ≡ [] → item_fits history table item ≡ true
+  pub item_there : (item : Option Name) → unknown_item_if_any (known_at history) item ≡ [] → rule_item_refused item schema ≡ [] → item_fits history table item ≡ true
   item_there None unknown refusal = refl
   item_there (Some item) unknown refusal =
       let known = known_item history names item (none_of_both (unknown_item (known_at history) item) [] unknown).0 in
       let subject : has_subject schema ≡ true = by (has_subject schema) refusal in
       and_from _ _ known (table_so has_subject subject)
     where
-      by : (test : Bool) → refused (true && not test) (NoSubject schema.name) ≡ [] → test ≡ true
+      by : (test : Bool) → fault_if (true && not test) (NoSubject schema.name) ≡ [] → test ≡ true
       by true none = refl
       by false none = absurd cc

@@ -8,8 +8,8 @@ use Rattle.std.proofs.lemmas.Int.{ints}
 use Rattle.std.proofs.lemmas.List.{take_at, drop_at, get_or_at, get_or_append_left}
 use Rattle.std.proofs.lemmas.Str.{IsUtf8-take, IsUtf8-drop, IsUtf8-append, IsUtf8-from_ascii, is_utf8-from_IsUtf8, IsCharBoundary-before_ascii, IsCharBoundary-after_ascii}
 use Rattle.hippo_values.specs.Moments.{is_day, IsDayNumber}
-use Rattle.hippo_lexer.specs.Grammar.{IsToken, a_keyword, a_refused_word, a_name, a_number, a_quoted_text, a_day, a_sign, IsCut, at_end, at_blank, at_token, at_fault, with_first, IsOutcome, quoted}
-use Rattle.hippo_lexer.specs.Spelling.{is_quote, doubled}
+use Rattle.hippo_lexer.specs.Grammar.{IsToken, a_keyword, a_refused_word, a_name, a_number, a_quoted_text, a_day, a_sign, IsCut, at_end, at_blank, at_token, at_fault, with_first_token, IsOutcome, quoted_text}
+use Rattle.hippo_lexer.specs.Spelling.{is_quote, doubled_quotes}
 use Rattle.hippo_lexer.specs.declared.faults.LexFault.{LexFault}
 use Rattle.hippo_lexer.specs.declared.kinds.Token.{Token}
 use Rattle.hippo_lexer.specs.declared.kinds.TokenKind.{TokenKind}
@@ -50,24 +50,24 @@ a_quote = IsUtf8-from_ascii (39 ∷ []) small
     small (suc i) = omega arith
 
 -- a text whose quotes are doubled is UTF-8 only where the text is
-undoubled : (front text : List ℕ) → IsUtf8 (front ++ doubled text) → IsUtf8 (front ++ text)
+undoubled : (front text : List ℕ) → IsUtf8 (front ++ doubled_quotes text) → IsUtf8 (front ++ text)
 undoubled front [] utf8 = utf8
 undoubled front (byte ∷ text) utf8 =
-    elim (is_quote byte) as (λ quote. is_quote byte ≡ quote → IsUtf8 (front ++ (if quote then 39 ∷ 39 ∷ doubled text else byte ∷ doubled text)) → IsUtf8 (front ++ byte ∷ text)) [
+    elim (is_quote byte) as (λ quote. is_quote byte ≡ quote → IsUtf8 (front ++ (if quote then 39 ∷ 39 ∷ doubled_quotes text else byte ∷ doubled_quotes text)) → IsUtf8 (front ++ byte ∷ text)) [
       | true ↦ λ e utf8.
           let is : byte ≡ 39 = eqb-true byte 39 e in
-          let first = before_ascii front 39 (39 ∷ doubled text) (omega arith) utf8 in
-          let rest = undoubled [] text (after_ascii 39 (doubled text) (omega arith) (after_ascii 39 (39 ∷ doubled text) (omega arith) first.1)) in
+          let first = before_ascii front 39 (39 ∷ doubled_quotes text) (omega arith) utf8 in
+          let rest = undoubled [] text (after_ascii 39 (doubled_quotes text) (omega arith) (after_ascii 39 (39 ∷ doubled_quotes text) (omega arith) first.1)) in
           subst (λ (byte : ℕ). IsUtf8 (front ++ byte ∷ text)) (sym is) (IsUtf8-append front (39 ∷ text) first.0 (IsUtf8-append (39 ∷ []) text a_quote rest))
       | false ↦ λ e utf8.
-          let longer : IsUtf8 ((front ++ byte ∷ []) ++ doubled text) = subst (λ (bytes : List ℕ). IsUtf8 bytes) (sym (append_assoc front (byte ∷ []) (doubled text))) utf8 in
+          let longer : IsUtf8 ((front ++ byte ∷ []) ++ doubled_quotes text) = subst (λ (bytes : List ℕ). IsUtf8 bytes) (sym (append_assoc front (byte ∷ []) (doubled_quotes text))) utf8 in
           subst (λ (bytes : List ℕ). IsUtf8 bytes) (append_assoc front (byte ∷ []) text) (undoubled (front ++ byte ∷ []) text longer)
     ] refl utf8
 
-unquoted : (text : List ℕ) → IsUtf8 (quoted text) → is_utf8 text ≡ true
+unquoted : (text : List ℕ) → IsUtf8 (quoted_text text) → is_utf8 text ≡ true
 unquoted text utf8 =
-    let inner = after_ascii 39 (doubled text ++ 39 ∷ []) (omega arith) utf8 in
-    let closed = before_ascii (doubled text) 39 [] (omega arith) inner in
+    let inner = after_ascii 39 (doubled_quotes text ++ 39 ∷ []) (omega arith) utf8 in
+    let closed = before_ascii (doubled_quotes text) 39 [] (omega arith) inner in
     is_utf8-from_IsUtf8 text (undoubled [] text closed.0)
 
 day_so : (day : ℤ) → IsDayNumber day → is_day day ≡ true
@@ -86,7 +86,7 @@ kind_typed text rest _ utf8 (a_sign _ _ sign h longest) = refl
 abbrev AreTyped : List Token → Type 0
 AreTyped tokens = list_all kind_is_typed (kinds tokens) ≡ true
 
-one_more : (token : Token) (later outcome : Result (List Token) LexFault) → kind_is_typed token.kind ≡ true → IfOk later AreTyped → outcome ≡ with_first token later → IfOk outcome AreTyped
+one_more : (token : Token) (later outcome : Result (List Token) LexFault) → kind_is_typed token.kind ≡ true → IfOk later AreTyped → outcome ≡ with_first_token token later → IfOk outcome AreTyped
 one_more token (Ok tokens) outcome typed behind first = rw first (and_from _ _ typed behind)
 one_more token (Err fault) outcome typed behind first = rw first tt
 

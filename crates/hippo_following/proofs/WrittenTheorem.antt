@@ -14,10 +14,10 @@ use Rattle.hippo_model.specs.declared.schema.Column.{Column}
 use Rattle.hippo_model.specs.declared.statement.Stmt.{Stmt}
 use Rattle.hippo_model.specs.Keepable.{is_folded_name, item_is_keepable}
 use Rattle.hippo_model.specs.Validity.{days_fit}
-use Rattle.hippo_spj_reader.specs.ConditionGrammar.{IsLiteral, number, quoted, day, null}
+use Rattle.hippo_spj_reader.specs.ConditionGrammar.{IsLiteral, number, quoted_literal, day, null}
 use Rattle.hippo_spj_reader.specs.Front.{Kinds, kinds}
 use Rattle.hippo_spj_reader.specs.ListGrammar.{IsName, name, IsListOf, last_part, more_parts}
-use Rattle.hippo_stmt_reader.specs.StatementGrammar.{IsColumnDef, nullable, not_null, IsWith, no_item, with_item, IsRetention, no_retention, retain, IsAssignment, assignment, AreNames, values_of, IsConsole, create_table, create_purpose, create_recipient, create_opt_in, create_opt_out, authorize, deauthorize, allow, revoke, choice_yes, choice_no, insert, update, delete, explain, audit, begin_audit, watch, IsStatement, console, open_select, extract_select}
+use Rattle.hippo_stmt_reader.specs.StatementGrammar.{IsColumnDef, nullable, not_null, IsWith, no_item, with_item, IsRetention, no_retention, retain, IsAssignment, assignment, AreNames, assigned_values, IsConsole, create_table, create_purpose, create_recipient, create_opt_in, create_opt_out, authorize, deauthorize, allow, revoke, choice_yes, choice_no, insert, update, delete, console_explain, console_audit, console_begin_audit, console_watch, IsStatement, console, open_select, extract_select}
 use Rattle.hippo_stmt_reader.specs.StatementGrammar as statements
 use Rattle.hippo_stmt_reader.proofs.StatementTheorem as statement_theorem
 use Rattle.hippo_following.specs.Written.{is_typed, has_members, kind_is_typed, is_written}
@@ -48,7 +48,7 @@ a_name _ n rest typed name = and_parts (is_folded_name n) (are_typed rest) typed
 
 a_literal : (tokens : Kinds) (v : Value) (rest : Kinds) → are_typed tokens ≡ true → IsLiteral tokens v rest → (is_typed v ≡ true) × (are_typed rest ≡ true)
 a_literal _ _ rest typed number = and_parts _ (are_typed rest) typed
-a_literal _ _ rest typed quoted = and_parts _ (are_typed rest) typed
+a_literal _ _ rest typed quoted_literal = and_parts _ (are_typed rest) typed
 a_literal _ _ rest typed day = and_parts _ (are_typed rest) typed
 a_literal _ _ rest typed null = (refl, typed)
 
@@ -67,7 +67,7 @@ days_so : (tokens : Kinds) (days : Option ℕ) (rest : Kinds) → IsRetention to
 days_so _ _ rest no_retention = refl
 days_so _ _ rest (retain {days = days} least most) = and_from _ _ (le-leb 1 days (omega arith)) (le-leb days retention_limit most)
 
-values_typed : (assigned : List (Name × Value)) → list_all (λ (a : Name × Value). is_typed a.1) assigned ≡ true → list_all is_typed (values_of assigned) ≡ true
+values_typed : (assigned : List (Name × Value)) → list_all (λ (a : Name × Value). is_typed a.1) assigned ≡ true → list_all is_typed (assigned_values assigned) ≡ true
 values_typed [] all = refl
 values_typed (a ∷ rest) all =
     let both = and_parts (is_typed a.1) (list_all (λ (a : Name × Value). is_typed a.1) rest) all in
@@ -122,10 +122,10 @@ console_written _ s rest typed (update {table = t} {settings = settings} {keys =
     subst (λ (s : Stmt). is_written s ≡ true) (sym is) (and_from _ _ first.0 (values_typed settings list.fits))
 console_written _ s rest typed (delete {table = t} {tokens = tokens} are_keys is) =
     subst (λ (s : Stmt). is_written s ≡ true) (sym is) (one_of (is_folded_name t) (are_typed tokens) typed)
-console_written _ _ rest typed explain = refl
-console_written _ _ rest typed (audit _) = refl
-console_written _ _ rest typed (begin_audit _) = refl
-console_written _ _ rest typed (watch _) = refl
+console_written _ _ rest typed console_explain = refl
+console_written _ _ rest typed (console_audit _) = refl
+console_written _ _ rest typed (console_begin_audit _) = refl
+console_written _ _ rest typed (console_watch _) = refl
 
 statement_written : (tokens : List Token) (s : Stmt) → are_typed (kinds tokens) ≡ true → IsStatement tokens s → is_written s ≡ true
 statement_written tokens s typed (console {rest = rest} is_console is_end) = console_written (kinds tokens) s rest typed is_console

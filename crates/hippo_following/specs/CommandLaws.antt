@@ -4,21 +4,23 @@ use Rattle.hippo_values.specs.Texts.{Txt}
 use Rattle.hippo_io.specs.Lines.{text_line}
 use Rattle.hippo_model.specs.declared.statement.RawSelect.{RawSelect}
 use Rattle.hippo_model.specs.declared.statement.Stmt.{Stmt}
-use Rattle.hippo_reading_laws.specs.QuestionLaws.{question_of, ReadsByItself}
-use Rattle.hippo_commands.specs.Commands.{state, command_of}
+use Rattle.hippo_reading_laws.specs.QuestionLaws.{select_place, ReadsByItself}
+use Rattle.hippo_commands.specs.Commands.{make_statement, command_of}
 use Rattle.hippo_following.specs.Written.{is_written}
 
--- a statement is written and stands in a text of UTF-8, which is shorter than its line; a question reads by itself in
--- it
-pub record IsOfLine (line : Txt) (statement : Stmt) (text : Txt) : Type 0 where
+-- a statement is written and stands in a text of UTF-8, which is shorter than its line; a question
+-- reads by itself in it
+pub record StandsInLine (line : Txt) (statement : Stmt) (text : Txt) : Type 0 where
   pub written : is_written statement ≡ true
   pub utf8 : IsUtf8 text
   pub shorter : length text < length line
-  pub reads : (select : RawSelect) (start end : ℕ) → question_of statement ≡ Some (select, start, end)
+  pub reads : (select : RawSelect) (start end : ℕ)
+      → select_place statement ≡ Some (select, start, end)
       → ReadsByItself text select start end
 
 -- the statement that a line commands is so
 abbrev pub CommandsAreWritten : Type 0
 CommandsAreWritten =
     (line : Txt) (session : ℕ) (statement : Stmt) (text : Txt) → IsUtf8 line
-    → command_of (text_line line) ≡ state session statement text → IsOfLine line statement text
+    → command_of (text_line line) ≡ make_statement session statement text
+    → StandsInLine line statement text

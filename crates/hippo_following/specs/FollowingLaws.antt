@@ -11,12 +11,12 @@ use Rattle.hippo_model.specs.Validity.{keeps_order, may_follow, is_valid}
 use Rattle.hippo_catalog.specs.Catalogs.{known_at}
 use Rattle.hippo_catalog.specs.ChangesRefused.{change_refused}
 use Rattle.hippo_catalog.specs.ChangesWanted.{wanted_by}
-use Rattle.hippo_tables.specs.Finished.{finished}
+use Rattle.hippo_tables.specs.Finished.{finished_act}
 use Rattle.hippo_following.specs.Written.{is_written}
 
 -- the entry of an act that comes next
-abbrev pub next_entry : History → Moment → Act → Entry
-next_entry history moment act = record { seq = length history + 1; moment = moment; act = act }
+abbrev pub following_entry : History → Moment → Act → Entry
+following_entry history moment act = record { seq = length history + 1; moment = moment; act = act }
 
 -- the next number has 64 bits, and the moment is one of the calendar's and not before the last
 pub record HasRoomAt (history : History) (moment : Moment) : Type 0 where
@@ -30,11 +30,11 @@ pub record ComesTo (history : History) (statement : Stmt) (act : Act) : Type 0 w
   pub unrefused : change_refused (known_at history) statement ≡ []
   pub wanted : Wanted
   pub wants : wanted_by (known_at history) statement ≡ Some wanted
-  pub comes : finished history wanted ≡ Ok act
+  pub comes : finished_act history wanted ≡ Ok act
 
 -- the entry of a statement that the checks let pass may follow the history
 abbrev pub ChangesMayFollow : Type 0
 ChangesMayFollow =
     (meaning : Meaning) (history : History) (moment : Moment) (statement : Stmt) (act : Act)
     → is_valid meaning history ≡ true → HasRoomAt history moment → ComesTo history statement act
-    → may_follow meaning history (next_entry history moment act) ≡ true
+    → may_follow meaning history (following_entry history moment act) ≡ true

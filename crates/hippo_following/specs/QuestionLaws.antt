@@ -14,12 +14,14 @@ use Rattle.hippo_catalog.specs.Catalogs.{known_at}
 use Rattle.hippo_catalog.specs.Selects.{select_refused}
 use Rattle.hippo_typing.specs.Meanings.{meaning}
 use Rattle.hippo_reading_laws.specs.QuestionLaws.{ReadsByItself}
-use Rattle.hippo_following.specs.FollowingLaws.{next_entry, HasRoomAt}
+use Rattle.hippo_following.specs.FollowingLaws.{following_entry, HasRoomAt}
 use Rattle.hippo_following.specs.Written.{names_fit}
 
--- a question that the checks let pass: it stands between two places of a text, is no longer than a line and reads by
--- itself as this select, of which nothing is refused; and its user may ask for its purpose and recipient
-pub record MayBeAsked (history : History) (user purpose recipient : Name) (text : Txt) (select : RawSelect)
+-- a question that the checks let pass: it stands between two places of a text, is no longer than a
+-- line and reads by itself as this select, of which nothing is refused; and its user may ask for
+-- its purpose and recipient
+pub record PassesChecks (history : History) (user purpose recipient : Name) (text : Txt)
+    (select : RawSelect)
     (start end : ℕ) : Type 0 where
   pub utf8 : IsUtf8 text
   pub short : length (slice_range text start end) ≤ line_limit
@@ -31,7 +33,10 @@ pub record MayBeAsked (history : History) (user purpose recipient : Name) (text 
 -- the entry of a question that the checks let pass may follow the history
 abbrev pub QuestionsMayFollow : Type 0
 QuestionsMayFollow =
-    (history : History) (moment : Moment) (user purpose recipient : Name) (text : Txt) (select : RawSelect)
-    (start end : ℕ) → HasRoomAt history moment → MayBeAsked history user purpose recipient text select start end
+    (history : History) (moment : Moment) (user purpose recipient : Name) (text : Txt)
+    (select : RawSelect)
+    (start end : ℕ) → HasRoomAt history moment
+    → PassesChecks history user purpose recipient text select start end
     → may_follow meaning history
-    (next_entry history moment (Asked user purpose recipient (slice_range text start end))) ≡ true
+    (following_entry history moment (Asked user purpose recipient (slice_range text start end)))
+    ≡ true

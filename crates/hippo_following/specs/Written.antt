@@ -21,7 +21,8 @@ is_typed (Int number) = is_signed_number number
 is_typed (Text text) = is_utf8 text
 is_typed (Day day) = is_day day
 
--- what a token says, as its type has it: a name in lower case, and a number, a text and a day as values are
+-- what a token says, as its type has it: a name in lower case, and a number, a text and a day as
+-- values are
 abbrev pub kind_is_typed : TokenKind → Bool
 kind_is_typed (Word name) = is_folded_name name
 kind_is_typed (Number number) = is_signed_number number
@@ -38,10 +39,12 @@ abbrev pub names_fit : Name → Name → Name → Bool
 names_fit first second third = is_folded_name first && is_folded_name second && is_folded_name third
 
 abbrev pub columns_written : List Column → Bool
-columns_written columns = has_members columns && list_all (λ column. is_folded_name column.name) columns
+columns_written columns =
+    has_members columns && list_all (λ column. is_folded_name column.name) columns
 
--- a statement that changes something is as grammar and types say: its names are names in lower case, its lists have
--- members, its values are those of their types, and its days are within their limits
+-- a statement that changes something is as grammar and types say: its names are names in lower
+-- case, its lists have members, its values are those of their types, and its days are within their
+-- limits
 abbrev pub is_written : Stmt → Bool
 is_written (CreateTable table columns key subject) =
     is_folded_name table && columns_written columns && has_members key
@@ -51,10 +54,13 @@ is_written (CreateItem item kind) = is_folded_name item
 is_written (Authorize user purpose recipient) = names_fit user purpose recipient
 is_written (Deauthorize user purpose recipient) = names_fit user purpose recipient
 is_written (Allow purpose recipient table columns item days) =
-    names_fit purpose recipient table && has_members columns && item_is_keepable item && days_fit days
-is_written (Revoke purpose recipient table columns) = names_fit purpose recipient table && has_members columns
+    names_fit purpose recipient table && has_members columns && item_is_keepable item
+    && days_fit days
+is_written (Revoke purpose recipient table columns) =
+    names_fit purpose recipient table && has_members columns
 is_written (Choice subject item agreed) = is_signed_number subject && is_folded_name item
 is_written (Insert table values) = is_folded_name table && list_all is_typed values
-is_written (Update table columns values keys key_values) = is_folded_name table && list_all is_typed values
+is_written (Update table columns values keys key_values) =
+    is_folded_name table && list_all is_typed values
 is_written (Delete table keys values) = is_folded_name table
 is_written statement = true

@@ -1,4 +1,5 @@
-//! Laws on what may follow a history: each is the contract of a function that does nothing. And what types say of values.
+//! Laws on what may follow a history: each is the contract of a function that does nothing. And
+//! what types say of values.
 #![tactic(auto)]
 
 pub mod follow;

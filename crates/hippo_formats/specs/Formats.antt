@@ -49,14 +49,18 @@ entry_data schema entry moment act = statement_data entry moment (told_act schem
 abbrev pub entry_fields : Option Schema → ℕ → Txt → Act → List Txt
 entry_fields schema entry moment (Asked user purpose recipient text) =
     decimal entry ∷ moment ∷ user ∷ purpose ∷ recipient ∷ text ∷ []
-entry_fields schema entry moment act = decimal entry ∷ moment ∷ [] ∷ [] ∷ [] ∷ told_act schema act ∷ []
+entry_fields schema entry moment act =
+    decimal entry ∷ moment ∷ [] ∷ [] ∷ [] ∷ told_act schema act ∷ []
 
 abbrev pub entry_by : Format → Option Schema → Entry → Txt
 entry_by formats.Text schema entry = entry_line schema entry
-entry_by formats.Json schema entry = json_line (entry_data schema entry.seq (moment_text entry.moment) entry.act)
-entry_by formats.Csv schema entry = csv_line (entry_fields schema entry.seq (moment_text entry.moment) entry.act)
+entry_by formats.Json schema entry =
+    json_line (entry_data schema entry.seq (moment_text entry.moment) entry.act)
+entry_by formats.Csv schema entry =
+    csv_line (entry_fields schema entry.seq (moment_text entry.moment) entry.act)
 
--- what a rule says: its entry's number, 0 where there is none; a word for it; its item; and its days
+-- what a rule says: its entry's number, 0 where there is none; a word for it; its item; and its
+-- days
 abbrev pub rule_number : Option Rule → ℕ
 rule_number None = 0
 rule_number (Some (revoked entry)) = entry
@@ -107,4 +111,5 @@ rule_data purpose recipient table column rule opt_in =
 abbrev pub rule_fields : Name → Name → Name → Txt → Option Rule → Option Bool → List Txt
 rule_fields purpose recipient table column rule opt_in =
     decimal (rule_number rule) ∷ ruling_word rule ∷ purpose ∷ recipient ∷ table ∷ column
-    ∷ unwrap_or (rule_item rule) [] ∷ option_map_or opt_word opt_in [] ∷ option_map_or decimal (rule_days rule) [] ∷ []
+    ∷ unwrap_or (rule_item rule) [] ∷ option_map_or opt_word opt_in []
+    ∷ option_map_or decimal (rule_days rule) [] ∷ []

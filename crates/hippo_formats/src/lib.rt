@@ -1,4 +1,5 @@
-//! An entry of a history, and the rule of a column, as a line of JSON (RFC 8259) or of CSV (RFC 4180).
+//! An entry of a history, and the rule of a column, as a line of JSON (RFC 8259) or of CSV (RFC
+//! 4180).
 #![tactic(auto)]
 
 mod members;

@@ -3,7 +3,7 @@ ghost use Rattle.std.specs.Prelude.{◌≡◌, option_copied, IfOk, OnOk, string
 ghost use Rattle.serde_json.specs.Data.{put, string, number, unsigned};
 ghost use Rattle.serde_json.specs.View.{view, members_view};
 ghost use Rattle.serde_json.specs.Written.{compact_text};
-ghost use Rattle.hippo_policy.specs.Rulings.{ruling_of, asks_opt_in};
+ghost use Rattle.hippo_policy.specs.Rulings.{ruling_of, opt_in_of};
 ghost use Rattle.hippo_telling.specs.Telling.{told_act};
 ghost use Rattle.hippo_formats.specs.Formats.{statement_data, question_data, entry_data, rule_number, ruling_word, rule_item, rule_days, number_data, text_data, opt_data, rule_data};
 
@@ -24,7 +24,8 @@ fn put_statement(
     moment: &str,
     statement: &str,
 ) -> Result<(), AllocError>
-    ensures { OnOk result (members_view members.new.entries ≡ put (codes "statement") (string statement.now)
+    ensures { OnOk result (members_view members.new.entries
+        ≡ put (codes "statement") (string statement.now)
         (put (codes "moment") (string moment.now)
         (put (codes "entry") (number (unsigned entry)) (members_view members.old.entries)))) }
 {
@@ -39,9 +40,11 @@ fn put_asker(
     members: &mut Map<String, Value>,
     question: &Question<'_>,
 ) -> Result<(), AllocError>
-    ensures { OnOk result (members_view members.new.entries ≡ put (codes "user") (string question.now.user.now)
+    ensures { OnOk result (members_view members.new.entries
+        ≡ put (codes "user") (string question.now.user.now)
         (put (codes "recipient") (string question.now.recipient.now)
-        (put (codes "purpose") (string question.now.purpose.now) (members_view members.old.entries)))) }
+        (put (codes "purpose") (string question.now.purpose.now)
+        (members_view members.old.entries)))) }
 {
     put_text(alloc, members, "purpose", question.purpose.as_str())?;
     put_text(alloc, members, "recipient", question.recipient.as_str())?;
@@ -84,7 +87,8 @@ fn told_data(
     act: &Act,
 ) -> Result<Value, Memory>
     ensures { IfOk result (λ made.
-        view made ≡ statement_data entry moment.now (told_act (option_copied schema.entry) act.now)) }
+        view made ≡ statement_data entry moment.now
+        (told_act (option_copied schema.entry) act.now)) }
 {
     let statement = told_text(alloc, schema, act)?;
     Ok(statement_data(alloc, entry, moment, statement.as_str())?)
@@ -98,7 +102,8 @@ fn entry_data(
     moment: &str,
     act: &Act,
 ) -> Result<Value, Memory>
-    ensures { IfOk result (λ made. view made ≡ entry_data (option_copied schema.entry) entry moment.now act.now) }
+    ensures { IfOk result (λ made. view made
+        ≡ entry_data (option_copied schema.entry) entry moment.now act.now) }
 {
     match question_of(act) {
         None => told_data(alloc, schema, entry, moment, act),
@@ -116,7 +121,8 @@ pub(crate) fn entry_json(
     act: &Act,
 ) -> Result<String, Memory>
     ensures { IfOk result (λ text.
-        string_bytes text ≡ compact_text (entry_data (option_copied schema.entry) entry moment.now act.now)) }
+        string_bytes text ≡ compact_text
+        (entry_data (option_copied schema.entry) entry moment.now act.now)) }
 {
     let object = entry_data(alloc, schema, entry, moment, act)?;
     Ok(object.to_string(alloc)?)
@@ -128,7 +134,8 @@ fn put_names(
     members: &mut Map<String, Value>,
     names: &Names<'_>,
 ) -> Result<(), AllocError>
-    ensures { OnOk result (members_view members.new.entries ≡ put (codes "table") (string names.now.table.now)
+    ensures { OnOk result (members_view members.new.entries
+        ≡ put (codes "table") (string names.now.table.now)
         (put (codes "recipient") (string names.now.recipient.now)
         (put (codes "purpose") (string names.now.purpose.now)
         (put (codes "column") (string names.now.column.now) (members_view members.old.entries))))) }
@@ -147,7 +154,8 @@ fn put_number_and_word(
 ) -> Result<(), AllocError>
     ensures { OnOk result (members_view members.new.entries
         ≡ put (codes "ruling") (string (ruling_word (ruling_of ruling.now)))
-        (put (codes "rule") (number (unsigned (rule_number (ruling_of ruling.now)))) (members_view members.old.entries))) }
+        (put (codes "rule") (number (unsigned (rule_number (ruling_of ruling.now))))
+        (members_view members.old.entries))) }
 {
     put_number(alloc, members, "rule", number_of(ruling))?;
     put_text(alloc, members, "ruling", ruling_word(ruling))
@@ -159,9 +167,11 @@ fn put_conditions(
     members: &mut Map<String, Value>,
     ruling: &RuleAt<'_>,
 ) -> Result<(), AllocError>
-    ensures { OnOk result (members_view members.new.entries ≡ put (codes "opt") (opt_data (asks_opt_in ruling.now))
+    ensures { OnOk result (members_view members.new.entries
+        ≡ put (codes "opt") (opt_data (opt_in_of ruling.now))
         (put (codes "item") (text_data (rule_item (ruling_of ruling.now)))
-        (put (codes "days") (number_data (rule_days (ruling_of ruling.now))) (members_view members.old.entries)))) }
+        (put (codes "days") (number_data (rule_days (ruling_of ruling.now)))
+        (members_view members.old.entries)))) }
 {
     put_days(alloc, members, "days", days_of(ruling))?;
     put_name(alloc, members, "item", item_of(ruling))?;
@@ -169,8 +179,9 @@ fn put_conditions(
 }
 
 fn rule_data(alloc: Global, names: &Names<'_>, ruling: &RuleAt<'_>) -> Result<Value, AllocError>
-    ensures { IfOk result (λ made. view made ≡ rule_data names.now.purpose.now names.now.recipient.now
-        names.now.table.now names.now.column.now (ruling_of ruling.now) (asks_opt_in ruling.now)) }
+    ensures { IfOk result (λ made. view made
+        ≡ rule_data names.now.purpose.now names.now.recipient.now
+        names.now.table.now names.now.column.now (ruling_of ruling.now) (opt_in_of ruling.now)) }
 {
     let mut members = Map::new(alloc);
     put_names(alloc, &mut members, names)?;
@@ -188,7 +199,7 @@ pub(crate) fn rule_json(
 ) -> Result<String, AllocError>
     ensures { IfOk result (λ text. string_bytes text ≡ compact_text (rule_data names.now.purpose.now
         names.now.recipient.now names.now.table.now names.now.column.now
-        (ruling_of ruling.now) (asks_opt_in ruling.now))) }
+        (ruling_of ruling.now) (opt_in_of ruling.now))) }
 {
     let object = rule_data(alloc, names, ruling)?;
     object.to_string(alloc)

@@ -2,7 +2,7 @@
 ghost use Rattle.std.specs.Prelude.{◌≡◌, ◌∷◌, ◌++◌, [], unwrap_or, decimal, option_copied, IfOk, OnOk};
 ghost use Rattle.std.specs.Option.{option_map_or};
 ghost use Rattle.csv.specs.Records.{fields_of};
-ghost use Rattle.hippo_policy.specs.Rulings.{ruling_of, asks_opt_in};
+ghost use Rattle.hippo_policy.specs.Rulings.{ruling_of, opt_in_of};
 ghost use Rattle.hippo_telling.specs.Telling.{told_act};
 ghost use Rattle.hippo_formats.specs.Formats.{csv_line, entry_fields, rule_number, ruling_word, rule_item, rule_days, opt_word, rule_fields};
 
@@ -26,8 +26,8 @@ fn record_bytes(alloc: Global, fields: &StringRecord) -> Result<Vec<u8>, Error>
     }
 }
 
-/// Adds a record as a line. Every fault of the writer is want of memory, since it writes into memory; a record that is no
-/// text cannot come.
+/// Adds a record as a line. Every fault of the writer is want of memory, since it writes into
+/// memory; a record that is no text cannot come.
 pub(crate) fn append_record(
     alloc: Global,
     fields: &StringRecord,
@@ -59,7 +59,8 @@ fn push_three(
 
 // Adds an entry's number and its moment.
 fn push_entry(fields: &mut StringRecord, entry: u64, moment: &str) -> Result<(), AllocError>
-    ensures { OnOk result (fields_of fields.new ≡ fields_of fields.old ++ (decimal entry ∷ moment.now ∷ [])) }
+    ensures { OnOk result (fields_of fields.new
+        ≡ fields_of fields.old ++ (decimal entry ∷ moment.now ∷ [])) }
 {
     fields.push_field(Buffer::new().format(entry))?;
     fields.push_field(moment)
@@ -82,7 +83,8 @@ fn question_record(
     moment: &str,
     question: &Question<'_>,
 ) -> Result<StringRecord, AllocError>
-    ensures { IfOk result (λ made. fields_of made ≡ decimal entry ∷ moment.now ∷ question.now.user.now
+    ensures { IfOk result (λ made. fields_of made
+        ≡ decimal entry ∷ moment.now ∷ question.now.user.now
         ∷ question.now.purpose.now ∷ question.now.recipient.now ∷ question.now.text.now ∷ []) }
 {
     let mut fields = StringRecord::new(alloc);
@@ -140,7 +142,8 @@ pub(crate) fn entry_record(
 }
 
 fn push_days(fields: &mut StringRecord, days: Option<u32>) -> Result<(), AllocError>
-    ensures { OnOk result (fields_of fields.new ≡ fields_of fields.old ++ option_map_or decimal days [] ∷ []) }
+    ensures { OnOk result (fields_of fields.new
+        ≡ fields_of fields.old ++ option_map_or decimal days [] ∷ []) }
 {
     match days {
         None => fields.push_field(""),
@@ -171,7 +174,8 @@ fn item_field<'a>(ruling: &RuleAt<'a>) -> &'a str
 // Adds the number of a rule's entry, and the word for what it says.
 fn push_ruling(fields: &mut StringRecord, ruling: &RuleAt<'_>) -> Result<(), AllocError>
     ensures { OnOk result (fields_of fields.new ≡ fields_of fields.old
-        ++ (decimal (rule_number (ruling_of ruling.now)) ∷ ruling_word (ruling_of ruling.now) ∷ [])) }
+        ++ (decimal (rule_number (ruling_of ruling.now)) ∷ ruling_word (ruling_of ruling.now)
+        ∷ [])) }
 {
     fields.push_field(Buffer::new().format(number_of(ruling)))?;
     fields.push_field(ruling_word(ruling))
@@ -189,7 +193,8 @@ fn push_names(fields: &mut StringRecord, names: &Names<'_>) -> Result<(), AllocE
 // Adds with which item a rule allows, how that reads silence, and for how long.
 fn push_conditions(fields: &mut StringRecord, ruling: &RuleAt<'_>) -> Result<(), AllocError>
     ensures { OnOk result (fields_of fields.new ≡ fields_of fields.old
-        ++ (unwrap_or (rule_item (ruling_of ruling.now)) [] ∷ option_map_or opt_word (asks_opt_in ruling.now) []
+        ++ (unwrap_or (rule_item (ruling_of ruling.now)) []
+        ∷ option_map_or opt_word (opt_in_of ruling.now) []
         ∷ option_map_or decimal (rule_days (ruling_of ruling.now)) [] ∷ [])) }
 {
     fields.push_field(item_field(ruling))?;
@@ -203,8 +208,9 @@ pub(crate) fn rule_record(
     names: &Names<'_>,
     ruling: &RuleAt<'_>,
 ) -> Result<StringRecord, AllocError>
-    ensures { IfOk result (λ made. fields_of made ≡ rule_fields names.now.purpose.now names.now.recipient.now
-        names.now.table.now names.now.column.now (ruling_of ruling.now) (asks_opt_in ruling.now)) }
+    ensures { IfOk result (λ made. fields_of made
+        ≡ rule_fields names.now.purpose.now names.now.recipient.now
+        names.now.table.now names.now.column.now (ruling_of ruling.now) (opt_in_of ruling.now)) }
 {
     let mut fields = StringRecord::new(alloc);
     push_ruling(&mut fields, ruling)?;

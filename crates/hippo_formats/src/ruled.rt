@@ -1,6 +1,6 @@
 //! The rule of a column as a line in each format.
 ghost use Rattle.std.specs.Prelude.{◌≡◌, ◌++◌, OnOk};
-ghost use Rattle.hippo_policy.specs.Rulings.{ruling_of, asks_opt_in};
+ghost use Rattle.hippo_policy.specs.Rulings.{ruling_of, opt_in_of};
 ghost use Rattle.hippo_formats.specs.Formats.{json_line, csv_line, rule_data, rule_fields};
 
 use crate::objects::rule_json;
@@ -18,8 +18,9 @@ pub fn append_rule_object(
     ruling: &RuleAt<'_>,
     out: &mut Txt,
 ) -> Result<(), Memory>
-    ensures { OnOk result (out.new ≡ out.old ++ json_line (rule_data names.now.purpose.now names.now.recipient.now
-        names.now.table.now names.now.column.now (ruling_of ruling.now) (asks_opt_in ruling.now))) }
+    ensures { OnOk result (out.new ≡ out.old
+        ++ json_line (rule_data names.now.purpose.now names.now.recipient.now
+        names.now.table.now names.now.column.now (ruling_of ruling.now) (opt_in_of ruling.now))) }
 {
     let text = rule_json(alloc, names, ruling)?;
     append_text_line(text.as_str(), out)
@@ -32,8 +33,9 @@ pub fn append_rule_record(
     ruling: &RuleAt<'_>,
     out: &mut Txt,
 ) -> Result<(), Memory>
-    ensures { OnOk result (out.new ≡ out.old ++ csv_line (rule_fields names.now.purpose.now names.now.recipient.now
-        names.now.table.now names.now.column.now (ruling_of ruling.now) (asks_opt_in ruling.now))) }
+    ensures { OnOk result (out.new ≡ out.old
+        ++ csv_line (rule_fields names.now.purpose.now names.now.recipient.now
+        names.now.table.now names.now.column.now (ruling_of ruling.now) (opt_in_of ruling.now))) }
 {
     let fields = rule_record(alloc, names, ruling)?;
     append_record(alloc, &fields, out)

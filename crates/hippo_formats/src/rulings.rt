@@ -1,6 +1,6 @@
 //! What a rule says, by its parts.
 ghost use Rattle.std.specs.Prelude.{◌≡◌, option_copied};
-ghost use Rattle.hippo_policy.specs.Rulings.{ruling_of, asks_opt_in};
+ghost use Rattle.hippo_policy.specs.Rulings.{ruling_of, opt_in_of};
 ghost use Rattle.hippo_formats.specs.Formats.{rule_number, ruling_word, rule_item, rule_days, opt_word};
 
 use hippo_model::RuleAt;
@@ -58,7 +58,7 @@ pub(crate) fn days_of(ruling: &RuleAt<'_>) -> Option<u32>
 }
 
 pub(crate) fn opt_of(ruling: &RuleAt<'_>) -> Option<bool>
-    ensures { result ≡ asks_opt_in ruling.now }
+    ensures { result ≡ opt_in_of ruling.now }
 {
     match *ruling {
         RuleAt::With { opt_in, .. } => Some(opt_in),

@@ -55,7 +55,8 @@ fn append_object(
     out: &mut Txt,
 ) -> Result<(), Memory>
     ensures { OnOk result (out.new ≡ out.old
-        ++ json_line (entry_data (option_copied schema.entry) entry.now.seq moment.now entry.now.act)) }
+        ++ json_line (entry_data (option_copied schema.entry) entry.now.seq moment.now
+        entry.now.act)) }
 {
     let text = entry_json(alloc, schema, entry.seq, moment, &entry.act)?;
     append_text_line(text.as_str(), out)
@@ -69,7 +70,8 @@ fn append_fields(
     out: &mut Txt,
 ) -> Result<(), Memory>
     ensures { OnOk result (out.new ≡ out.old
-        ++ csv_line (entry_fields (option_copied schema.entry) entry.now.seq moment.now entry.now.act)) }
+        ++ csv_line (entry_fields (option_copied schema.entry) entry.now.seq moment.now
+        entry.now.act)) }
 {
     let fields = entry_record(alloc, schema, entry.seq, moment, &entry.act)?;
     append_record(alloc, &fields, out)
@@ -82,7 +84,8 @@ fn append_json(
     out: &mut Txt,
 ) -> Result<(), Memory>
     ensures { OnOk result (out.new ≡ out.old
-        ++ json_line (entry_data (option_copied schema.entry) entry.now.seq (moment_text entry.now.moment) entry.now.act)) }
+        ++ json_line (entry_data (option_copied schema.entry) entry.now.seq
+        (moment_text entry.now.moment) entry.now.act)) }
 {
     let moment = moment_of(alloc, &entry.moment)?;
     append_object(alloc, schema, entry, moment.as_str(), out)
@@ -95,7 +98,8 @@ fn append_csv(
     out: &mut Txt,
 ) -> Result<(), Memory>
     ensures { OnOk result (out.new ≡ out.old
-        ++ csv_line (entry_fields (option_copied schema.entry) entry.now.seq (moment_text entry.now.moment) entry.now.act)) }
+        ++ csv_line (entry_fields (option_copied schema.entry) entry.now.seq
+        (moment_text entry.now.moment) entry.now.act)) }
 {
     let moment = moment_of(alloc, &entry.moment)?;
     append_fields(alloc, schema, entry, moment.as_str(), out)
@@ -109,7 +113,8 @@ pub fn append_entry(
     entry: &Entry,
     out: &mut Txt,
 ) -> Result<(), Memory>
-    ensures { OnOk result (out.new ≡ out.old ++ entry_by format (option_copied schema.entry) entry.now) }
+    ensures { OnOk result (out.new ≡ out.old
+        ++ entry_by format (option_copied schema.entry) entry.now) }
 {
     match format {
         Format::Text => entry_line(alloc, schema, entry, out),

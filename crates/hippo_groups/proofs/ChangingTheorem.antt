@@ -10,7 +10,7 @@ use Rattle.hippo_model.specs.declared.query.Shape.{Shape}
 use Rattle.hippo_model.specs.Terms.{Combination, ShownRow, Place}
 use Rattle.hippo_model.specs.Answers.{product}
 use Rattle.hippo_model.specs.Bags.{same_bag}
-use Rattle.hippo_model.specs.Forms.{grouped}
+use Rattle.hippo_model.specs.Forms.{grouped_rows}
 use Rattle.hippo_model.specs.Masking.{Choices}
 use Rattle.hippo_model.specs.RowSets.{KeyedRows, IsAscending, key_in}
 use Rattle.hippo_eval.specs.Answering.{masked_rows}
@@ -19,16 +19,16 @@ use Rattle.hippo_join.specs.Finding.{has_places}
 use Rattle.hippo_join.specs.Places.{in_range}
 use Rattle.hippo_distinct.proofs.BagLemmas.{bag-from_same}
 use Rattle.hippo_distinct.proofs.CellOrder.{key_order}
-use Rattle.hippo_shared.specs.Candidates.{AreThoseOf}
+use Rattle.hippo_shared.specs.Candidates.{AreCandidates}
 use Rattle.hippo_shared.specs.Marks.{row_places, same_places}
 use Rattle.hippo_shared.specs.Needs.{needs_by}
-use Rattle.hippo_shared.specs.Sharing.{common_tables, place_in, rows_named, HaveSameRows, has_tuple}
+use Rattle.hippo_shared.specs.Sharing.{common_tables, place_in, rows_named, HaveSameRows, has_tuple_in}
 use Rattle.hippo_shared.specs.Tuples.{tuple_at}
 use Rattle.hippo_shared.proofs.CandidateLemmas.{all_told}
 use Rattle.hippo_shared.proofs.MarkLemmas.{same-exact}
 use Rattle.hippo_groups.specs.declared.marking.MarkedGroups.{MarkedGroups}
 use Rattle.hippo_groups.specs.GroupMarks.{placed_rows, changes_without}
-use Rattle.hippo_groups.specs.KeptGroups.{AreMarked}
+use Rattle.hippo_groups.specs.KeptGroups.{AreMarkedGroups}
 use Rattle.hippo_groups.proofs.MarksTheorem.{filter-all, query-changes}
 
 each-of : {A : Type 0} {P Q : A → Type 0} → ((item : A) → P item → Q item) → (items : List A) → AllByRecursion P items → AllByRecursion Q items
@@ -58,12 +58,12 @@ module _ (choices : Choices) (query : Masked) (shape : Shape) (audit : List Name
 
   abbrev IsTold : Combination → Type 0
   IsTold rows = (in_range sets (row_places query_sets tables rows) ≡ true)
-      × ((given : List Place) → in_range sets given ≡ true → has_tuple query.tables query_sets (tuple given) rows ≡ same_places (row_places query_sets tables rows) given)
+      × ((given : List Place) → in_range sets given ≡ true → has_tuple_in query.tables query_sets (tuple given) rows ≡ same_places (row_places query_sets tables rows) given)
 
   told : AllByRecursion IsTold combinations
   told = all_told query.tables audit query_sets audit_sets long_query long_audit same ascend
 
-  module _ (groups : MarkedGroups) (are : AreMarked key_order shape (placed_rows choices query query_sets tables combinations) groups) (places : List Place) where
+  module _ (groups : MarkedGroups) (are : AreMarkedGroups key_order shape (placed_rows choices query query_sets tables combinations) groups) (places : List Place) where
     abbrev is_changed : Bool
     is_changed = list_any (changes_without places) groups.marks.items
 
@@ -71,7 +71,7 @@ module _ (choices : Choices) (query : Masked) (shape : Shape) (audit : List Name
     within : in_range sets places ≡ true → is_changed ≡ needs (tuple places)
     within in_sets =
         ap (list_any (changes_without places)) are.each
-        ∙ query-changes places choices query query_sets tables (has_tuple query.tables query_sets (tuple places)) shape combinations (each-of (λ rows told. told.1 places in_sets) combinations told)
+        ∙ query-changes places choices query query_sets tables (has_tuple_in query.tables query_sets (tuple places)) shape combinations (each-of (λ rows told. told.1 places in_sets) combinations told)
 
     -- no combination has others
     none : in_range sets places ≡ false → (rows : Combination) → IsTold rows → false ≡ same_places (row_places query_sets tables rows) places
@@ -84,10 +84,10 @@ module _ (choices : Choices) (query : Masked) (shape : Shape) (audit : List Name
 
     without : in_range sets places ≡ false → is_changed ≡ false
     without out =
-        let all : List ShownRow = grouped shape (masked_rows choices query combinations) in
+        let all : List ShownRow = grouped_rows shape (masked_rows choices query combinations) in
         ap (list_any (changes_without places)) are.each
         ∙ query-changes places choices query query_sets tables (λ rows. false) shape combinations (each-of (none out) combinations told)
-        ∙ ap (λ (left : List Combination). not (same_bag (grouped shape (masked_rows choices query left)) all)) (filter-all combinations)
+        ∙ ap (λ (left : List Combination). not (same_bag (grouped_rows shape (masked_rows choices query left)) all)) (filter-all combinations)
         ∙ ap not (bag-from_same all all (λ row. refl))
 
     says : is_changed ≡ (in_range sets places && needs (tuple places))
@@ -98,7 +98,7 @@ module _ (choices : Choices) (query : Masked) (shape : Shape) (audit : List Name
         by false e = without e
 
   -- the places that the marks give are those of the tuples that the query needs
-  pub changing_are : (groups : MarkedGroups) → AreMarked key_order shape (placed_rows choices query query_sets tables combinations) groups
+  pub changing_are : (groups : MarkedGroups) → AreMarkedGroups key_order shape (placed_rows choices query query_sets tables combinations) groups
       → (candidates : List (List Place)) → ((places : List Place) → has_places places candidates ≡ list_any (changes_without places) groups.marks.items)
-      → AreThoseOf needs audit audit_sets common candidates
+      → AreCandidates needs audit audit_sets common candidates
   changing_are groups are candidates given places = given places ∙ says groups are places

@@ -10,12 +10,12 @@ use Rattle.std.proofs.lemmas.Option.{slice_get_within, get_or_from_slice_get}
 use Rattle.hippo_model.specs.declared.query.Shape.{Shape}
 use Rattle.hippo_model.specs.Terms.{ShownRow, Place}
 use Rattle.hippo_model.specs.Bags.{same_row}
-use Rattle.hippo_model.specs.Forms.{different, group_cell, grouped}
+use Rattle.hippo_model.specs.Forms.{different_rows, group_cell, grouped_rows}
 use Rattle.hippo_distinct.specs.declared.keys.CellKey.{CellKey}
 use Rattle.hippo_distinct.specs.RowKeys.{row_key}
 use Rattle.hippo_distinct.specs.DistinctRows.{stands_in}
 use Rattle.hippo_distinct.proofs.CellOrder.{key_order, agrees}
-use Rattle.hippo_distinct.proofs.DifferentLemmas.{same_row-exact, stands-push, different-append}
+use Rattle.hippo_distinct.proofs.DifferentLemmas.{same_row-exact, stands-push, different_rows-append}
 use Rattle.hippo_distinct.proofs.KeptLemmas.{key_same}
 use Rattle.hippo_groups.specs.KeptGroups.{members_of, keys_of, HasPlaces, AreKept}
 use Rattle.hippo_groups.proofs.GroupLemmas.{kept_at, keys-new, kept-new, keys-same, kept-before, kept-joined}
@@ -98,14 +98,14 @@ module _ {M K : Type 0} (row_of : M → ShownRow) (keys : Place) (kept_of : Show
       at_place other false e (Some at) was = get-before before (key ∷ []) at other was
 
 -- with more rows there are no fewer groups
-pub not_fewer : (shape : Shape) (found rows : List ShownRow) → rows ≡ grouped shape found → (later : List ShownRow) → length rows ≤ length (grouped shape (found ++ later))
+pub not_fewer : (shape : Shape) (found rows : List ShownRow) → rows ≡ grouped_rows shape found → (later : List ShownRow) → length rows ≤ length (grouped_rows shape (found ++ later))
 not_fewer shape found rows are later =
     let keys : List ShownRow = map (take shape.keys) found in
     let row : List ShownRow → ShownRow → ShownRow = kept_at (λ row. row) shape.keys (λ key members. map (group_cell key members) shape.outs) in
-    let whole = different-append (map (take shape.keys) later) keys in
-    let before : length rows ≡ length (different keys) = ap length are ∙ length-map (different keys) (row found) in
-    let after : length (grouped shape (found ++ later)) ≡ length (different keys ++ whole.0) =
-    length-map (different (map (take shape.keys) (found ++ later))) (row (found ++ later))
-    ∙ ap (λ (all : List ShownRow). length (different all)) (map-append (take shape.keys) found later)
+    let whole = different_rows-append (map (take shape.keys) later) keys in
+    let before : length rows ≡ length (different_rows keys) = ap length are ∙ length-map (different_rows keys) (row found) in
+    let after : length (grouped_rows shape (found ++ later)) ≡ length (different_rows keys ++ whole.0) =
+    length-map (different_rows (map (take shape.keys) (found ++ later))) (row (found ++ later))
+    ∙ ap (λ (all : List ShownRow). length (different_rows all)) (map-append (take shape.keys) found later)
     ∙ ap length whole.1 in
-    omega (arith, before, after, length-append (different keys) whole.0)
+    omega (arith, before, after, length-append (different_rows keys) whole.0)

@@ -17,7 +17,7 @@ use Rattle.hippo_model.specs.declared.query.Shape.{Shape}
 use Rattle.hippo_model.specs.Terms.{Combination, ShownRow, Place}
 use Rattle.hippo_model.specs.Conditions.{is_null}
 use Rattle.hippo_model.specs.Bags.{same_cell, same_row, same_bag}
-use Rattle.hippo_model.specs.Forms.{different, least_value, greatest_value, values_in, group_cell, grouped}
+use Rattle.hippo_model.specs.Forms.{different_rows, least_value, greatest_value, values_in, group_cell, grouped_rows}
 use Rattle.hippo_model.specs.Masking.{Choices, is_guarded, masked_passes, masked_items}
 use Rattle.hippo_model.specs.RowSets.{KeyedRows}
 use Rattle.hippo_eval.specs.Answering.{masked_rows}
@@ -27,10 +27,10 @@ use Rattle.hippo_shared.specs.declared.marks.Mark.TheVariants.{Unmarked, One, Se
 use Rattle.hippo_shared.specs.Marks.{row_places, same_places, mark_of, is_one}
 use Rattle.hippo_groups.specs.declared.group_marks.Best.{Best}
 use Rattle.hippo_groups.specs.declared.group_marks.GroupMarks.{GroupMarks}
-use Rattle.hippo_groups.specs.GroupMarks.{PlacedRow, placed_rows, value_at, places_of, best_by, best_of, marks_of, is_best_changed, changes_without}
+use Rattle.hippo_groups.specs.GroupMarks.{PlacedRow, placed_rows, shown_value, member_places, best_by, best_of, marks_of, is_best_changed, changes_without}
 use Rattle.hippo_groups.specs.KeptGroups.{members_of, keys_of}
 use Rattle.hippo_groups.proofs.BestTheorem.{IsBest, least_is_best, greatest_is_best, who_have_it, some-have-it, changes}
-use Rattle.hippo_groups.proofs.GroupLemmas.{any-different, kept_at}
+use Rattle.hippo_groups.proofs.GroupLemmas.{any-different_rows, kept_at}
 
 -- equal places are the same
 places-exact : (some others : List Place) → same_places some others ≡ true → some ≡ others
@@ -122,10 +122,10 @@ module _ (places : List Place) where
       by false e = none_if (list_all (same_places first) rest) e ∙ sym (ap (λ (same : Bool). same && others) e)
 
   -- members have one mark where all of them come from combinations with its places
-  all-out : (members : List PlacedRow) → is_full members ≡ true → is_one places (mark_of (places_of members)) ≡ list_all is_out members
+  all-out : (members : List PlacedRow) → is_full members ≡ true → is_one places (mark_of (member_places members)) ≡ list_all is_out members
   all-out [] full = absurd cc
   all-out (first ∷ rest) full =
-      one-mark first.places (places_of rest)
+      one-mark first.places (member_places rest)
       ∙ ap (λ (all : Bool). is_out first && all) (list_all-map (λ other. same_places other places) (λ (member : PlacedRow). member.places) rest)
 
   module _ (key : ShownRow) (members : List PlacedRow) where
@@ -146,21 +146,21 @@ module _ (places : List Place) where
         ∙ sym (λ i. not (is_eq (value_cmp (best (values left i)) (best (values members i)))))
       where
         value_of : PlacedRow → Value
-        value_of member = value_at place member.row
+        value_of member = shown_value place member.row
 
         value : Value
-        value = best (map (λ (member : PlacedRow). value_at place member.row) members)
+        value = best (map (λ (member : PlacedRow). shown_value place member.row) members)
 
         who : List PlacedRow
-        who = filter (λ (member : PlacedRow). is_eq (value_cmp (value_at place member.row) (best (map (λ (one : PlacedRow). value_at place one.row) members)))) members
+        who = filter (λ (member : PlacedRow). is_eq (value_cmp (shown_value place member.row) (best (map (λ (one : PlacedRow). shown_value place one.row) members)))) members
 
-        values : (some : List PlacedRow) → values_in place (map row_in some) ≡ map (λ (member : PlacedRow). value_at place member.row) some
-        values some = map-map (value_at place) row_in some
+        values : (some : List PlacedRow) → values_in place (map row_in some) ≡ map (λ (member : PlacedRow). shown_value place member.row) some
+        values some = map-map (shown_value place) row_in some
 
-        by : (null : Bool) → is_null (best (map (λ (member : PlacedRow). value_at place member.row) members)) ≡ null → (not null && is_one places (mark_of (places_of who))) ≡ (not null && list_all is_out who)
+        by : (null : Bool) → is_null (best (map (λ (member : PlacedRow). shown_value place member.row) members)) ≡ null → (not null && is_one places (mark_of (member_places who))) ≡ (not null && list_all is_out who)
         by true n = refl
-        by false n = all-out who (full-from_any (λ (member : PlacedRow). is_eq (value_cmp (value_at place member.row) (best (map (λ (one : PlacedRow). value_at place one.row) members)))) members
-            (some-have-it below lower best is (λ member. value_at place member.row) members n))
+        by false n = all-out who (full-from_any (λ (member : PlacedRow). is_eq (value_cmp (shown_value place member.row) (best (map (λ (one : PlacedRow). shown_value place one.row) members)))) members
+            (some-have-it below lower best is (λ member. shown_value place member.row) members n))
 
     cell-changes : (out : Out) → is_best_changed places (best_of members out) ≡ not (same_cell (now out) (before out))
     cell-changes (Column place) = ap not (sym (same_cell-refl (before (Column place))))
@@ -199,13 +199,13 @@ module _ (places : List Place) where
 
     -- the groups change without a tuple exactly where some marks say so
     pub groups-change : list_any (changes_without places) (map marks_at (keys_of row_in shape.keys found))
-        ≡ not (same_bag (grouped shape (map row_in (filter is_left found))) (grouped shape (map row_in found)))
+        ≡ not (same_bag (grouped_rows shape (map row_in (filter is_left found))) (grouped_rows shape (map row_in found)))
     groups-change =
         any-map (changes_without places) marks_at (keys_of row_in shape.keys found)
-        ∙ any-different (λ key. changes_without places (marks_at key)) (map key_of found)
+        ∙ any-different_rows (λ key. changes_without places (marks_at key)) (map key_of found)
         ∙ each-group [] found refl
         ∙ sym (
-        (λ i. not (same_bag (grouped shape (map row_in (sym (filter-all (filter is_left found)) i))) (grouped shape (map row_in (sym (filter-all found) i)))))
+        (λ i. not (same_bag (grouped_rows shape (map row_in (sym (filter-all (filter is_left found)) i))) (grouped_rows shape (map row_in (sym (filter-all found) i)))))
         ∙ needs_what_changes_groups row_in (λ member. true) is_out shape found
         ∙ ap (list_any is_changed) (ap (λ (all : List PlacedRow). map (take shape.keys) (map row_in all)) (filter-all found) ∙ map-map (take shape.keys) row_in found)
         )
@@ -248,7 +248,7 @@ module _ (places : List Place) where
     -- a grouped query's answer changes without some combinations exactly where the marks of its groups say so
     pub query-changes : (shape : Shape) (combinations : List Combination) → HaveAlike combinations
         → list_any (changes_without places) (map (marks_at shape (placed_rows choices query sets tables combinations)) (keys_of row_in shape.keys (placed_rows choices query sets tables combinations)))
-        ≡ not (same_bag (grouped shape (masked_rows choices query (filter (λ rows. not (has rows)) combinations))) (grouped shape (masked_rows choices query combinations)))
+        ≡ not (same_bag (grouped_rows shape (masked_rows choices query (filter (λ rows. not (has rows)) combinations))) (grouped_rows shape (masked_rows choices query combinations)))
     query-changes shape combinations alike =
         groups-change shape (placed_rows choices query sets tables combinations)
-        ∙ λ i. not (same_bag (grouped shape (rows-left combinations alike i)) (grouped shape (map-map row_in placed (filter passes combinations) i)))
+        ∙ λ i. not (same_bag (grouped_rows shape (rows-left combinations alike i)) (grouped_rows shape (map-map row_in placed (filter passes combinations) i)))

@@ -25,23 +25,29 @@ pub record PlacedRow : Type 0 where
   pub places : List Place
 
 -- the rows that a query makes of some combinations, with the places of these in some tables
-abbrev pub placed_rows : Choices → Masked → List KeyedRows → List Place → List Combination → List PlacedRow
+abbrev pub placed_rows : Choices → Masked → List KeyedRows → List Place → List Combination
+    → List PlacedRow
 placed_rows choices query sets tables combinations =
-    map (λ rows. record { row = masked_items choices query rows; places = row_places sets tables rows })
-    (filter (λ rows. is_guarded choices query rows && masked_passes choices query rows) combinations)
+    map (λ rows. record {
+      row = masked_items choices query rows;
+      places = row_places sets tables
+          rows;
+    })
+    (filter (λ rows. is_guarded choices query rows && masked_passes choices query rows)
+    combinations)
 
-abbrev pub value_at : Place → ShownRow → Value
-value_at place row = value_in (slice_index_or row place (Denied 0))
+abbrev pub shown_value : Place → ShownRow → Value
+shown_value place row = value_in (slice_index_or row place (Denied 0))
 
-abbrev pub places_of : List PlacedRow → List (List Place)
-places_of members = map (λ member. member.places) members
+abbrev pub member_places : List PlacedRow → List (List Place)
+member_places members = map (λ member. member.places) members
 
 -- the best of the members' values, and the mark of those that have it
 abbrev pub best_by : (List Value → Value) → Place → List PlacedRow → Best
 best_by best place members =
-    let value : Value = best (map (λ member. value_at place member.row) members) in
-    let who = filter (λ member. is_eq (value_cmp (value_at place member.row) value)) members in
-    record { value = value; mark = mark_of (places_of who) }
+    let value : Value = best (map (λ member. shown_value place member.row) members) in
+    let who = filter (λ member. is_eq (value_cmp (shown_value place member.row) value)) members in
+    record { value = value; mark = mark_of (member_places who) }
 
 abbrev pub best_of : List PlacedRow → Out → Best
 best_of members (Column place) = record { value = Null; mark = Unmarked }
@@ -50,9 +56,11 @@ best_of members (Max place) = best_by greatest_value place members
 
 -- the mark of all members, and what is the best of each output
 abbrev pub marks_of : List Out → List PlacedRow → GroupMarks
-marks_of outs members = record { mark = mark_of (places_of members); bests = map (best_of members) outs }
+marks_of outs members =
+    record { mark = mark_of (member_places members); bests = map (best_of members) outs }
 
--- a best value with its mark, of one value more: who has it, too, adds to the mark; who has a better one has it alone
+-- a best value with its mark, of one value more: who has it, too, adds to the mark; who has a
+-- better one has it alone
 abbrev pub best_after : Value → List (List Place) → Value → Bool → List Place → Best
 best_after old who value is_better places =
     if is_eq (value_cmp value old) then record { value = old; mark = mark_of (who ++ places ∷ []) }
@@ -65,9 +73,11 @@ is_best_changed places best = not (is_null best.value) && is_one places best.mar
 
 -- whether a group goes, or a best value of it becomes another, without the tuple of some places
 abbrev pub changes_without : List Place → GroupMarks → Bool
-changes_without places group = is_one places group.mark || list_any (is_best_changed places) group.bests
+changes_without places group =
+    is_one places group.mark || list_any (is_best_changed places) group.bests
 
--- the best values before a place are those of more members, and the others those of the members before
-abbrev pub AreJoined : List PlacedRow → List PlacedRow → List Out → Place → List Best → Type 0
-AreJoined before after outs place bests =
+-- the best values before a place are those of more members, and the others those of the members
+-- before
+abbrev pub AreJoinedBests : List PlacedRow → List PlacedRow → List Out → Place → List Best → Type 0
+AreJoinedBests before after outs place bests =
     bests ≡ map (best_of after) (take place outs) ++ map (best_of before) (drop place outs)

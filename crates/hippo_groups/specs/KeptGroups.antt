@@ -4,7 +4,7 @@ use Rattle.std.specs.BTreeMap as tree
 use Rattle.hippo_model.specs.declared.query.Shape.{Shape}
 use Rattle.hippo_model.specs.Terms.{ShownRow, Place}
 use Rattle.hippo_model.specs.Bags.{same_row}
-use Rattle.hippo_model.specs.Forms.{different, group_cell}
+use Rattle.hippo_model.specs.Forms.{different_rows, group_cell}
 use Rattle.hippo_distinct.specs.declared.keys.CellKey.{CellKey}
 use Rattle.hippo_distinct.specs.DistinctRows.{KeyOrder, stands_in}
 use Rattle.hippo_distinct.specs.RowKeys.{row_key}
@@ -18,7 +18,7 @@ members_of row_of keys found key = filter (λ member. same_row key (take keys (r
 
 -- the keys of the groups, each at the place of its first member
 abbrev pub keys_of : {M : Type 0} → (M → ShownRow) → Place → List M → List ShownRow
-keys_of row_of keys found = different (map (λ member. take keys (row_of member)) found)
+keys_of row_of keys found = different_rows (map (λ member. take keys (row_of member)) found)
 
 -- a key that is kept stands at its group's place; one that is not kept has no group
 abbrev pub HasPlaces : KeyOrder → List ShownRow → tree.BTreeMap (List CellKey) ℕ → Type 0
@@ -29,19 +29,23 @@ HasPlaces order keys kept =
 
 -- something is kept of each group's key and members, and the place of each group by its key
 pub record AreKept
-    {M K : Type 0} (order : KeyOrder) (row_of : M → ShownRow) (keys : Place) (kept_of : ShownRow → List M → K)
+    {M K : Type 0} (order : KeyOrder) (row_of : M → ShownRow) (keys : Place)
+    (kept_of : ShownRow → List M → K)
     (found : List M) (kept : List K) (places : tree.BTreeMap (List CellKey) ℕ) : Type 0 where
-  pub each : kept ≡ map (λ key. kept_of key (members_of row_of keys found key)) (keys_of row_of keys found)
+  pub each : kept ≡ map (λ key. kept_of key (members_of row_of keys found key))
+      (keys_of row_of keys found)
   pub placed : HasPlaces order (keys_of row_of keys found) places
 
 -- the groups' rows are kept
 abbrev pub AreGroups : KeyOrder → Shape → List ShownRow → Groups → Type 0
 AreGroups order shape found kept =
-    AreKept order (λ row. row) shape.keys (λ key members. map (group_cell key members) shape.outs) found
+    AreKept order (λ row. row) shape.keys
+    (λ key members. map (group_cell key members) shape.outs) found
     kept.rows.items kept.places
 
 -- the groups' marks are kept
-abbrev pub AreMarked : KeyOrder → Shape → List PlacedRow → MarkedGroups → Type 0
-AreMarked order shape found kept =
-    AreKept order (λ member. member.row) shape.keys (λ key members. marks_of shape.outs members) found
+abbrev pub AreMarkedGroups : KeyOrder → Shape → List PlacedRow → MarkedGroups → Type 0
+AreMarkedGroups order shape found kept =
+    AreKept order (λ member. member.row) shape.keys
+    (λ key members. marks_of shape.outs members) found
     kept.marks.items kept.places

@@ -78,7 +78,8 @@ fn raise(alloc: Global, greatest: &mut Cell, value: &Value) -> Result<(), Memory
 /// Takes the value at a place of one row more into the least of some.
 pub fn lower_by(alloc: Global, least: &mut Cell, row: &CellRow, place: usize) -> Result<(), Memory>
     ensures { (before : values.Value) → least.old ≡ Shown before
-        → OnOk result (least.new ≡ Shown (lesser before (value_in (slice_index_or row.now place (Denied 0))))) }
+        → OnOk result (least.new ≡ Shown
+        (lesser before (value_in (slice_index_or row.now place (Denied 0))))) }
 {
     lower(alloc, least, value_at(row, place).unwrap_or(&Value::Null))
 }
@@ -91,7 +92,8 @@ pub fn raise_by(
     place: usize,
 ) -> Result<(), Memory>
     ensures { (before : values.Value) → greatest.old ≡ Shown before
-        → OnOk result (greatest.new ≡ Shown (greater before (value_in (slice_index_or row.now place (Denied 0))))) }
+        → OnOk result (greatest.new ≡ Shown
+        (greater before (value_in (slice_index_or row.now place (Denied 0))))) }
 {
     raise(
         alloc,

@@ -10,12 +10,14 @@ use hippo_shared::{Audited, audit_has_any, common_places, first_of, know_order};
 use hippo_values::Memory;
 use std::alloc::Global;
 
-/// The first virtual tuple (a row of each table in both FROM lists, by its key; in the audit's order) without whose
-/// combinations a query's groups (SQL's GROUP BY) have other rows, that some combination of the query's rows has which
-/// counts and in which each expression of `seen` is a shown cell, and that some combination of the audit's rows has of
-/// which its condition is true; none exactly where there is none. Wants the rows of each side's tables, in the order of
-/// FROM, the same ones of a table that both have; and an audit that names no table twice. Takes memory for the groups,
-/// and the time of `walk_joined` over the query's rows, unless no combination of the audit's rows counts.
+/// The first virtual tuple (a row of each table in both FROM lists, by its key; in the audit's
+/// order) without whose combinations a query's groups (SQL's GROUP BY) have other rows, that some
+/// combination of the query's rows has which counts and in which each expression of `seen` is a
+/// shown cell, and that some combination of the audit's rows has of which its condition is true;
+/// none exactly where there is none. Wants the rows of each side's tables, in the order of FROM,
+/// the same ones of a table that both have; and an audit that names no table twice. Takes memory
+/// for the groups, and the time of `walk_joined` over the query's rows, unless no combination of
+/// the audit's rows counts.
 pub fn first_changing<C: ChoiceView>(
     alloc: Global,
     query: &Masked,
@@ -24,8 +26,10 @@ pub fn first_changing<C: ChoiceView>(
     audited: &Audited<'_, C>,
 ) -> Result<Option<SharedTuple>, Memory>
     requires { HasRowsFor query.now.tables audited.now }
-    ensures { IfOk result (λ shared. shared ≡ first_needed (C.choices audited.now.choices.now) query.now
-        (Grouped shape.now) audited.now.audit.now seen.now audited.now.query_sets.now audited.now.audit_sets.now) }
+    ensures { IfOk result (λ shared. shared
+        ≡ first_needed (C.choices audited.now.choices.now) query.now
+        (Grouped shape.now) audited.now.audit.now seen.now audited.now.query_sets.now
+        audited.now.audit_sets.now) }
 {
     if !audit_has_any(alloc, audited)? {
         return Ok(None);

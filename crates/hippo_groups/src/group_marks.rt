@@ -1,4 +1,5 @@
-//! Without which virtual tuples a group changes: what is kept of its members to know it, one after the other.
+//! Without which virtual tuples a group changes: what is kept of its members to know it, one after
+//! the other.
 ghost use Rattle.std.specs.Prelude.{◌≡◌, ◌+◌, ◌<◌, [], ◌∷◌, ◌++◌, ◌||◌, List, length, map, IfOk, OnOk};
 ghost use Rattle.std.specs.List.{list_any};
 ghost use Rattle.hippo_model.specs.Terms.{Place};
@@ -6,7 +7,7 @@ ghost use Rattle.hippo_model.specs.Forms.{least_value, greatest_value};
 ghost use Rattle.hippo_join.specs.Finding.{has_places};
 ghost use Rattle.hippo_shared.specs.Marks.{mark_of};
 ghost use Rattle.hippo_groups.specs.declared.group_marks.GroupMarks as marks;
-ghost use Rattle.hippo_groups.specs.GroupMarks.{PlacedRow, value_at, best_by, best_of, best_after, marks_of, is_best_changed, changes_without, AreJoined};
+ghost use Rattle.hippo_groups.specs.GroupMarks.{PlacedRow, shown_value, best_by, best_of, best_after, marks_of, is_best_changed, changes_without, AreJoinedBests};
 
 use crate::best_values::{is_greater, is_lesser, value_at};
 use hippo_model::{CellRow, Out, Outs, Places};
@@ -47,7 +48,8 @@ fn mark_with(alloc: Global, mark: &mut Mark, places: &Places) -> Result<(), Memo
 
 // The best value where one member alone has it.
 fn best_alone(alloc: Global, value: &Value, places: &Places) -> Result<Best, Memory>
-    ensures { IfOk result (λ best. best ≡ record { value = value.now; mark = mark_of (places.now ∷ []) }) }
+    ensures { IfOk result (λ best. best ≡ record
+        { value = value.now; mark = mark_of (places.now ∷ []) }) }
 {
     let places = copied(alloc, places)?;
     Ok(Best {
@@ -79,7 +81,7 @@ fn take(
 // Takes the value of one member more into the least.
 fn lower(alloc: Global, best: &mut Best, value: &Value, places: &Places) -> Result<(), Memory>
     ensures { (place : Place) (members : List PlacedRow) (member : PlacedRow)
-        → best.old ≡ best_by least_value place members → value.now ≡ value_at place member.row
+        → best.old ≡ best_by least_value place members → value.now ≡ shown_value place member.row
         → places.now ≡ member.places
         → OnOk result (best.new ≡ best_by least_value place (members ++ member ∷ [])) }
 {
@@ -90,7 +92,7 @@ fn lower(alloc: Global, best: &mut Best, value: &Value, places: &Places) -> Resu
 // Takes the value of one member more into the greatest.
 fn raise(alloc: Global, best: &mut Best, value: &Value, places: &Places) -> Result<(), Memory>
     ensures { (place : Place) (members : List PlacedRow) (member : PlacedRow)
-        → best.old ≡ best_by greatest_value place members → value.now ≡ value_at place member.row
+        → best.old ≡ best_by greatest_value place members → value.now ≡ shown_value place member.row
         → places.now ≡ member.places
         → OnOk result (best.new ≡ best_by greatest_value place (members ++ member ∷ [])) }
 {
@@ -107,7 +109,8 @@ fn join_best(
     places: &Places,
 ) -> Result<(), Memory>
     ensures { (members : List PlacedRow) → best.old ≡ best_of members out
-        → OnOk result (best.new ≡ best_of (members ++ record { row = row.now; places = places.now } ∷ []) out) }
+        → OnOk result (best.new ≡ best_of
+        (members ++ record { row = row.now; places = places.now } ∷ []) out) }
 {
     match out {
         Out::Column(_) => Ok(()),
@@ -137,8 +140,10 @@ fn join_place(
 ) -> Result<(), Memory>
     requires { place < length outs.now }
     ensures { (members : List PlacedRow)
-        → AreJoined members (members ++ record { row = row.now; places = places.now } ∷ []) outs.now place bests.old
-        → OnOk result (AreJoined members (members ++ record { row = row.now; places = places.now } ∷ []) outs.now
+        → AreJoinedBests members (members
+        ++ record { row = row.now; places = places.now } ∷ []) outs.now place bests.old
+        → OnOk result (AreJoinedBests members
+        (members ++ record { row = row.now; places = places.now } ∷ []) outs.now
         (place + 1) bests.new) }
 {
     if place >= bests.len() {
@@ -174,7 +179,8 @@ fn joined(
     places: &Places,
 ) -> Result<GroupMarks, Memory>
     ensures { (members : List PlacedRow) → group ≡ marks_of outs.now members
-        → IfOk result (λ new. new ≡ marks_of outs.now (members ++ record { row = row.now; places = places.now } ∷ [])) }
+        → IfOk result (λ new. new ≡ marks_of outs.now
+        (members ++ record { row = row.now; places = places.now } ∷ [])) }
 {
     let GroupMarks { mut mark, bests } = group;
     let mut bests = bests.into_vec();
@@ -229,7 +235,8 @@ pub(crate) fn join_at(
     ensures { (front back : List marks.GroupMarks) (members : List PlacedRow)
         → groups.old ≡ front ++ marks_of outs.now members ∷ back → place ≡ length front
         → OnOk result (groups.new
-        ≡ front ++ marks_of outs.now (members ++ record { row = row.now; places = places.now } ∷ []) ∷ back) }
+        ≡ front ++ marks_of outs.now (members ++ record { row = row.now; places = places.now } ∷ [])
+        ∷ back) }
 {
     if place >= groups.len() {
         return Ok(());
@@ -257,7 +264,8 @@ fn add_of_best(best: Best, candidates: &mut BTreeSet<Places>) -> Result<(), Memo
 // Adds the tuples without which some best value becomes another.
 fn add_of_bests(bests: Vec<Best>, candidates: &mut BTreeSet<Places>) -> Result<(), Memory>
     ensures { OnOk result ((places : List Place) → has_places places candidates.new.keys
-        ≡ (list_any (is_best_changed places) bests.items || has_places places candidates.old.keys)) }
+        ≡ (list_any (is_best_changed places) bests.items
+        || has_places places candidates.old.keys)) }
 {
     for best in bests {
         add_of_best(best, candidates)?;

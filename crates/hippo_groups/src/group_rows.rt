@@ -65,7 +65,8 @@ fn join_place(
     requires { place < length outs.now }
     ensures { (key : ShownRow) (members : List ShownRow)
         → IsJoined key members (members ++ row.now ∷ []) outs.now place cells.old
-        → OnOk result (IsJoined key members (members ++ row.now ∷ []) outs.now (place + 1) cells.new) }
+        → OnOk result (IsJoined key members (members ++ row.now ∷ []) outs.now (place + 1)
+        cells.new) }
 {
     if place >= cells.len() {
         return Ok(());
@@ -75,7 +76,8 @@ fn join_place(
 
 // Takes one member more into its group's row.
 fn join(alloc: Global, outs: &Outs, cells: &mut [Cell], row: &CellRow) -> Result<(), Memory>
-    ensures { (key : ShownRow) (members : List ShownRow) → cells.old ≡ map (group_cell key members) outs.now
+    ensures { (key : ShownRow) (members : List ShownRow)
+        → cells.old ≡ map (group_cell key members) outs.now
         → OnOk result (cells.new ≡ map (group_cell key (members ++ row.now ∷ [])) outs.now) }
 {
     for place in 0..outs.len() {
@@ -86,7 +88,8 @@ fn join(alloc: Global, outs: &Outs, cells: &mut [Cell], row: &CellRow) -> Result
 
 // The row of a group with one member more.
 fn joined(alloc: Global, outs: &Outs, cells: CellRow, row: &CellRow) -> Result<CellRow, Memory>
-    ensures { (key : ShownRow) (members : List ShownRow) → cells ≡ map (group_cell key members) outs.now
+    ensures { (key : ShownRow) (members : List ShownRow)
+        → cells ≡ map (group_cell key members) outs.now
         → IfOk result (λ new. new ≡ map (group_cell key (members ++ row.now ∷ [])) outs.now) }
 {
     let mut cells = cells.into_vec();
@@ -117,7 +120,8 @@ pub fn join_at(
 ) -> Result<(), Memory>
     ensures { (front back : List ShownRow) (key : ShownRow) (members : List ShownRow)
         → rows.old ≡ front ++ map (group_cell key members) outs.now ∷ back → place ≡ length front
-        → OnOk result (rows.new ≡ front ++ map (group_cell key (members ++ row.now ∷ [])) outs.now ∷ back) }
+        → OnOk result (rows.new ≡ front ++ map (group_cell key (members ++ row.now ∷ [])) outs.now
+        ∷ back) }
 {
     if place >= rows.len() {
         return Ok(());

@@ -3,7 +3,7 @@ ghost use Rattle.std.specs.Prelude.{◌≡◌, [], ◌∷◌, ◌++◌, List, ta
 ghost use Rattle.std.specs.BTreeMap.{get};
 ghost use Rattle.hippo_model.specs.declared.query.Shape as shapes;
 ghost use Rattle.hippo_model.specs.Terms.{ShownRow};
-ghost use Rattle.hippo_model.specs.Forms.{grouped};
+ghost use Rattle.hippo_model.specs.Forms.{grouped_rows};
 ghost use Rattle.hippo_model.specs.Masking.{masked_answer};
 ghost use Rattle.hippo_eval.specs.Answering.{IsAnswered};
 ghost use Rattle.hippo_eval.specs.Walks.{rows_of};
@@ -18,7 +18,8 @@ use hippo_values::{Memory, Sequence};
 use std::alloc::Global;
 use std::collections::BTreeMap;
 
-// The rows of the groups in the order of their first members, and the place of each group by its key.
+// The rows of the groups in the order of their first members, and the place of each group by its
+// key.
 #[derive(Drop)]
 struct Groups {
     rows: Vec<CellRow>,
@@ -35,7 +36,8 @@ pub(crate) fn front(row: &CellRow, keys: usize) -> &[Cell]
 
 impl Groups {
     fn new(alloc: Global) -> Groups
-        ensures { (shape : shapes.Shape) → AreGroups ⟦<Sequence<CellKey> as Ord>⟧.cmp shape [] result }
+        ensures { (shape : shapes.Shape)
+            → AreGroups ⟦<Sequence<CellKey> as Ord>⟧.cmp shape [] result }
     {
         Groups {
             rows: Vec::new(alloc),
@@ -52,8 +54,10 @@ impl Groups {
 
     // Takes in a row, in its own group or as the first of a new one.
     fn add(&mut self, alloc: Global, shape: &Shape, row: &CellRow) -> Result<(), Memory>
-        ensures { (found : List ShownRow) → AreGroups ⟦<Sequence<CellKey> as Ord>⟧.cmp shape.now found self.old
-            → OnOk result (AreGroups ⟦<Sequence<CellKey> as Ord>⟧.cmp shape.now (found ++ row.now ∷ []) self.new) }
+        ensures { (found : List ShownRow)
+            → AreGroups ⟦<Sequence<CellKey> as Ord>⟧.cmp shape.now found self.old
+            → OnOk result (AreGroups ⟦<Sequence<CellKey> as Ord>⟧.cmp shape.now
+            (found ++ row.now ∷ []) self.new) }
     {
         let cells = front(row, shape.keys);
         let key = row_key(alloc, cells)?;
@@ -74,14 +78,15 @@ struct ByShape<'a> {
 }
 
 impl<'a> Gatherer for ByShape<'a> {
-    ghost use Rattle.hippo_model.specs.Forms.{grouped};
+    ghost use Rattle.hippo_model.specs.Forms.{grouped_rows};
     ghost use Rattle.hippo_groups.specs.KeptGroups.{AreGroups};
 
     type Rows = Groups;
 
-    ghost Holds = { λ gatherer found kept. AreGroups ⟦<Sequence<CellKey> as Ord>⟧.cmp gatherer.shape.now found kept };
+    ghost Holds = { λ gatherer found kept. AreGroups ⟦<Sequence<CellKey> as Ord>⟧.cmp
+        gatherer.shape.now found kept };
 
-    ghost answer = { λ gatherer found. grouped gatherer.shape.now found };
+    ghost answer = { λ gatherer found. grouped_rows gatherer.shape.now found };
 
     fn start(&self, alloc: Global) -> Groups {
         Groups::new(alloc)
@@ -101,11 +106,12 @@ impl<'a> Gatherer for ByShape<'a> {
     }
 }
 
-/// The groups of a query's answer (SQL's GROUP BY), each at the place of its first combination, over unmasked rows and
-/// patients' choices: rows whose first cells are the same values shown, or denied by the same rules, are of one group.
-/// A group's row has its key's cells, and the least or greatest of its members' values; nulls and denied cells do not
-/// count for these, and where there is nothing else it is null. TooManyRows exactly where there are more than 100,000
-/// groups. Takes memory for the groups, and not for their members.
+/// The groups of a query's answer (SQL's GROUP BY), each at the place of its first combination,
+/// over unmasked rows and patients' choices: rows whose first cells are the same values shown, or
+/// denied by the same rules, are of one group. A group's row has its key's cells, and the least or
+/// greatest of its members' values; nulls and denied cells do not count for these, and where there
+/// is nothing else it is null. TooManyRows exactly where there are more than 100,000 groups. Takes
+/// memory for the groups, and not for their members.
 pub fn grouped<C: ChoiceView>(
     alloc: Global,
     query: &Masked,
@@ -114,7 +120,7 @@ pub fn grouped<C: ChoiceView>(
     choices: &C,
 ) -> Result<Answer, EvalFault>
     ensures { let rows = masked_answer (C.choices choices.now) query.now (rows_of sets.now) in
-        IsAnswered ANSWER_LIMIT (grouped shape.now rows) result }
+        IsAnswered ANSWER_LIMIT (grouped_rows shape.now rows) result }
 {
     gather_joined(
         alloc,

@@ -8,7 +8,7 @@ ghost use Rattle.hippo_model.specs.Terms.{Place};
 ghost use Rattle.hippo_eval.specs.Walks.{rows_of};
 ghost use Rattle.hippo_join.specs.Finding.{has_places};
 ghost use Rattle.hippo_groups.specs.GroupMarks.{PlacedRow, placed_rows, changes_without};
-ghost use Rattle.hippo_groups.specs.KeptGroups.{AreMarked};
+ghost use Rattle.hippo_groups.specs.KeptGroups.{AreMarkedGroups};
 
 use crate::group_marks::{GroupMarks, candidates, join_at, marks_of_first};
 use crate::grouping::front;
@@ -21,7 +21,8 @@ use hippo_values::{Memory, Sequence};
 use std::alloc::Global;
 use std::collections::{BTreeMap, BTreeSet};
 
-// The marks of the groups in the order of their first members, and the place of each group by its key.
+// The marks of the groups in the order of their first members, and the place of each group by its
+// key.
 #[derive(Drop)]
 pub(crate) struct MarkedGroups {
     pub marks: Vec<GroupMarks>,
@@ -30,7 +31,8 @@ pub(crate) struct MarkedGroups {
 
 impl MarkedGroups {
     fn new(alloc: Global) -> MarkedGroups
-        ensures { (shape : shapes.Shape) → AreMarked ⟦<Sequence<CellKey> as Ord>⟧.cmp shape [] result }
+        ensures { (shape : shapes.Shape)
+            → AreMarkedGroups ⟦<Sequence<CellKey> as Ord>⟧.cmp shape [] result }
     {
         MarkedGroups {
             marks: Vec::new(alloc),
@@ -45,7 +47,8 @@ impl MarkedGroups {
         self.places.get(key).copied()
     }
 
-    // Takes in a row and the places of its combination, in its own group or as the first of a new one.
+    // Takes in a row and the places of its combination, in its own group or as the first of a new
+    // one.
     fn add(
         &mut self,
         alloc: Global,
@@ -53,8 +56,9 @@ impl MarkedGroups {
         row: &CellRow,
         places: &Places,
     ) -> Result<(), Memory>
-        ensures { (found : List PlacedRow) → AreMarked ⟦<Sequence<CellKey> as Ord>⟧.cmp shape.now found self.old
-            → OnOk result (AreMarked ⟦<Sequence<CellKey> as Ord>⟧.cmp shape.now
+        ensures { (found : List PlacedRow)
+            → AreMarkedGroups ⟦<Sequence<CellKey> as Ord>⟧.cmp shape.now found self.old
+            → OnOk result (AreMarkedGroups ⟦<Sequence<CellKey> as Ord>⟧.cmp shape.now
             (found ++ record { row = row.now; places = places.now } ∷ []) self.new) }
     {
         let key = row_key(alloc, front(row, shape.keys))?;
@@ -70,7 +74,8 @@ impl MarkedGroups {
     // The places of the tuples without which some group changes.
     pub(crate) fn candidates(self, alloc: Global) -> Result<BTreeSet<Places>, Memory>
         ensures { IfOk result (λ candidates. (places : List Place)
-            → has_places places candidates.keys ≡ list_any (changes_without places) self.marks.items) }
+            → has_places places candidates.keys
+            ≡ list_any (changes_without places) self.marks.items) }
     {
         let MarkedGroups { marks, .. } = self;
         candidates(alloc, marks)
@@ -89,12 +94,14 @@ struct Marker<'a, C> {
 
 impl<'a, C: ChoiceView> Visitor for Marker<'a, C> {
     ghost use Rattle.hippo_groups.specs.GroupMarks.{placed_rows};
-    ghost use Rattle.hippo_groups.specs.KeptGroups.{AreMarked};
+    ghost use Rattle.hippo_groups.specs.KeptGroups.{AreMarkedGroups};
 
     type State = MarkedGroups;
 
-    ghost Keeps = { λ marker combinations groups. AreMarked ⟦<Sequence<CellKey> as Ord>⟧.cmp marker.shape.now
-        (placed_rows (C.choices marker.choices.now) marker.query.now marker.sets.now marker.tables.now combinations)
+    ghost Keeps = { λ marker combinations groups. AreMarkedGroups ⟦<Sequence<CellKey> as Ord>⟧.cmp
+        marker.shape.now
+        (placed_rows (C.choices marker.choices.now) marker.query.now marker.sets.now
+        marker.tables.now combinations)
         groups };
 
     fn visit(
@@ -121,8 +128,9 @@ pub(crate) fn marked_groups<C: ChoiceView>(
     tables: &[usize],
     choices: &C,
 ) -> Result<MarkedGroups, Memory>
-    ensures { IfOk result (λ groups. AreMarked ⟦<Sequence<CellKey> as Ord>⟧.cmp shape.now
-        (placed_rows (C.choices choices.now) query.now sets.now tables.now (product (rows_of sets.now))) groups) }
+    ensures { IfOk result (λ groups. AreMarkedGroups ⟦<Sequence<CellKey> as Ord>⟧.cmp shape.now
+        (placed_rows (C.choices choices.now) query.now sets.now tables.now
+        (product (rows_of sets.now))) groups) }
 {
     let marker = Marker {
         query,

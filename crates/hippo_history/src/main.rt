@@ -1,5 +1,5 @@
-//! The program: `hippo_history` shows on standard output what a SQLite store keeps, as the words ask for: its entries, one
-//! by one, or the rules in force.
+//! The program: `hippo_history` shows on standard output what a SQLite store keeps, as the words
+//! ask for: its entries, one by one, or the rules in force.
 #![tactic(auto)]
 
 ghost use Rattle.std.specs.Prelude.{◌≡◌, ◌≢◌, ◌⊎◌, ◌<◌, Some, None, false};
@@ -18,8 +18,8 @@ use std::alloc::Global;
 use std::marker::Brand;
 use std::sync::ledger::{Blank, Ledger};
 
-// Runs the program on a ledger that nobody uses. The status is that of `history_top`: 2 for words that ask for nothing, and
-// for no others; 3 and 5 just where keeper or sink failed.
+// Runs the program on a ledger that nobody uses. The status is that of `history_top`: 2 for words
+// that ask for nothing, and for no others; 3 and 5 just where keeper or sink failed.
 fn show<K: Sink, P: Keeper, L: Ledger>(
     alloc: Global,
     words: &[Txt],
@@ -33,8 +33,10 @@ fn show<K: Sink, P: Keeper, L: Ledger>(
     requires some { 0 < blank.parts }
     ensures refused { asked_of words.now ≡ None → (result ≡ 2) ⊎ (result ≡ 5) ⊎ (result ≡ 7) }
     ensures accepted { (call : AskedCall) → asked_of words.now ≡ Some call → result ≢ 2 }
-    ensures keeper_fault { result ≡ 3 → HasRisen (P.state keeper.old).faults (P.state keeper.new).faults }
-    ensures unfailed_keeper { result ≢ 3 → (P.state keeper.new).faults ≡ (P.state keeper.old).faults }
+    ensures keeper_fault { result ≡ 3 → HasRisen (P.state keeper.old).faults
+        (P.state keeper.new).faults }
+    ensures unfailed_keeper { result ≢ 3
+        → (P.state keeper.new).faults ≡ (P.state keeper.old).faults }
     ensures write_fault { result ≡ 5 → HasRisen (K.faults sink.old) (K.faults sink.new) }
     ensures unfailed_write { result ≢ 5 → K.faults sink.new ≡ K.faults sink.old }
 {

@@ -26,7 +26,7 @@ use Rattle.hippo_model.proofs.ChangesOfRows.{kept_at-no_version, kept_at-other_t
 use Rattle.hippo_tables.proofs.StandingLemmas.{schema_at-named}
 use Rattle.hippo_hits.specs.declared.counts.AuditHits.{AuditHits}
 use Rattle.hippo_hits.specs.Rows.{hit_of, hits_among, table_hits}
-use Rattle.hippo_hits.specs.Counts.{AreHits, HasNone, changed_count, place_of, changed_counts, changed_hits, row_before, taken_in, taken_back}
+use Rattle.hippo_hits.specs.Counts.{AreHits, HasNone, changed_count, audit_place, changed_counts, changed_hits, row_before, taken_in, taken_back}
 use Rattle.hippo_hits.proofs.ChangedRows.{row_there, there_counted, version_counted, hits_few}
 
 -- ---- the place of a table, where none is named twice
@@ -48,7 +48,7 @@ first_with table (first ∷ rest) (suc place) differ within is =
     let up : 1 + position_or_len (λ name. bytes_eq name table) rest ≡ suc place = omega (arith, later) in
     ap (λ same. cond (not same) (1 + position_or_len (λ name. bytes_eq name table) rest) 0) other ∙ up
 
-place_there : (table : Name) (tables : List Name) (place : ℕ) → IsDistinct bytes_eq tables → place < length tables → bytes_eq (get_or tables place []) table ≡ true → place_of tables table ≡ Some place
+place_there : (table : Name) (tables : List Name) (place : ℕ) → IsDistinct bytes_eq tables → place < length tables → bytes_eq (get_or tables place []) table ≡ true → audit_place tables table ≡ Some place
 place_there table tables place differ within is =
     let first = first_with table tables place differ within is in
     (λ i. cond (nat_lt (first i) (length tables)) (Some (first i)) None) ∙ ap (λ there. cond there (Some place) None) (lt-ltb place (length tables) within)
@@ -62,12 +62,12 @@ module _ (audit : Audit) (table : Name) (old new : Option Row) (counts : List �
   as_many_changed None = refl
   as_many_changed (Some place) = length-set counts place _
 
-  changed_there : (place : ℕ) → place_of audit.tables table ≡ Some place → place < length counts → get_or (changed_counts audit table old new counts) place 0 ≡ changed_count (own_conditions audit place) old new (get_or counts place 0)
+  changed_there : (place : ℕ) → audit_place audit.tables table ≡ Some place → place < length counts → get_or (changed_counts audit table old new counts) place 0 ≡ changed_count (own_conditions audit place) old new (get_or counts place 0)
   changed_there place at within = ap (λ found. get_or (changed_at found) place 0) at ∙ get_or-set_same counts place _ 0 within
 
   kept_elsewhere : (place : ℕ) → bytes_eq (get_or audit.tables place []) table ≡ false → get_or (changed_counts audit table old new counts) place 0 ≡ get_or counts place 0
   kept_elsewhere place other =
-      elim (place_of audit.tables table) as (λ found. place_of audit.tables table ≡ found → get_or (changed_at found) place 0 ≡ get_or counts place 0) [
+      elim (audit_place audit.tables table) as (λ found. audit_place audit.tables table ≡ found → get_or (changed_at found) place 0 ≡ get_or counts place 0) [
         | None ↦ λ at. refl
         | Some there ↦ λ at. get_or-set_other counts there place _ 0 (λ same. false≢true (sym other ∙ ap (λ n. bytes_eq (get_or audit.tables n []) table) same ∙ (position-Some (λ name. bytes_eq name table) audit.tables there [] at).1))
       ] refl
@@ -180,7 +180,7 @@ module _ (history : History) (audit : Audit) (entry : Entry)
     -- counts where a version is taken in
     AreHits-in : (counts : List ℕ) → AreHits history audit counts → AreHits later audit (one_in counts)
     AreHits-in counts are = record {
-      as_many = as_many_changed audit table (row_before history entry.act) (row_left entry.act) counts (place_of audit.tables table) ∙ are.as_many;
+      as_many = as_many_changed audit table (row_before history entry.act) (row_left entry.act) counts (audit_place audit.tables table) ∙ are.as_many;
       each = λ place within. by place within (bytes_eq (name_at place) table) refl;
     }
       where
@@ -196,7 +196,7 @@ module _ (history : History) (audit : Audit) (entry : Entry)
     -- and where it is taken back
     AreHits-back : (counts : List ℕ) → AreHits later audit counts → AreHits history audit (one_back counts)
     AreHits-back counts are = record {
-      as_many = as_many_changed audit table (row_left entry.act) (row_before history entry.act) counts (place_of audit.tables table) ∙ are.as_many;
+      as_many = as_many_changed audit table (row_left entry.act) (row_before history entry.act) counts (audit_place audit.tables table) ∙ are.as_many;
       each = λ place within. by place within (bytes_eq (name_at place) table) refl;
     }
       where

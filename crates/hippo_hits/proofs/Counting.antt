@@ -13,7 +13,7 @@ use Rattle.hippo_model.specs.RowSets.{KeyedRows, find_row, row_with, kept_at}
 use Rattle.hippo_model.proofs.KeptRows.{shown, slice_get-find_row}
 use Rattle.hippo_model.proofs.RowsAfter.{row_with-table_rows}
 use Rattle.hippo_tables.specs.declared.tables.Tables.{Tables}
-use Rattle.hippo_tables.specs.Standing.{StandsFor}
+use Rattle.hippo_tables.specs.Standing.{TablesStandFor}
 use Rattle.hippo_hits.specs.Rows.{table_hits}
 use Rattle.hippo_hits.specs.Counts.{AreHits, row_like}
 
@@ -45,7 +45,7 @@ like_there history table row set is = like_at history row set (schema_at history
 -- ---- counts so far
 abbrev pub SoFar : Tables → Audit → List ℕ → Type 0
 SoFar tables audit counts =
-    (history : History) → StandsFor tables history → (place : Place) → place < length counts → get_or counts place 0 ≡ hits history audit place
+    (history : History) → TablesStandFor tables history → (place : Place) → place < length counts → get_or counts place 0 ≡ hits history audit place
 
 pushed : (counts : List ℕ) (count : ℕ) (f : ℕ → ℕ) → ((q : ℕ) → q < length counts → get_or counts q 0 ≡ f q) → count ≡ f (length counts) → (q : ℕ) → q < length (counts ++ count ∷ []) → get_or (counts ++ count ∷ []) q 0 ≡ f q
 pushed [] count f so_far last zero within = last
@@ -54,11 +54,11 @@ pushed (first ∷ rest) count f so_far last zero within = so_far zero (omega ari
 pushed (first ∷ rest) count f so_far last (suc q) within = pushed rest count (λ n. f (suc n)) (λ n w. so_far (suc n) (omega (arith, w))) last q (omega (arith, within))
 
 pub one_counted : (tables : Tables) (audit : Audit) (counts : List ℕ) (name : Name) (count : ℕ) → name ≡ get_or audit.tables (length counts) []
-    → ((history : History) → StandsFor tables history → count ≡ table_hits history (own_conditions audit (length counts)) name)
+    → ((history : History) → TablesStandFor tables history → count ≡ table_hits history (own_conditions audit (length counts)) name)
     → SoFar tables audit counts → SoFar tables audit (counts ++ count ∷ [])
 one_counted tables audit counts name count named counted so_far = λ history stands place within.
     pushed counts count (hits history audit) (so_far history stands)
     (counted history stands ∙ ap (table_hits history (own_conditions audit (length counts))) named) place within
 
-pub all_counted : (tables : Tables) (audit : Audit) (counts : List ℕ) → length counts ≡ length audit.tables → SoFar tables audit counts → (history : History) → StandsFor tables history → AreHits history audit counts
+pub all_counted : (tables : Tables) (audit : Audit) (counts : List ℕ) → length counts ≡ length audit.tables → SoFar tables audit counts → (history : History) → TablesStandFor tables history → AreHits history audit counts
 all_counted tables audit counts many so_far history stands = record { as_many = many; each = λ place within. so_far history stands place (subst (λ (n : ℕ). place < n) (sym many) within) }

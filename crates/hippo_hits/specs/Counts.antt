@@ -29,8 +29,8 @@ changed_count conditions old new count =
     min (count - hit_of conditions old + hit_of conditions new) 18446744073709551615
 
 -- the place of a table among an audit's
-abbrev pub place_of : List Name → Name → Option Place
-place_of tables table = position (λ name. bytes_eq name table) tables
+abbrev pub audit_place : List Name → Name → Option Place
+audit_place tables table = position (λ name. bytes_eq name table) tables
 
 -- counts, where a row of a table stood and another one stands
 abbrev pub changed_counts : Audit → Name → Option Row → Option Row → List ℕ → List ℕ
@@ -38,11 +38,12 @@ changed_counts audit table old new counts =
     option_map_or
     (λ place. slice_set counts place
     (changed_count (own_conditions audit place) old new (slice_index_or counts place 0)))
-    (place_of audit.tables table) counts
+    (audit_place audit.tables table) counts
 
 -- an audit with such counts
 abbrev pub changed_hits : Name → Option Row → Option Row → AuditHits → AuditHits
-changed_hits table old new held = record held { hits = changed_counts held.audit table old new held.hits }
+changed_hits table old new held =
+    record held { hits = changed_counts held.audit table old new held.hits }
 
 -- one of an audit's tables has no hit
 pub record HasNone (audit : Audit) (counts : List ℕ) : Type 0 where
@@ -53,7 +54,8 @@ pub record HasNone (audit : Audit) (counts : List ℕ) : Type 0 where
 -- the row of a table that has the same key as one
 abbrev pub row_like : History → Name → Row → Option Row
 row_like history table row =
-    option_and_then (λ schema. row_at schema history (key_of schema.key row)) (schema_at history table)
+    option_and_then (λ schema. row_at schema history (key_of schema.key row))
+    (schema_at history table)
 
 -- the row that stood, after a history, where an act puts or deletes one
 abbrev pub row_before : History → Act → Option Row
@@ -65,9 +67,11 @@ row_before history act = None
 -- an audit with its counts as they are once an act comes next
 abbrev pub taken_in : History → Act → AuditHits → AuditHits
 taken_in history act held =
-    if is_version act then changed_hits (table_changed act) (row_before history act) (row_left act) held else held
+    if is_version act then changed_hits (table_changed act) (row_before history act) (row_left act)
+    held else held
 
 -- and with counts that know of the act, as they were before
 abbrev pub taken_back : History → Act → AuditHits → AuditHits
 taken_back history act held =
-    if is_version act then changed_hits (table_changed act) (row_left act) (row_before history act) held else held
+    if is_version act then changed_hits (table_changed act) (row_left act) (row_before history act)
+    held else held

@@ -24,7 +24,8 @@ row_truth row condition = truth (value_in_row row) condition
 abbrev pub is_found : List (CondOf Operand) → Row → Bool
 is_found conditions row = list_all (λ condition. is_true (row_truth row condition)) conditions
 
--- how many rows conditions find: of a row, if there is one; of a table's kept rows; of a table in a history
+-- how many rows conditions find: of a row, if there is one; of a table's kept rows; of a table in a
+-- history
 abbrev pub hit_of : List (CondOf Operand) → Option Row → ℕ
 hit_of conditions row = if option_map_or (is_found conditions) row false then 1 else 0
 
@@ -33,4 +34,5 @@ hits_among conditions set = length (filter (is_hit conditions) set.rows)
 
 abbrev pub table_hits : History → List (CondOf Operand) → Name → ℕ
 table_hits history conditions table =
-    option_map_or (λ schema. hits_among conditions (kept_at schema history)) (schema_at history table) 0
+    option_map_or (λ schema. hits_among conditions (kept_at schema history))
+    (schema_at history table) 0

@@ -35,7 +35,8 @@ fn value_in<'a>(operand: &'a Operand, row: &'a Cells) -> Option<&'a Value>
 
 // What a comparison of two values says.
 fn compared(op: CompareOp, left: Option<&Value>, right: Option<&Value>) -> Truth
-    ensures { result ≡ comparison op (or_null (option_copied left.entry)) (or_null (option_copied right.entry)) }
+    ensures { result ≡ comparison op (or_null (option_copied left.entry))
+        (or_null (option_copied right.entry)) }
 {
     let left = left.unwrap_or(&Value::Null);
     compare(op, left, right.unwrap_or(&Value::Null))
@@ -43,13 +44,15 @@ fn compared(op: CompareOp, left: Option<&Value>, right: Option<&Value>) -> Truth
 
 // What a comparison of a value with an operand says.
 fn compared_with(op: CompareOp, left: Option<&Value>, right: &Operand, row: &Cells) -> Truth
-    ensures { result ≡ comparison op (or_null (option_copied left.entry)) (value_in_row row.now right.now) }
+    ensures { result ≡ comparison op (or_null (option_copied left.entry))
+        (value_in_row row.now right.now) }
 {
     compared(op, left, value_in(right, row))
 }
 
 fn is_compared(op: CompareOp, left: &Operand, right: &Operand, row: &Cells) -> Truth
-    ensures { result ≡ comparison op (value_in_row row.now left.now) (value_in_row row.now right.now) }
+    ensures { result ≡ comparison op (value_in_row row.now left.now)
+        (value_in_row row.now right.now) }
 {
     compared_with(op, value_in(left, row), right, row)
 }
@@ -65,7 +68,8 @@ fn is_between(value: &Operand, low: &Operand, high: &Operand, row: &Cells) -> Tr
 
 fn is_among(value: &Operand, list: &Operands, row: &Cells) -> Truth
     ensures { let value_of = value_in_row row.now in
-        result ≡ greatest (map (λ member. comparison Equal (value_of value.now) (value_of member)) list.now) }
+        result ≡ greatest (map (λ member. comparison Equal (value_of value.now) (value_of member))
+        list.now) }
 {
     let mut so_far = Truth::False;
     for member in list.as_slice() {

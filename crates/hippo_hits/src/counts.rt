@@ -2,9 +2,9 @@
 ghost use Rattle.std.specs.Prelude.{◌≡◌, ◌<◌, ℕ, true, length, min, ◌-◌, ◌+◌, slice_index_or, slice_set, option_copied, IfOk};
 ghost use Rattle.hippo_model.specs.Terms.{History};
 ghost use Rattle.hippo_model.specs.Hits.{own_conditions};
-ghost use Rattle.hippo_tables.specs.Standing.{StandsFor};
+ghost use Rattle.hippo_tables.specs.Standing.{TablesStandFor};
 ghost use Rattle.hippo_hits.specs.Rows.{hits_among, table_hits};
-ghost use Rattle.hippo_hits.specs.Counts.{AreHits, HasNone, changed_count, place_of, changed_counts, changed_hits};
+ghost use Rattle.hippo_hits.specs.Counts.{AreHits, HasNone, changed_count, audit_place, changed_counts, changed_hits};
 
 use crate::own::hit_of;
 use hippo_model::{Audit, Cells, RowSet};
@@ -47,7 +47,7 @@ fn count_in(audit: &Audit, table: usize, rows: &RowSet) -> u64
 
 // How many rows of a table, which is the audit's at a place, its own conditions find.
 fn count_now(audit: &Audit, place: usize, table: &Name, tables: &Tables) -> u64
-    ensures { (history : History) → StandsFor tables.now history
+    ensures { (history : History) → TablesStandFor tables.now history
         → result ≡ table_hits history (own_conditions audit.now place) table.now }
 {
     match tables.rows(table) {
@@ -58,7 +58,7 @@ fn count_now(audit: &Audit, place: usize, table: &Name, tables: &Tables) -> u64
 
 // Those of each table.
 fn counts_of(alloc: Global, audit: &Audit, tables: &Tables) -> Result<Vec<u64>, Memory>
-    ensures { IfOk result (λ counts. (history : History) → StandsFor tables.now history
+    ensures { IfOk result (λ counts. (history : History) → TablesStandFor tables.now history
         → AreHits history audit.now counts.items) }
 {
     let names = audit.tables.as_slice();
@@ -79,7 +79,7 @@ fn put_count(counts: &mut [u64], place: usize, count: u64)
 }
 
 fn place_of(tables: &[Name], table: &Name) -> Option<usize>
-    ensures { result ≡ place_of tables.now table.now }
+    ensures { result ≡ audit_place tables.now table.now }
 {
     tables.iter().position(|name| name == table)
 }
@@ -121,7 +121,7 @@ impl AuditHits {
     /// An audit with the counts of its hits in the tables as they are; or want of memory.
     pub fn new(alloc: Global, audit: Audit, tables: &Tables) -> Result<AuditHits, Memory>
         ensures audit { IfOk result (λ made. made.audit ≡ audit) }
-        ensures hits { IfOk result (λ made. (history : History) → StandsFor tables.now history
+        ensures hits { IfOk result (λ made. (history : History) → TablesStandFor tables.now history
             → AreHits history audit made.hits) }
     {
         match counts_of(alloc, &audit, tables) {
@@ -155,9 +155,11 @@ impl AuditHits {
         false
     }
 
-    /// Changes the count of a table, if the audit has it, where a row stood and another one stands. Takes no memory.
+    /// Changes the count of a table, if the audit has it, where a row stood and another one stands.
+    /// Takes no memory.
     pub fn change(&mut self, table: &Name, old: Option<&Cells>, new: Option<&Cells>)
-        ensures { self.new ≡ changed_hits table.now (option_copied old.entry) (option_copied new.entry) self.old }
+        ensures { self.new ≡ changed_hits table.now (option_copied old.entry)
+            (option_copied new.entry) self.old }
     {
         if let Some(place) = place_of(self.audit.tables.as_slice(), table) {
             let count = changed_count(&self.audit, place, old, new, self.hits.at(place));

@@ -1,4 +1,5 @@
-//! How many rows of its tables an audit's own conditions find, and how a change of a row changes that.
+//! How many rows of its tables an audit's own conditions find, and how a change of a row changes
+//! that.
 #![tactic(auto)]
 
 mod conditions;

@@ -84,13 +84,15 @@ fn holds(condition: &CondOf<Operand>, row: &Cells) -> bool
 
 // Whether a condition lets a row of a table pass: it is true of the row, or no own one.
 fn passes(table: usize, condition: &CondOf<Operand>, row: &Cells) -> bool
-    ensures { result ≡ (not (are_of table (condition_columns condition.now)) || is_true (row_truth row.now condition.now)) }
+    ensures { result ≡ (not (are_of table (condition_columns condition.now))
+        || is_true (row_truth row.now condition.now)) }
 {
     !is_of(table, condition) || holds(condition, row)
 }
 
 fn all_pass(table: usize, conditions: &[CondOf<Operand>], row: &Cells) -> bool
-    ensures { result ≡ list_all (λ condition. not (are_of table (condition_columns condition)) || is_true (row_truth row.now condition)) conditions.now }
+    ensures { result ≡ list_all (λ condition. not (are_of table (condition_columns condition))
+        || is_true (row_truth row.now condition)) conditions.now }
 {
     for condition in conditions {
         if !passes(table, condition, row) {

@@ -3,7 +3,7 @@ ghost use Rattle.std.specs.Prelude.{◌≡◌, option_map, option_copied};
 ghost use Rattle.hippo_model.specs.Terms.{History};
 ghost use Rattle.hippo_model.specs.Rows.{key_of};
 ghost use Rattle.hippo_model.specs.RowSets.{row_with};
-ghost use Rattle.hippo_tables.specs.Standing.{StandsFor};
+ghost use Rattle.hippo_tables.specs.Standing.{TablesStandFor};
 ghost use Rattle.hippo_hits.specs.Counts.{row_like, taken_in, taken_back};
 
 use crate::counts::AuditHits;
@@ -24,7 +24,7 @@ fn like_in<'a>(rows: &'a RowSet, row: &Cells) -> Option<&'a Cells>
 
 // The row of a table that has the same key as this one.
 fn row_like<'a>(tables: &'a Tables, table: &Name, row: &Cells) -> Option<&'a Cells>
-    ensures { (history : History) → StandsFor tables.now history
+    ensures { (history : History) → TablesStandFor tables.now history
         → option_copied result ≡ row_like history table.now row.now }
 {
     match tables.rows(table) {
@@ -34,10 +34,11 @@ fn row_like<'a>(tables: &'a Tables, table: &Name, row: &Cells) -> Option<&'a Cel
 }
 
 impl AuditHits {
-    /// Changes the counts as an act changes them that comes next, over the tables as they are before it. Takes no memory.
+    /// Changes the counts as an act changes them that comes next, over the tables as they are
+    /// before it. Takes no memory.
     pub fn take_in(&mut self, tables: &Tables, act: &Act)
         ensures audit { self.new.audit ≡ self.old.audit }
-        ensures hits { (history : History) → StandsFor tables.now history
+        ensures hits { (history : History) → TablesStandFor tables.now history
             → self.new ≡ taken_in history act.now self.old }
     {
         match act {
@@ -52,10 +53,11 @@ impl AuditHits {
         }
     }
 
-    /// Changes the counts back, where an act was taken in that does not come next, over the same tables. Takes no memory.
+    /// Changes the counts back, where an act was taken in that does not come next, over the same
+    /// tables. Takes no memory.
     pub fn take_back(&mut self, tables: &Tables, act: &Act)
         ensures audit { self.new.audit ≡ self.old.audit }
-        ensures hits { (history : History) → StandsFor tables.now history
+        ensures hits { (history : History) → TablesStandFor tables.now history
             → self.new ≡ taken_back history act.now self.old }
     {
         match act {

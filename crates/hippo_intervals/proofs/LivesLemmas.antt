@@ -11,7 +11,7 @@ use Rattle.hippo_keeper.specs.Keeping.{KeeperState}
 use Rattle.hippo_backlog.specs.declared.faults.ReadFault.{ReadFault}
 use Rattle.hippo_backlog.specs.Backlogs.{is_version_of, versions_of, HeldVersions, BringsUp}
 use Rattle.hippo_backlog.proofs.SnapshotLemmas.{AreAt-first, AreAt-grown, rows_at, handed_is}
-use Rattle.hippo_intervals.specs.Living.{HeldLives, no_lives, taken_by, LivesFit, AreThoseOf, Advances}
+use Rattle.hippo_intervals.specs.Living.{HeldLives, no_lives, taken_by, LivesFit, LivesAreThoseOf, Advances}
 
 -- new ones fit each history in which the table has this schema
 pub LivesFit-first : (meaning : Meaning) (schema : Schema) (history : History) → is_valid meaning history ≡ true → schema_at history schema.name ≡ Some schema → LivesFit (no_lives schema) history
@@ -21,8 +21,8 @@ LivesFit-first meaning schema history valid created = AreAt-first schema meaning
 pub LivesFit-grown : (meaning : Meaning) (lives : HeldLives) (history : History) (entry : Entry) → is_valid meaning (history ++ entry ∷ []) ≡ true → LivesFit lives history → LivesFit lives (history ++ entry ∷ [])
 LivesFit-grown meaning lives history entry valid fits = AreAt-grown lives.schema meaning history entry lives.versions valid fits
 
-pub AreThoseOf-fits : (meaning : Meaning) (lives : HeldLives) (history : History) → is_valid meaning history ≡ true → LivesFit lives history → AreThoseOf lives history
-AreThoseOf-fits meaning lives history valid fits = record {
+pub LivesAreThoseOf-fits : (meaning : Meaning) (lives : HeldLives) (history : History) → is_valid meaning history ≡ true → LivesFit lives history → LivesAreThoseOf lives history
+LivesAreThoseOf-fits meaning lives history valid fits = record {
   fits = fits;
   rows = rows_at lives.schema meaning history lives.versions valid fits;
   taken_is = handed_is lives.schema meaning history lives.versions valid fits;
@@ -56,7 +56,7 @@ Advances-brings schema number end result old new before after steps_old steps_ne
       counted = steps;
       damaged = brings.damaged;
       told = λ tells meaning history store as_long fits.
-          AreThoseOf-fits meaning (record { schema = schema; versions = new }) history store.valid (brings.reads.keeps tells meaning history store as_long fits);
+          LivesAreThoseOf-fits meaning (record { schema = schema; versions = new }) history store.valid (brings.reads.keeps tells meaning history store as_long fits);
       undamaged = brings.undamaged;
     }
 

@@ -8,7 +8,7 @@ use Rattle.hippo_keeper.specs.Keeping.{Store, KeeperState, IsAfterCall, KeepsSam
 use Rattle.hippo_keeper.specs.Selecting.{stored_versions}
 use Rattle.hippo_backlog.specs.declared.faults.ReadFault.{ReadFault}
 use Rattle.hippo_backlog.specs.declared.faults.ReadFault.TheVariants.{Damaged}
-use Rattle.hippo_backlog.specs.Calls.{as_call}
+use Rattle.hippo_backlog.specs.Calls.{reading_as_call}
 use Rattle.hippo_backlog.specs.Backlogs.{versions_of, HeldVersions, no_versions, AreAt, NamesUnfit}
 
 pub record HeldLives : Type 0 where
@@ -22,22 +22,25 @@ no_lives schema = record { schema = schema; versions = no_versions schema.key }
 abbrev pub taken_by : HeldLives → ℕ
 taken_by lives = lives.versions.ahead.handed
 
--- the schema is that of the table in a history; the rows are those of its versions up to the place; of the others those
--- up to the number that is reached wait
+-- the schema is that of the table in a history; the rows are those of its versions up to the place;
+-- of the others those up to the number that is reached wait
 abbrev pub LivesFit : HeldLives → History → Type 0
 LivesFit lives history = AreAt lives.schema history lives.versions
 
--- what fits a history has its rows at its place, and has taken each version once up to the number that is reached
-pub record AreThoseOf (lives : HeldLives) (history : History) : Type 0 where
+-- what fits a history has its rows at its place, and has taken each version once up to the number
+-- that is reached
+pub record LivesAreThoseOf (lives : HeldLives) (history : History) : Type 0 where
   pub fits : LivesFit lives history
   pub rows : lives.versions.rows ≡ kept_at lives.schema (take lives.versions.place history)
   pub taken_is : taken_by lives
       ≡ length (versions_of lives.schema.name (take lives.versions.ahead.reached history))
 
--- the rows are brought forward to a number, and what is read is a step each and is read once; or to a place before it
-pub record Advances {A : Type 0} (number end : ℕ) (result : Result A ReadFault) (old new : HeldLives)
+-- the rows are brought forward to a number, and what is read is a step each and is read once; or to
+-- a place before it
+pub record Advances {A : Type 0} (number end : ℕ) (result : Result A ReadFault)
+    (old new : HeldLives)
     (before after : KeeperState) (steps_old steps_new : ℕ) : Type 0 where
-  pub is_after : IsAfterCall true false (as_call result) before after
+  pub is_after : IsAfterCall true false (reading_as_call result) before after
   pub stays : after.tells → KeepsSame before after
   pub schema_is : new.schema ≡ old.schema
   pub forward : old.versions.place ≤ new.versions.place
@@ -48,7 +51,9 @@ pub record Advances {A : Type 0} (number end : ℕ) (result : Result A ReadFault
   pub handed : Store
   pub counted : steps_new ≡ steps_old + stored_versions handed
   pub damaged : NamesUnfit old.schema result (old.versions.ahead.waiting ++ handed) old.versions
-  pub told : after.tells → (meaning : Meaning) (history : History) → IsStoreOf meaning before.kept history
-      → end ≤ length history → LivesFit old history → AreThoseOf new history
-  pub undamaged : after.tells → (meaning : Meaning) (history : History) → IsStoreOf meaning before.kept history
+  pub told : after.tells → (meaning : Meaning) (history : History)
+      → IsStoreOf meaning before.kept history
+      → end ≤ length history → LivesFit old history → LivesAreThoseOf new history
+  pub undamaged : after.tells → (meaning : Meaning) (history : History)
+      → IsStoreOf meaning before.kept history
       → end ≤ length history → LivesFit old history → (place : ℕ) → result ≢ Err (Damaged place)

@@ -11,10 +11,12 @@ use std::alloc::Global;
 use std::marker::Model;
 use std::sync::ledger::Ledger;
 
-/// The rows of a table as they lived at a place in the history: after the entries up to that number.
+/// The rows of a table as they lived at a place in the history: after the entries up to that
+/// number.
 ///
-/// A version lives from its own entry to the one before the next version of its key; a delete ends a row and begins none.
-/// The place only moves forward. Versions that were read beyond it wait, so each is read once.
+/// A version lives from its own entry to the one before the next version of its key; a delete ends
+/// a row and begins none. The place only moves forward. Versions that were read beyond it wait, so
+/// each is read once.
 #[derive(Debug, Drop)]
 pub struct Lives {
     schema: Schema,
@@ -68,26 +70,29 @@ impl Lives {
         self.versions.rows()
     }
 
-    /// Keeps, from now on, an order of the rows by a column, so that rows are found by it; they stay what they are.
+    /// Keeps, from now on, an order of the rows by a column, so that rows are found by it; they
+    /// stay what they are.
     pub fn order_by(&mut self, alloc: Global, column: usize)
         ensures { self.new ≡ self.old }
     {
         self.versions.order_by(alloc, column);
     }
 
-    /// How many versions were handed over and taken in: those whose rows have ended and those that wait included.
+    /// How many versions were handed over and taken in: those whose rows have ended and those that
+    /// wait included.
     pub fn taken(&self) -> u64
         ensures { result ≡ taken_by self.now }
     {
         self.versions.handed()
     }
 
-    /// Moves the place forward to a number. `end` says how long the history is that is kept: nothing is asked for
-    /// behind it.
+    /// Moves the place forward to a number. `end` says how long the history is that is kept:
+    /// nothing is asked for behind it.
     ///
-    /// Ok: the rows are those after the first `number` entries. Where it fails, the place lies between. `Keeper` comes
-    /// only where the keeper's count of faults rose, and `Damaged` with the number of an entry that was handed over and
-    /// does not fit: never where the keeper tells a valid history. Steps and `taken` rise by the same.
+    /// Ok: the rows are those after the first `number` entries. Where it fails, the place lies
+    /// between. `Keeper` comes only where the keeper's count of faults rose, and `Damaged` with the
+    /// number of an entry that was handed over and does not fit: never where the keeper tells a
+    /// valid history. Steps and `taken` rise by the same.
     pub fn advance<P: Keeper, L: Ledger>(
         &mut self,
         keeper: &mut P,

@@ -3,7 +3,7 @@ use Rattle.std.proofs.Common.{◌≡◌, ℕ, ◌+◌, ◌<◌, ◌≤◌, Bool,
 use Rattle.std.proofs.lemmas.List.{take-append-drop, drop_more}
 use Rattle.std.specs.Io.BufRead.{drop_through}
 use Rattle.hippo_values.specs.Limits.{line_limit}
-use Rattle.hippo_io.specs.Lines.{too_long_line, line_feed, pieces, with_first, lines, line_of, feeds}
+use Rattle.hippo_io.specs.Lines.{too_long_line, line_feed, pieces, with_first_byte, lines, line_of, feeds}
 use Rattle.hippo_io.specs.Moves.{BeginsWithLine}
 use Rattle.hippo_io.proofs.FeedLemmas.{is_feed, feeds-append, feeds-cons}
 use Rattle.hippo_io.proofs.LineLemmas.{line_of-long}
@@ -35,15 +35,15 @@ after_feed-clear [] rest clear = refl
 after_feed-clear (x ∷ xs) rest clear =
     ap (λ b. cond b (xs ++ rest) (after_feed (xs ++ rest))) (clear_first x xs clear) ∙ after_feed-clear xs rest (clear_rest x xs clear)
 
-by_test : (x : ℕ) (xs : List ℕ) → with_first x (pieces xs) ≡ (x ∷ before_feed xs) ∷ pieces (after_feed xs) → pieces (x ∷ xs) ≡ before_feed (x ∷ xs) ∷ pieces (after_feed (x ∷ xs))
+by_test : (x : ℕ) (xs : List ℕ) → with_first_byte x (pieces xs) ≡ (x ∷ before_feed xs) ∷ pieces (after_feed xs) → pieces (x ∷ xs) ≡ before_feed (x ∷ xs) ∷ pieces (after_feed (x ∷ xs))
 by_test x xs other =
-    let P : Bool → Type 0 = λ b. cond b ([] ∷ pieces xs) (with_first x (pieces xs)) ≡ cond b [] (x ∷ before_feed xs) ∷ pieces (cond b xs (after_feed xs)) in
+    let P : Bool → Type 0 = λ b. cond b ([] ∷ pieces xs) (with_first_byte x (pieces xs)) ≡ cond b [] (x ∷ before_feed xs) ∷ pieces (cond b xs (after_feed xs)) in
     elim (is_feed x) as P [ true ↦ refl | false ↦ other ]
 
 -- bytes begin with a piece, and the others are those behind its line feed
 pieces-first : (x : ℕ) (xs : List ℕ) → pieces (x ∷ xs) ≡ before_feed (x ∷ xs) ∷ pieces (after_feed (x ∷ xs))
 pieces-first x [] = by_test x [] refl
-pieces-first x (y ∷ ys) = by_test x (y ∷ ys) (ap (with_first x) (pieces-first y ys))
+pieces-first x (y ∷ ys) = by_test x (y ∷ ys) (ap (with_first_byte x) (pieces-first y ys))
 
 lines-first : (xs : List ℕ) → 0 < length xs → lines xs ≡ line_of (before_feed xs) ∷ lines (after_feed xs)
 lines-first [] some = absurd (omega arith)

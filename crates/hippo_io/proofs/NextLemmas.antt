@@ -4,7 +4,7 @@ use Rattle.std.specs.Prelude.{Option, slice_range}
 use Rattle.hippo_io.specs.Lines.{LineText, line_of, lines}
 use Rattle.hippo_io.specs.LineTexts.{line_text}
 use Rattle.hippo_io.specs.Position.{Position}
-use Rattle.hippo_io.specs.HandingOut.{input_limit, consumed, HasHandedOut, NextLine}
+use Rattle.hippo_io.specs.HandingOut.{input_limit, bytes_handed_out, HasHandedOut, NextLine}
 use Rattle.hippo_io.specs.Moves.{IsGoing, FindsWhole, FindsRest}
 use Rattle.hippo_io.specs.declared.lines.Line.{Line}
 use Rattle.hippo_io.specs.declared.lines.LineFault.TheVariants.{TooMuch}
@@ -22,7 +22,7 @@ within_limit reader unfailed limit over = cc (limit.1 over)
 
 -- a line was found
 found : (before after : Position) (left_before left_after : Option (List ℕ)) (line : Line) (text : LineText) → IsGoing before → after.failure ≡ None → HasLimit after
-    → line_text line ≡ Some text → consumed before < consumed after
+    → line_text line ≡ Some text → bytes_handed_out before < bytes_handed_out after
     → ((input : List ℕ) (handed : List LineText) → HasHandedOut input handed before left_before → HasHandedOut input (handed ++ text ∷ []) after left_after)
     → NextLine before after left_before left_after (Ok line)
 found before after left_before left_after line text going unfailed_after limit is later moved_on = record {
@@ -35,7 +35,7 @@ found before after left_before left_after line text going unfailed_after limit i
   again = λ fault e. let unfailed = going.unfailed in cc;
   over = λ e ended. let unended = going.unended in cc;
   too_much = (λ e. cc, λ over. absurd (within_limit after unfailed_after limit over));
-  progress = let P : Option LineText → Type 0 = λ o. IfSome o (λ t. consumed before < consumed after) in subst P (sym is) later;
+  progress = let P : Option LineText → Type 0 = λ o. IfSome o (λ t. bytes_handed_out before < bytes_handed_out after) in subst P (sym is) later;
 }
 
 module _ (fields : Inside) (window : IsWindow fields) (before mid : Position) (left_before left_after : Option (List ℕ)) (is_mid : position_of fields ≡ mid) (going : IsGoing before) (line : Line) where

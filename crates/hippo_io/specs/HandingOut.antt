@@ -18,11 +18,13 @@ abbrev pub at_beginning : Position
 at_beginning = record { waiting = []; taken = 0; ended = false; failure = None }
 
 -- how many bytes were handed out
-abbrev pub consumed : Position → ℕ
-consumed reader = reader.taken - length reader.waiting
+abbrev pub bytes_handed_out : Position → ℕ
+bytes_handed_out reader = reader.taken - length reader.waiting
 
--- Of the input, the reader has handed out these lines, and the source tells the bytes that it did not take.
-pub record HasHandedOut (input : List ℕ) (handed : List LineText) (reader : Position) (left : Option (List ℕ))
+-- Of the input, the reader has handed out these lines, and the source tells the bytes that it did
+-- not take.
+pub record HasHandedOut (input : List ℕ) (handed : List LineText) (reader : Position)
+    (left : Option (List ℕ))
     : Type 0 where
   pub unfailed : reader.failure ≡ None
   pub within : reader.taken ≤ length input
@@ -30,7 +32,8 @@ pub record HasHandedOut (input : List ℕ) (handed : List LineText) (reader : Po
   -- the lines of the bytes that wait or are left are the others
   pub others : lines input ≡ handed ++ lines (reader.waiting ++ drop reader.taken input)
   -- while the input goes on, each line was handed out with its line feed
-  pub fed : IsFalse reader.ended → feeds (take reader.taken input) ≡ length handed + feeds reader.waiting
+  pub fed : IsFalse reader.ended → feeds (take reader.taken input)
+      ≡ length handed + feeds reader.waiting
   -- once it has ended, no byte waits or is left
   pub at_end : IsTrue reader.ended → reader.waiting ++ drop reader.taken input ≡ []
 
@@ -38,24 +41,28 @@ pub record HasHandedOut (input : List ℕ) (handed : List LineText) (reader : Po
 abbrev pub whole_lines : List ℕ → ℕ → List LineText
 whole_lines input n = take (feeds (take n input)) (lines input)
 
--- The reader has given up: the lines handed out are those whose line feeds were taken, up to the limit.
-pub record HasGivenUp (input : List ℕ) (handed : List LineText) (reader : Position) (left : Option (List ℕ))
+-- The reader has given up: the lines handed out are those whose line feeds were taken, up to the
+-- limit.
+pub record HasGivenUp (input : List ℕ) (handed : List LineText) (reader : Position)
+    (left : Option (List ℕ))
     : Type 0 where
   pub within : reader.taken ≤ length input
   pub told : left ≡ Some (drop reader.taken input)
   pub whole : handed ≡ whole_lines input (min reader.taken input_limit)
 
--- the line is handed out after those before it; the end comes after all lines, when the source has no byte left
+-- the line is handed out after those before it; the end comes after all lines, when the source has
+-- no byte left
 abbrev pub HandsOut : List ℕ → List LineText → Line → Position → Option (List ℕ) → Type 0
 HandsOut input handed line reader left = MatchOption (line_text line)
     (HasHandedOut input handed reader left × (handed ≡ lines input) × (left ≡ Some []))
     (λ text. HasHandedOut input (handed ++ text ∷ []) reader left)
 
 -- a line has at least one byte
-abbrev pub MovesOn : Line → ℕ → ℕ → Type 0
-MovesOn line before after = IfSome (line_text line) (λ text. before < after)
+abbrev pub MovesPast : Line → ℕ → ℕ → Type 0
+MovesPast line before after = IfSome (line_text line) (λ text. before < after)
 
--- What a call for the next line does to a reader, between the bytes that its source tells before and after.
+-- What a call for the next line does to a reader, between the bytes that its source tells before
+-- and after.
 pub record NextLine (before after : Position) (left_before left_after : Option (List ℕ))
     (result : Result Line LineFault) : Type 0 where
   -- whatever lines of whatever input were handed out before: the answer is the next one
@@ -65,8 +72,10 @@ pub record NextLine (before after : Position) (left_before left_after : Option (
       → HasHandedOut input handed before left_before → HasGivenUp input handed after left_after)
   -- a fault is answered again and again, and so is the end
   pub failure : after.failure ≡ result_err result
-  pub again : (fault : LineFault) → before.failure ≡ Some fault → (result ≡ Err fault) × (after ≡ before)
+  pub again : (fault : LineFault) → before.failure ≡ Some fault → (result ≡ Err fault)
+      × (after ≡ before)
   pub over : before.failure ≡ None → IsTrue before.ended → (result ≡ Ok End) × (after ≡ before)
   -- too much is answered exactly where more bytes were taken than are read
   pub too_much : (result ≡ Err TooMuch) ↔ (input_limit < after.taken)
-  pub progress : IfOk result (λ line. MovesOn line (consumed before) (consumed after))
+  pub progress : IfOk result (λ line. MovesPast line (bytes_handed_out before)
+      (bytes_handed_out after))

@@ -13,14 +13,15 @@ abbrev pub carriage_return : ℕ
 carriage_return = 13
 
 -- the byte in front of the first piece
-abbrev pub with_first : ℕ → List (List ℕ) → List (List ℕ)
-with_first byte [] = (byte ∷ []) ∷ []
-with_first byte (piece ∷ others) = (byte ∷ piece) ∷ others
+abbrev pub with_first_byte : ℕ → List (List ℕ) → List (List ℕ)
+with_first_byte byte [] = (byte ∷ []) ∷ []
+with_first_byte byte (piece ∷ others) = (byte ∷ piece) ∷ others
 
 -- the pieces before the line feeds, and a last piece where bytes stand behind the last line feed
 abbrev pub pieces : List ℕ → List (List ℕ)
 pieces [] = []
-pieces (byte ∷ bytes) = if byte == line_feed then [] ∷ pieces bytes else with_first byte (pieces bytes)
+pieces (byte ∷ bytes) =
+    if byte == line_feed then [] ∷ pieces bytes else with_first_byte byte (pieces bytes)
 
 -- a line: its bytes, or why it is no text
 pub data LineText : Type 0 where
@@ -35,7 +36,8 @@ text_or_not bytes = if is_utf8 bytes then text_line bytes else not_utf8_line
 -- the line of a piece: one carriage return at its end is dropped, but counts for the limit
 abbrev pub line_of : List ℕ → LineText
 line_of piece =
-    if nat_lt line_limit (length piece) then too_long_line else text_or_not (strip_last carriage_return piece)
+    if nat_lt line_limit (length piece) then too_long_line
+    else text_or_not (strip_last carriage_return piece)
 
 -- the lines of an input
 abbrev pub lines : List ℕ → List LineText

@@ -3,7 +3,7 @@ use Rattle.std.specs.Prelude.{◌≡◌, ℕ, ◌+◌, ◌-◌, ◌<◌, ◌≤�
 use Rattle.hippo_values.specs.Limits.{line_limit}
 use Rattle.hippo_io.specs.Lines.{LineText, too_long_line, line_feed, feeds}
 use Rattle.hippo_io.specs.Position.{Position}
-use Rattle.hippo_io.specs.HandingOut.{input_limit, consumed, HasHandedOut, HasGivenUp}
+use Rattle.hippo_io.specs.HandingOut.{input_limit, bytes_handed_out, HasHandedOut, HasGivenUp}
 use Rattle.hippo_io.specs.Told.{TakesBehind}
 use Rattle.hippo_io.specs.declared.lines.Found.{Found}
 use Rattle.hippo_io.specs.declared.lines.Found.TheVariants.{Whole, Rest, Skipped}
@@ -21,7 +21,8 @@ pub record IsGoing (reader : Position) : Type 0 where
   pub unfailed : reader.failure ≡ None
 
 -- n more bytes wait
-pub record Refills (before after : Position) (left_before left_after : Option (List ℕ)) (n : ℕ) : Type 0 where
+pub record Refills (before after : Position) (left_before left_after : Option (List ℕ)) (n : ℕ)
+    : Type 0 where
   pub going : IsGoing after
   pub waiting : TakesBehind left_before left_after n before.waiting after.waiting
   pub front : take (length before.waiting) after.waiting ≡ before.waiting
@@ -34,7 +35,8 @@ abbrev pub Loses : Option (List ℕ) → Option (List ℕ) → ℕ → Type 0
 Loses old new n = (told : List ℕ) → old ≡ Some told → (n ≤ length told) × (new ≡ Some (drop n told))
 
 -- no more bytes wait: of those up to the limit, none was taken
-pub record FailsToRefill (before after : Position) (left_before left_after : Option (List ℕ)) (fault : LineFault)
+pub record FailsToRefill (before after : Position) (left_before left_after : Option (List ℕ))
+    (fault : LineFault)
     : Type 0 where
   pub failure : after.failure ≡ Some fault
   pub limit : min after.taken input_limit ≡ before.taken
@@ -49,7 +51,8 @@ KeepsHandedOut before after left_before left_after = (input : List ℕ) (handed 
 -- one more line, which is too long, is handed out
 abbrev pub SkipsLine : Position → Position → Option (List ℕ) → Option (List ℕ) → Type 0
 SkipsLine before after left_before left_after = (input : List ℕ) (handed : List LineText)
-    → HasHandedOut input handed before left_before → HasHandedOut input (handed ++ too_long_line ∷ []) after left_after
+    → HasHandedOut input handed before left_before
+    → HasHandedOut input (handed ++ too_long_line ∷ []) after left_after
 
 -- the reader gives up, whatever was handed out
 abbrev pub GivesUp : Position → Position → Option (List ℕ) → Option (List ℕ) → Type 0
@@ -57,31 +60,36 @@ GivesUp before after left_before left_after = (input : List ℕ) (handed : List 
     → HasHandedOut input handed before left_before → HasGivenUp input handed after left_after
 
 -- a whole line waits
-pub record FindsWhole (before after : Position) (left_before left_after : Option (List ℕ)) (n : ℕ) : Type 0 where
+pub record FindsWhole (before after : Position) (left_before left_after : Option (List ℕ)) (n : ℕ)
+    : Type 0 where
   pub going : IsGoing after
   pub kept : KeepsHandedOut before after left_before left_after
   pub line : BeginsWithLine after.waiting n
   pub short : n ≤ line_limit
-  pub same : consumed after ≡ consumed before
+  pub same : bytes_handed_out after ≡ bytes_handed_out before
 
 -- the input ends behind the bytes that wait
-pub record FindsRest (before after : Position) (left_before left_after : Option (List ℕ)) : Type 0 where
+pub record FindsRest (before after : Position) (left_before left_after : Option (List ℕ))
+    : Type 0 where
   pub going : IsGoing after
   pub kept : KeepsHandedOut before after left_before left_after
   pub end : (input : List ℕ) (handed : List LineText) → HasHandedOut input handed before left_before
       → drop after.taken input ≡ []
   pub unfed : feeds after.waiting ≡ 0
   pub short : length after.waiting ≤ line_limit
-  pub same : consumed after ≡ consumed before
+  pub same : bytes_handed_out after ≡ bytes_handed_out before
 
 -- a line that is too long was skipped
-pub record FindsSkipped (before after : Position) (left_before left_after : Option (List ℕ)) : Type 0 where
+pub record FindsSkipped (before after : Position) (left_before left_after : Option (List ℕ))
+    : Type 0 where
   pub unfailed : after.failure ≡ None
   pub skipped : SkipsLine before after left_before left_after
-  pub later : consumed before < consumed after
+  pub later : bytes_handed_out before < bytes_handed_out after
 
 -- what stands in the way of the next line
-abbrev pub Finds : Position → Position → Option (List ℕ) → Option (List ℕ) → Found → Type 0
-Finds before after left_before left_after (Whole n) = FindsWhole before after left_before left_after n
-Finds before after left_before left_after Rest = FindsRest before after left_before left_after
-Finds before after left_before left_after Skipped = FindsSkipped before after left_before left_after
+abbrev pub FindsNext : Position → Position → Option (List ℕ) → Option (List ℕ) → Found → Type 0
+FindsNext before after left_before left_after (Whole n) =
+    FindsWhole before after left_before left_after n
+FindsNext before after left_before left_after Rest = FindsRest before after left_before left_after
+FindsNext before after left_before left_after Skipped =
+    FindsSkipped before after left_before left_after

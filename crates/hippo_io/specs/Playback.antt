@@ -1,7 +1,7 @@
 -- What sources and sinks in memory are: bytes, and a list of the calls that fail.
 use Rattle.std.specs.Prelude.{ℕ, ◌+◌, Bool, ◌||◌, List, length, nat_lt, ◌==◌, if◌then◌else◌}
 use Rattle.std.specs.List.{list_any}
-use Rattle.hippo_io.specs.Faults.{counted}
+use Rattle.hippo_io.specs.Faults.{next_count}
 
 -- which calls fail, counted from 1, how many were made, and how many faults there were
 pub record Tally : Type 0 where
@@ -15,15 +15,15 @@ new_tally failing = record { failing = failing; made = 0; faults = 0 }
 
 -- whether the next call fails
 abbrev pub fails_next : Tally → Bool
-fails_next tally = list_any (λ call. call == counted tally.made) tally.failing
+fails_next tally = list_any (λ call. call == next_count tally.made) tally.failing
 
 -- after one more call, which went well
 abbrev pub after_call : Tally → Tally
-after_call tally = record tally { made = counted tally.made }
+after_call tally = record tally { made = next_count tally.made }
 
 -- after one more fault
 abbrev pub after_fault : Tally → Tally
-after_fault tally = record tally { faults = counted tally.faults }
+after_fault tally = record tally { faults = next_count tally.faults }
 
 -- a source: the bytes that are left
 pub record Playback : Type 0 where
@@ -42,4 +42,5 @@ tally_after failed tally = if failed then after_fault (after_call tally) else af
 
 -- whether the next write of so many bytes fails: by its number, or since they do not fit
 abbrev pub write_fails : Recording → ℕ → Bool
-write_fails recording n = fails_next recording.tally || nat_lt recording.room (length recording.written + n)
+write_fails recording n =
+    fails_next recording.tally || nat_lt recording.room (length recording.written + n)

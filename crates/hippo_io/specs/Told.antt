@@ -5,10 +5,11 @@ use Rattle.std.specs.Prelude.{◌≡◌, ℕ, ◌≤◌, List, [], ◌++◌, len
 abbrev pub Keeps : Option (List ℕ) → Option (List ℕ) → Type 0
 Keeps old new = (told : List ℕ) → old ≡ Some told → new ≡ Some told
 
--- whatever bytes the old one tells, the first n of them are at the front of the buffer, and the new one tells the
--- others
+-- whatever bytes the old one tells, the first n of them are at the front of the buffer, and the new
+-- one tells the others
 abbrev pub Takes : Option (List ℕ) → Option (List ℕ) → ℕ → List ℕ → Type 0
-Takes old new n buffer = (told : List ℕ) → old ≡ Some told → (take n told ≡ take n buffer) × (new ≡ Some (drop n told))
+Takes old new n buffer =
+    (told : List ℕ) → old ≡ Some told → (take n told ≡ take n buffer) × (new ≡ Some (drop n told))
 
 -- it tells no byte, or does not tell
 abbrev pub IsAtEnd : Option (List ℕ) → Type 0
@@ -18,11 +19,13 @@ IsAtEnd known = (told : List ℕ) → known ≡ Some told → told ≡ []
 abbrev pub Appends : Option (List ℕ) → Option (List ℕ) → List ℕ → Type 0
 Appends old new bytes = (told : List ℕ) → old ≡ Some told → new ≡ Some (told ++ bytes)
 
--- whatever bytes the old one tells, the new one tells them with the first so many of these behind them
+-- whatever bytes the old one tells, the new one tells them with the first so many of these behind
+-- them
 abbrev pub AppendsFront : Option (List ℕ) → Option (List ℕ) → List ℕ → Type 0
 AppendsFront old new bytes = (n : ℕ) × Appends old new (take n bytes)
 
--- whatever bytes the old one tells, the first n of them are now behind the others, and the new one tells the rest
+-- whatever bytes the old one tells, the first n of them are now behind the others, and the new one
+-- tells the rest
 abbrev pub TakesBehind : Option (List ℕ) → Option (List ℕ) → ℕ → List ℕ → List ℕ → Type 0
 TakesBehind old new n others together =
     (told : List ℕ) → old ≡ Some told

@@ -1,6 +1,6 @@
 //! Counts of faults, and the lists of calls that are to fail.
 ghost use Rattle.std.specs.Prelude.{◌≡◌, ◌≤◌};
-ghost use Rattle.hippo_io.specs.Faults.{counted};
+ghost use Rattle.hippo_io.specs.Faults.{next_count};
 ghost use Rattle.hippo_io.specs.Playback.{new_tally, fails_next, after_call, after_fault};
 
 use hippo_values::Calls;
@@ -24,7 +24,7 @@ impl Model for CallCounter {
 
 // A count that stands still at its last value.
 pub(crate) fn one_more(count: u64) -> u64
-    ensures { result ≡ counted count }
+    ensures { result ≡ next_count count }
 {
     count.saturating_add(1)
 }

@@ -20,9 +20,11 @@ const INPUT_LIMIT: u64 = 1 << 40;
 /// A line of the input, or its end.
 #[derive(Clone, Copy, Debug, PartialEq, Eq)]
 pub enum Line<'a> {
-    /// The bytes before the line feed or the end of the input, without the one carriage return at their end.
+    /// The bytes before the line feed or the end of the input, without the one carriage return at
+    /// their end.
     Text(&'a str),
-    /// More than 65,536 bytes stand before the line feed or the end of the input, a carriage return among them.
+    /// More than 65,536 bytes stand before the line feed or the end of the input, a carriage return
+    /// among them.
     TooLong,
     /// The line is not too long, and its bytes are not UTF-8.
     NotUtf8,
@@ -35,12 +37,13 @@ pub enum Line<'a> {
 pub enum LineFault {
     /// The source failed. The lines whose line feeds were taken from it have been handed out.
     Read,
-    /// More than 2^40 bytes were taken. The lines whose line feeds are among the first 2^40 have been handed out.
+    /// More than 2^40 bytes were taken. The lines whose line feeds are among the first 2^40 have
+    /// been handed out.
     TooMuch,
 }
 
-/// Cuts the bytes of a source into lines. A line ends at a line feed or at the end of the input, has at most 65,536
-/// bytes before that, and loses one carriage return at its end.
+/// Cuts the bytes of a source into lines. A line ends at a line feed or at the end of the input,
+/// has at most 65,536 bytes before that, and loses one carriage return at its end.
 #[derive(Debug, Drop)]
 pub struct LineReader {
     // `buffer[start..end]` was taken from the source and not yet handed out.
@@ -148,8 +151,8 @@ fn text_of(piece: &[u8]) -> Line<'_>
 }
 
 impl LineReader {
-    ghost use Rattle.hippo_io.specs.HandingOut.{at_beginning, NextLine, HasHandedOut, HasGivenUp, input_limit, consumed};
-    ghost use Rattle.hippo_io.specs.Moves.{IsGoing, Refills, FailsToRefill, SkipsLine, GivesUp, Finds};
+    ghost use Rattle.hippo_io.specs.HandingOut.{at_beginning, NextLine, HasHandedOut, HasGivenUp, input_limit, bytes_handed_out};
+    ghost use Rattle.hippo_io.specs.Moves.{IsGoing, Refills, FailsToRefill, SkipsLine, GivesUp, FindsNext};
     ghost use Rattle.std.specs.Result.{result_err};
     ghost use Rattle.hippo_io.specs.contracts.lines.LineReader.{the_row};
     ghost use Rattle.hippo_io.specs.declared.lines.LineFault.TheVariants.{Read, TooMuch};
@@ -203,12 +206,15 @@ impl LineReader {
     fn refill<S: Source>(&mut self, source: &mut S) -> Result<usize, LineFault>
         requires going { IsGoing self.old }
         requires room { length self.old.waiting ≤ line_limit }
-        ensures more { IfOk result (Refills self.old self.new (S.left source.old) (S.left source.new)) }
-        ensures end { IfOk result (λ n. n ≡ 0 → (self.new ≡ self.old) × IsAtEnd (S.left source.old)) }
+        ensures more { IfOk result (Refills self.old self.new (S.left source.old)
+            (S.left source.new)) }
+        ensures end { IfOk result (λ n. n ≡ 0 → (self.new ≡ self.old)
+            × IsAtEnd (S.left source.old)) }
         ensures failed { IfErr result
             (FailsToRefill self.old self.new (S.left source.old) (S.left source.new)) }
         ensures limit { (self.new.failure ≡ Some TooMuch) ↔ (input_limit < self.new.taken) }
-        ensures cause { IsErrOf result LineFault.Read → HasRisen (S.faults source.old) (S.faults source.new) }
+        ensures cause { IsErrOf result LineFault.Read
+            → HasRisen (S.faults source.old) (S.faults source.new) }
         ensures unfailed { result ≢ Err LineFault.Read → S.faults source.new ≡ S.faults source.old }
         ensures faults { S.faults source.old ≤ S.faults source.new }
     {
@@ -239,12 +245,15 @@ impl LineReader {
         requires clear { feeds self.old.waiting ≡ 0 }
         requires long { line_limit < length self.old.waiting }
         requires taken { length self.old.waiting ≤ self.old.taken }
-        ensures skipped { OnOk result (SkipsLine self.old self.new (S.left source.old) (S.left source.new)) }
-        ensures gives_up { OnErr result (GivesUp self.old self.new (S.left source.old) (S.left source.new)) }
+        ensures skipped { OnOk result (SkipsLine self.old self.new (S.left source.old)
+            (S.left source.new)) }
+        ensures gives_up { OnErr result (GivesUp self.old self.new (S.left source.old)
+            (S.left source.new)) }
         ensures failure { self.new.failure ≡ result_err result }
-        ensures later { OnOk result (consumed self.old < consumed self.new) }
+        ensures later { OnOk result (bytes_handed_out self.old < bytes_handed_out self.new) }
         ensures limit { (self.new.failure ≡ Some TooMuch) ↔ (input_limit < self.new.taken) }
-        ensures cause { IsErrOf result LineFault.Read → HasRisen (S.faults source.old) (S.faults source.new) }
+        ensures cause { IsErrOf result LineFault.Read
+            → HasRisen (S.faults source.old) (S.faults source.new) }
         ensures unfailed { result ≢ Err LineFault.Read → S.faults source.new ≡ S.faults source.old }
         ensures faults { S.faults source.old ≤ S.faults source.new }
     {
@@ -261,14 +270,18 @@ impl LineReader {
         }
     }
 
-    // Reads until a whole line waits, or the input has ended, or a line that is too long was skipped.
+    // Reads until a whole line waits, or the input has ended, or a line that is too long was
+    // skipped.
     fn find_line<S: Source>(&mut self, source: &mut S) -> Result<Found, LineFault>
         requires going { IsGoing self.old }
-        ensures found { IfOk result (Finds self.old self.new (S.left source.old) (S.left source.new)) }
-        ensures gives_up { OnErr result (GivesUp self.old self.new (S.left source.old) (S.left source.new)) }
+        ensures found { IfOk result (FindsNext self.old self.new (S.left source.old)
+            (S.left source.new)) }
+        ensures gives_up { OnErr result (GivesUp self.old self.new (S.left source.old)
+            (S.left source.new)) }
         ensures failure { self.new.failure ≡ result_err result }
         ensures limit { (self.new.failure ≡ Some TooMuch) ↔ (input_limit < self.new.taken) }
-        ensures cause { IsErrOf result LineFault.Read → HasRisen (S.faults source.old) (S.faults source.new) }
+        ensures cause { IsErrOf result LineFault.Read
+            → HasRisen (S.faults source.old) (S.faults source.new) }
         ensures unfailed { result ≢ Err LineFault.Read → S.faults source.new ≡ S.faults source.old }
         ensures faults { S.faults source.old ≤ S.faults source.new }
     {
@@ -289,17 +302,19 @@ impl LineReader {
         }
     }
 
-    /// The next line, or the end once all lines are handed out. A line that is too long is skipped through its line
-    /// feed.
+    /// The next line, or the end once all lines are handed out. A line that is too long is skipped
+    /// through its line feed.
     ///
-    /// Answers `Read` only where the source failed, in this call or in an earlier one, and `TooMuch` exactly where more
-    /// than 2^40 bytes were taken from it. After a fault, and after the end, it answers the same again and does not
-    /// read. The source's count of faults is as before, unless the answer is `Read`.
+    /// Answers `Read` only where the source failed, in this call or in an earlier one, and
+    /// `TooMuch` exactly where more than 2^40 bytes were taken from it. After a fault, and after
+    /// the end, it answers the same again and does not read. The source's count of faults is as
+    /// before, unless the answer is `Read`.
     pub fn next_line<S: Source>(&mut self, source: &mut S) -> Result<Line<'_>, LineFault>
         ensures* next { sem 𝓛 (Rests the_row self.entry (λ new.
             NextLine self.old new (S.left source.old) (S.left source.new) result)) }
         ensures cause { IsErrOf result LineFault.Read →
-            (self.old.failure ≡ Some LineFault.Read) ⊎ HasRisen (S.faults source.old) (S.faults source.new) }
+            (self.old.failure ≡ Some LineFault.Read)
+            ⊎ HasRisen (S.faults source.old) (S.faults source.new) }
         ensures unfailed { result ≢ Err LineFault.Read → S.faults source.new ≡ S.faults source.old }
         ensures faults { S.faults source.old ≤ S.faults source.new }
         ensures after_end { IsTrue self.old.ended → source.new ≡ source.old }

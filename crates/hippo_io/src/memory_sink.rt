@@ -11,7 +11,8 @@ use hippo_values::{Calls, Memory};
 use std::alloc::Global;
 use std::marker::Model;
 
-/// A sink that keeps bytes in memory and fails at the calls that it is told. It has all its room from the beginning.
+/// A sink that keeps bytes in memory and fails at the calls that it is told. It has all its room
+/// from the beginning.
 #[derive(Debug, Drop)]
 pub struct MemorySink {
     bytes: Vec<u8>,
@@ -31,8 +32,8 @@ impl Model for MemorySink {
 }
 
 impl MemorySink {
-    /// An empty sink with room for so many bytes. The calls of `write` whose numbers, counted from 1, are in `failing`
-    /// fail, and so does one whose piece does not fit.
+    /// An empty sink with room for so many bytes. The calls of `write` whose numbers, counted from
+    /// 1, are in `failing` fail, and so does one whose piece does not fit.
     pub fn new(alloc: Global, room: usize, failing: Calls) -> Result<MemorySink, Memory>
         ensures written { IfOk result (λ sink. sink.written ≡ []) }
         ensures room { IfOk result (λ sink. sink.room ≡ room) }

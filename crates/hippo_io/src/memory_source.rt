@@ -29,7 +29,8 @@ impl Model for MemorySource {
 }
 
 impl MemorySource {
-    /// A source of these bytes. The calls of `read` whose numbers, counted from 1, are in `failing` fail.
+    /// A source of these bytes. The calls of `read` whose numbers, counted from 1, are in `failing`
+    /// fail.
     pub fn new(bytes: Bytes, failing: Calls) -> MemorySource
         ensures left { result.left ≡ bytes }
         ensures tally { result.tally ≡ new_tally failing }
@@ -59,8 +60,10 @@ impl Source for MemorySource {
 
     fn read(&mut self, buffer: &mut [u8]) -> Result<usize, Failed>
         ensures count { IfOk result (λ n. n ≤ length buffer.old) }
-        ensures taken { IfOk result (λ n. Takes (Some self.old.left) (Some self.new.left) n buffer.new) }
-        ensures end { IfOk result (λ n. n ≡ 0 → 0 < length buffer.old → IsAtEnd (Some self.old.left)) }
+        ensures taken { IfOk result (λ n. Takes (Some self.old.left) (Some self.new.left) n
+            buffer.new) }
+        ensures end { IfOk result (λ n. n ≡ 0 → 0 < length buffer.old
+            → IsAtEnd (Some self.old.left)) }
         ensures failed { OnErr result (Keeps (Some self.old.left) (Some self.new.left)) }
         ensures cause { OnErr result (HasRisen self.old.tally.faults self.new.tally.faults) }
         ensures unfailed { OnOk result (self.new.tally.faults ≡ self.old.tally.faults) }

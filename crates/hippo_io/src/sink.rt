@@ -13,12 +13,14 @@ pub trait Sink {
     // How often a write failed; the count stands still at its last value.
     ghost faults: { Self → ℕ };
 
-    /// Writes the first bytes of the piece, and answers how many; none only where the piece is empty. A write that
-    /// failed wrote none. The count of faults rises where the write failed, and only there.
+    /// Writes the first bytes of the piece, and answers how many; none only where the piece is
+    /// empty. A write that failed wrote none. The count of faults rises where the write failed, and
+    /// only there.
     fn write(&mut self, piece: &[u8]) -> Result<usize, Failed>
         ensures count { IfOk result (λ n. n ≤ length piece.now) }
         ensures some { IfOk result (λ n. 0 < length piece.now → 0 < n) }
-        ensures appended { IfOk result (λ n. Appends (written self.old) (written self.new) (take n piece.now)) }
+        ensures appended { IfOk result (λ n. Appends (written self.old) (written self.new)
+            (take n piece.now)) }
         ensures failed { OnErr result (Keeps (written self.old) (written self.new)) }
         ensures cause { OnErr result (HasRisen (faults self.old) (faults self.new)) }
         ensures unfailed { OnOk result (faults self.new ≡ faults self.old) }
@@ -28,7 +30,8 @@ pub trait Sink {
 /// Writes all bytes. Where a write fails, the bytes before it are written.
 pub fn write_whole<K: Sink>(sink: &mut K, bytes: &[u8]) -> Result<(), Failed>
     ensures ok { OnOk result (Appends (K.written sink.old) (K.written sink.new) bytes.now) }
-    ensures failed { OnErr result (AppendsFront (K.written sink.old) (K.written sink.new) bytes.now) }
+    ensures failed { OnErr result (AppendsFront (K.written sink.old) (K.written sink.new)
+        bytes.now) }
     ensures cause { OnErr result (HasRisen (K.faults sink.old) (K.faults sink.new)) }
     ensures unfailed { OnOk result (K.faults sink.new ≡ K.faults sink.old) }
     ensures faults { K.faults sink.old ≤ K.faults sink.new }

@@ -15,9 +15,9 @@ pub trait Source {
     // How often a read failed; the count stands still at its last value.
     ghost faults: { Self → ℕ };
 
-    /// Moves the next bytes to the front of the buffer, and answers how many; none only at the end or where the buffer
-    /// has no room. What stands behind them in the buffer is free. A read that failed moved none. The count of faults
-    /// rises where the read failed, and only there.
+    /// Moves the next bytes to the front of the buffer, and answers how many; none only at the end
+    /// or where the buffer has no room. What stands behind them in the buffer is free. A read that
+    /// failed moved none. The count of faults rises where the read failed, and only there.
     fn read(&mut self, buffer: &mut [u8]) -> Result<usize, Failed>
         ensures count { IfOk result (λ n. n ≤ length buffer.old) }
         ensures taken { IfOk result (λ n. Takes (left self.old) (left self.new) n buffer.new) }

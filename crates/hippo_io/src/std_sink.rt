@@ -1,7 +1,7 @@
 //! Any writer of std as a sink.
 ghost use Rattle.std.specs.Prelude.{◌≡◌, ℕ, ◌<◌, ◌≤◌, length, take, IfOk, OnOk, OnErr};
 ghost use Rattle.hippo_io.specs.Adapters.{writer_of, write_faults};
-ghost use Rattle.hippo_io.specs.Faults.{HasRisen, counted};
+ghost use Rattle.hippo_io.specs.Faults.{HasRisen, next_count};
 ghost use Rattle.hippo_io.specs.Told.{Keeps, Appends};
 
 use crate::counts::one_more;
@@ -9,8 +9,8 @@ use crate::sink::Sink;
 use crate::source::Failed;
 use std::io::Write;
 
-/// A sink over any writer. It counts each error of the writer as a fault, and each write of a piece with bytes that
-/// takes none of them.
+/// A sink over any writer. It counts each error of the writer as a fault, and each write of a piece
+/// with bytes that takes none of them.
 #[derive(Debug, Drop)]
 pub struct StdSink<W> {
     inner: W,
@@ -36,12 +36,15 @@ impl<W: Write> Sink for StdSink<W> {
         ensures count { IfOk result (λ n. n ≤ length piece.now) }
         ensures some { IfOk result (λ n. 0 < length piece.now → 0 < n) }
         ensures appended { IfOk result
-            (λ n. Appends (W.contents (writer_of self.old)) (W.contents (writer_of self.new)) (take n piece.now)) }
-        ensures failed { OnErr result (Keeps (W.contents (writer_of self.old)) (W.contents (writer_of self.new))) }
+            (λ n. Appends (W.contents (writer_of self.old)) (W.contents (writer_of self.new))
+            (take n piece.now)) }
+        ensures failed { OnErr result (Keeps (W.contents (writer_of self.old))
+            (W.contents (writer_of self.new))) }
         ensures cause { OnErr result (HasRisen (write_faults self.old) (write_faults self.new)) }
         ensures unfailed { OnOk result (write_faults self.new ≡ write_faults self.old) }
         ensures faults { write_faults self.old ≤ write_faults self.new }
-        ensures counted { OnErr result (write_faults self.new ≡ counted (write_faults self.old)) }
+        ensures counted { OnErr result (write_faults self.new
+            ≡ next_count (write_faults self.old)) }
     {
         match self.inner.write(piece) {
             Ok(n) if n > 0 || piece.is_empty() => Ok(n),

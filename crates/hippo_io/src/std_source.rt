@@ -1,7 +1,7 @@
 //! Any reader of std as a source.
 ghost use Rattle.std.specs.Prelude.{◌≡◌, ℕ, ◌<◌, ◌≤◌, length, IfOk, OnOk, OnErr};
 ghost use Rattle.hippo_io.specs.Adapters.{reader_of, read_faults};
-ghost use Rattle.hippo_io.specs.Faults.{HasRisen, counted};
+ghost use Rattle.hippo_io.specs.Faults.{HasRisen, next_count};
 ghost use Rattle.hippo_io.specs.Told.{Keeps, Takes, IsAtEnd};
 
 use crate::counts::one_more;
@@ -33,13 +33,16 @@ impl<R: Read> Source for StdSource<R> {
     fn read(&mut self, buffer: &mut [u8]) -> Result<usize, Failed>
         ensures count { IfOk result (λ n. n ≤ length buffer.old) }
         ensures taken { IfOk result
-            (λ n. Takes (R.remaining (reader_of self.old)) (R.remaining (reader_of self.new)) n buffer.new) }
-        ensures end { IfOk result (λ n. n ≡ 0 → 0 < length buffer.old → IsAtEnd (R.remaining (reader_of self.old))) }
-        ensures failed { OnErr result (Keeps (R.remaining (reader_of self.old)) (R.remaining (reader_of self.new))) }
+            (λ n. Takes (R.remaining (reader_of self.old)) (R.remaining (reader_of self.new)) n
+            buffer.new) }
+        ensures end { IfOk result (λ n. n ≡ 0 → 0 < length buffer.old
+            → IsAtEnd (R.remaining (reader_of self.old))) }
+        ensures failed { OnErr result (Keeps (R.remaining (reader_of self.old))
+            (R.remaining (reader_of self.new))) }
         ensures cause { OnErr result (HasRisen (read_faults self.old) (read_faults self.new)) }
         ensures unfailed { OnOk result (read_faults self.new ≡ read_faults self.old) }
         ensures faults { read_faults self.old ≤ read_faults self.new }
-        ensures counted { OnErr result (read_faults self.new ≡ counted (read_faults self.old)) }
+        ensures counted { OnErr result (read_faults self.new ≡ next_count (read_faults self.old)) }
     {
         match self.inner.read(buffer) {
             Ok(n) => Ok(n),

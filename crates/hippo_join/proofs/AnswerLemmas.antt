@@ -8,7 +8,7 @@ use Rattle.hippo_model.specs.Masking.{Choices, masked_items, masked_answer}
 use Rattle.hippo_eval.specs.Walks.{rows_of}
 use Rattle.hippo_eval.specs.declared.answers.EvalFault.{EvalFault}
 use Rattle.hippo_eval.specs.declared.answers.EvalFault.TheVariants.{TooManyRows, Memory}
-use Rattle.hippo_join.specs.Places.{chosen, stands}
+use Rattle.hippo_join.specs.Places.{chosen_rows, stands}
 use Rattle.hippo_join.specs.Finding.{AreFound, IsRising, has_places}
 use Rattle.hippo_eval.specs.Answering.{IsAnswered}
 use Rattle.hippo_join.proofs.FoundLemmas.{answer-found, length-found, same_tests}
@@ -25,9 +25,9 @@ module _ (choices : Choices) (query : Masked) (sets : List KeyedRows) (found : L
     pub joined-many : limit < length found → IsAnswered limit whole (Err TooManyRows)
     joined-many more = omega (arith, more, length-found choices query sets found rising are.sound)
 
-    pub joined-listed : (result : Result (List ShownRow) EvalFault) → length found ≤ limit → MatchResult result (λ answer. answer ≡ map (λ places. masked_items choices query (chosen sets places)) found) (λ fault. fault ≡ Memory) → IsAnswered limit whole result
+    pub joined-listed : (result : Result (List ShownRow) EvalFault) → length found ≤ limit → MatchResult result (λ answer. answer ≡ map (λ places. masked_items choices query (chosen_rows sets places)) found) (λ fault. fault ≡ Memory) → IsAnswered limit whole result
     joined-listed (Ok answer) within is =
         let same = answer-found choices query sets found rising (λ places. same_tests (has_places places found) (stands choices query sets places) (are.sound places) (are.whole within places)) in
-        (is ∙ same, omega (arith, within, sym (ap length same) ∙ length_map (λ places. masked_items choices query (chosen sets places)) found))
+        (is ∙ same, omega (arith, within, sym (ap length same) ∙ length_map (λ places. masked_items choices query (chosen_rows sets places)) found))
     joined-listed (Err TooManyRows) within is = absurd cc
     joined-listed (Err Memory) within is = tt

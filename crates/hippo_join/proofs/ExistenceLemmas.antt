@@ -13,12 +13,12 @@ use Rattle.hippo_model.specs.declared.query.Masked.{Masked}
 use Rattle.hippo_model.specs.Terms.{Place}
 use Rattle.hippo_model.specs.RowSets.{KeyedRows}
 use Rattle.hippo_model.specs.Masking.{Choices}
-use Rattle.hippo_join.specs.Places.{Fits, chosen}
+use Rattle.hippo_join.specs.Places.{Fits, chosen_rows}
 use Rattle.hippo_join.specs.Known.{is_chosen}
 use Rattle.hippo_join.specs.Finding.{Covers, has_places}
 use Rattle.hippo_join.specs.Visiting.{AreAll, Completes}
 use Rattle.hippo_join.specs.Existence.{are_shown, HasOne, Decides}
-use Rattle.hippo_join.proofs.FindingLemmas.{whole-chosen, covered-whole}
+use Rattle.hippo_join.proofs.FindingLemmas.{whole-chosen_rows, covered-whole}
 use Rattle.hippo_join.proofs.FoundLemmas.{same_places}
 
 pub decided : (fact : Type 0) (answer : Bool) → (answer ≡ true → fact) → (answer ≡ false → ¬ fact) → Decides fact (Ok answer)
@@ -26,8 +26,8 @@ decided fact true so not = so refl
 decided fact false so not = not refl
 
 -- where no stage is left, each row is chosen
-pub all-chosen : (slots : List (Option Place)) (places : List Place) → Covers [] slots → places ≡ map (λ slot. unwrap_or slot 0) slots → slots ≡ map Some places
-all-chosen slots places covers is = whole-chosen slots (covered-whole slots covers) ∙ ap (map Some) (sym is)
+pub all-chosen_rows : (slots : List (Option Place)) (places : List Place) → Covers [] slots → places ≡ map (λ slot. unwrap_or slot 0) slots → slots ≡ map Some places
+all-chosen_rows slots places covers is = whole-chosen_rows slots (covered-whole slots covers) ∙ ap (map Some) (sym is)
 
 pub fits-itself : (places : List Place) → Fits (map Some places) places
 fits-itself [] = tt
@@ -69,11 +69,11 @@ any-has test some places has passes =
 
 -- what is found among all that count and have the rows that are chosen
 pub one-found : (choices : Choices) (query : Masked) (seen : List Expr) (sets : List KeyedRows) (slots : List (Option Place)) (in_order : Bool) (all : List (List Place)) (found : Bool) → AreAll (Completes choices query sets slots) in_order all
-    → found ≡ list_any (λ places. are_shown choices seen (chosen sets places)) all → Decides (HasOne choices query seen sets slots) (Ok found)
+    → found ≡ list_any (λ places. are_shown choices seen (chosen_rows sets places)) all → Decides (HasOne choices query seen sets slots) (Ok found)
 one-found choices query seen sets slots in_order all found are is =
     decided (HasOne choices query seen sets slots) found
-    (λ yes. let one = any-of (λ places. are_shown choices seen (chosen sets places)) all (sym is ∙ yes) in let counts = are.sound one.0 one.1 in record { places = one.0; fits = counts.0; counts = counts.1; shows = one.2 })
-    (λ not_so one. false≢true (sym not_so ∙ is ∙ any-has (λ places. are_shown choices seen (chosen sets places)) all one.places (are.whole one.places (one.fits, one.counts)) one.shows))
+    (λ yes. let one = any-of (λ places. are_shown choices seen (chosen_rows sets places)) all (sym is ∙ yes) in let counts = are.sound one.0 one.1 in record { places = one.0; fits = counts.0; counts = counts.1; shows = one.2 })
+    (λ not_so one. false≢true (sym not_so ∙ is ∙ any-has (λ places. are_shown choices seen (chosen_rows sets places)) all one.places (are.whole one.places (one.fits, one.counts)) one.shows))
 
 -- one more that was visited, which passes or does not
 module _ (test : List Place → Bool) (before : List (List Place)) (places : List Place) where

@@ -20,11 +20,11 @@ use Rattle.hippo_model.specs.Terms.{Combination, Place}
 use Rattle.hippo_model.specs.RowSets.{KeyedRows}
 use Rattle.hippo_model.specs.Masking.{Choices, is_guarded, masked_passes}
 use Rattle.hippo_join.specs.declared.stages.Stage.{Stage}
-use Rattle.hippo_join.specs.Places.{chosen, in_range, stays, stands}
+use Rattle.hippo_join.specs.Places.{chosen_rows, in_range, stays, stands}
 use Rattle.hippo_join.specs.Known.{is_chosen, is_open}
 use Rattle.hippo_join.specs.Stages.{AreStages}
 use Rattle.hippo_join.specs.Walking.{IsWalkable, AreWalkable, CanWalk}
-use Rattle.hippo_join.specs.Finding.{has_places, Covers, HasOneMore, AreFound}
+use Rattle.hippo_join.specs.Finding.{has_places, Covers, HasOnePlaceMore, AreFound}
 use Rattle.hippo_join.proofs.FoundLemmas.{has-both, or-cases, or-left}
 
 -- a test of places, one table after the other
@@ -45,7 +45,7 @@ or_cond true b = refl
 or_cond false b = refl
 
 -- what `insert` says, with the places that are asked for first
-pub one-more : (places : List Place) (before after : List (List Place)) → ((other : List Place) → has_places other after ≡ cond (is_eq (slice_cmp nat_cmp places other)) true (has_places other before)) → HasOneMore places before after
+pub one-more : (places : List Place) (before after : List (List Place)) → ((other : List Place) → has_places other after ≡ cond (is_eq (slice_cmp nat_cmp places other)) true (has_places other before)) → HasOnePlaceMore places before after
 one-more places before after updated other =
     updated other ∙ or_cond (is_eq (slice_cmp nat_cmp places other)) (has_places other before)
     ∙ ap (λ b. b || has_places other before) ((eq_by_cmp_equiv nat_list_cmp_total).symm places other)
@@ -61,28 +61,28 @@ in-range-more sets places i set at within below =
     in_range-drop sets places i set (get_or places i 0) at (slice_get-get_or places i 0 within) ∙ ap (λ b. b && in_range (drop (i + 1) sets) (drop (i + 1) places)) test
 
 -- a place that is chosen, where all are
-pub chosen-place : (slots : List (Option Place)) (places : List Place) (i : ℕ) (d : Option Place) → slots ≡ map Some places → i < length slots → unwrap_or (get_or slots i d) 0 ≡ get_or places i 0
-chosen-place slots places i d whole within = ap (λ (s : List (Option Place)). unwrap_or (get_or s i d) 0) whole ∙ at places i (omega (arith, within, ap length whole, length-map places Some))
+pub chosen_rows-place : (slots : List (Option Place)) (places : List Place) (i : ℕ) (d : Option Place) → slots ≡ map Some places → i < length slots → unwrap_or (get_or slots i d) 0 ≡ get_or places i 0
+chosen_rows-place slots places i d whole within = ap (λ (s : List (Option Place)). unwrap_or (get_or s i d) 0) whole ∙ at places i (omega (arith, within, ap length whole, length-map places Some))
   where
     at : (places : List Place) (i : ℕ) → i < length places → unwrap_or (get_or (map Some places) i d) 0 ≡ get_or places i 0
     at [] i within = absurd (omega arith)
     at (place ∷ places) zero within = refl
     at (place ∷ places) (suc i) within = at places i (omega arith)
 
-pub counts-is : (choices : Choices) (query : Masked) (sets : List KeyedRows) (places : List Place) (rows : Combination) (result : Bool) → in_range sets places ≡ true → rows ≡ chosen sets places → result ≡ (is_guarded choices query rows && masked_passes choices query rows)
+pub counts-is : (choices : Choices) (query : Masked) (sets : List KeyedRows) (places : List Place) (rows : Combination) (result : Bool) → in_range sets places ≡ true → rows ≡ chosen_rows sets places → result ≡ (is_guarded choices query rows && masked_passes choices query rows)
     → result ≡ stands choices query sets places
 unfolding stays
-counts-is choices query sets places rows result within same is = is ∙ ap (stays choices query) same ∙ sym (ap (λ b. b && stays choices query (chosen sets places)) within)
+counts-is choices query sets places rows result within same is = is ∙ ap (stays choices query) same ∙ sym (ap (λ b. b && stays choices query (chosen_rows sets places)) within)
 
 pub places-back : (places : List Place) → map (λ slot. unwrap_or slot 0) (map Some places) ≡ places
 places-back [] = refl
 places-back (place ∷ places) = ap (λ l. place ∷ l) (places-back places)
 
 -- where each row is chosen, the slots are the places
-pub whole-chosen : (slots : List (Option Place)) → ((table : Place) → table < length slots → is_chosen slots table ≡ true) → slots ≡ map Some (map (λ slot. unwrap_or slot 0) slots)
-whole-chosen [] each = refl
-whole-chosen (None ∷ slots) each = absurd (false≢true (each 0 (omega arith)))
-whole-chosen (Some place ∷ slots) each = ap (λ l. Some place ∷ l) (whole-chosen slots (λ table within. each (suc table) (omega arith)))
+pub whole-chosen_rows : (slots : List (Option Place)) → ((table : Place) → table < length slots → is_chosen slots table ≡ true) → slots ≡ map Some (map (λ slot. unwrap_or slot 0) slots)
+whole-chosen_rows [] each = refl
+whole-chosen_rows (None ∷ slots) each = absurd (false≢true (each 0 (omega arith)))
+whole-chosen_rows (Some place ∷ slots) each = ap (λ l. Some place ∷ l) (whole-chosen_rows slots (λ table within. each (suc table) (omega arith)))
 
 -- no stage is left: each row is chosen
 pub covered-whole : (slots : List (Option Place)) → Covers [] slots → (table : Place) → table < length slots → is_chosen slots table ≡ true
@@ -143,7 +143,7 @@ covers-more stage stages slots place covers here table within =
     let known : is_chosen (slice_set slots stage.table (Some place)) stage.table ≡ true = chosen_at slots stage.table place here in
     let before : table < length slots = simp length-set at within in
     elim (covers table before) as (λ _. (is_chosen (slice_set slots stage.table (Some place)) table ≡ true) ⊎ Contains (map (λ s. s.table) stages) table) [
-      | inl chosen ↦ inl (still_chosen slots stage.table table place chosen)
+      | inl chosen_rows ↦ inl (still_chosen slots stage.table table place chosen_rows)
       | inr left ↦ elim (first_or_later stage.table (map (λ s. s.table) stages) table left) as (λ _. (is_chosen (slice_set slots stage.table (Some place)) table ≡ true) ⊎ Contains (map (λ s. s.table) stages) table) [
         | inl same ↦ inl (subst (λ (t : Place). is_chosen (slice_set slots stage.table (Some place)) t ≡ true) same known)
         | inr later ↦ inr later
@@ -179,12 +179,12 @@ still-open slots table still = unchosen-same slots table (open-unchosen slots ta
 pub within-set : (slots now : List (Option Place)) (table : Place) → table < length slots → slice_set now table None ≡ slots → table < length now
 within-set slots now table within same = omega (arith, within, ap length same, length-set now table None)
 
-chosen-again : (now : List (Option Place)) (table other : Place) → is_chosen (slice_set now table None) other ≡ true → is_chosen now other ≡ true
-chosen-again [] table other is = is
-chosen-again (slot ∷ now) zero zero is = absurd (false≢true is)
-chosen-again (slot ∷ now) zero (suc other) is = is
-chosen-again (slot ∷ now) (suc table) zero is = is
-chosen-again (slot ∷ now) (suc table) (suc other) is = chosen-again now table other is
+chosen_rows-again : (now : List (Option Place)) (table other : Place) → is_chosen (slice_set now table None) other ≡ true → is_chosen now other ≡ true
+chosen_rows-again [] table other is = is
+chosen_rows-again (slot ∷ now) zero zero is = absurd (false≢true is)
+chosen_rows-again (slot ∷ now) zero (suc other) is = is
+chosen_rows-again (slot ∷ now) (suc table) zero is = is
+chosen_rows-again (slot ∷ now) (suc table) (suc other) is = chosen_rows-again now table other is
 
 -- the first of some stages, and the others
 pub all-first : {X : Type 0} (P : X → Type 0) (xs : List X) (x : X) (rest : List X) → All P xs → xs ≡ x ∷ rest → P x
@@ -246,7 +246,7 @@ module _ (choices : Choices) (query : Masked) (sets : List KeyedRows) where
           long = as_long ∙ can.long;
           walkable = can.walkable;
           covers = λ table within. elim (can.covers table (omega (arith, within, as_long))) as (λ _. (is_chosen now table ≡ true) ⊎ Contains (map (λ (s : Stage). s.table) (stage ∷ rest)) table) [
-            | inl chosen ↦ inl (chosen-again now stage.table table (subst (λ (s : List (Option Place)). is_chosen s table ≡ true) (sym same) chosen))
+            | inl chosen_rows ↦ inl (chosen_rows-again now stage.table table (subst (λ (s : List (Option Place)). is_chosen s table ≡ true) (sym same) chosen_rows))
             | inr left ↦ inr left
           ];
           rises = can.rises;
@@ -262,8 +262,8 @@ module _ (choices : Choices) (query : Masked) (sets : List KeyedRows) where
           rises = λ asked. rises_rest stage.table (map (λ s. s.table) rest) (whole.rises asked);
         }
 
-    pub walk-chosen : (stage : Stage) (rest : List Stage) (slots : List (Option Place)) (place : Place) → CanWalk choices query sets in_order (stage ∷ rest) slots → stage.table < length slots → CanWalk choices query sets in_order rest (slice_set slots stage.table (Some place))
-    walk-chosen stage rest slots place can within = record {
+    pub walk-chosen_rows : (stage : Stage) (rest : List Stage) (slots : List (Option Place)) (place : Place) → CanWalk choices query sets in_order (stage ∷ rest) slots → stage.table < length slots → CanWalk choices query sets in_order rest (slice_set slots stage.table (Some place))
+    walk-chosen_rows stage rest slots place can within = record {
       long = let long = can.long in simp length-set long;
       walkable = all-rest (IsWalkable choices query sets) (stage ∷ rest) stage rest can.walkable refl;
       covers = covers-more stage rest slots place can.covers within;
@@ -271,12 +271,12 @@ module _ (choices : Choices) (query : Masked) (sets : List KeyedRows) where
     }
 
     -- in the order of FROM the rows of all tables before an open stage's are chosen
-    pub before-chosen : (stages : List Stage) (stage : Stage) (rest : List Stage) (slots : List (Option Place)) → CanWalk choices query sets in_order stages slots → stages ≡ stage ∷ rest → stage.table < length slots
+    pub before-chosen_rows : (stages : List Stage) (stage : Stage) (rest : List Stage) (slots : List (Option Place)) → CanWalk choices query sets in_order stages slots → stages ≡ stage ∷ rest → stage.table < length slots
         → in_order ≡ true → (earlier : Place) → earlier < stage.table → is_chosen slots earlier ≡ true
-    before-chosen stages stage rest slots can first within asked earlier lower =
+    before-chosen_rows stages stage rest slots can first within asked earlier lower =
         let whole = walk-first stages stage rest slots slots can first refl in
         elim (whole.covers earlier (omega (arith, lower, within))) as (λ _. is_chosen slots earlier ≡ true) [
-          | inl chosen ↦ chosen
+          | inl chosen_rows ↦ chosen_rows
           | inr left ↦ let lowest = first-lowest stage.table (map (λ s. s.table) rest) (whole.rises asked) earlier left in absurd (omega (arith, lowest, lower))
         ]
 
@@ -302,7 +302,7 @@ module _ (limit : ℕ) (visited : List (List Place)) (found : List (List Place))
   }
 
   -- one combination more
-  pub found-more : (places : List Place) (after : List (List Place)) → length found ≤ limit → HasOneMore places found after → AreFound (λ other. has_places other (visited ++ places ∷ []) ≡ true) limit after
+  pub found-more : (places : List Place) (after : List (List Place)) → length found ≤ limit → HasOnePlaceMore places found after → AreFound (λ other. has_places other (visited ++ places ∷ []) ≡ true) limit after
   found-more places after few added = record {
     sound = λ other has. seen other ∙ swapped (is_eq (slice_cmp nat_cmp other places)) (has_places other visited) (or-cases (is_eq (slice_cmp nat_cmp other places)) (has_places other found) (sym (added other) ∙ has)) (are.sound other);
     whole = λ few_still other has. added other ∙ back (is_eq (slice_cmp nat_cmp other places)) (has_places other visited) (has_places other found) (sym (seen other) ∙ has) (are.whole few other);

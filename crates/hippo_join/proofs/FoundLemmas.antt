@@ -21,7 +21,7 @@ use Rattle.hippo_model.specs.Answers.{product}
 use Rattle.hippo_model.specs.Masking.{Choices, masked_items, masked_answer}
 use Rattle.hippo_eval.specs.Walks.{rows_of}
 use Rattle.hippo_join.specs.Finding.{has_places, IsRising}
-use Rattle.hippo_join.specs.Places.{chosen, places_of, stays, stands}
+use Rattle.hippo_join.specs.Places.{chosen_rows, places_of, stays, stands}
 use Rattle.hippo_join.specs.Visiting.{AreAll}
 use Rattle.hippo_join.proofs.ProductLemmas.{Below, product-rows, has-places_of, rising-places_of, filter-map, map-map}
 
@@ -125,31 +125,31 @@ same_tests false false there back = refl
 
 module _ (choices : Choices) (query : Masked) (sets : List KeyedRows) where
   abbrev counting : List (List Place)
-  counting = filter (λ c. stays choices query (chosen sets c)) (places_of sets)
+  counting = filter (λ c. stays choices query (chosen_rows sets c)) (places_of sets)
 
   has-counting : (c : List Place) → has_places c counting ≡ stands choices query sets c
-  has-counting c = has-filter (λ c. stays choices query (chosen sets c)) c (places_of sets) ∙ ap (λ b. b && stays choices query (chosen sets c)) (has-places_of sets c)
+  has-counting c = has-filter (λ c. stays choices query (chosen_rows sets c)) c (places_of sets) ∙ ap (λ b. b && stays choices query (chosen_rows sets c)) (has-places_of sets c)
 
   rising-counting : IsRising counting
-  rising-counting = IsStrictlySortedBy-filter (slice_cmp nat_cmp) (λ c. stays choices query (chosen sets c)) (places_of sets) (rising-places_of sets)
+  rising-counting = IsStrictlySortedBy-filter (slice_cmp nat_cmp) (λ c. stays choices query (chosen_rows sets c)) (places_of sets) (rising-places_of sets)
 
-  rows-counting : filter (stays choices query) (product (rows_of sets)) ≡ map (chosen sets) counting
-  rows-counting = ap (filter (stays choices query)) (product-rows sets) ∙ filter-map (stays choices query) (chosen sets) (places_of sets)
+  rows-counting : filter (stays choices query) (product (rows_of sets)) ≡ map (chosen_rows sets) counting
+  rows-counting = ap (filter (stays choices query)) (product-rows sets) ∙ filter-map (stays choices query) (chosen_rows sets) (places_of sets)
 
-  answer-counting : masked_answer choices query (rows_of sets) ≡ map (λ c. masked_items choices query (chosen sets c)) counting
+  answer-counting : masked_answer choices query (rows_of sets) ≡ map (λ c. masked_items choices query (chosen_rows sets c)) counting
   unfolding stays
-  answer-counting = ap (map (masked_items choices query)) rows-counting ∙ map-map (masked_items choices query) (chosen sets) counting
+  answer-counting = ap (map (masked_items choices query)) rows-counting ∙ map-map (masked_items choices query) (chosen_rows sets) counting
 
   -- all that count, in the order of the product
-  pub rows-in-order : (all : List (List Place)) → AreAll (λ c. stands choices query sets c ≡ true) true all → map (chosen sets) all ≡ filter (stays choices query) (product (rows_of sets))
+  pub rows-in-order : (all : List (List Place)) → AreAll (λ c. stands choices query sets c ≡ true) true all → map (chosen_rows sets) all ≡ filter (stays choices query) (product (rows_of sets))
   rows-in-order all are =
-      ap (map (chosen sets)) (same_rising all counting (are.rising refl) rising-counting (λ c. same_tests (has_places c all) (stands choices query sets c) (are.sound c) (are.whole c) ∙ sym (has-counting c)))
+      ap (map (chosen_rows sets)) (same_rising all counting (are.rising refl) rising-counting (λ c. same_tests (has_places c all) (stands choices query sets c) (are.sound c) (are.whole c) ∙ sym (has-counting c)))
       ∙ sym rows-counting
 
   -- what is found in order, and is all that counts, gives the answer
-  pub answer-found : (found : List (List Place)) → IsRising found → ((c : List Place) → has_places c found ≡ stands choices query sets c) → map (λ c. masked_items choices query (chosen sets c)) found ≡ masked_answer choices query (rows_of sets)
+  pub answer-found : (found : List (List Place)) → IsRising found → ((c : List Place) → has_places c found ≡ stands choices query sets c) → map (λ c. masked_items choices query (chosen_rows sets c)) found ≡ masked_answer choices query (rows_of sets)
   answer-found found rising same =
-      ap (map (λ c. masked_items choices query (chosen sets c))) (same_rising found counting rising rising-counting (λ c. same c ∙ sym (has-counting c)))
+      ap (map (λ c. masked_items choices query (chosen_rows sets c))) (same_rising found counting rising rising-counting (λ c. same c ∙ sym (has-counting c)))
       ∙ sym answer-counting
 
   length-map : {A B : Type 0} (f : A → B) (xs : List A) → length (map f xs) ≡ length xs
@@ -160,4 +160,4 @@ module _ (choices : Choices) (query : Masked) (sets : List KeyedRows) where
   pub length-found : (found : List (List Place)) → IsRising found → ((c : List Place) → has_places c found ≡ true → stands choices query sets c ≡ true) → length found ≤ length (masked_answer choices query (rows_of sets))
   length-found found rising sound =
       let within : length found ≤ length counting = length-rising found counting rising (λ c has. has-counting c ∙ sound c has) in
-      rw (answer-counting, length-map (λ c. masked_items choices query (chosen sets c)) counting) within
+      rw (answer-counting, length-map (λ c. masked_items choices query (chosen_rows sets c)) counting) within

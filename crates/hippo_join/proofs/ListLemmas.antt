@@ -18,8 +18,8 @@ use Rattle.hippo_model.specs.Masking.{Choices}
 use Rattle.hippo_model.proofs.Truths.{truth-Among}
 use Rattle.hippo_eval.specs.MaskedTruth.{masked_value}
 use Rattle.hippo_join.specs.Lists.{is_literal, IsListedBy}
-use Rattle.hippo_join.specs.Lookups.{value_at}
-use Rattle.hippo_join.specs.Ties.{column_of, holds}
+use Rattle.hippo_join.specs.Lookups.{value_at_place}
+use Rattle.hippo_join.specs.Ties.{shown_column, holds}
 use Rattle.hippo_join.proofs.PartLemmas.{equal-values, column-value}
 
 one_true : (a b : Truth) → is_true (truth_or a b) ≡ true → (is_true a ≡ true) ⊎ (is_true b ≡ true)
@@ -53,7 +53,7 @@ module _ (choices : Choices) (rows : Combination) where
   ]
 
 -- a list of literals that has a column's value
-pub among-listed : (value : Expr) (list : List Expr) (column : Ref) → column_of value ≡ Some column → list_all is_literal list ≡ true → IsListedBy (conditions.Among value list ∷ []) column list
+pub among-listed : (value : Expr) (list : List Expr) (column : Ref) → shown_column value ≡ Some column → list_all is_literal list ≡ true → IsListedBy (conditions.Among value list ∷ []) column list
 among-listed value list column is literals choices rows all =
     let of = masked_value choices rows in
     let part = (and_parts (holds choices rows (conditions.Among value list)) true all).0 in
@@ -64,11 +64,11 @@ among-listed value list column is literals choices rows all =
 
 abbrev pub AreListed : KeyedRows → Place → List Expr → ℕ → List Place → Type 0
 AreListed set column list count found =
-    (place : Place) → place < length set.rows → (k : ℕ) → k < count → (other : Expr) → get_or list k other ≡ Literal (value_at set column place) → Contains found place
+    (place : Place) → place < length set.rows → (k : ℕ) → k < count → (other : Expr) → get_or list k other ≡ Literal (value_at_place set column place) → Contains found place
 
 pub listed-more : (set : KeyedRows) (column : Place) (list : List Expr) (k : ℕ) (item : Expr) (found later : List Place) → k < length list → item ≡ get_or list k item
     → ((place : Place) → Contains found place → Contains later place)
-    → ((place : Place) → place < length set.rows → item ≡ Literal (value_at set column place) → Contains later place)
+    → ((place : Place) → place < length set.rows → item ≡ Literal (value_at_place set column place) → Contains later place)
     → AreListed set column list k found → AreListed set column list (k + 1) later
 listed-more set column list k item found later inside at stay added so_far place within i lower other is = elim (cases_lt i k) [
   | inl before ↦ stay place (so_far place within i before other is)
@@ -83,7 +83,7 @@ listed-more set column list k item found later inside at stay added so_far place
     get_or_other (x ∷ xs) (suc j) d e within = get_or_other xs j d e (omega arith)
 
 pub all-listed : (set : KeyedRows) (column : Place) (list : List Expr) (count : ℕ) (found : List Place) → length list ≤ count → AreListed set column list count found
-    → (place : Place) → place < length set.rows → Contains list (Literal (value_at set column place)) → Contains found place
+    → (place : Place) → place < length set.rows → Contains list (Literal (value_at_place set column place)) → Contains found place
 all-listed set column list count found long so_far place within has =
     let inside = has.1 in
-    so_far place within has.0 (omega (arith, inside, long)) (Literal (value_at set column place)) has.2
+    so_far place within has.0 (omega (arith, inside, long)) (Literal (value_at_place set column place)) has.2

@@ -14,7 +14,7 @@ use Rattle.hippo_values.specs.Order.{value_cmp}
 use Rattle.hippo_values.specs.OrderLaws.{value_total}
 use Rattle.hippo_model.specs.Terms.{Place}
 use Rattle.hippo_model.specs.RowSets.{KeyedRows}
-use Rattle.hippo_join.specs.Lookups.{value_at, IsIndex}
+use Rattle.hippo_join.specs.Lookups.{value_at_place, IsIndex}
 use Rattle.hippo_join.proofs.ExistenceLemmas.{get_or_default}
 
 cases_lt : (a b : ℕ) → (a < b) ⊎ (b ≤ a)
@@ -42,7 +42,7 @@ module _ (set : KeyedRows) (column : Place) (values : List Value) (places : List
   order_of own = value_cmp own value
 
   abbrev value_of : Place → Value
-  value_of place = value_at set column place
+  value_of place = value_at_place set column place
 
   long : length values ≡ length places
   long = ap length index.are ∙ length-map places value_of

@@ -22,7 +22,7 @@ use Rattle.hippo_model.specs.Masking.{Choices, raw_value, shown_if}
 use Rattle.hippo_model.specs.Forms.{value_in}
 use Rattle.hippo_model.proofs.Truths.{truth-Compare}
 use Rattle.hippo_eval.specs.MaskedTruth.{masked_value}
-use Rattle.hippo_join.specs.Ties.{column_of, holds, AreEqual}
+use Rattle.hippo_join.specs.Ties.{shown_column, holds, AreEqual}
 
 -- values that are found equal are the same, and not null
 equal_orders : (o : Ordering) → is_true (truth_of (is_eq o)) ≡ true → o ≡ Equal
@@ -44,7 +44,7 @@ shown_value true value rule shown = refl
 shown_value false value rule shown = absurd (false≢true (sym shown))
 
 -- an expression over a column has its value, or null
-pub column-value : (choices : Choices) (rows : Combination) (expr : Expr) (column : Ref) → column_of expr ≡ Some column → is_null (masked_value choices rows expr) ≡ false → masked_value choices rows expr ≡ raw_value rows column
+pub column-value : (choices : Choices) (rows : Combination) (expr : Expr) (column : Ref) → shown_column expr ≡ Some column → is_null (masked_value choices rows expr) ≡ false → masked_value choices rows expr ≡ raw_value rows column
 column-value choices rows (Keep own) column e shown = ap (raw_value rows) (some_is e)
 column-value choices rows (Null rule) column e shown = absurd cc
 column-value choices rows (Aged own rule after) column e shown = shown_value _ (raw_value rows own) rule shown ∙ ap (raw_value rows) (some_is e)
@@ -52,7 +52,7 @@ column-value choices rows (Case own subject item rule opt_in after) column e sho
 column-value choices rows (Literal value) column e shown = absurd cc
 
 -- an equality of two columns ties them
-pub tie-left : (left right : Expr) (a b : Ref) → column_of left ≡ Some a → column_of right ≡ Some b → (choices : Choices) (rows : Combination) → list_all (holds choices rows) (conditions.Compare Eq left right ∷ []) ≡ true → AreEqual rows a b
+pub tie-left : (left right : Expr) (a b : Ref) → shown_column left ≡ Some a → shown_column right ≡ Some b → (choices : Choices) (rows : Combination) → list_all (holds choices rows) (conditions.Compare Eq left right ∷ []) ≡ true → AreEqual rows a b
 tie-left left right a b of_left of_right choices rows all =
     let first = (and_parts (holds choices rows (conditions.Compare Eq left right)) true all).0 in
     let equal = equal-values (masked_value choices rows left) (masked_value choices rows right) (sym (ap is_true (truth-Compare (masked_value choices rows) Eq left right)) ∙ first) in

@@ -15,7 +15,7 @@ use Rattle.hippo_model.specs.RowSets.{KeyedRows}
 use Rattle.hippo_model.specs.Answers.{product}
 use Rattle.hippo_eval.specs.Walks.{rows_of}
 use Rattle.hippo_join.specs.Finding.{has_places, IsRising}
-use Rattle.hippo_join.specs.Places.{row_at, chosen, in_range, places_of}
+use Rattle.hippo_join.specs.Places.{row_at_place, chosen_rows, in_range, places_of}
 
 module _ {A B : Type 0} where
   pub map-flat_map : {X : Type 0} (f : A → B) (g : X → List A) (xs : List X) → map f (flat_map g xs) ≡ flat_map (λ x. map f (g x)) xs
@@ -47,25 +47,25 @@ shifted : {X : Type 0} (f : ℕ → X) (a n : ℕ) → map f (range_with_len (a 
 shifted f a zero = refl
 shifted f a (suc n) = rw add-one (ap (λ l. f (suc a) ∷ l) (rw (← add-one a) (shifted f (a + 1) n)))
 
-pub each_row : (rows : List BornRow) → map (row_at rows) (range_with_len 0 (length rows)) ≡ rows
+pub each_row : (rows : List BornRow) → map (row_at_place rows) (range_with_len 0 (length rows)) ≡ rows
 each_row [] = refl
-each_row (row ∷ rows) = ap (λ l. row ∷ l) (shifted (row_at (row ∷ rows)) 0 (length rows) ∙ each_row rows)
+each_row (row ∷ rows) = ap (λ l. row ∷ l) (shifted (row_at_place (row ∷ rows)) 0 (length rows) ∙ each_row rows)
 
 -- one table before the others
-one_more : (set : KeyedRows) (sets : List KeyedRows) (place : Place) (some : List (List Place)) → map (chosen (set ∷ sets)) (map (λ others. place ∷ others) some) ≡ map (λ others. row_at set.rows place ∷ others) (map (chosen sets) some)
+one_more : (set : KeyedRows) (sets : List KeyedRows) (place : Place) (some : List (List Place)) → map (chosen_rows (set ∷ sets)) (map (λ others. place ∷ others) some) ≡ map (λ others. row_at_place set.rows place ∷ others) (map (chosen_rows sets) some)
 one_more set sets place [] = refl
-one_more set sets place (places ∷ some) = ap (λ l. (row_at set.rows place ∷ chosen sets places) ∷ l) (one_more set sets place some)
+one_more set sets place (places ∷ some) = ap (λ l. (row_at_place set.rows place ∷ chosen_rows sets places) ∷ l) (one_more set sets place some)
 
 -- the product of rows is that of their places
-pub product-rows : (sets : List KeyedRows) → product (rows_of sets) ≡ map (chosen sets) (places_of sets)
+pub product-rows : (sets : List KeyedRows) → product (rows_of sets) ≡ map (chosen_rows sets) (places_of sets)
 product-rows [] = refl
 product-rows (set ∷ sets) =
     let after : BornRow → List Combination = λ row. map (λ others. row ∷ others) (product (rows_of sets)) in
-    let later : Place → List Combination = λ place. map (λ others. row_at set.rows place ∷ others) (map (chosen sets) (places_of sets)) in
-    ap (flat_map after) (sym (each_row set.rows)) ∙ flat_map-map after (row_at set.rows) (range_with_len 0 (length set.rows))
-    ∙ flat_map_same (λ place. after (row_at set.rows place)) (λ place. map (chosen (set ∷ sets)) (map (λ others. place ∷ others) (places_of sets)))
-    (λ place. ap (map (λ others. row_at set.rows place ∷ others)) (product-rows sets) ∙ sym (one_more set sets place (places_of sets))) (range_with_len 0 (length set.rows))
-    ∙ sym (map-flat_map (chosen (set ∷ sets)) (λ place. map (λ others. place ∷ others) (places_of sets)) (range_with_len 0 (length set.rows)))
+    let later : Place → List Combination = λ place. map (λ others. row_at_place set.rows place ∷ others) (map (chosen_rows sets) (places_of sets)) in
+    ap (flat_map after) (sym (each_row set.rows)) ∙ flat_map-map after (row_at_place set.rows) (range_with_len 0 (length set.rows))
+    ∙ flat_map_same (λ place. after (row_at_place set.rows place)) (λ place. map (chosen_rows (set ∷ sets)) (map (λ others. place ∷ others) (places_of sets)))
+    (λ place. ap (map (λ others. row_at_place set.rows place ∷ others)) (product-rows sets) ∙ sym (one_more set sets place (places_of sets))) (range_with_len 0 (length set.rows))
+    ∙ sym (map-flat_map (chosen_rows (set ∷ sets)) (λ place. map (λ others. place ∷ others) (places_of sets)) (range_with_len 0 (length set.rows)))
 
 -- whether places stand behind a first one
 behind : (a p : Place) (rest : List Place) (some : List (List Place)) → has_places (a ∷ rest) (map (λ others. p ∷ others) some) ≡ (nat_eq a p && has_places rest some)

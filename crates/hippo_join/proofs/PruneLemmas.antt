@@ -15,9 +15,9 @@ use Rattle.hippo_model.specs.Conditions.{is_true, outer_parts, is_null}
 use Rattle.hippo_model.specs.Masking.{Choices, masked_cell, is_shown_cell, is_guarded, masked_passes}
 use Rattle.hippo_model.specs.Forms.{value_in}
 use Rattle.hippo_eval.specs.MaskedTruth.{masked_value}
-use Rattle.hippo_join.specs.Places.{rows_at, chosen, Fits, slot_at, in_range, stays, stands}
+use Rattle.hippo_join.specs.Places.{rows_at, chosen_rows, Fits, slot_at, in_range, stays, stands}
 use Rattle.hippo_join.specs.Known.{knows, knows_expr}
-use Rattle.hippo_join.specs.Lookups.{value_at}
+use Rattle.hippo_join.specs.Lookups.{value_at_place}
 use Rattle.hippo_join.specs.Ties.{holds, AreEqual}
 use Rattle.hippo_join.proofs.KnownLemmas.{truth-known}
 use Rattle.hippo_model.proofs.HeldParts.{parts-hold}
@@ -39,35 +39,35 @@ or_of false holds h = refl
 -- what is said of a combination that counts
 module _ (choices : Choices) (query : Masked) (sets : List KeyedRows) (places : List Place) (counts : stands choices query sets places ≡ true) where
   pub in-range : in_range sets places ≡ true
-  in-range = (and_parts (in_range sets places) (stays choices query (chosen sets places)) counts).0
+  in-range = (and_parts (in_range sets places) (stays choices query (chosen_rows sets places)) counts).0
 
   pub long-enough : length places ≡ length sets
   long-enough = length-in_range sets places in-range
 
-  both : (is_guarded choices query (chosen sets places) ≡ true) × (masked_passes choices query (chosen sets places) ≡ true)
+  both : (is_guarded choices query (chosen_rows sets places) ≡ true) × (masked_passes choices query (chosen_rows sets places) ≡ true)
   unfolding stays
-  both = and_parts (is_guarded choices query (chosen sets places)) (masked_passes choices query (chosen sets places)) (and_parts (in_range sets places) (stays choices query (chosen sets places)) counts).1
+  both = and_parts (is_guarded choices query (chosen_rows sets places)) (masked_passes choices query (chosen_rows sets places)) (and_parts (in_range sets places) (stays choices query (chosen_rows sets places)) counts).1
 
-  pub all-hold : list_all (holds choices (chosen sets places)) (outer_parts query.cond) ≡ true
-  all-hold = parts-hold (masked_value choices (chosen sets places)) query.cond ∙ both.1
+  pub all-hold : list_all (holds choices (chosen_rows sets places)) (outer_parts query.cond) ≡ true
+  all-hold = parts-hold (masked_value choices (chosen_rows sets places)) query.cond ∙ both.1
 
 module _ (choices : Choices) (query : Masked) (sets : List KeyedRows) (slots : List (Option Place)) (places : List Place) (fits : Fits slots places) (counts : stands choices query sets places ≡ true) where
   -- a part whose columns are known
   pub part-holds : (k : ℕ) (part : CondOf Expr) → slice_get (outer_parts query.cond) k ≡ Some part → (not (knows slots part) || holds choices (rows_at sets slots) part) ≡ true
   part-holds k part at = or_of (knows slots part) (holds choices (rows_at sets slots) part) (λ known.
-      ap is_true (truth-known slots (masked_value choices (rows_at sets slots)) (masked_value choices (chosen sets places)) (λ expr is. ap value_in (cell-known choices sets slots places fits expr is)) part known)
-      ∙ one-of-all (holds choices (chosen sets places)) (outer_parts query.cond) k part at (all-hold choices query sets places counts))
+      ap is_true (truth-known slots (masked_value choices (rows_at sets slots)) (masked_value choices (chosen_rows sets places)) (λ expr is. ap value_in (cell-known choices sets slots places fits expr is)) part known)
+      ∙ one-of-all (holds choices (chosen_rows sets places)) (outer_parts query.cond) k part at (all-hold choices query sets places counts))
 
   -- a guard whose columns are known
   pub guard-holds : (k : ℕ) (guard : Guard) → slice_get query.guards k ≡ Some guard → (not (knows_expr slots guard.expr) || is_shown_cell (masked_cell choices (rows_at sets slots) guard.expr)) ≡ true
   guard-holds k guard at = or_of (knows_expr slots guard.expr) (is_shown_cell (masked_cell choices (rows_at sets slots) guard.expr)) (λ known.
       ap is_shown_cell (cell-known choices sets slots places fits guard.expr known)
-      ∙ one-of-all (λ (g : Guard). is_shown_cell (masked_cell choices (chosen sets places) g.expr)) query.guards k guard at (both choices query sets places counts).0)
+      ∙ one-of-all (λ (g : Guard). is_shown_cell (masked_cell choices (chosen_rows sets places) g.expr)) query.guards k guard at (both choices query sets places counts).0)
 
   -- the value of a tie's column
-  pub value-tied : (table : Place) (column : Place) (other : Ref) (set others : KeyedRows) (place fixed : Place) → AreEqual (chosen sets places) (record { table = table; column = column }) other
+  pub value-tied : (table : Place) (column : Place) (other : Ref) (set others : KeyedRows) (place fixed : Place) → AreEqual (chosen_rows sets places) (record { table = table; column = column }) other
       → slice_get sets table ≡ Some set → slice_get places table ≡ Some place → slice_get sets other.table ≡ Some others → slot_at slots other.table ≡ Some fixed
-      → (value_at set column place ≡ value_at others other.column fixed) × (is_null (value_at others other.column fixed) ≡ false)
+      → (value_at_place set column place ≡ value_at_place others other.column fixed) × (is_null (value_at_place others other.column fixed) ≡ false)
   value-tied table column other set others place fixed equal at here at_other there =
       let own = raw-at sets places (record { table = table; column = column }) set place at here in
       let another = raw-at sets places other others fixed at_other (Fits-at slots places other.table fixed fits there) in

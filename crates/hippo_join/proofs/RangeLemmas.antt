@@ -29,11 +29,11 @@ use Rattle.hippo_model.specs.Masking.{Choices, raw_value}
 use Rattle.hippo_model.proofs.Truths.{truth-Compare, truth-Between}
 use Rattle.hippo_eval.specs.MaskedTruth.{masked_value}
 use Rattle.hippo_join.specs.declared.keys.Span.{Span}
-use Rattle.hippo_join.specs.Places.{chosen, Fits, stands}
-use Rattle.hippo_join.specs.Lookups.{value_at}
-use Rattle.hippo_join.specs.Ties.{column_of, holds}
+use Rattle.hippo_join.specs.Places.{chosen_rows, Fits, stands}
+use Rattle.hippo_join.specs.Lookups.{value_at_place}
+use Rattle.hippo_join.specs.Ties.{shown_column, holds}
 use Rattle.hippo_join.specs.Keys.{IsShownAs, IsToldBy, IsKeyTold, IsWithin}
-use Rattle.hippo_join.specs.Ranges.{bounding, flipped, IsBoundedBy, KeepsBound, HasFront, IsEdge}
+use Rattle.hippo_join.specs.Ranges.{bounding, flipped_operator, IsBoundedBy, KeepsBound, HasFront, IsEdge}
 use Rattle.hippo_join.proofs.KeyLemmas.{key-at}
 use Rattle.hippo_join.proofs.PartLemmas.{column-value}
 use Rattle.hippo_join.proofs.PruneLemmas.{below-rows, in-range, all-hold}
@@ -52,7 +52,7 @@ compared-values op (Text a) (Text b) e = (truly (is_allowed op (value_cmp (Text 
 compared-values op (Day a) (Day b) e = (truly (is_allowed op (value_cmp (Day a) (Day b))) e, (refl, refl))
 compared-values op a b e = absurd (false≢true e)
 
-allowed-turned : (op : CompareOp) (o : Ordering) → is_allowed (flipped op) (ordering_reverse o) ≡ is_allowed op o
+allowed-turned : (op : CompareOp) (o : Ordering) → is_allowed (flipped_operator op) (ordering_reverse o) ≡ is_allowed op o
 allowed-turned Eq Less = refl
 allowed-turned Eq Equal = refl
 allowed-turned Eq Greater = refl
@@ -72,11 +72,11 @@ allowed-turned Ge Less = refl
 allowed-turned Ge Equal = refl
 allowed-turned Ge Greater = refl
 
-turned_truth : (op : CompareOp) (a b : Value) → truth_of (is_allowed (flipped op) (value_cmp b a)) ≡ truth_of (is_allowed op (value_cmp a b))
-turned_truth op a b = ap (λ (o : Ordering). truth_of (is_allowed (flipped op) o)) (value_total.antisymm b a) ∙ ap truth_of (allowed-turned op (value_cmp a b))
+turned_truth : (op : CompareOp) (a b : Value) → truth_of (is_allowed (flipped_operator op) (value_cmp b a)) ≡ truth_of (is_allowed op (value_cmp a b))
+turned_truth op a b = ap (λ (o : Ordering). truth_of (is_allowed (flipped_operator op) o)) (value_total.antisymm b a) ∙ ap truth_of (allowed-turned op (value_cmp a b))
 
 -- a comparison read from the other side
-pub comparison-turned : (op : CompareOp) (a b : Value) → comparison (flipped op) b a ≡ comparison op a b
+pub comparison-turned : (op : CompareOp) (a b : Value) → comparison (flipped_operator op) b a ≡ comparison op a b
 comparison-turned op Null Null = refl
 comparison-turned op Null (Int b) = refl
 comparison-turned op Null (Text b) = refl
@@ -108,11 +108,11 @@ module _ (choices : Choices) (rows : Combination) where
   alone : (part : CondOf Expr) → holds choices rows part ≡ true → list_all (holds choices rows) (part ∷ []) ≡ true
   alone part true_of = and_from (holds choices rows part) true true_of refl
 
-  pub all-turned : (op : CompareOp) (left right : Expr) → list_all (holds choices rows) (conditions.Compare op left right ∷ []) ≡ true → list_all (holds choices rows) (conditions.Compare (flipped op) right left ∷ []) ≡ true
+  pub all-turned : (op : CompareOp) (left right : Expr) → list_all (holds choices rows) (conditions.Compare op left right ∷ []) ≡ true → list_all (holds choices rows) (conditions.Compare (flipped_operator op) right left ∷ []) ≡ true
   all-turned op left right all =
       let value = masked_value choices rows in
-      alone (conditions.Compare (flipped op) right left)
-      (ap is_true (truth-Compare value (flipped op) right left ∙ comparison-turned op (value left) (value right) ∙ sym (truth-Compare value op left right)) ∙ one_holds (conditions.Compare op left right) all)
+      alone (conditions.Compare (flipped_operator op) right left)
+      (ap is_true (truth-Compare value (flipped_operator op) right left ∙ comparison-turned op (value left) (value right) ∙ sym (truth-Compare value op left right)) ∙ one_holds (conditions.Compare op left right) all)
 
   both_ends : (operand low high : Expr) → list_all (holds choices rows) (conditions.Between operand low high ∷ []) ≡ true
       → (is_true (comparison Ge (masked_value choices rows operand) (masked_value choices rows low)) ≡ true) × (is_true (comparison Le (masked_value choices rows operand) (masked_value choices rows high)) ≡ true)
@@ -145,9 +145,9 @@ over-null (Day day) some = refl
 
 module _ (choices : Choices) (sets : List KeyedRows) (slots : List (Option Place)) where
   -- a comparison of a column with what is known
-  pub bounded-left : (left right : Expr) (column : Ref) (op : CompareOp) (value : Value) → column_of left ≡ Some column → IsShownAs choices sets slots right value → IsBoundedBy choices sets slots (conditions.Compare op left right ∷ []) column op value
+  pub bounded-left : (left right : Expr) (column : Ref) (op : CompareOp) (value : Value) → shown_column left ≡ Some column → IsShownAs choices sets slots right value → IsBoundedBy choices sets slots (conditions.Compare op left right ∷ []) column op value
   bounded-left left right column op value is shown places fits all =
-      let rows = chosen sets places in
+      let rows = chosen_rows sets places in
       let of = masked_value choices rows in
       let said = compared-values op (of left) (of right) (sym (ap is_true (truth-Compare of op left right)) ∙ one_holds choices rows (conditions.Compare op left right) all) in
       let own : of left ≡ raw_value rows column = column-value choices rows left column is said.1.0 in
@@ -157,13 +157,13 @@ module _ (choices : Choices) (sets : List KeyedRows) (slots : List (Option Place
   -- an equality bounds a column from both sides
   pub told-bounds : (parts : List (CondOf Expr)) (column : Ref) (value : Value) (above : Bool) → IsToldBy choices sets slots parts column value → IsBoundedBy choices sets slots parts column (bounding above false) value
   told-bounds parts column value above told places fits all =
-      let own : raw_value (chosen sets places) column ≡ value = (told places fits all).0 in
+      let own : raw_value (chosen_rows sets places) column ≡ value = (told places fits all).0 in
       (ap (λ (v : Value). is_allowed (bounding above false) (value_cmp v value)) own ∙ ap (is_allowed (bounding above false)) (tied_itself value_total value) ∙ allows_equal above, ap is_null own ∙ (told places fits all).1)
 
   -- the row of a combination that counts keeps the bounds that are said
   pub keeps : (query : Masked) (table : Place) (set : KeyedRows) (column : Place) (above : Bool) (bound : Option Bound) → slice_get sets table ≡ Some set
       → IfSome bound (λ bound. IsBoundedBy choices sets slots (outer_parts query.cond) (record { table = table; column = column }) (bounding above bound.strict) bound.value.now)
-      → (places : List Place) → Fits slots places → stands choices query sets places ≡ true → (place : Place) → slice_get places table ≡ Some place → KeepsBound above bound (value_at set column place)
+      → (places : List Place) → Fits slots places → stands choices query sets places ≡ true → (place : Place) → slice_get places table ≡ Some place → KeepsBound above bound (value_at_place set column place)
   keeps query table set column above None at_set is places fits counts place at = tt
   keeps query table set column above (Some bound) at_set is places fits counts place at =
       subst (λ (v : Value). is_allowed (bounding above bound.strict) (value_cmp v bound.value.now) ≡ true) (raw-at sets places (record { table = table; column = column }) set place at_set at)

@@ -15,14 +15,14 @@ use Rattle.hippo_values.specs.Order.{value_cmp}
 use Rattle.hippo_values.specs.OrderLaws.{value_total}
 use Rattle.hippo_model.specs.Conditions.{is_null}
 use Rattle.hippo_join.specs.declared.stages.Stage.{Stage}
-use Rattle.hippo_join.specs.Lookups.{value_at}
+use Rattle.hippo_join.specs.Lookups.{value_at_place}
 use Rattle.hippo_model.specs.declared.query.Masked.{Masked}
 use Rattle.hippo_model.specs.Terms.{Place}
 use Rattle.hippo_model.specs.RowSets.{KeyedRows}
 use Rattle.hippo_model.specs.Conditions.{outer_parts}
 use Rattle.hippo_model.specs.Masking.{Choices}
 use Rattle.hippo_join.specs.declared.ties.Tie.{Tie}
-use Rattle.hippo_join.specs.Places.{chosen, Fits, in_range, slot_at, stands}
+use Rattle.hippo_join.specs.Places.{chosen_rows, Fits, in_range, slot_at, stands}
 use Rattle.hippo_join.specs.Ties.{holds, AreEqual, IsTieOf}
 use Rattle.hippo_join.specs.Stages.{IsStage}
 use Rattle.hippo_join.proofs.ExistenceLemmas.{below_or_at, get_or_default}
@@ -63,8 +63,8 @@ module _ (Counts : List Place → Type 0) (table : Place) where
       so_far places counts place at has.0 (omega (arith, has.1)) (get_or_default some has.0 place 0 has.1 ∙ has.2)
 
 module _ (choices : Choices) (query : Masked) (sets : List KeyedRows) where
-  pub tie-counts : (table : Place) (tie : Tie) (parts : List (CondOf Expr)) → parts ≡ outer_parts query.cond → IsTieOf parts table tie → (places : List Place) → stands choices query sets places ≡ true → AreEqual (chosen sets places) (record { table = table; column = tie.column }) tie.other
-  tie-counts table tie parts same tied places counts = tied choices (chosen sets places) (subst (λ (l : List (CondOf Expr)). list_all (holds choices (chosen sets places)) l ≡ true) (sym same) (all-hold choices query sets places counts))
+  pub tie-counts : (table : Place) (tie : Tie) (parts : List (CondOf Expr)) → parts ≡ outer_parts query.cond → IsTieOf parts table tie → (places : List Place) → stands choices query sets places ≡ true → AreEqual (chosen_rows sets places) (record { table = table; column = tie.column }) tie.other
+  tie-counts table tie parts same tied places counts = tied choices (chosen_rows sets places) (subst (λ (l : List (CondOf Expr)). list_all (holds choices (chosen_rows sets places)) l ≡ true) (sym same) (all-hold choices query sets places counts))
 
 pub fits-alone : (slots : List (Option Place)) (n : ℕ) (table : Place) (places : List Place) → slots ≡ replicate n None → length places ≡ n → (place : Place) → slice_get places table ≡ Some place → Fits (slice_set slots table (Some place)) places
 fits-alone slots n table places none long place at = Fits-set slots places table place (subst (λ (s : List (Option Place)). Fits s places) (sym none) (Fits-open places n long)) at
@@ -84,17 +84,17 @@ set-at (set ∷ sets) (first ∷ places) (suc table) place inside at = set-at se
 module _ (choices : Choices) (query : Masked) (sets : List KeyedRows) (slots : List (Option Place)) (places : List Place) (fits : Fits slots places) (counts : stands choices query sets places ≡ true) where
   pub order-tied : (stage : Stage) (tie : Tie) (set others : KeyedRows) (place fixed : Place) (value : Value) → IsStage choices query sets stage → stage.tie ≡ Some tie
       → slice_get sets stage.table ≡ Some set → slice_get places stage.table ≡ Some place → slice_get sets tie.other.table ≡ Some others → Some fixed ≡ slot_at slots tie.other.table
-      → value ≡ value_at others tie.other.column fixed → value_cmp (value_at set tie.column place) value ≡ Equal
+      → value ≡ value_at_place others tie.other.column fixed → value_cmp (value_at_place set tie.column place) value ≡ Equal
   order-tied stage tie set others place fixed value is_stage is at here at_others there is_value =
-      let equal = of-some (λ t. (places : List Place) → stands choices query sets places ≡ true → AreEqual (chosen sets places) (record { table = stage.table; column = t.column }) t.other) stage.tie tie is_stage.tied is places counts in
+      let equal = of-some (λ t. (places : List Place) → stands choices query sets places ≡ true → AreEqual (chosen_rows sets places) (record { table = stage.table; column = t.column }) t.other) stage.tie tie is_stage.tied is places counts in
       let same = value-tied choices query sets slots places fits counts stage.table tie.column tie.other set others place fixed equal at here at_others (sym there) in
       ap (λ (v : Value). value_cmp v value) (same.0 ∙ sym is_value) ∙ tied_itself value_total value
 
   pub not-null : (stage : Stage) (tie : Tie) (set others : KeyedRows) (place fixed : Place) → IsStage choices query sets stage → stage.tie ≡ Some tie
       → slice_get sets stage.table ≡ Some set → slice_get places stage.table ≡ Some place → slice_get sets tie.other.table ≡ Some others → Some fixed ≡ slot_at slots tie.other.table
-      → ¬ (is_null (value_at others tie.other.column fixed) ≡ true)
+      → ¬ (is_null (value_at_place others tie.other.column fixed) ≡ true)
   not-null stage tie set others place fixed is_stage is at here at_others there null =
-      let equal = of-some (λ t. (places : List Place) → stands choices query sets places ≡ true → AreEqual (chosen sets places) (record { table = stage.table; column = t.column }) t.other) stage.tie tie is_stage.tied is places counts in
+      let equal = of-some (λ t. (places : List Place) → stands choices query sets places ≡ true → AreEqual (chosen_rows sets places) (record { table = stage.table; column = t.column }) t.other) stage.tie tie is_stage.tied is places counts in
       let same = value-tied choices query sets slots places fits counts stage.table tie.column tie.other set others place fixed equal at here at_others (sym there) in
       false≢true (sym same.1 ∙ null)
 

@@ -11,8 +11,8 @@ use Rattle.hippo_model.specs.Terms.{Place}
 use Rattle.hippo_model.specs.RowSets.{KeyedRows}
 use Rattle.hippo_model.specs.Conditions.{outer_parts}
 use Rattle.hippo_model.specs.Masking.{Choices}
-use Rattle.hippo_join.specs.Places.{chosen, Fits}
-use Rattle.hippo_join.specs.Lookups.{value_at}
+use Rattle.hippo_join.specs.Places.{chosen_rows, Fits}
+use Rattle.hippo_join.specs.Lookups.{value_at_place}
 use Rattle.hippo_join.specs.Lists.{IsListedBy}
 use Rattle.hippo_join.specs.Ranges.{bounding, IsBoundedBy, KeepsBound}
 use Rattle.hippo_join.specs.Stages.{Reaches, ReachesFrom}
@@ -25,7 +25,7 @@ module _ (choices : Choices) (query : Masked) (sets : List KeyedRows) where
     -- each place that counts has a value within the bounds that are said
     pub found-bounded : (low : Bound) (high : Option Bound) → IsBoundedBy choices sets slots (outer_parts query.cond) (record { table = table; column = column }) (bounding false low.strict) low.value.now
         → IfSome high (λ bound. IsBoundedBy choices sets slots (outer_parts query.cond) (record { table = table; column = column }) (bounding true bound.strict) bound.value.now)
-        → ((place : Place) → place < length set.rows → KeepsBound false (Some low) (value_at set column place) → KeepsBound true high (value_at set column place) → Contains some place)
+        → ((place : Place) → place < length set.rows → KeepsBound false (Some low) (value_at_place set column place) → KeepsBound true high (value_at_place set column place) → Contains some place)
         → ReachesFrom choices query sets slots table some
     found-bounded low high of_low of_high all places fits counts place at =
         all place (below-rows sets places table set place (in-range choices query sets places counts) at_set at)
@@ -33,11 +33,11 @@ module _ (choices : Choices) (query : Masked) (sets : List KeyedRows) where
 
     -- each place that counts has a value of the list that is said
     pub found-listed : (list : List Expr) → IsListedBy (outer_parts query.cond) (record { table = table; column = column }) list
-        → ((place : Place) → place < length set.rows → Contains list (Literal (value_at set column place)) → Contains some place)
+        → ((place : Place) → place < length set.rows → Contains list (Literal (value_at_place set column place)) → Contains some place)
         → ReachesFrom choices query sets slots table some
     found-listed list listed all places fits counts place at =
         all place (below-rows sets places table set place (in-range choices query sets places counts) at_set at)
-        (subst (λ (v : Value). Contains list (Literal v)) (raw-at sets places (record { table = table; column = column }) set place at_set at) (listed choices (chosen sets places) (all-hold choices query sets places counts)))
+        (subst (λ (v : Value). Contains list (Literal v)) (raw-at sets places (record { table = table; column = column }) set place at_set at) (listed choices (chosen_rows sets places) (all-hold choices query sets places counts)))
 
   -- where no row is chosen
   pub reaches-open : (slots : List (Option Place)) (table : Place) (some : List Place) → slots ≡ replicate (length sets) None → ReachesFrom choices query sets slots table some → Reaches choices query sets table some

@@ -18,7 +18,7 @@ use Rattle.hippo_model.specs.RowSets.{KeyedRows}
 use Rattle.hippo_model.specs.Rows.{cell_at}
 use Rattle.hippo_model.specs.Masking.{Choices, raw_value, is_younger, masked_cell, agrees_by, shown_if}
 use Rattle.hippo_model.specs.Verdicts.{number_in}
-use Rattle.hippo_join.specs.Places.{blank, row_at, slot_at, rows_at, chosen, Fits, in_range}
+use Rattle.hippo_join.specs.Places.{blank, row_at_place, slot_at, rows_at, chosen_rows, Fits, in_range}
 use Rattle.hippo_join.specs.Known.{is_chosen, knows_expr}
 
 -- nothing is chosen: all combinations of the right length fit
@@ -66,38 +66,38 @@ Fits-at (None ∷ slots) (first ∷ places) (suc table) place fits at = Fits-at 
 Fits-at (Some fixed ∷ slots) (first ∷ places) (suc table) place fits at = Fits-at slots places table place fits.1 at
 
 -- the row of a table that is chosen
-pub row-chosen : (sets : List KeyedRows) (slots : List (Option Place)) (places : List Place) (table : ℕ) → Fits slots places → is_chosen slots table ≡ true → slice_get (rows_at sets slots) table ≡ slice_get (chosen sets places) table
-row-chosen [] slots places table fits known = refl
-row-chosen (set ∷ sets) [] [] table fits known = absurd (false≢true known)
-row-chosen (set ∷ sets) [] (place ∷ places) table fits known = absurd fits
-row-chosen (set ∷ sets) (slot ∷ slots) [] table fits known = absurd fits
-row-chosen (set ∷ sets) (None ∷ slots) (place ∷ places) zero fits known = absurd (false≢true known)
-row-chosen (set ∷ sets) (Some fixed ∷ slots) (place ∷ places) zero fits known = ap (λ p. Some (row_at set.rows p)) fits.0
-row-chosen (set ∷ sets) (None ∷ slots) (place ∷ places) (suc table) fits known = row-chosen sets slots places table fits known
-row-chosen (set ∷ sets) (Some fixed ∷ slots) (place ∷ places) (suc table) fits known = row-chosen sets slots places table fits.1 known
+pub row-chosen_rows : (sets : List KeyedRows) (slots : List (Option Place)) (places : List Place) (table : ℕ) → Fits slots places → is_chosen slots table ≡ true → slice_get (rows_at sets slots) table ≡ slice_get (chosen_rows sets places) table
+row-chosen_rows [] slots places table fits known = refl
+row-chosen_rows (set ∷ sets) [] [] table fits known = absurd (false≢true known)
+row-chosen_rows (set ∷ sets) [] (place ∷ places) table fits known = absurd fits
+row-chosen_rows (set ∷ sets) (slot ∷ slots) [] table fits known = absurd fits
+row-chosen_rows (set ∷ sets) (None ∷ slots) (place ∷ places) zero fits known = absurd (false≢true known)
+row-chosen_rows (set ∷ sets) (Some fixed ∷ slots) (place ∷ places) zero fits known = ap (λ p. Some (row_at_place set.rows p)) fits.0
+row-chosen_rows (set ∷ sets) (None ∷ slots) (place ∷ places) (suc table) fits known = row-chosen_rows sets slots places table fits known
+row-chosen_rows (set ∷ sets) (Some fixed ∷ slots) (place ∷ places) (suc table) fits known = row-chosen_rows sets slots places table fits.1 known
 
 -- the row of a combination by its place
-pub row-at : (sets : List KeyedRows) (places : List Place) (table : ℕ) (set : KeyedRows) (place : Place) → slice_get sets table ≡ Some set → slice_get places table ≡ Some place → slice_get (chosen sets places) table ≡ Some (row_at set.rows place)
+pub row-at : (sets : List KeyedRows) (places : List Place) (table : ℕ) (set : KeyedRows) (place : Place) → slice_get sets table ≡ Some set → slice_get places table ≡ Some place → slice_get (chosen_rows sets places) table ≡ Some (row_at_place set.rows place)
 row-at [] places table set place e at = absurd cc
 row-at (first ∷ sets) [] table set place e at = absurd cc
-row-at (first ∷ sets) (p ∷ places) zero set place e at = λ i. Some (row_at ((one e i).rows) (one at i))
+row-at (first ∷ sets) (p ∷ places) zero set place e at = λ i. Some (row_at_place ((one e i).rows) (one at i))
   where
     one : {A : Type 0} {a b : A} → Some a ≡ Some b → a ≡ b
     one e = cc
 row-at (first ∷ sets) (p ∷ places) (suc table) set place e at = row-at sets places table set place e at
 
-pub raw-at : (sets : List KeyedRows) (places : List Place) (column : Ref) (set : KeyedRows) (place : Place) → slice_get sets column.table ≡ Some set → slice_get places column.table ≡ Some place → raw_value (chosen sets places) column ≡ cell_at (row_at set.rows place).row column.column
+pub raw-at : (sets : List KeyedRows) (places : List Place) (column : Ref) (set : KeyedRows) (place : Place) → slice_get sets column.table ≡ Some set → slice_get places column.table ≡ Some place → raw_value (chosen_rows sets places) column ≡ cell_at (row_at_place set.rows place).row column.column
 raw-at sets places column set place e at = ap (λ o. option_map_or (λ (kept : BornRow). cell_at kept.row column.column) o NullValue) (row-at sets places column.table set place e at)
 
 -- an expression that is known stands for the same cell in each combination that fits
 module _ (choices : Choices) (sets : List KeyedRows) (slots : List (Option Place)) (places : List Place) (fits : Fits slots places) where
-  raw_same : (column : Ref) → is_chosen slots column.table ≡ true → raw_value (rows_at sets slots) column ≡ raw_value (chosen sets places) column
-  raw_same column known = ap (λ o. option_map_or (λ (kept : BornRow). cell_at kept.row column.column) o NullValue) (row-chosen sets slots places column.table fits known)
+  raw_same : (column : Ref) → is_chosen slots column.table ≡ true → raw_value (rows_at sets slots) column ≡ raw_value (chosen_rows sets places) column
+  raw_same column known = ap (λ o. option_map_or (λ (kept : BornRow). cell_at kept.row column.column) o NullValue) (row-chosen_rows sets slots places column.table fits known)
 
-  younger_same : (column : Ref) → is_chosen slots column.table ≡ true → is_younger (rows_at sets slots) column ≡ is_younger (chosen sets places) column
-  younger_same column known = λ i after. option_map_or (λ (kept : BornRow). not (int_le kept.born after)) (row-chosen sets slots places column.table fits known i) false
+  younger_same : (column : Ref) → is_chosen slots column.table ≡ true → is_younger (rows_at sets slots) column ≡ is_younger (chosen_rows sets places) column
+  younger_same column known = λ i after. option_map_or (λ (kept : BornRow). not (int_le kept.born after)) (row-chosen_rows sets slots places column.table fits known i) false
 
-  pub cell-known : (expr : Expr) → knows_expr slots expr ≡ true → masked_cell choices (rows_at sets slots) expr ≡ masked_cell choices (chosen sets places) expr
+  pub cell-known : (expr : Expr) → knows_expr slots expr ≡ true → masked_cell choices (rows_at sets slots) expr ≡ masked_cell choices (chosen_rows sets places) expr
   cell-known (Keep column) known = ap Shown (raw_same column known)
   cell-known (Null rule) known = refl
   cell-known (Aged column rule after) known = λ i. shown_if (younger_same column known i after) (raw_same column known i) rule
@@ -107,10 +107,10 @@ module _ (choices : Choices) (sets : List KeyedRows) (slots : List (Option Place
   cell-known (Literal value) known = refl
 
 -- one table's row more
-pub rows_at-drop : (sets : List KeyedRows) (slots : List (Option Place)) (i : ℕ) (set : KeyedRows) → slice_get sets i ≡ Some set → rows_at (drop i sets) (drop i slots) ≡ option_map_or (row_at set.rows) (slot_at slots i) blank ∷ rows_at (drop (suc i) sets) (drop (suc i) slots)
+pub rows_at-drop : (sets : List KeyedRows) (slots : List (Option Place)) (i : ℕ) (set : KeyedRows) → slice_get sets i ≡ Some set → rows_at (drop i sets) (drop i slots) ≡ option_map_or (row_at_place set.rows) (slot_at slots i) blank ∷ rows_at (drop (suc i) sets) (drop (suc i) slots)
 rows_at-drop [] slots i set at = absurd cc
 rows_at-drop (first ∷ sets) [] zero set at = refl
-rows_at-drop (first ∷ sets) (slot ∷ slots) zero set at = ap (λ (s : KeyedRows). option_map_or (row_at s.rows) slot blank ∷ rows_at sets slots) (one at)
+rows_at-drop (first ∷ sets) (slot ∷ slots) zero set at = ap (λ (s : KeyedRows). option_map_or (row_at_place s.rows) slot blank ∷ rows_at sets slots) (one at)
   where
     one : {A : Type 0} {a b : A} → Some a ≡ Some b → a ≡ b
     one e = cc
@@ -136,9 +136,9 @@ length-in_range (set ∷ sets) (place ∷ places) e = ap suc (length-in_range se
 pub rows-more : (sets : List KeyedRows) (slots : List (Option Place)) (i : ℕ) (set : KeyedRows) (slot : Option Place) (empty : BornRow) (rows more whole : Combination) → slice_get sets i ≡ Some set → slot ≡ slot_at slots i → empty ≡ blank
     → more ≡ rows ++ option_map_or (λ place. unwrap_or (slice_get set.rows place) empty) slot empty ∷ [] → rows ++ rows_at (drop i sets) (drop i slots) ≡ whole → more ++ rows_at (drop (i + 1) sets) (drop (i + 1) slots) ≡ whole
 rows-more sets slots i set slot empty rows more whole at of_slot of_blank pushed so_far =
-    let pushed_here : more ≡ rows ++ option_map_or (row_at set.rows) (slot_at slots i) blank ∷ [] = pushed ∙ (λ j. rows ++ option_map_or (λ place. unwrap_or (slice_get set.rows place) (of_blank j)) (of_slot j) (of_blank j) ∷ []) in
+    let pushed_here : more ≡ rows ++ option_map_or (row_at_place set.rows) (slot_at slots i) blank ∷ [] = pushed ∙ (λ j. rows ++ option_map_or (λ place. unwrap_or (slice_get set.rows place) (of_blank j)) (of_slot j) (of_blank j) ∷ []) in
     let rest : Combination = rows_at (drop (suc i) sets) (drop (suc i) slots) in
-    rw (add-one i) (ap (λ (r : Combination). r ++ rest) pushed_here ∙ append_assoc rows (option_map_or (row_at set.rows) (slot_at slots i) blank ∷ []) rest ∙ sym (ap (λ (r : Combination). rows ++ r) (rows_at-drop sets slots i set at)) ∙ so_far)
+    rw (add-one i) (ap (λ (r : Combination). r ++ rest) pushed_here ∙ append_assoc rows (option_map_or (row_at_place set.rows) (slot_at slots i) blank ∷ []) rest ∙ sym (ap (λ (r : Combination). rows ++ r) (rows_at-drop sets slots i set at)) ∙ so_far)
 
 pub rows-all : (sets : List KeyedRows) (slots : List (Option Place)) (i : ℕ) (rows whole : Combination) → length sets ≤ i → rows ++ rows_at (drop i sets) (drop i slots) ≡ whole → rows ≡ whole
 rows-all sets slots i rows whole past so_far =
@@ -149,13 +149,13 @@ pub rows-parted : (sets : List KeyedRows) (slots : List (Option Place)) (table :
 rows-parted sets slots zero = refl
 rows-parted [] slots (suc table) = refl
 rows-parted (set ∷ sets) [] (suc table) = ap (λ l. blank ∷ l) (subst (λ (l : List (Option Place)). take table (rows_at sets []) ++ rows_at (drop table sets) l ≡ rows_at sets []) (drop-nil table) (rows-parted sets [] table))
-rows-parted (set ∷ sets) (slot ∷ slots) (suc table) = ap (λ l. option_map_or (row_at set.rows) slot blank ∷ l) (rows-parted sets slots table)
+rows-parted (set ∷ sets) (slot ∷ slots) (suc table) = ap (λ l. option_map_or (row_at_place set.rows) slot blank ∷ l) (rows-parted sets slots table)
 
 pub rows-before : (sets : List KeyedRows) (slots : List (Option Place)) (table : ℕ) (slot : Option Place) → take table (rows_at sets (slice_set slots table slot)) ≡ take table (rows_at sets slots)
 rows-before sets slots zero slot = refl
 rows-before [] slots (suc table) slot = refl
 rows-before (set ∷ sets) [] (suc table) slot = refl
-rows-before (set ∷ sets) (first ∷ slots) (suc table) slot = ap (λ l. option_map_or (row_at set.rows) first blank ∷ l) (rows-before sets slots table slot)
+rows-before (set ∷ sets) (first ∷ slots) (suc table) slot = ap (λ l. option_map_or (row_at_place set.rows) first blank ∷ l) (rows-before sets slots table slot)
 
 pub take-fewer : {X : Type 0} (table : ℕ) (xs : List X) → table < length xs → take table (take (length xs - 1) xs) ≡ take table xs
 take-fewer table xs within = shorter table (length xs - 1) xs (omega (arith, within))

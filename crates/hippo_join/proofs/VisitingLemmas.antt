@@ -20,7 +20,7 @@ use Rattle.hippo_values.specs.declared.memory.Memory.{Memory}
 use Rattle.hippo_eval.specs.Walks.{KeptAfter}
 use Rattle.hippo_eval.specs.declared.walks.Onward.{Onward}
 use Rattle.hippo_eval.specs.declared.walks.Onward.TheVariants.{More, Enough}
-use Rattle.hippo_join.specs.Places.{Fits, chosen, in_range, places_of, stands}
+use Rattle.hippo_join.specs.Places.{Fits, chosen_rows, in_range, places_of, stands}
 use Rattle.hippo_join.specs.Known.{is_chosen, is_open}
 use Rattle.hippo_join.specs.Finding.{has_places, IsRising}
 use Rattle.hippo_join.specs.Stages.{ReachesFrom}
@@ -28,7 +28,7 @@ use Rattle.hippo_join.specs.Walking.{CanWalk}
 use Rattle.hippo_join.specs.declared.stages.Stage.{Stage}
 use Rattle.hippo_join.specs.Visiting.{Completes, KeptOn, AreAll, Visited}
 use Rattle.hippo_join.proofs.ExistenceLemmas.{Fits-unset, fits-itself, below_or_at, get_or_default}
-use Rattle.hippo_join.proofs.FindingLemmas.{before-chosen, open-unchosen, open-within}
+use Rattle.hippo_join.proofs.FindingLemmas.{before-chosen_rows, open-unchosen, open-within}
 use Rattle.hippo_join.proofs.FoundLemmas.{has-both, has-filter, has-first, or-cases, or-left, or-right, same_places}
 use Rattle.hippo_join.proofs.ProductLemmas.{Below, rising-append, same-first, has-places_of, rising-places_of}
 use Rattle.hippo_join.proofs.PruneLemmas.{in-range, long-enough}
@@ -180,7 +180,7 @@ is-next choices query sets in_order stages stage rest slots some can first open_
       within = within;
       long = can.long;
       unchosen = open-unchosen slots stage.table open_here;
-      before = before-chosen choices query sets in_order stages stage rest slots can first within;
+      before = before-chosen_rows choices query sets in_order stages stage rest slots can first within;
       reaches = reaches;
       rises = rises;
     }
@@ -354,19 +354,19 @@ pub rises-all : (n : ℕ) (order : List Place) → order ≡ range_with_len 0 n 
 rises-all n order is = subst IsStrictlyIncreasing (sym is) (rises-range 0 n)
 
 -- ---- rows of places that are visited
-module _ {S : Type 0} (keeps : List Combination → S → Type 0) (sets : List KeyedRows) (front : List Combination) (before : List (List Place)) (places : List Place) (rows : Combination) (state : S) (are : rows ≡ chosen sets places) where
-  one_more : (front ++ map (chosen sets) before) ++ rows ∷ [] ≡ front ++ map (chosen sets) (before ++ places ∷ [])
+module _ {S : Type 0} (keeps : List Combination → S → Type 0) (sets : List KeyedRows) (front : List Combination) (before : List (List Place)) (places : List Place) (rows : Combination) (state : S) (are : rows ≡ chosen_rows sets places) where
+  one_more : (front ++ map (chosen_rows sets) before) ++ rows ∷ [] ≡ front ++ map (chosen_rows sets) (before ++ places ∷ [])
   one_more =
-      append_assoc front (map (chosen sets) before) (rows ∷ [])
-      ∙ ap (λ (l : List Combination). front ++ l) (ap (λ (last : Combination). map (chosen sets) before ++ last ∷ []) are ∙ sym (map-append (chosen sets) before (places ∷ [])))
+      append_assoc front (map (chosen_rows sets) before) (rows ∷ [])
+      ∙ ap (λ (l : List Combination). front ++ l) (ap (λ (last : Combination). map (chosen_rows sets) before ++ last ∷ []) are ∙ sym (map-append (chosen_rows sets) before (places ∷ [])))
 
-  pub rows-kept : (result : Result Onward Memory) → KeptAfter keeps result (front ++ map (chosen sets) before) (rows ∷ []) state → IfOk result (λ onward. KeptOn (λ visited. keeps (front ++ map (chosen sets) visited)) onward before (places ∷ []) state)
+  pub rows-kept : (result : Result Onward Memory) → KeptAfter keeps result (front ++ map (chosen_rows sets) before) (rows ∷ []) state → IfOk result (λ onward. KeptOn (λ visited. keeps (front ++ map (chosen_rows sets) visited)) onward before (places ∷ []) state)
   rows-kept (Ok More) kept = subst (λ (l : List Combination). keeps l state) one_more kept
   rows-kept (Ok Enough) kept = λ later.
       let joined =
-      ap (λ (l : List Combination). l ++ map (chosen sets) later) one_more ∙ append_assoc front (map (chosen sets) (before ++ places ∷ [])) (map (chosen sets) later)
-      ∙ ap (λ (l : List Combination). front ++ l) (sym (map-append (chosen sets) (before ++ places ∷ []) later)) in
-      subst (λ (l : List Combination). keeps l state) joined (kept (map (chosen sets) later))
+      ap (λ (l : List Combination). l ++ map (chosen_rows sets) later) one_more ∙ append_assoc front (map (chosen_rows sets) (before ++ places ∷ [])) (map (chosen_rows sets) later)
+      ∙ ap (λ (l : List Combination). front ++ l) (sym (map-append (chosen_rows sets) (before ++ places ∷ []) later)) in
+      subst (λ (l : List Combination). keeps l state) joined (kept (map (chosen_rows sets) later))
   rows-kept (Err wanted) kept = tt
 
 -- ---- all combinations

@@ -7,20 +7,21 @@ use Rattle.hippo_model.specs.declared.query.Masked.{Masked}
 use Rattle.hippo_model.specs.Terms.{Combination, Place}
 use Rattle.hippo_model.specs.RowSets.{KeyedRows}
 use Rattle.hippo_model.specs.Masking.{Choices, masked_cell, is_shown_cell}
-use Rattle.hippo_join.specs.Places.{chosen, Fits, stands}
+use Rattle.hippo_join.specs.Places.{chosen_rows, Fits, stands}
 
 -- whether each of some expressions is a shown cell
 abbrev pub are_shown : Choices → List Expr → Combination → Bool
 are_shown choices seen rows = list_all (λ expr. is_shown_cell (masked_cell choices rows expr)) seen
 
--- a combination that has the rows that are chosen and counts, in which all that is to be seen is shown
+-- a combination that has the rows that are chosen and counts, in which all that is to be seen is
+-- shown
 pub record HasOne
     (choices : Choices) (query : Masked) (seen : List Expr) (sets : List KeyedRows)
     (slots : List (Option Place)) : Type 0 where
   pub places : List Place
   pub fits : Fits slots places
   pub counts : stands choices query sets places ≡ true
-  pub shows : are_shown choices seen (chosen sets places) ≡ true
+  pub shows : are_shown choices seen (chosen_rows sets places) ≡ true
 
 -- what a test says: that a fact is so, or that it is not; or want of memory
 abbrev pub Decides : Type 0 → Result Bool Memory → Type 0

@@ -22,11 +22,14 @@ Covers stages slots =
     (table : Place) → table < length slots
     → (is_chosen slots table ≡ true) ⊎ Contains (map (λ stage. stage.table) stages) table
 
-abbrev pub HasOneMore : List Place → List (List Place) → List (List Place) → Type 0
-HasOneMore places before after =
-    (other : List Place) → has_places other after ≡ (is_eq (slice_cmp nat_cmp other places) || has_places other before)
+abbrev pub HasOnePlaceMore : List Place → List (List Place) → List (List Place) → Type 0
+HasOnePlaceMore places before after =
+    (other : List Place) → has_places other after
+    ≡ (is_eq (slice_cmp nat_cmp other places) || has_places other before)
 
 -- only combinations of a kind were found, and all of them unless there are more than a limit
-pub record AreFound (Is : List Place → Type 0) (limit : ℕ) (found : List (List Place)) : Type 0 where
+pub record AreFound (Is : List Place → Type 0) (limit : ℕ) (found : List (List Place))
+    : Type 0 where
   pub sound : (places : List Place) → has_places places found ≡ true → Is places
-  pub whole : length found ≤ limit → (places : List Place) → Is places → has_places places found ≡ true
+  pub whole : length found ≤ limit → (places : List Place) → Is places
+      → has_places places found ≡ true

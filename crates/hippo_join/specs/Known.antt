@@ -32,7 +32,8 @@ knows_layer slots (All parts) = list_all (λ part. part) parts
 knows_layer slots (Any parts) = list_all (λ part. part) parts
 knows_layer slots (Not part) = part
 knows_layer slots (Compare op left right) = knows_expr slots left && knows_expr slots right
-knows_layer slots (Between value low high) = knows_expr slots value && (knows_expr slots low && knows_expr slots high)
+knows_layer slots (Between value low high) =
+    knows_expr slots value && (knows_expr slots low && knows_expr slots high)
 knows_layer slots (Among value list) = knows_expr slots value && list_all (knows_expr slots) list
 knows_layer slots (Missing value) = knows_expr slots value
 

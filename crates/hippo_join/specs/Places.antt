@@ -5,7 +5,7 @@ use Rattle.std.specs.Option.{option_map_or}
 use Rattle.hippo_model.specs.declared.query.Masked.{Masked}
 use Rattle.hippo_model.specs.Terms.{Combination, Place}
 use Rattle.hippo_model.specs.RowSets.{KeyedRows}
-pub use Rattle.hippo_model.specs.RowSets.{blank, row_at}
+pub use Rattle.hippo_model.specs.RowSets.{blank, row_at_place}
 use Rattle.hippo_model.specs.Answers.{product}
 use Rattle.hippo_model.specs.Masking.{Choices, is_guarded, masked_passes}
 
@@ -17,11 +17,12 @@ slot_at slots table = unwrap_or (slice_get slots table) None
 abbrev pub rows_at : List KeyedRows → List (Option Place) → Combination
 rows_at [] slots = []
 rows_at (set ∷ sets) [] = blank ∷ rows_at sets []
-rows_at (set ∷ sets) (slot ∷ slots) = option_map_or (row_at set.rows) slot blank ∷ rows_at sets slots
+rows_at (set ∷ sets) (slot ∷ slots) =
+    option_map_or (row_at_place set.rows) slot blank ∷ rows_at sets slots
 
 -- the rows at one place in each table
-abbrev pub chosen : List KeyedRows → List Place → Combination
-chosen sets places = rows_at sets (map Some places)
+abbrev pub chosen_rows : List KeyedRows → List Place → Combination
+chosen_rows sets places = rows_at sets (map Some places)
 
 -- places that are those chosen, where a place is chosen
 abbrev pub Fits : List (Option Place) → List Place → Type 0
@@ -48,4 +49,5 @@ stays choices query rows = is_guarded choices query rows && masked_passes choice
 
 -- whether places are those of a combination that counts
 abbrev pub stands : Choices → Masked → List KeyedRows → List Place → Bool
-stands choices query sets places = in_range sets places && stays choices query (chosen sets places)
+stands choices query sets places =
+    in_range sets places && stays choices query (chosen_rows sets places)

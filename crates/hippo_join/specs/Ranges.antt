@@ -14,22 +14,25 @@ use Rattle.hippo_model.specs.RowSets.{KeyedRows}
 use Rattle.hippo_model.specs.Conditions.{is_null}
 use Rattle.hippo_model.specs.Masking.{Choices, raw_value}
 pub use Rattle.hippo_model.specs.Ranges.{bounding, KeepsBound, HasFront, IsEdge}
-use Rattle.hippo_join.specs.Places.{chosen, Fits}
+use Rattle.hippo_join.specs.Places.{chosen_rows, Fits}
 use Rattle.hippo_join.specs.Ties.{holds}
 
 -- the operator that says the same of two values in the other order
-abbrev pub flipped : CompareOp → CompareOp
-flipped Eq = Eq
-flipped Ne = Ne
-flipped Lt = Gt
-flipped Le = Ge
-flipped Gt = Lt
-flipped Ge = Le
+abbrev pub flipped_operator : CompareOp → CompareOp
+flipped_operator Eq = Eq
+flipped_operator Ne = Ne
+flipped_operator Lt = Gt
+flipped_operator Le = Ge
+flipped_operator Gt = Lt
+flipped_operator Ge = Le
 
--- with the rows that are chosen, a column stands so to a value, and is not null, wherever some parts hold
+-- with the rows that are chosen, a column stands so to a value, and is not null, wherever some
+-- parts hold
 abbrev pub IsBoundedBy :
-    Choices → List KeyedRows → List (Option Place) → List (CondOf Expr) → Ref → CompareOp → Value → Type 0
+    Choices → List KeyedRows → List (Option Place) → List (CondOf Expr) → Ref → CompareOp → Value
+    → Type 0
 IsBoundedBy choices sets slots parts column op value =
-    (places : List Place) → Fits slots places → list_all (holds choices (chosen sets places)) parts ≡ true
-    → (is_allowed op (value_cmp (raw_value (chosen sets places) column) value) ≡ true)
-    × (is_null (raw_value (chosen sets places) column) ≡ false)
+    (places : List Place) → Fits slots places
+    → list_all (holds choices (chosen_rows sets places)) parts ≡ true
+    → (is_allowed op (value_cmp (raw_value (chosen_rows sets places) column) value) ≡ true)
+    × (is_null (raw_value (chosen_rows sets places) column) ≡ false)

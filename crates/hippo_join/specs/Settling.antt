@@ -6,8 +6,11 @@ use Rattle.hippo_model.specs.RowSets.{KeyedRows}
 use Rattle.hippo_model.specs.Masking.{Choices}
 use Rattle.hippo_join.specs.Places.{Fits, stands}
 
--- a combination that counts and has the rows that are chosen before has those that are chosen after, too
+-- a combination that counts and has the rows that are chosen before has those that are chosen
+-- after, too
 pub record Settles
-    (choices : Choices) (query : Masked) (sets : List KeyedRows) (before after : List (Option Place)) : Type 0 where
+    (choices : Choices) (query : Masked) (sets : List KeyedRows)
+    (before after : List (Option Place)) : Type 0 where
   pub long : length after ≡ length before
-  pub fits : (places : List Place) → Fits before places → stands choices query sets places ≡ true → Fits after places
+  pub fits : (places : List Place) → Fits before places → stands choices query sets places ≡ true
+      → Fits after places

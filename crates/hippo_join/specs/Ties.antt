@@ -12,12 +12,12 @@ use Rattle.hippo_eval.specs.MaskedTruth.{masked_truth}
 use Rattle.hippo_join.specs.declared.ties.Tie.{Tie}
 
 -- the column whose value an expression shows, where it shows one
-abbrev pub column_of : Expr → Option Ref
-column_of (Keep column) = Some column
-column_of (Null rule) = None
-column_of (Aged column rule after) = Some column
-column_of (Case column subject item rule opt_in after) = Some column
-column_of (Literal value) = None
+abbrev pub shown_column : Expr → Option Ref
+shown_column (Keep column) = Some column
+shown_column (Null rule) = None
+shown_column (Aged column rule after) = Some column
+shown_column (Case column subject item rule opt_in after) = Some column
+shown_column (Literal value) = None
 
 -- whether a condition is true of some rows
 abbrev pub holds : Choices → Combination → CondOf Expr → Bool

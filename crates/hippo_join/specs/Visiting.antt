@@ -16,17 +16,20 @@ counting choices query combinations = filter (stays choices query) combinations
 
 -- places that are those chosen, of a combination that counts
 abbrev pub Completes : Choices → Masked → List KeyedRows → List (Option Place) → List Place → Type 0
-Completes choices query sets slots places = Fits slots places × (stands choices query sets places ≡ true)
+Completes choices query sets slots places =
+    Fits slots places × (stands choices query sets places ≡ true)
 
--- what a state keeps, after combinations that were visited before, of some more; where a visitor has enough, what it
--- keeps of them holds with whatever follows them
+-- what a state keeps, after combinations that were visited before, of some more; where a visitor
+-- has enough, what it keeps of them holds with whatever follows them
 abbrev pub KeptOn : {S : Type 0} → (List (List Place) → S → Type 0) → Onward
     → List (List Place) → List (List Place) → S → Type 0
 KeptOn keeps More before these state = keeps (before ++ these) state
-KeptOn keeps Enough before these state = (later : List (List Place)) → keeps (before ++ these ++ later) state
+KeptOn keeps Enough before these state =
+    (later : List (List Place)) → keeps (before ++ these ++ later) state
 
 -- the combinations of a kind, in the order of the product where that is asked for
-pub record AreAll (Is : List Place → Type 0) (in_order : Bool) (all : List (List Place)) : Type 0 where
+pub record AreAll (Is : List Place → Type 0) (in_order : Bool) (all : List (List Place))
+    : Type 0 where
   pub sound : (places : List Place) → has_places places all ≡ true → Is places
   pub whole : (places : List Place) → Is places → has_places places all ≡ true
   pub rising : in_order ≡ true → IsRising all

@@ -13,10 +13,10 @@ use Rattle.hippo_join.specs.Stages.{IsStage}
 use Rattle.hippo_join.specs.Finding.{Covers}
 
 -- the places themselves, one after the other
-abbrev pub followed : Following → List Place
-followed (Listed places) = places.now
-followed (Sought span) = range_with_len span.start (span.end - span.start)
-followed (Found places) = places.items
+abbrev pub following_places : Following → List Place
+following_places (Listed places) = places.now
+following_places (Sought span) = range_with_len span.start (span.end - span.start)
+following_places (Found places) = places.items
 
 -- a stage has all places of its table that count, unless it looks them up
 abbrev pub IsWalkable : Choices → Masked → List KeyedRows → Stage → Type 0
@@ -26,10 +26,12 @@ IsWalkable choices query sets stage = stage.is_sought ≡ false → IsStage choi
 pub record AreWalkable
     (choices : Choices) (query : Masked) (sets : List KeyedRows)
     (lists : Bool) (order : List Place) (stages : List Stage) : Type 0 where
-  pub each : All (λ stage. IsWalkable choices query sets stage × (lists ≡ true → stage.is_sought ≡ false)) stages
+  pub each : All (λ stage. IsWalkable choices query sets stage
+      × (lists ≡ true → stage.is_sought ≡ false)) stages
   pub tables : map (λ stage. stage.table) stages ≡ order
 
--- the stages of a walk, with the rows that are chosen before; in the order of FROM where that is asked for
+-- the stages of a walk, with the rows that are chosen before; in the order of FROM where that is
+-- asked for
 pub record CanWalk
     (choices : Choices) (query : Masked) (sets : List KeyedRows) (in_order : Bool)
     (stages : List Stage) (slots : List (Option Place)) : Type 0 where

@@ -43,13 +43,13 @@ struct Seeker<'a, C> {
 impl<'a, C: ChoiceView> PlaceVisitor for Seeker<'a, C> {
     ghost use Rattle.std.specs.Prelude.{◌≡◌};
     ghost use Rattle.std.specs.List.{list_any};
-    ghost use Rattle.hippo_join.specs.Places.{chosen};
+    ghost use Rattle.hippo_join.specs.Places.{chosen_rows};
     ghost use Rattle.hippo_join.specs.Existence.{are_shown};
 
     type State = bool;
 
     ghost Keeps = { λ seeker sets front visited is_found. is_found ≡ list_any (λ places.
-        are_shown (C.choices seeker.choices.now) seeker.seen.now (chosen sets places)) visited };
+        are_shown (C.choices seeker.choices.now) seeker.seen.now (chosen_rows sets places)) visited };
 
     fn visit(
         &self,
@@ -68,8 +68,8 @@ impl<'a, C: ChoiceView> PlaceVisitor for Seeker<'a, C> {
 }
 
 impl<'a, C: ChoiceView> Side<'a, C> {
-    // Whether some combination counts that has the rows that are chosen, and shows each cell that is to be seen, along
-    // stages of the tables whose row is not chosen.
+    // Whether some combination counts that has the rows that are chosen, and shows each cell that
+    // is to be seen, along stages of the tables whose row is not chosen.
     pub(crate) fn has_along(
         &self,
         alloc: Global,
@@ -77,10 +77,12 @@ impl<'a, C: ChoiceView> Side<'a, C> {
         seen: &[Expr],
         slots: &mut [Option<usize>],
     ) -> Result<bool, Memory>
-        requires { CanWalk (C.choices self.now.choices.now) self.now.query.now self.now.sets.now false
+        requires { CanWalk (C.choices self.now.choices.now) self.now.query.now self.now.sets.now
+            false
             stages.now slots.old }
         ensures slots { OnOk result (slots.new ≡ slots.old) }
-        ensures one { Decides (HasOne (C.choices self.now.choices.now) self.now.query.now seen.now self.now.sets.now
+        ensures one { Decides (HasOne (C.choices self.now.choices.now) self.now.query.now seen.now
+            self.now.sets.now
             slots.old) result }
     {
         let seeker = Seeker {
@@ -101,8 +103,9 @@ impl<'a, C: ChoiceView> Side<'a, C> {
         Ok(is_found)
     }
 
-    /// Whether some combination counts that has the rows that are chosen, and shows each cell that is to be seen. Wants
-    /// stages for all tables whose row is not chosen; leaves the slots as they are, but where memory is short.
+    /// Whether some combination counts that has the rows that are chosen, and shows each cell that
+    /// is to be seen. Wants stages for all tables whose row is not chosen; leaves the slots as they
+    /// are, but where memory is short.
     pub fn has(
         &self,
         alloc: Global,
@@ -111,11 +114,13 @@ impl<'a, C: ChoiceView> Side<'a, C> {
         slots: &mut [Option<usize>],
     ) -> Result<bool, Memory>
         requires long { length slots.old ≡ length self.now.sets.now }
-        requires stages { All (IsStage (C.choices self.now.choices.now) self.now.query.now self.now.sets.now)
+        requires stages { All (IsStage (C.choices self.now.choices.now) self.now.query.now
+            self.now.sets.now)
             stages.now }
         requires covers { Covers stages.now slots.old }
         ensures slots { OnOk result (slots.new ≡ slots.old) }
-        ensures one { Decides (HasOne (C.choices self.now.choices.now) self.now.query.now seen.now self.now.sets.now
+        ensures one { Decides (HasOne (C.choices self.now.choices.now) self.now.query.now seen.now
+            self.now.sets.now
             slots.old) result }
     {
         self.has_along(alloc, stages, seen, slots)

@@ -1,6 +1,6 @@
 //! All combinations of rows that count, by their places.
 ghost use Rattle.std.specs.Prelude.{◌≡◌, map, unwrap_or, IfOk, OnOk, OnErr};
-ghost use Rattle.hippo_join.specs.Finding.{HasOneMore};
+ghost use Rattle.hippo_join.specs.Finding.{HasOnePlaceMore};
 
 use crate::walking::PlaceVisitor;
 use hippo_eval::Onward;
@@ -18,7 +18,7 @@ fn chosen_places(alloc: Global, slots: &[Option<usize>]) -> Result<Places, Memor
 }
 
 fn insert(found: &mut BTreeSet<Places>, places: Places) -> Result<(), Memory>
-    ensures ok { OnOk result (HasOneMore places found.old.keys found.new.keys) }
+    ensures ok { OnOk result (HasOnePlaceMore places found.old.keys found.new.keys) }
     ensures err { OnErr result (found.new.keys ≡ found.old.keys) }
 {
     found.insert(places)?;
@@ -37,7 +37,8 @@ impl PlaceVisitor for PlaceFinder {
 
     type State = BTreeSet<Places>;
 
-    ghost Keeps = { λ finder sets front visited found. AreFound (λ places. has_places places visited ≡ true)
+    ghost Keeps = { λ finder sets front visited found. AreFound
+        (λ places. has_places places visited ≡ true)
         finder.limit found.keys };
 
     fn visit(

@@ -2,7 +2,7 @@
 ghost use Rattle.std.specs.Prelude.{◌≡◌, ◌<◌, ◌+◌, ◌-◌, true, IfOk, length, get_or, slice_get, unwrap_or};
 ghost use Rattle.std.specs.List.Sorted.{IsStrictlyIncreasing};
 ghost use Rattle.hippo_join.specs.Stages.{ReachesFrom};
-ghost use Rattle.hippo_join.specs.Walking.{followed, IsWalkable};
+ghost use Rattle.hippo_join.specs.Walking.{following_places, IsWalkable};
 
 use crate::keys::Span;
 use crate::sides::Side;
@@ -11,8 +11,8 @@ use hippo_model::ChoiceView;
 use hippo_values::Memory;
 use std::alloc::Global;
 
-// Places of a stage: some of those that it lists, those where a look-up by key may find its rows, or those that an order
-// of another column finds.
+// Places of a stage: some of those that it lists, those where a look-up by key may find its rows,
+// or those that an order of another column finds.
 #[derive(Drop)]
 pub(crate) enum Following<'s> {
     Listed(&'s [usize]),
@@ -52,7 +52,7 @@ fn ascends(places: &[usize]) -> bool
 impl<'s> Following<'s> {
     // Whether they ascend, each there once.
     pub(crate) fn rises(&self) -> bool
-        ensures { result ≡ true → IsStrictlyIncreasing (followed self.now) }
+        ensures { result ≡ true → IsStrictlyIncreasing (following_places self.now) }
     {
         match self {
             Following::Listed(places) => ascends(places),
@@ -62,7 +62,7 @@ impl<'s> Following<'s> {
     }
 
     pub(crate) fn len(&self) -> usize
-        ensures { result ≡ length (followed self.now) }
+        ensures { result ≡ length (following_places self.now) }
     {
         match self {
             Following::Listed(places) => places.len(),
@@ -72,8 +72,8 @@ impl<'s> Following<'s> {
     }
 
     pub(crate) fn place(&self, index: usize) -> usize
-        requires { index < length (followed self.now) }
-        ensures { result ≡ get_or (followed self.now) index 0 }
+        requires { index < length (following_places self.now) }
+        ensures { result ≡ get_or (following_places self.now) index 0 }
     {
         match self {
             Following::Listed(places) => place_at(places, index),
@@ -85,7 +85,7 @@ impl<'s> Following<'s> {
 
 // The places, one after the other.
 pub(crate) fn listed(alloc: Global, following: &Following<'_>) -> Result<Vec<usize>, Memory>
-    ensures { IfOk result (λ places. places.items ≡ followed following.now) }
+    ensures { IfOk result (λ places. places.items ≡ following_places following.now) }
 {
     let mut places = Vec::with_capacity(alloc, following.len())?;
     for index in 0..following.len() {
@@ -95,8 +95,9 @@ pub(crate) fn listed(alloc: Global, following: &Following<'_>) -> Result<Vec<usi
 }
 
 impl<'a, C: ChoiceView> Side<'a, C> {
-    // The places of a stage that may follow the rows that are chosen. A look-up takes time that grows with the logarithm
-    // of the table and with what it finds; by key it takes no memory but for the key.
+    // The places of a stage that may follow the rows that are chosen. A look-up takes time that
+    // grows with the logarithm of the table and with what it finds; by key it takes no memory but
+    // for the key.
     pub(crate) fn following<'s>(
         &self,
         alloc: Global,
@@ -104,10 +105,11 @@ impl<'a, C: ChoiceView> Side<'a, C> {
         slots: &[Option<usize>],
     ) -> Result<Following<'s>, Memory>
         requires table { stage.now.table < length self.now.sets.now }
-        requires stage { IsWalkable (C.choices self.now.choices.now) self.now.query.now self.now.sets.now stage.now }
+        requires stage { IsWalkable (C.choices self.now.choices.now) self.now.query.now
+            self.now.sets.now stage.now }
         ensures { IfOk result (λ following. ReachesFrom
             (C.choices self.now.choices.now) self.now.query.now self.now.sets.now
-            slots.now stage.now.table (followed following)) }
+            slots.now stage.now.table (following_places following)) }
     {
         if stage.is_sought {
             self.candidates(alloc, stage.table, slots, 1)

@@ -1,4 +1,5 @@
-//! The rows of an answer, gathered while the combinations that count are visited, and one at most beyond a limit.
+//! The rows of an answer, gathered while the combinations that count are visited, and one at most
+//! beyond a limit.
 ghost use Rattle.hippo_model.specs.Masking.{masked_answer};
 ghost use Rattle.hippo_eval.specs.Answering.{IsAnswered};
 ghost use Rattle.hippo_eval.specs.Walks.{rows_of};
@@ -25,8 +26,10 @@ impl<'a, C: ChoiceView, G: Gatherer> Visitor for RowFinder<'a, C, G> {
 
     type State = G::Rows;
 
-    ghost Keeps = { λ finder combinations rows. IsGathered (G.Holds finder.gatherer.now) (G.answer finder.gatherer.now)
-        finder.limit (map (masked_items (C.choices finder.choices.now) finder.query.now) combinations) rows };
+    ghost Keeps = { λ finder combinations rows. IsGathered (G.Holds finder.gatherer.now)
+        (G.answer finder.gatherer.now)
+        finder.limit (map (masked_items (C.choices finder.choices.now) finder.query.now)
+        combinations) rows };
 
     fn visit(
         &self,
@@ -43,9 +46,9 @@ impl<'a, C: ChoiceView, G: Gatherer> Visitor for RowFinder<'a, C, G> {
     }
 }
 
-/// What is answered of the rows that a query with the policy written into it makes, over unmasked rows and patients'
-/// choices: the same as by `gather`, in the time of `walk_joined`. TooManyRows exactly where these are more than the
-/// limit.
+/// What is answered of the rows that a query with the policy written into it makes, over unmasked
+/// rows and patients' choices: the same as by `gather`, in the time of `walk_joined`. TooManyRows
+/// exactly where these are more than the limit.
 pub fn gather_joined<C: ChoiceView, G: Gatherer>(
     alloc: Global,
     query: &Masked,

@@ -6,7 +6,7 @@ ghost use Rattle.hippo_model.specs.Masking.{masked_items, masked_answer};
 ghost use Rattle.hippo_eval.specs.Answering.{IsAnswered};
 ghost use Rattle.hippo_eval.specs.Walks.{rows_of};
 ghost use Rattle.hippo_eval.specs.declared.answers.EvalFault.TheVariants.{Memory as OfMemory};
-ghost use Rattle.hippo_join.specs.Places.{blank, chosen, stands};
+ghost use Rattle.hippo_join.specs.Places.{blank, chosen_rows, stands};
 ghost use Rattle.hippo_join.specs.Finding.{AreFound};
 ghost use Rattle.hippo_join.specs.Plans.{IsPlanOf};
 
@@ -48,8 +48,9 @@ fn slots_of(alloc: Global, places: &[usize]) -> Result<Vec<Option<usize>>, Memor
 impl<'a, C: ChoiceView> Side<'a, C> {
     // The row of the answer that a combination makes.
     fn answer_row(&self, alloc: Global, places: &[usize]) -> Result<CellRow, Memory>
-        ensures { IfOk result (λ row. row ≡ masked_items (C.choices self.now.choices.now) self.now.query.now
-            (chosen self.now.sets.now places.now)) }
+        ensures { IfOk result (λ row. row
+            ≡ masked_items (C.choices self.now.choices.now) self.now.query.now
+            (chosen_rows self.now.sets.now places.now)) }
     {
         let slots = slots_of(alloc, places)?;
         let rows = self.rows(alloc, &slots)?;
@@ -58,7 +59,8 @@ impl<'a, C: ChoiceView> Side<'a, C> {
 
     fn answer_rows(&self, alloc: Global, found: &[Places]) -> Result<Answer, Memory>
         ensures { IfOk result (λ answer. answer ≡ map (λ places. masked_items
-            (C.choices self.now.choices.now) self.now.query.now (chosen self.now.sets.now places)) found.now) }
+            (C.choices self.now.choices.now) self.now.query.now
+            (chosen_rows self.now.sets.now places)) found.now) }
     {
         let mut answer = Vec::with_capacity(alloc, found.len())?;
         for places in found {
@@ -69,8 +71,9 @@ impl<'a, C: ChoiceView> Side<'a, C> {
 
     fn answer_listed(&self, alloc: Global, found: BTreeSet<Places>) -> Result<Answer, EvalFault>
         ensures { MatchResult result
-            (λ answer. answer ≡ map (λ places. masked_items (C.choices self.now.choices.now) self.now.query.now
-            (chosen self.now.sets.now places)) found.keys)
+            (λ answer. answer ≡ map (λ places. masked_items (C.choices self.now.choices.now)
+            self.now.query.now
+            (chosen_rows self.now.sets.now places)) found.keys)
             (λ fault. fault ≡ OfMemory) }
     {
         let found = in_order(alloc, found)?;
@@ -79,10 +82,12 @@ impl<'a, C: ChoiceView> Side<'a, C> {
 
     // The answer, where all combinations that count are found, or more than the limit.
     fn answer_found(&self, alloc: Global, found: BTreeSet<Places>) -> Result<Answer, EvalFault>
-        requires { AreFound (λ places. stands (C.choices self.now.choices.now) self.now.query.now self.now.sets.now
+        requires { AreFound (λ places. stands (C.choices self.now.choices.now) self.now.query.now
+            self.now.sets.now
             places ≡ true) ANSWER_LIMIT found.keys }
         ensures { IsAnswered ANSWER_LIMIT (masked_answer
-            (C.choices self.now.choices.now) self.now.query.now (rows_of self.now.sets.now)) result }
+            (C.choices self.now.choices.now) self.now.query.now (rows_of self.now.sets.now))
+            result }
     {
         // The order of a set's members is known where its length was asked for.
         if found.len() > ANSWER_LIMIT {
@@ -95,9 +100,11 @@ impl<'a, C: ChoiceView> Side<'a, C> {
     // The answer, by joins of the tables in an order.
     fn answer(&self, alloc: Global, order: &[usize]) -> Result<Answer, EvalFault>
         requires below { All (λ table. table < length self.now.sets.now) order.now }
-        requires whole { (table : Place) → table < length self.now.sets.now → Contains order.now table }
+        requires whole { (table : Place) → table < length self.now.sets.now
+            → Contains order.now table }
         ensures { IsAnswered ANSWER_LIMIT (masked_answer
-            (C.choices self.now.choices.now) self.now.query.now (rows_of self.now.sets.now)) result }
+            (C.choices self.now.choices.now) self.now.query.now (rows_of self.now.sets.now))
+            result }
     {
         let finder = PlaceFinder {
             limit: ANSWER_LIMIT,
@@ -120,7 +127,8 @@ fn run_by_places<C: ChoiceView>(
 ) -> Result<Answer, EvalFault>
     requires sets { length sets.now ≡ length query.now.tables }
     requires plan { IsPlanOf query.now plan.now }
-    ensures { IsAnswered ANSWER_LIMIT (masked_answer (C.choices choices.now) query.now (rows_of sets.now)) result }
+    ensures { IsAnswered ANSWER_LIMIT (masked_answer (C.choices choices.now) query.now
+        (rows_of sets.now)) result }
 {
     let blank = blank_row(alloc)?;
     let side = Side {
@@ -149,13 +157,14 @@ fn are_in_order(tables: &[usize]) -> bool {
     true
 }
 
-/// The answer of a query with the policy written into it, by joins of its tables in a plan's order: the same as that of
-/// `evaluate`, whatever the plan. Wants a plan of the query, and the rows of each of its tables. TooManyRows exactly
-/// where the answer has more than 100,000 rows. Where the query's outermost AND says the key of a table's row, or the
-/// value of a column by which the table has an order, by literals or by columns of tables before it, such rows are
-/// looked up; where it has another equality of columns of two tables, only rows whose values are equal are looked at. So
-/// the time is in proportion to the tables whose rows are not looked up and to what matches; memory is in proportion to
-/// these tables and the answer.
+/// The answer of a query with the policy written into it, by joins of its tables in a plan's order:
+/// the same as that of `evaluate`, whatever the plan. Wants a plan of the query, and the rows of
+/// each of its tables. TooManyRows exactly where the answer has more than 100,000 rows. Where the
+/// query's outermost AND says the key of a table's row, or the value of a column by which the table
+/// has an order, by literals or by columns of tables before it, such rows are looked up; where it
+/// has another equality of columns of two tables, only rows whose values are equal are looked at.
+/// So the time is in proportion to the tables whose rows are not looked up and to what matches;
+/// memory is in proportion to these tables and the answer.
 pub fn run<C: ChoiceView>(
     alloc: Global,
     plan: &Plan,
@@ -165,7 +174,8 @@ pub fn run<C: ChoiceView>(
 ) -> Result<Answer, EvalFault>
     requires sets { length sets.now ≡ length query.now.tables }
     requires plan { IsPlanOf query.now plan.now }
-    ensures { IsAnswered ANSWER_LIMIT (masked_answer (C.choices choices.now) query.now (rows_of sets.now)) result }
+    ensures { IsAnswered ANSWER_LIMIT (masked_answer (C.choices choices.now) query.now
+        (rows_of sets.now)) result }
 {
     if are_in_order(plan.order.as_slice()) {
         gather_joined(alloc, query, sets, choices, &Every, ANSWER_LIMIT)

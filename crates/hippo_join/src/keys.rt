@@ -7,8 +7,8 @@ ghost use Rattle.hippo_model.specs.Conditions.{outer_parts};
 ghost use Rattle.hippo_model.specs.Masking.{raw_value};
 ghost use Rattle.hippo_model.specs.Rows.{key_of};
 ghost use Rattle.hippo_model.specs.Terms.{Key, Place};
-ghost use Rattle.hippo_join.specs.Places.{chosen, row_at, Fits};
-ghost use Rattle.hippo_join.specs.Ties.{column_of, holds};
+ghost use Rattle.hippo_join.specs.Places.{chosen_rows, row_at_place, Fits};
+ghost use Rattle.hippo_join.specs.Ties.{shown_column, holds};
 ghost use Rattle.hippo_join.specs.Keys.{IsShownAs, IsToldBy, IsKeyTold, IsWithin};
 
 use crate::known::slot_at;
@@ -36,7 +36,7 @@ impl Span {
 
 // Whether an expression shows a column, where it shows anything.
 pub(crate) fn shows_column(expr: &Expr, column: Ref) -> bool
-    ensures { result ≡ true → column_of expr.now ≡ Some column }
+    ensures { result ≡ true → shown_column expr.now ≡ Some column }
 {
     match column_of(expr) {
         Some(own) => own == column,
@@ -60,7 +60,9 @@ fn span_of(found: Option<usize>, count: usize) -> Span
 // The place of the row with a key, if there is one.
 fn span_with_key(set: &RowSet, key: &Cells) -> Span
     ensures { (place : Place) → place < length set.now.rows
-        → key_of set.now.key (row_at set.now.rows place).row ≡ key.now → (result.start ≤ place) × (place < result.end) }
+        → key_of set.now.key (row_at_place set.now.rows place).row ≡ key.now
+        → (result.start ≤ place)
+        × (place < result.end) }
 {
     span_of(set.find(key), set.len())
 }
@@ -69,7 +71,7 @@ impl<'a, C: ChoiceView> Side<'a, C> {
     // The value in a column of a row that is chosen.
     fn chosen_value(&self, column: Ref, slots: &[Option<usize>]) -> Option<&'a Value>
         ensures { IfSome result (λ value. (places : List Place) → Fits slots.now places
-            → raw_value (chosen self.now.sets.now places) column ≡ value.now) }
+            → raw_value (chosen_rows self.now.sets.now places) column ≡ value.now) }
     {
         let place = slot_at(slots, column.table)?;
         if column.table < self.sets.len() {
@@ -82,7 +84,8 @@ impl<'a, C: ChoiceView> Side<'a, C> {
     // The value of a literal, or of a column of a row that is chosen.
     pub(crate) fn shown_value(&self, expr: &'a Expr, slots: &[Option<usize>]) -> Option<&'a Value>
         ensures { IfSome result (λ value.
-            IsShownAs (C.choices self.now.choices.now) self.now.sets.now slots.now expr.now value.now) }
+            IsShownAs (C.choices self.now.choices.now) self.now.sets.now slots.now expr.now
+            value.now) }
     {
         match expr {
             Expr::Literal(value) => Some(value),
@@ -98,7 +101,8 @@ impl<'a, C: ChoiceView> Side<'a, C> {
         right: &'a Expr,
         slots: &[Option<usize>],
     ) -> Option<&'a Value>
-        ensures { IfSome result (λ value. IsToldBy (C.choices self.now.choices.now) self.now.sets.now slots.now
+        ensures { IfSome result (λ value. IsToldBy (C.choices self.now.choices.now)
+            self.now.sets.now slots.now
             (Compare Eq left.now right.now ∷ []) column value.now) }
     {
         if shows_column(left, column) {
@@ -116,7 +120,8 @@ impl<'a, C: ChoiceView> Side<'a, C> {
         part: &'a CondOf<Expr>,
         slots: &[Option<usize>],
     ) -> Option<&'a Value>
-        ensures { IfSome result (λ value. IsToldBy (C.choices self.now.choices.now) self.now.sets.now slots.now
+        ensures { IfSome result (λ value. IsToldBy (C.choices self.now.choices.now)
+            self.now.sets.now slots.now
             (part.now ∷ []) column value.now) }
     {
         match part {
@@ -129,9 +134,11 @@ impl<'a, C: ChoiceView> Side<'a, C> {
         }
     }
 
-    // The value of a column, if the condition says it: that of a literal, or of a row that is chosen.
+    // The value of a column, if the condition says it: that of a literal, or of a row that is
+    // chosen.
     pub(crate) fn told_value(&self, column: Ref, slots: &[Option<usize>]) -> Option<&'a Value>
-        ensures { IfSome result (λ value. IsToldBy (C.choices self.now.choices.now) self.now.sets.now slots.now
+        ensures { IfSome result (λ value. IsToldBy (C.choices self.now.choices.now)
+            self.now.sets.now slots.now
             (outer_parts self.now.query.now.cond) column value.now) }
     {
         for part in outer_parts(&self.query.cond) {
@@ -150,7 +157,8 @@ impl<'a, C: ChoiceView> Side<'a, C> {
         columns: &[usize],
         slots: &[Option<usize>],
     ) -> Result<Cells, Memory>
-        ensures { IfOk result (λ front. IsKeyTold (C.choices self.now.choices.now) self.now.sets.now slots.now
+        ensures { IfOk result (λ front. IsKeyTold (C.choices self.now.choices.now) self.now.sets.now
+            slots.now
             (outer_parts self.now.query.now.cond) table (take (length front) columns.now) front) }
     {
         let mut front = Sequence::new(alloc);
@@ -167,9 +175,9 @@ impl<'a, C: ChoiceView> Side<'a, C> {
         Ok(front)
     }
 
-    // The places of a table's rows that may follow those that are chosen: that of the row with a key, where the
-    // condition says its values; those whose key begins with the values that it says, within the bounds that it says of
-    // the next one; and else all.
+    // The places of a table's rows that may follow those that are chosen: that of the row with a
+    // key, where the condition says its values; those whose key begins with the values that it
+    // says, within the bounds that it says of the next one; and else all.
     pub(crate) fn span(
         &self,
         alloc: Global,
@@ -177,7 +185,8 @@ impl<'a, C: ChoiceView> Side<'a, C> {
         slots: &[Option<usize>],
     ) -> Result<Span, Memory>
         requires { table < length self.now.sets.now }
-        ensures { IfOk result (λ span. IsWithin (C.choices self.now.choices.now) self.now.query.now self.now.sets.now
+        ensures { IfOk result (λ span. IsWithin (C.choices self.now.choices.now) self.now.query.now
+            self.now.sets.now
             slots.now table span) }
     {
         let set = self.sets.get(table);

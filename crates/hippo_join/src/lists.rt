@@ -5,7 +5,7 @@ ghost use Rattle.hippo_model.specs.declared.query.CondOf.TheVariants.{Among};
 ghost use Rattle.hippo_model.specs.declared.query.Expr.TheVariants.{Literal};
 ghost use Rattle.hippo_model.specs.Terms.{Place};
 ghost use Rattle.hippo_join.specs.Lists.{is_literal, IsListedBy};
-ghost use Rattle.hippo_join.specs.Lookups.{value_at};
+ghost use Rattle.hippo_join.specs.Lookups.{value_at_place};
 
 use crate::keys::shows_column;
 use hippo_model::{Bound, CondOf, Expr, Ref, RowSet};
@@ -90,8 +90,9 @@ fn places_with(
     column: usize,
     value: &Value,
 ) -> Result<Option<Vec<usize>>, Memory>
-    ensures { IfOk result (λ found. IfSome found (λ places. (place : Place) → place < length set.now.rows
-        → value.now ≡ value_at set.now column place → Contains places.items place)) }
+    ensures { IfOk result (λ found. IfSome found
+        (λ places. (place : Place) → place < length set.now.rows
+        → value.now ≡ value_at_place set.now column place → Contains places.items place)) }
 {
     let end = Some(bound_at(value));
     set.places_within(alloc, column, end, end)
@@ -105,9 +106,11 @@ fn add_with(
     value: &Value,
     places: &mut Vec<usize>,
 ) -> Result<bool, Memory>
-    ensures kept { OnOk result ((place : Place) → Contains places.old.items place → Contains places.new.items place) }
-    ensures added { IfOk result (λ found. found ≡ true → (place : Place) → place < length set.now.rows
-        → value.now ≡ value_at set.now column place → Contains places.new.items place) }
+    ensures kept { OnOk result ((place : Place) → Contains places.old.items place
+        → Contains places.new.items place) }
+    ensures added { IfOk result (λ found. found ≡ true → (place : Place)
+        → place < length set.now.rows
+        → value.now ≡ value_at_place set.now column place → Contains places.new.items place) }
 {
     let found = places_with(alloc, set, column, value)?;
     let Some(more) = found else {
@@ -125,9 +128,12 @@ fn add_item(
     item: &Expr,
     places: &mut Vec<usize>,
 ) -> Result<bool, Memory>
-    ensures kept { OnOk result ((place : Place) → Contains places.old.items place → Contains places.new.items place) }
-    ensures added { IfOk result (λ found. found ≡ true → (place : Place) → place < length set.now.rows
-        → item.now ≡ Literal (value_at set.now column place) → Contains places.new.items place) }
+    ensures kept { OnOk result ((place : Place) → Contains places.old.items place
+        → Contains places.new.items place) }
+    ensures added { IfOk result (λ found. found ≡ true → (place : Place)
+        → place < length set.now.rows
+        → item.now ≡ Literal (value_at_place set.now column place)
+        → Contains places.new.items place) }
 {
     match item {
         Expr::Literal(value) => add_with(alloc, set, column, value, places),
@@ -142,8 +148,10 @@ pub(crate) fn places_listed(
     column: usize,
     list: &[Expr],
 ) -> Result<Option<Vec<usize>>, Memory>
-    ensures { IfOk result (λ found. IfSome found (λ places. (place : Place) → place < length set.now.rows
-        → Contains list.now (Literal (value_at set.now column place)) → Contains places.items place)) }
+    ensures { IfOk result (λ found. IfSome found
+        (λ places. (place : Place) → place < length set.now.rows
+        → Contains list.now (Literal (value_at_place set.now column place))
+        → Contains places.items place)) }
 {
     let mut places = Vec::new(alloc);
     for item in list {

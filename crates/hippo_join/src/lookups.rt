@@ -9,7 +9,7 @@ ghost use Rattle.hippo_values.specs.Order.{value_cmp};
 ghost use Rattle.hippo_model.specs.Conditions.{is_null};
 ghost use Rattle.hippo_model.specs.Terms.{Place};
 ghost use Rattle.hippo_model.specs.RowSets.{KeyedRows};
-ghost use Rattle.hippo_join.specs.Lookups.{value_at, IsByColumn, IsIndex};
+ghost use Rattle.hippo_join.specs.Lookups.{value_at_place, IsByColumn, IsIndex};
 
 use hippo_model::RowSet;
 use hippo_values::{Duplicate, Memory, Value};
@@ -18,7 +18,7 @@ use std::cmp::Ordering;
 
 /// The value in a column of the row at a place, if one stands there.
 pub fn value_at<'a>(set: &'a RowSet, column: usize, place: usize) -> Option<&'a Value>
-    ensures { unwrap_or (option_copied result) Null ≡ value_at set.now column place }
+    ensures { unwrap_or (option_copied result) Null ≡ value_at_place set.now column place }
 {
     if place < set.len() {
         set.row(place).as_slice().get(column)
@@ -35,15 +35,15 @@ pub(crate) fn is_null(value: &Value) -> bool
 
 // The value that a column has at a place, if it is there and not null.
 pub(crate) fn known_value<'a>(set: &'a RowSet, column: usize, place: usize) -> Option<&'a Value>
-    ensures { MatchOption result (is_null (value_at set.now column place) ≡ true)
-        (λ value. value.now ≡ value_at set.now column place) }
+    ensures { MatchOption result (is_null (value_at_place set.now column place) ≡ true)
+        (λ value. value.now ≡ value_at_place set.now column place) }
 {
     let value = value_at(set, column, place)?;
     if is_null(value) { None } else { Some(value) }
 }
 
 fn value_order(set: &RowSet, column: usize, place: usize, value: &Value) -> Ordering
-    ensures { result ≡ value_cmp (value_at set.now column place) value.now }
+    ensures { result ≡ value_cmp (value_at_place set.now column place) value.now }
 {
     value_at(set, column, place)
         .unwrap_or(&Value::Null)
@@ -52,7 +52,8 @@ fn value_order(set: &RowSet, column: usize, place: usize, value: &Value) -> Orde
 
 // Two rows by their values in a column.
 fn row_order(set: &RowSet, column: usize, place: usize, other: usize) -> Ordering
-    ensures { result ≡ value_cmp (value_at set.now column place) (value_at set.now column other) }
+    ensures { result ≡ value_cmp (value_at_place set.now column place)
+        (value_at_place set.now column other) }
 {
     value_order(
         set,
@@ -99,7 +100,8 @@ pub(crate) fn values_at(
     column: usize,
     places: &[usize],
 ) -> Result<Vec<Value>, Memory>
-    ensures { IfOk result (λ values. values.items ≡ map (value_at set.now column) places.now) }
+    ensures { IfOk result (λ values. values.items
+        ≡ map (value_at_place set.now column) places.now) }
 {
     let mut values = Vec::with_capacity(alloc, places.len())?;
     for place in places {
@@ -110,8 +112,10 @@ pub(crate) fn values_at(
 
 // Where those of some values begin, by their order, that are not below one; it is found by halves.
 fn start_with(values: &[Value], value: &Value) -> usize
-    ensures { (set : KeyedRows) (column : Place) (places : List Place) → IsIndex set column values.now places
-        → (k : ℕ) → k < length places → value_cmp (value_at set column (get_or places k 0)) value.now ≡ Equal
+    ensures { (set : KeyedRows) (column : Place) (places : List Place)
+        → IsIndex set column values.now places
+        → (k : ℕ) → k < length places → value_cmp (value_at_place set column (get_or places k 0))
+        value.now ≡ Equal
         → result ≤ k }
 {
     values.partition_point(|own| is_below(own, value))
@@ -119,8 +123,10 @@ fn start_with(values: &[Value], value: &Value) -> usize
 
 // Where those from a place on end that are not above it.
 fn end_with(values: &[Value], start: usize, value: &Value) -> usize
-    ensures { (set : KeyedRows) (column : Place) (places : List Place) → IsIndex set column values.now places
-        → (k : ℕ) → k < length places → value_cmp (value_at set column (get_or places k 0)) value.now ≡ Equal
+    ensures { (set : KeyedRows) (column : Place) (places : List Place)
+        → IsIndex set column values.now places
+        → (k : ℕ) → k < length places → value_cmp (value_at_place set column (get_or places k 0))
+        value.now ≡ Equal
         → k < result }
 {
     for end in start..values.len() {
@@ -131,10 +137,12 @@ fn end_with(values: &[Value], start: usize, value: &Value) -> usize
     values.len()
 }
 
-// The places whose row has a value, of places that stand by the values in a column, and these values.
+// The places whose row has a value, of places that stand by the values in a column, and these
+// values.
 pub(crate) fn with_value<'a>(places: &'a [usize], values: &[Value], value: &Value) -> &'a [usize]
     ensures { (set : KeyedRows) (column : Place) → IsIndex set column values.now places.now
-        → (place : Place) → Contains places.now place → value_cmp (value_at set column place) value.now ≡ Equal
+        → (place : Place) → Contains places.now place
+        → value_cmp (value_at_place set column place) value.now ≡ Equal
         → Contains result.now place }
 {
     let start = start_with(values, value);

@@ -39,8 +39,8 @@ fn fixes(part: &CondOf<Expr>, table: usize) -> bool {
     }
 }
 
-// How late a table is to be joined: those behind a tie come before the others, then those of which a literal says a
-// value, and then the small ones.
+// How late a table is to be joined: those behind a tie come before the others, then those of which
+// a literal says a value, and then the small ones.
 fn lateness(
     query: &Masked,
     sizes: &Sizes,
@@ -77,9 +77,9 @@ fn mark(slots: &mut [Option<usize>], table: usize) {
     }
 }
 
-/// Some tables of a query, and then the others that are left, in an order in which they can be joined behind the first:
-/// next comes a table that an equality ties to one before it, if there is one, then one of which an equality with a
-/// literal says a value, and of several the smallest.
+/// Some tables of a query, and then the others that are left, in an order in which they can be
+/// joined behind the first: next comes a table that an equality ties to one before it, if there is
+/// one, then one of which an equality with a literal says a value, and of several the smallest.
 pub fn order_behind(
     alloc: Global,
     query: &Masked,
@@ -87,7 +87,8 @@ pub fn order_behind(
     first: &[usize],
     others: &[usize],
 ) -> Result<Vec<usize>, Memory>
-    ensures permutation { IfOk result (λ order. IsPermutation (first.now ++ others.now) order.items) }
+    ensures permutation { IfOk result (λ order. IsPermutation (first.now ++ others.now)
+        order.items) }
     ensures front { IfOk result (λ order. take (length first.now) order.items ≡ first.now) }
 {
     let mut slots = open_slots(alloc, query.tables.len())?;
@@ -105,9 +106,10 @@ pub fn order_behind(
     Ok(order)
 }
 
-/// An order in which the tables of a query can be joined, each once, for tables of these sizes: next comes a table that
-/// an equality ties to one before it, if there is one, then one of which an equality with a literal says a value, and
-/// of several the smallest. `run` gives the same answer for every order; this one is chosen to be fast.
+/// An order in which the tables of a query can be joined, each once, for tables of these sizes:
+/// next comes a table that an equality ties to one before it, if there is one, then one of which an
+/// equality with a literal says a value, and of several the smallest. `run` gives the same answer
+/// for every order; this one is chosen to be fast.
 pub fn plan(alloc: Global, query: &Masked, sizes: &Sizes) -> Result<Plan, Memory>
     ensures { IfOk result (λ plan. IsPlanOf query.now plan) }
 {

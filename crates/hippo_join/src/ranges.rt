@@ -8,7 +8,7 @@ ghost use Rattle.hippo_model.specs.declared.query.CondOf.TheVariants.{Compare, B
 ghost use Rattle.hippo_model.specs.Conditions.{outer_parts, is_null};
 ghost use Rattle.hippo_model.specs.RowSets.{KeyedRows};
 ghost use Rattle.hippo_join.specs.Keys.{IsKeyTold, IsWithin};
-ghost use Rattle.hippo_join.specs.Ranges.{bounding, flipped, IsBoundedBy, IsEdge};
+ghost use Rattle.hippo_join.specs.Ranges.{bounding, flipped_operator, IsBoundedBy, IsEdge};
 
 use crate::keys::{Span, shows_column};
 use crate::lookups::is_null;
@@ -92,7 +92,8 @@ fn over_null(null: &Value) -> Bound<'_>
 fn above_null<'b>(bound: Bound<'b>, null: &'b Value) -> Bound<'b>
     requires { null.now ≡ Null }
     ensures { (value : AnyValue) → is_null value ≡ false
-        → is_allowed (bounding false bound.entry.strict) (value_cmp value bound.entry.value.now) ≡ true
+        → is_allowed (bounding false bound.entry.strict) (value_cmp value bound.entry.value.now)
+        ≡ true
         → is_allowed (bounding false result.strict) (value_cmp value result.value.now) ≡ true }
 {
     if is_null(bound.value) {
@@ -104,7 +105,7 @@ fn above_null<'b>(bound: Bound<'b>, null: &'b Value) -> Bound<'b>
 
 // The operator that says the same of two values in the other order.
 fn flipped(op: CompareOp) -> CompareOp
-    ensures { result ≡ flipped op }
+    ensures { result ≡ flipped_operator op }
 {
     match op {
         CompareOp::Eq => CompareOp::Eq,
@@ -127,8 +128,10 @@ impl<'a, C: ChoiceView> Side<'a, C> {
         above: bool,
         slots: &[Option<usize>],
     ) -> Option<Bound<'a>>
-        ensures { IfSome result (λ bound. IsBoundedBy (C.choices self.now.choices.now) self.now.sets.now slots.now
-            (Compare op left.now right.now ∷ []) column (bounding above bound.strict) bound.value.now) }
+        ensures { IfSome result (λ bound. IsBoundedBy (C.choices self.now.choices.now)
+            self.now.sets.now slots.now
+            (Compare op left.now right.now ∷ []) column (bounding above bound.strict)
+            bound.value.now) }
     {
         if !shows_column(left, column) {
             return None;
@@ -148,8 +151,10 @@ impl<'a, C: ChoiceView> Side<'a, C> {
         above: bool,
         slots: &[Option<usize>],
     ) -> Option<Bound<'a>>
-        ensures { IfSome result (λ bound. IsBoundedBy (C.choices self.now.choices.now) self.now.sets.now slots.now
-            (Compare op left.now right.now ∷ []) column (bounding above bound.strict) bound.value.now) }
+        ensures { IfSome result (λ bound. IsBoundedBy (C.choices self.now.choices.now)
+            self.now.sets.now slots.now
+            (Compare op left.now right.now ∷ []) column (bounding above bound.strict)
+            bound.value.now) }
     {
         match self.bound_beside(column, op, left, right, above, slots) {
             Some(bound) => Some(bound),
@@ -167,8 +172,10 @@ impl<'a, C: ChoiceView> Side<'a, C> {
         above: bool,
         slots: &[Option<usize>],
     ) -> Option<Bound<'a>>
-        ensures { IfSome result (λ bound. IsBoundedBy (C.choices self.now.choices.now) self.now.sets.now slots.now
-            (Between value.now low.now high.now ∷ []) column (bounding above bound.strict) bound.value.now) }
+        ensures { IfSome result (λ bound. IsBoundedBy (C.choices self.now.choices.now)
+            self.now.sets.now slots.now
+            (Between value.now low.now high.now ∷ []) column (bounding above bound.strict)
+            bound.value.now) }
     {
         if above {
             self.bound_beside(column, CompareOp::Le, value, high, above, slots)
@@ -184,7 +191,8 @@ impl<'a, C: ChoiceView> Side<'a, C> {
         above: bool,
         slots: &[Option<usize>],
     ) -> Option<Bound<'a>>
-        ensures { IfSome result (λ bound. IsBoundedBy (C.choices self.now.choices.now) self.now.sets.now slots.now
+        ensures { IfSome result (λ bound. IsBoundedBy (C.choices self.now.choices.now)
+            self.now.sets.now slots.now
             (part.now ∷ []) column (bounding above bound.strict) bound.value.now) }
     {
         match part {
@@ -198,10 +206,13 @@ impl<'a, C: ChoiceView> Side<'a, C> {
         }
     }
 
-    // A bound of a column from below or from above, if the condition says one: by a literal, or by a row that is chosen.
+    // A bound of a column from below or from above, if the condition says one: by a literal, or by
+    // a row that is chosen.
     fn told_bound(&self, column: Ref, above: bool, slots: &[Option<usize>]) -> Option<Bound<'a>>
-        ensures { IfSome result (λ bound. IsBoundedBy (C.choices self.now.choices.now) self.now.sets.now slots.now
-            (outer_parts self.now.query.now.cond) column (bounding above bound.strict) bound.value.now) }
+        ensures { IfSome result (λ bound. IsBoundedBy (C.choices self.now.choices.now)
+            self.now.sets.now slots.now
+            (outer_parts self.now.query.now.cond) column (bounding above bound.strict)
+            bound.value.now) }
     {
         for part in outer_parts(&self.query.cond) {
             if let Some(bound) = self.bound_by_part(column, part, above, slots) {
@@ -218,8 +229,10 @@ impl<'a, C: ChoiceView> Side<'a, C> {
         above: bool,
         slots: &[Option<usize>],
     ) -> Option<Bound<'a>>
-        ensures { IfSome result (λ bound. IsBoundedBy (C.choices self.now.choices.now) self.now.sets.now slots.now
-            (outer_parts self.now.query.now.cond) column (bounding above bound.strict) bound.value.now) }
+        ensures { IfSome result (λ bound. IsBoundedBy (C.choices self.now.choices.now)
+            self.now.sets.now slots.now
+            (outer_parts self.now.query.now.cond) column (bounding above bound.strict)
+            bound.value.now) }
     {
         match self.told_value(column, slots) {
             Some(value) => Some(Bound {
@@ -238,8 +251,10 @@ impl<'a, C: ChoiceView> Side<'a, C> {
         null: &'b Value,
     ) -> Option<Bound<'b>>
         requires { null.now ≡ Null }
-        ensures { IfSome result (λ bound. IsBoundedBy (C.choices self.now.choices.now) self.now.sets.now slots.now
-            (outer_parts self.now.query.now.cond) column (bounding false bound.strict) bound.value.now) }
+        ensures { IfSome result (λ bound. IsBoundedBy (C.choices self.now.choices.now)
+            self.now.sets.now slots.now
+            (outer_parts self.now.query.now.cond) column (bounding false bound.strict)
+            bound.value.now) }
     {
         match self.told_end(column, true, slots) {
             Some(_) => Some(over_null(null)),
@@ -247,7 +262,8 @@ impl<'a, C: ChoiceView> Side<'a, C> {
         }
     }
 
-    // A bound of a column from below, which no null meets, if the condition bounds the column from either side.
+    // A bound of a column from below, which no null meets, if the condition bounds the column from
+    // either side.
     pub(crate) fn lowest<'b>(
         &'b self,
         column: Ref,
@@ -255,8 +271,10 @@ impl<'a, C: ChoiceView> Side<'a, C> {
         null: &'b Value,
     ) -> Option<Bound<'b>>
         requires { null.now ≡ Null }
-        ensures { IfSome result (λ bound. IsBoundedBy (C.choices self.now.choices.now) self.now.sets.now slots.now
-            (outer_parts self.now.query.now.cond) column (bounding false bound.strict) bound.value.now) }
+        ensures { IfSome result (λ bound. IsBoundedBy (C.choices self.now.choices.now)
+            self.now.sets.now slots.now
+            (outer_parts self.now.query.now.cond) column (bounding false bound.strict)
+            bound.value.now) }
     {
         match self.told_end(column, false, slots) {
             Some(bound) => Some(above_null(bound, null)),
@@ -264,7 +282,8 @@ impl<'a, C: ChoiceView> Side<'a, C> {
         }
     }
 
-    // The places of the rows whose key begins with the values that are told, where the next one is not.
+    // The places of the rows whose key begins with the values that are told, where the next one is
+    // not.
     pub(crate) fn span_from(
         &self,
         alloc: Global,
@@ -276,10 +295,12 @@ impl<'a, C: ChoiceView> Side<'a, C> {
         requires table { table < length self.now.sets.now }
         requires told { (set : KeyedRows) → slice_get self.now.sets.now table ≡ Some set
             → IsKeyTold (C.choices self.now.choices.now) self.now.sets.now slots.now
-            (outer_parts self.now.query.now.cond) table (take (length front.now) set.key) front.now }
+            (outer_parts self.now.query.now.cond) table (take (length front.now) set.key)
+            front.now }
         requires next { (set : KeyedRows) → slice_get self.now.sets.now table ≡ Some set
             → slice_get set.key (length front.now) ≡ Some column }
-        ensures { IfOk result (λ span. IsWithin (C.choices self.now.choices.now) self.now.query.now self.now.sets.now
+        ensures { IfOk result (λ span. IsWithin (C.choices self.now.choices.now) self.now.query.now
+            self.now.sets.now
             slots.now table span) }
     {
         let set = self.sets.get(table);

@@ -3,10 +3,10 @@ ghost use Rattle.std.specs.Prelude.{◌≡◌, ◌<◌, ◌≤◌, ℕ, true, fa
 ghost use Rattle.std.specs.List.{All, Contains};
 ghost use Rattle.std.specs.List.Sorted.{IsPermutation};
 ghost use Rattle.hippo_model.specs.Terms.{Place};
-ghost use Rattle.hippo_join.specs.Places.{chosen, Fits, stands};
+ghost use Rattle.hippo_join.specs.Places.{chosen_rows as chosen, Fits, stands};
 ghost use Rattle.hippo_join.specs.Lookups.{IsByColumn};
 ghost use Rattle.hippo_join.specs.Ties.{AreEqual};
-ghost use Rattle.hippo_join.specs.Walking.{followed, IsWalkable, AreWalkable};
+ghost use Rattle.hippo_join.specs.Walking.{following_places, IsWalkable, AreWalkable};
 ghost use Rattle.hippo_join.specs.Stages.{Reaches, ReachesFrom, IsStage, AreStages};
 
 use crate::following::{Following, listed};
@@ -28,7 +28,8 @@ pub fn open_slots(alloc: Global, tables: usize) -> Result<Vec<Option<usize>>, Me
 
 /// Adds a place at the end where a test holds.
 pub fn push_if(test: bool, places: &mut Vec<usize>, place: usize) -> Result<(), Memory>
-    ensures { OnOk result (places.new.items ≡ if test then places.old.items ++ place ∷ [] else places.old.items) }
+    ensures { OnOk result (places.new.items ≡ if test then places.old.items ++ place ∷ []
+        else places.old.items) }
 {
     if test {
         places.push(place)?;
@@ -76,8 +77,8 @@ impl<'a, C: ChoiceView> Side<'a, C> {
         Ok(known)
     }
 
-    // Places of a table's rows without those of which the guards and the parts on this table alone say that they do not
-    // count.
+    // Places of a table's rows without those of which the guards and the parts on this table alone
+    // say that they do not count.
     fn tested_places(
         &self,
         alloc: Global,
@@ -86,9 +87,11 @@ impl<'a, C: ChoiceView> Side<'a, C> {
         tests: &[usize],
     ) -> Result<Vec<usize>, Memory>
         requires table { table < length self.now.sets.now }
-        requires candidates { Reaches (C.choices self.now.choices.now) self.now.query.now self.now.sets.now
-            table (followed candidates.now) }
-        ensures { IfOk result (λ places. Reaches (C.choices self.now.choices.now) self.now.query.now self.now.sets.now
+        requires candidates { Reaches (C.choices self.now.choices.now) self.now.query.now
+            self.now.sets.now
+            table (following_places candidates.now) }
+        ensures { IfOk result (λ places. Reaches (C.choices self.now.choices.now) self.now.query.now
+            self.now.sets.now
             table places.items) }
     {
         let mut slots = open_slots(alloc, self.sets.len())?;
@@ -103,11 +106,13 @@ impl<'a, C: ChoiceView> Side<'a, C> {
         Ok(places)
     }
 
-    // The places of a table's rows that can count. Where literals say the row's key, or its first values, or bounds of the
-    // next one, or the value of a column by which the table has an order, these rows are found by halves.
+    // The places of a table's rows that can count. Where literals say the row's key, or its first
+    // values, or bounds of the next one, or the value of a column by which the table has an order,
+    // these rows are found by halves.
     fn reached_places(&self, alloc: Global, table: usize) -> Result<Vec<usize>, Memory>
         requires { table < length self.now.sets.now }
-        ensures { IfOk result (λ places. Reaches (C.choices self.now.choices.now) self.now.query.now self.now.sets.now
+        ensures { IfOk result (λ places. Reaches (C.choices self.now.choices.now) self.now.query.now
+            self.now.sets.now
             table places.items) }
     {
         let mut slots = open_slots(alloc, self.sets.len())?;
@@ -151,7 +156,8 @@ impl<'a, C: ChoiceView> Side<'a, C> {
         self.is_joined(column, slots)
     }
 
-    // Whether a table's rows are looked up by the rows that are chosen, of which there are about so many combinations.
+    // Whether a table's rows are looked up by the rows that are chosen, of which there are about so
+    // many combinations.
     fn is_sought(&self, table: usize, slots: &[Option<usize>], before: usize) -> bool
         requires { table < length self.now.sets.now }
     {
@@ -169,7 +175,8 @@ impl<'a, C: ChoiceView> Side<'a, C> {
         tests: Vec<usize>,
     ) -> Result<Stage, Memory>
         requires { table < length self.now.sets.now }
-        ensures stage { IfOk result (λ stage. IsStage (C.choices self.now.choices.now) self.now.query.now
+        ensures stage { IfOk result (λ stage. IsStage (C.choices self.now.choices.now)
+            self.now.query.now
             self.now.sets.now stage) }
         ensures listed { IfOk result (λ stage. stage.is_sought ≡ false) }
         ensures table { IfOk result (λ stage. stage.table ≡ table) }
@@ -198,8 +205,8 @@ impl<'a, C: ChoiceView> Side<'a, C> {
         })
     }
 
-    // A table's stage behind those whose rows are chosen: with its places, if all stages are to list theirs or if its
-    // rows cannot be looked up.
+    // A table's stage behind those whose rows are chosen: with its places, if all stages are to
+    // list theirs or if its rows cannot be looked up.
     fn stage(
         &self,
         alloc: Global,
@@ -233,7 +240,8 @@ impl<'a, C: ChoiceView> Side<'a, C> {
 
     // The places of a stage that may follow the rows that are chosen, by a tie.
     fn tied_places<'s>(&self, stage: &'s Stage, tie: &Tie, slots: &[Option<usize>]) -> &'s [usize]
-        requires stage { IsStage (C.choices self.now.choices.now) self.now.query.now self.now.sets.now stage.now }
+        requires stage { IsStage (C.choices self.now.choices.now) self.now.query.now
+            self.now.sets.now stage.now }
         requires tie { stage.now.tie ≡ Some tie.now }
         ensures { ReachesFrom (C.choices self.now.choices.now) self.now.query.now self.now.sets.now
             slots.now stage.now.table result.now }
@@ -255,7 +263,8 @@ impl<'a, C: ChoiceView> Side<'a, C> {
 
     /// The places of a stage that may follow the rows that are chosen.
     pub fn places_of<'s>(&self, stage: &'s Stage, slots: &[Option<usize>]) -> &'s [usize]
-        requires { IsStage (C.choices self.now.choices.now) self.now.query.now self.now.sets.now stage.now }
+        requires { IsStage (C.choices self.now.choices.now) self.now.query.now self.now.sets.now
+            stage.now }
         ensures { ReachesFrom (C.choices self.now.choices.now) self.now.query.now self.now.sets.now
             slots.now stage.now.table result.now }
     {
@@ -265,9 +274,9 @@ impl<'a, C: ChoiceView> Side<'a, C> {
         }
     }
 
-    // The parts of the condition that are tested where a table's row is chosen, looked up or not: none where it is the
-    // last, since the whole condition is tested then. Where places are listed, the parts on the table alone are tested
-    // before.
+    // The parts of the condition that are tested where a table's row is chosen, looked up or not:
+    // none where it is the last, since the whole condition is tested then. Where places are listed,
+    // the parts on the table alone are tested before.
     fn tests_at(
         &self,
         alloc: Global,
@@ -293,8 +302,8 @@ impl<'a, C: ChoiceView> Side<'a, C> {
         Ok(tests)
     }
 
-    // The stages of a join behind rows that are chosen, in an order of tables: all with their places, or only those
-    // whose rows are not looked up.
+    // The stages of a join behind rows that are chosen, in an order of tables: all with their
+    // places, or only those whose rows are not looked up.
     pub(crate) fn stages_behind(
         &self,
         alloc: Global,
@@ -305,7 +314,8 @@ impl<'a, C: ChoiceView> Side<'a, C> {
         requires long { length chosen.now ≡ length self.now.sets.now }
         requires below { All (λ table. table < length self.now.sets.now) order.now }
         ensures { IfOk result (λ stages. AreWalkable
-            (C.choices self.now.choices.now) self.now.query.now self.now.sets.now lists order.now stages.items) }
+            (C.choices self.now.choices.now) self.now.query.now self.now.sets.now lists order.now
+            stages.items) }
     {
         let mut slots = Vec::from_slice(alloc, chosen)?;
         let mut stages = Vec::new(alloc);
@@ -319,7 +329,8 @@ impl<'a, C: ChoiceView> Side<'a, C> {
         Ok(stages)
     }
 
-    // The stages of a join, in an order of tables: all with their places, or only those whose rows are not looked up.
+    // The stages of a join, in an order of tables: all with their places, or only those whose rows
+    // are not looked up.
     pub(crate) fn stages_in(
         &self,
         alloc: Global,
@@ -328,7 +339,8 @@ impl<'a, C: ChoiceView> Side<'a, C> {
     ) -> Result<Vec<Stage>, Memory>
         requires { All (λ table. table < length self.now.sets.now) order.now }
         ensures { IfOk result (λ stages. AreWalkable
-            (C.choices self.now.choices.now) self.now.query.now self.now.sets.now lists order.now stages.items) }
+            (C.choices self.now.choices.now) self.now.query.now self.now.sets.now lists order.now
+            stages.items) }
     {
         let slots = open_slots(alloc, self.sets.len())?;
         self.stages_behind(alloc, &slots, order, lists)
@@ -337,7 +349,8 @@ impl<'a, C: ChoiceView> Side<'a, C> {
     /// The stages of a join, in an order of tables.
     pub fn stages(&self, alloc: Global, order: &[usize]) -> Result<Vec<Stage>, Memory>
         requires { All (λ table. table < length self.now.sets.now) order.now }
-        ensures { IfOk result (λ stages. AreStages (C.choices self.now.choices.now) self.now.query.now self.now.sets.now
+        ensures { IfOk result (λ stages. AreStages (C.choices self.now.choices.now)
+            self.now.query.now self.now.sets.now
             order.now stages.items) }
     {
         self.stages_in(alloc, order, true)

@@ -1,8 +1,9 @@
-//! Rows that are found by a column that is no key, where their table has an order by it, or by a list.
+//! Rows that are found by a column that is no key, where their table has an order by it, or by a
+//! list.
 ghost use Rattle.std.specs.Prelude.{◌<◌, IfOk, IfSome, length, replicate, None};
 ghost use Rattle.hippo_join.specs.Stages.{Reaches, ReachesFrom};
 ghost use Rattle.hippo_join.specs.declared.following.Following.TheVariants.{Sought};
-ghost use Rattle.hippo_join.specs.Walking.{followed};
+ghost use Rattle.hippo_join.specs.Walking.{following_places};
 
 use crate::following::Following;
 use crate::keys::Span;
@@ -20,7 +21,8 @@ const FEW: usize = 16;
 // A row that an order finds takes as long as so many that are listed and tested one by one.
 const WALKED: usize = 4;
 
-// How rows of a table are found: by the bounds of a column, or by the values that a list has for it.
+// How rows of a table are found: by the bounds of a column, or by the values that a list has for
+// it.
 #[derive(Clone, Copy)]
 enum Access {
     Bounds(usize),
@@ -73,14 +75,16 @@ impl<'a, C: ChoiceView> Side<'a, C> {
         self.told_value(column, slots).is_some() && self.told_value(column, &[]).is_none()
     }
 
-    // Whether rows that are chosen, and no literal, say the value of a column by which its table has an order.
+    // Whether rows that are chosen, and no literal, say the value of a column by which its table
+    // has an order.
     fn finds_by(&self, column: Ref, slots: &[Option<usize>]) -> bool
         requires { column.table < length self.now.sets.now }
     {
         self.sets.get(column.table).is_ordered_by(column.column) && self.is_joined(column, slots)
     }
 
-    // Whether rows that are chosen, and no literal, say the value of some column by which a table has an order.
+    // Whether rows that are chosen, and no literal, say the value of some column by which a table
+    // has an order.
     fn is_found(&self, table: usize, slots: &[Option<usize>]) -> bool
         requires { table < length self.now.sets.now }
     {
@@ -94,15 +98,16 @@ impl<'a, C: ChoiceView> Side<'a, C> {
         false
     }
 
-    // Whether rows that are chosen, and no literal, say the value of a column by which a table has an order, and looking
-    // rows up by it for so many combinations takes less than to list all.
+    // Whether rows that are chosen, and no literal, say the value of a column by which a table has
+    // an order, and looking rows up by it for so many combinations takes less than to list all.
     pub(crate) fn finds_few(&self, table: usize, slots: &[Option<usize>], before: usize) -> bool
         requires { table < length self.now.sets.now }
     {
         before < self.sets.get(table).len() / FEW && self.is_found(table, slots)
     }
 
-    // How many rows of a table are found by the bounds of a column, where it has some and rows are found by it.
+    // How many rows of a table are found by the bounds of a column, where it has some and rows are
+    // found by it.
     fn count_bounded(&self, table: usize, column: usize, slots: &[Option<usize>]) -> Option<usize>
         requires { table < length self.now.sets.now }
     {
@@ -153,8 +158,8 @@ impl<'a, C: ChoiceView> Side<'a, C> {
         best
     }
 
-    // The places of a table's rows that are within the bounds which the condition says of a column, if rows are found
-    // by it.
+    // The places of a table's rows that are within the bounds which the condition says of a column,
+    // if rows are found by it.
     fn bounded_places(
         &self,
         alloc: Global,
@@ -164,7 +169,8 @@ impl<'a, C: ChoiceView> Side<'a, C> {
     ) -> Result<Option<Vec<usize>>, Memory>
         requires { table < length self.now.sets.now }
         ensures { IfOk result (λ found. IfSome found (λ places. ReachesFrom
-            (C.choices self.now.choices.now) self.now.query.now self.now.sets.now slots.now table places.items)) }
+            (C.choices self.now.choices.now) self.now.query.now self.now.sets.now slots.now table
+            places.items)) }
     {
         let null = Value::Null;
         let own = Ref { table, column };
@@ -177,8 +183,8 @@ impl<'a, C: ChoiceView> Side<'a, C> {
             .places_within(alloc, column, Some(low), high)
     }
 
-    // The places of a table's rows that have a value of a list which the condition says of a column, if rows are found
-    // by it.
+    // The places of a table's rows that have a value of a list which the condition says of a
+    // column, if rows are found by it.
     fn listed_places(
         &self,
         alloc: Global,
@@ -188,7 +194,8 @@ impl<'a, C: ChoiceView> Side<'a, C> {
     ) -> Result<Option<Vec<usize>>, Memory>
         requires { table < length self.now.sets.now }
         ensures { IfOk result (λ found. IfSome found (λ places. ReachesFrom
-            (C.choices self.now.choices.now) self.now.query.now self.now.sets.now slots.now table places.items)) }
+            (C.choices self.now.choices.now) self.now.query.now self.now.sets.now slots.now table
+            places.items)) }
     {
         let own = Ref { table, column };
         let Some(list) = find_list(outer_parts(&self.query.cond), own) else {
@@ -207,7 +214,8 @@ impl<'a, C: ChoiceView> Side<'a, C> {
     ) -> Result<Option<Vec<usize>>, Memory>
         requires { table < length self.now.sets.now }
         ensures { IfOk result (λ found. IfSome found (λ places. ReachesFrom
-            (C.choices self.now.choices.now) self.now.query.now self.now.sets.now slots.now table places.items)) }
+            (C.choices self.now.choices.now) self.now.query.now self.now.sets.now slots.now table
+            places.items)) }
     {
         match self.best_access(table, slots, most) {
             None => Ok(None),
@@ -216,7 +224,8 @@ impl<'a, C: ChoiceView> Side<'a, C> {
         }
     }
 
-    // The places that an access finds, where one finds fewer than so many; and else those of a span.
+    // The places that an access finds, where one finds fewer than so many; and else those of a
+    // span.
     fn fewer_places<'s>(
         &self,
         alloc: Global,
@@ -226,11 +235,12 @@ impl<'a, C: ChoiceView> Side<'a, C> {
         most: usize,
     ) -> Result<Following<'s>, Memory>
         requires table { table < length self.now.sets.now }
-        requires span { ReachesFrom (C.choices self.now.choices.now) self.now.query.now self.now.sets.now
-            slots.now table (followed (Sought span)) }
+        requires span { ReachesFrom (C.choices self.now.choices.now) self.now.query.now
+            self.now.sets.now
+            slots.now table (following_places (Sought span)) }
         ensures { IfOk result (λ following. ReachesFrom
             (C.choices self.now.choices.now) self.now.query.now self.now.sets.now
-            slots.now table (followed following)) }
+            slots.now table (following_places following)) }
     {
         match self.found_places(alloc, table, slots, most)? {
             Some(places) => Ok(Following::Found(places)),
@@ -238,8 +248,9 @@ impl<'a, C: ChoiceView> Side<'a, C> {
         }
     }
 
-    // The places of a table's rows that may follow those that are chosen: by its key, or by the column that finds the
-    // fewest, where a row that is found takes as long as so many of the others.
+    // The places of a table's rows that may follow those that are chosen: by its key, or by the
+    // column that finds the fewest, where a row that is found takes as long as so many of the
+    // others.
     pub(crate) fn candidates<'s>(
         &self,
         alloc: Global,
@@ -251,7 +262,7 @@ impl<'a, C: ChoiceView> Side<'a, C> {
         requires walked { 0 < walked }
         ensures { IfOk result (λ following. ReachesFrom
             (C.choices self.now.choices.now) self.now.query.now self.now.sets.now
-            slots.now table (followed following)) }
+            slots.now table (following_places following)) }
     {
         let span = self.span(alloc, table, slots)?;
         if span.len() > FEW {
@@ -269,7 +280,8 @@ impl<'a, C: ChoiceView> Side<'a, C> {
     ) -> Result<Following<'s>, Memory>
         requires { table < length self.now.sets.now }
         ensures { IfOk result (λ following. Reaches
-            (C.choices self.now.choices.now) self.now.query.now self.now.sets.now table (followed following)) }
+            (C.choices self.now.choices.now) self.now.query.now self.now.sets.now table
+            (following_places following)) }
     {
         let slots = open_slots(alloc, self.sets.len())?;
         self.candidates(alloc, table, &slots, WALKED)

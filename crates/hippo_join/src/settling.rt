@@ -1,4 +1,5 @@
-//! Rows that each combination which counts has, since look-ups find no other; and joins behind rows that are chosen.
+//! Rows that each combination which counts has, since look-ups find no other; and joins behind rows
+//! that are chosen.
 ghost use Rattle.std.specs.Prelude.{◌≡◌, ◌<◌, ◌≤◌, true, List, IfOk, IfSome, OnOk, Some, filter, get_or, length, slice_set};
 ghost use Rattle.std.specs.List.{All, Contains};
 ghost use Rattle.hippo_model.specs.Terms.{Place};
@@ -7,7 +8,7 @@ ghost use Rattle.hippo_join.specs.Places.{Fits, stands};
 ghost use Rattle.hippo_join.specs.Existence.{HasOne, Decides};
 ghost use Rattle.hippo_join.specs.Settling.{Settles};
 ghost use Rattle.hippo_join.specs.Stages.{Reaches};
-ghost use Rattle.hippo_join.specs.Walking.{followed};
+ghost use Rattle.hippo_join.specs.Walking.{following_places};
 
 use crate::following::{Following, listed};
 use crate::known::is_open;
@@ -28,8 +29,8 @@ fn few_of(rows: usize) -> usize {
 
 // The place of which there is no other; 0 where there is none.
 fn only_of(following: &Following<'_>) -> Option<usize>
-    ensures { IfSome result (λ first. (length (followed following.now) ≤ 1)
-        × (first ≡ get_or (followed following.now) 0 0)) }
+    ensures { IfSome result (λ first. (length (following_places following.now) ≤ 1)
+        × (first ≡ get_or (following_places following.now) 0 0)) }
 {
     match following.len() {
         0 => Some(0),
@@ -58,8 +59,10 @@ impl<'a, C: ChoiceView> Side<'a, C> {
         slots: &[Option<usize>],
     ) -> Result<Option<usize>, Memory>
         requires { table < length self.now.sets.now }
-        ensures { IfOk result (λ found. IfSome found (λ first. Settles (C.choices self.now.choices.now)
-            self.now.query.now self.now.sets.now slots.now (slice_set slots.now table (Some first)))) }
+        ensures { IfOk result (λ found. IfSome found
+            (λ first. Settles (C.choices self.now.choices.now)
+            self.now.query.now self.now.sets.now slots.now
+            (slice_set slots.now table (Some first)))) }
     {
         let following = self.candidates(alloc, table, slots, 1)?;
         Ok(only_of(&following))
@@ -76,7 +79,8 @@ impl<'a, C: ChoiceView> Side<'a, C> {
         requires sets { table < length self.now.sets.now }
         requires slots { table < length slots.old }
         ensures { OnOk result (Settles
-            (C.choices self.now.choices.now) self.now.query.now self.now.sets.now slots.old slots.new) }
+            (C.choices self.now.choices.now) self.now.query.now self.now.sets.now slots.old
+            slots.new) }
     {
         let Some(first) = self.only_place(alloc, table, slots)? else {
             return Ok(());
@@ -96,7 +100,8 @@ impl<'a, C: ChoiceView> Side<'a, C> {
         requires sets { table < length self.now.sets.now }
         requires slots { table < length slots.old }
         ensures { OnOk result (Settles
-            (C.choices self.now.choices.now) self.now.query.now self.now.sets.now slots.old slots.new) }
+            (C.choices self.now.choices.now) self.now.query.now self.now.sets.now slots.old
+            slots.new) }
     {
         if is_open(slots, table) {
             self.settle_table(alloc, table, slots)
@@ -105,11 +110,13 @@ impl<'a, C: ChoiceView> Side<'a, C> {
         }
     }
 
-    // Chooses the row of each table, one after the other, where one at most may follow those that are chosen.
+    // Chooses the row of each table, one after the other, where one at most may follow those that
+    // are chosen.
     fn settle_each(&self, alloc: Global, slots: &mut [Option<usize>]) -> Result<(), Memory>
         requires { length slots.old ≡ length self.now.sets.now }
         ensures { OnOk result (Settles
-            (C.choices self.now.choices.now) self.now.query.now self.now.sets.now slots.old slots.new) }
+            (C.choices self.now.choices.now) self.now.query.now self.now.sets.now slots.old
+            slots.new) }
     {
         for table in 0..self.sets.len() {
             self.settle_open(alloc, table, slots)?;
@@ -117,11 +124,13 @@ impl<'a, C: ChoiceView> Side<'a, C> {
         Ok(())
     }
 
-    // Chooses rows of tables, where one at most may follow those that are chosen, until no more are found.
+    // Chooses rows of tables, where one at most may follow those that are chosen, until no more are
+    // found.
     fn settle(&self, alloc: Global, slots: &mut [Option<usize>]) -> Result<(), Memory>
         requires { length slots.old ≡ length self.now.sets.now }
         ensures { OnOk result (Settles
-            (C.choices self.now.choices.now) self.now.query.now self.now.sets.now slots.old slots.new) }
+            (C.choices self.now.choices.now) self.now.query.now self.now.sets.now slots.old
+            slots.new) }
     {
         for _pass in 0..self.sets.len() {
             self.settle_each(alloc, slots)?;
@@ -129,11 +138,12 @@ impl<'a, C: ChoiceView> Side<'a, C> {
         Ok(())
     }
 
-    /// Slots of all tables, in which rows are chosen that each combination has which counts: those of tables of which a
-    /// look-up, by literals or by such rows, finds one at most. No row is tested. Where none is found, none counts, and
-    /// whatever row is chosen is that of each.
+    /// Slots of all tables, in which rows are chosen that each combination has which counts: those
+    /// of tables of which a look-up, by literals or by such rows, finds one at most. No row is
+    /// tested. Where none is found, none counts, and whatever row is chosen is that of each.
     pub fn settled(&self, alloc: Global) -> Result<Vec<Option<usize>>, Memory>
-        ensures { IfOk result (λ slots. (places : List Place) → stands (C.choices self.now.choices.now)
+        ensures { IfOk result (λ slots. (places : List Place)
+            → stands (C.choices self.now.choices.now)
             self.now.query.now self.now.sets.now places ≡ true → Fits slots.items places) }
     {
         let mut slots = open_slots(alloc, self.sets.len())?;
@@ -141,12 +151,13 @@ impl<'a, C: ChoiceView> Side<'a, C> {
         Ok(slots)
     }
 
-    /// The places of a table's rows that can count, where look-ups find few: sixteen at most, and of sixteen rows one. No
-    /// row is tested.
+    /// The places of a table's rows that can count, where look-ups find few: sixteen at most, and
+    /// of sixteen rows one. No row is tested.
     pub fn few_places(&self, alloc: Global, table: usize) -> Result<Option<Vec<usize>>, Memory>
         requires { table < length self.now.sets.now }
         ensures { IfOk result (λ found. IfSome found (λ places. Reaches
-            (C.choices self.now.choices.now) self.now.query.now self.now.sets.now table places.items)) }
+            (C.choices self.now.choices.now) self.now.query.now self.now.sets.now table
+            places.items)) }
     {
         let slots = self.settled(alloc)?;
         let following = self.candidates(alloc, table, &slots, 1)?;
@@ -157,10 +168,10 @@ impl<'a, C: ChoiceView> Side<'a, C> {
         Ok(Some(places))
     }
 
-    /// Whether some combination counts that has the rows that are chosen, and shows each cell that is to be seen. The
-    /// tables whose rows are not chosen are joined behind the others in an order of all; where rows before say the key
-    /// of a row, or the value of a column by which its table has an order, it is looked up. Leaves the slots as they
-    /// are, but where memory is short.
+    /// Whether some combination counts that has the rows that are chosen, and shows each cell that
+    /// is to be seen. The tables whose rows are not chosen are joined behind the others in an order
+    /// of all; where rows before say the key of a row, or the value of a column by which its table
+    /// has an order, it is looked up. Leaves the slots as they are, but where memory is short.
     pub fn has_joined(
         &self,
         alloc: Global,
@@ -170,9 +181,11 @@ impl<'a, C: ChoiceView> Side<'a, C> {
     ) -> Result<bool, Memory>
         requires long { length slots.old ≡ length self.now.sets.now }
         requires below { All (λ table. table < length self.now.sets.now) order.now }
-        requires whole { (table : Place) → table < length self.now.sets.now → Contains order.now table }
+        requires whole { (table : Place) → table < length self.now.sets.now
+            → Contains order.now table }
         ensures slots { OnOk result (slots.new ≡ slots.old) }
-        ensures one { Decides (HasOne (C.choices self.now.choices.now) self.now.query.now seen.now self.now.sets.now
+        ensures one { Decides (HasOne (C.choices self.now.choices.now) self.now.query.now seen.now
+            self.now.sets.now
             slots.old) result }
     {
         let left = still_open(alloc, order, slots)?;

@@ -1,4 +1,5 @@
-//! One side of a join: a query over tables, and what can be said of a combination of rows before all are chosen.
+//! One side of a join: a query over tables, and what can be said of a combination of rows before
+//! all are chosen.
 ghost use Rattle.std.specs.Prelude.{◌≡◌, ◌∷◌, [], ◌++◌, ◌<◌, true, List, OnOk, IfOk, length, not, ◌||◌, unwrap_or, slice_get, take};
 ghost use Rattle.std.specs.Option.{option_map_or};
 ghost use Rattle.hippo_model.specs.Terms.{Place};
@@ -15,8 +16,8 @@ use hippo_model::{BornRow, ChoiceView, Combo, CondOf, Expr, Guard, Masked, RowSe
 use hippo_values::{Memory, Truth};
 use std::alloc::Global;
 
-/// A query over tables, by the choices of patients. It wants the rows of each of the query's tables, in the order of
-/// FROM.
+/// A query over tables, by the choices of patients. It wants the rows of each of the query's
+/// tables, in the order of FROM.
 #[derive(Drop)]
 pub struct Side<'a, C> {
     pub query: &'a Masked,
@@ -35,7 +36,8 @@ fn push_row<'a>(
     blank: &'a BornRow,
 ) -> Result<(), Memory>
     ensures { OnOk result (rows.new ≡ rows.old
-        ++ option_map_or (λ place. unwrap_or (slice_get set.now.rows place) blank.now) slot blank.now ∷ []) }
+        ++ option_map_or (λ place. unwrap_or (slice_get set.now.rows place) blank.now) slot
+        blank.now ∷ []) }
 {
     match slot {
         Some(place) if place < set.len() => rows.push(set.row(place), set.born(place)),
@@ -59,7 +61,8 @@ fn cut(rows: &mut Combo<'_>, table: usize)
 }
 
 impl<'a, C: ChoiceView> Side<'a, C> {
-    // Puts the rows that are chosen, and blank ones of the other tables, in the place of those before, from a table on.
+    // Puts the rows that are chosen, and blank ones of the other tables, in the place of those
+    // before, from a table on.
     pub(crate) fn renew(
         &self,
         rows: &mut Combo<'a>,
@@ -96,17 +99,19 @@ impl<'a, C: ChoiceView> Side<'a, C> {
 
     fn guard_holds(&self, guard: &Guard, slots: &[Option<usize>], rows: &Combo<'_>) -> bool
         ensures { result ≡ (not (knows_expr slots.now guard.now.expr)
-            || is_shown_cell (masked_cell (C.choices self.now.choices.now) rows.now guard.now.expr)) }
+            || is_shown_cell (masked_cell (C.choices self.now.choices.now) rows.now
+            guard.now.expr)) }
     {
         !knows_expr(&guard.expr, slots) || cell(&guard.expr, rows, self.choices).is_shown()
     }
 
-    // Whether the guards hold, as far as their columns are known: true where some combination counts that has these
-    // rows.
+    // Whether the guards hold, as far as their columns are known: true where some combination
+    // counts that has these rows.
     fn guards_hold(&self, slots: &[Option<usize>], rows: &Combo<'_>) -> bool
         requires { rows.now ≡ rows_at self.now.sets.now slots.now }
         ensures { (places : List Place) → Fits slots.now places
-            → stands (C.choices self.now.choices.now) self.now.query.now self.now.sets.now places ≡ true
+            → stands (C.choices self.now.choices.now) self.now.query.now self.now.sets.now places
+            ≡ true
             → result ≡ true }
     {
         for guard in self.query.guards.as_slice() {
@@ -121,7 +126,8 @@ impl<'a, C: ChoiceView> Side<'a, C> {
     fn test_holds(&self, test: usize, slots: &[Option<usize>], rows: &Combo<'_>) -> bool
         requires { rows.now ≡ rows_at self.now.sets.now slots.now }
         ensures { (places : List Place) → Fits slots.now places
-            → stands (C.choices self.now.choices.now) self.now.query.now self.now.sets.now places ≡ true
+            → stands (C.choices self.now.choices.now) self.now.query.now self.now.sets.now places
+            ≡ true
             → result ≡ true }
     {
         match outer_parts(&self.query.cond).get(test) {
@@ -139,7 +145,8 @@ impl<'a, C: ChoiceView> Side<'a, C> {
     ) -> bool
         requires { rows.now ≡ rows_at self.now.sets.now slots.now }
         ensures { (places : List Place) → Fits slots.now places
-            → stands (C.choices self.now.choices.now) self.now.query.now self.now.sets.now places ≡ true
+            → stands (C.choices self.now.choices.now) self.now.query.now self.now.sets.now places
+            ≡ true
             → result ≡ true }
     {
         for test in tests {
@@ -150,7 +157,8 @@ impl<'a, C: ChoiceView> Side<'a, C> {
         true
     }
 
-    /// Whether a combination may count that has the rows that are chosen, by some parts of the condition.
+    /// Whether a combination may count that has the rows that are chosen, by some parts of the
+    /// condition.
     pub fn may_count(
         &self,
         alloc: Global,
@@ -158,7 +166,8 @@ impl<'a, C: ChoiceView> Side<'a, C> {
         slots: &[Option<usize>],
     ) -> Result<bool, Memory>
         ensures { IfOk result (λ may. (places : List Place) → Fits slots.now places
-            → stands (C.choices self.now.choices.now) self.now.query.now self.now.sets.now places ≡ true → may ≡ true) }
+            → stands (C.choices self.now.choices.now) self.now.query.now self.now.sets.now places
+            ≡ true → may ≡ true) }
     {
         if tests.is_empty() {
             return Ok(true);
@@ -167,7 +176,8 @@ impl<'a, C: ChoiceView> Side<'a, C> {
         Ok(self.tests_hold(tests, slots, &rows))
     }
 
-    // Whether a combination may count that has the row of one table, by the guards and by some parts of the condition.
+    // Whether a combination may count that has the row of one table, by the guards and by some
+    // parts of the condition.
     pub(crate) fn may_count_alone(
         &self,
         rows: &mut Combo<'a>,
@@ -175,7 +185,8 @@ impl<'a, C: ChoiceView> Side<'a, C> {
         slots: &[Option<usize>],
     ) -> Result<bool, Memory>
         ensures { IfOk result (λ may. (places : List Place) → Fits slots.now places
-            → stands (C.choices self.now.choices.now) self.now.query.now self.now.sets.now places ≡ true → may ≡ true) }
+            → stands (C.choices self.now.choices.now) self.now.query.now self.now.sets.now places
+            ≡ true → may ≡ true) }
     {
         self.renew(rows, slots, 0)?;
         Ok(self.guards_hold(slots, rows) && self.tests_hold(tests, slots, rows))

@@ -2,13 +2,15 @@
 use crate::ties::Tie;
 use hippo_values::Value;
 
-/// A table, by its place in FROM, the tie of its rows to a row that is chosen before, and its rows that can count.
+/// A table, by its place in FROM, the tie of its rows to a row that is chosen before, and its rows
+/// that can count.
 #[derive(Drop)]
 pub struct Stage {
     pub table: usize,
     pub tie: Option<Tie>,
-    /// Whether its rows are looked up by the rows that are chosen before, and not listed: where these say the first value
-    /// of the key, or that of a column by which the table has an order, or where the whole key is said.
+    /// Whether its rows are looked up by the rows that are chosen before, and not listed: where
+    /// these say the first value of the key, or that of a column by which the table has an order,
+    /// or where the whole key is said.
     pub is_sought: bool,
     /// Places in the table, in the order of the tie's column.
     pub places: Vec<usize>,

@@ -4,7 +4,7 @@ ghost use Rattle.hippo_model.specs.Terms.{Combination};
 ghost use Rattle.hippo_model.specs.Conditions.{outer_parts};
 ghost use Rattle.hippo_model.specs.declared.query.CondOf.TheVariants.{Compare};
 ghost use Rattle.hippo_values.specs.declared.truths.CompareOp.TheVariants.{Eq};
-ghost use Rattle.hippo_join.specs.Ties.{column_of, AreEqual, IsTieOf};
+ghost use Rattle.hippo_join.specs.Ties.{shown_column, AreEqual, IsTieOf};
 
 use crate::known::is_chosen;
 use hippo_model::{CondOf, Expr, Ref};
@@ -28,7 +28,7 @@ pub(crate) fn outer_parts(condition: &CondOf<Expr>) -> &[CondOf<Expr>]
 }
 
 pub(crate) fn column_of(expr: &Expr) -> Option<Ref>
-    ensures { result ≡ column_of expr.now }
+    ensures { result ≡ shown_column expr.now }
 {
     match expr {
         Expr::Keep(column) => Some(*column),

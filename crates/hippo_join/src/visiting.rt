@@ -22,12 +22,12 @@ struct RowTeller<'a, V> {
 
 impl<'a, V: Visitor> PlaceVisitor for RowTeller<'a, V> {
     ghost use Rattle.std.specs.Prelude.{◌++◌, map};
-    ghost use Rattle.hippo_join.specs.Places.{chosen};
+    ghost use Rattle.hippo_join.specs.Places.{chosen_rows};
 
     type State = V::State;
 
     ghost Keeps = { λ teller sets front visited state.
-        V.Keeps teller.visitor.now (front ++ map (chosen sets) visited) state };
+        V.Keeps teller.visitor.now (front ++ map (chosen_rows sets) visited) state };
 
     fn visit(
         &self,
@@ -49,7 +49,8 @@ impl<'a, C: ChoiceView> Side<'a, C> {
         state: &mut V::State,
     ) -> Result<(), Memory>
         ensures { (before : List Combination) → V.Keeps visitor.now before state.old
-            → OnOk result (V.Keeps visitor.now (before ++ counting (C.choices self.now.choices.now) self.now.query.now
+            → OnOk result (V.Keeps visitor.now
+            (before ++ counting (C.choices self.now.choices.now) self.now.query.now
             (product (rows_of self.now.sets.now))) state.new) }
     {
         let order = tables_below(alloc, self.sets.len())?;
@@ -58,12 +59,13 @@ impl<'a, C: ChoiceView> Side<'a, C> {
     }
 }
 
-/// Visits each combination of one row of each table that counts for a query with the policy written into it, in the
-/// order of the product, the first table slowest, until the visitor has enough. The tables are joined in the order of
-/// FROM: where the query's outermost AND says the key of a table's row, or the value of a column by which the table has
-/// an order, by literals or by columns of tables before it, such rows are looked up; where it has another equality of
-/// columns of two tables, only rows whose values are equal are looked at. Takes memory in proportion to the tables whose
-/// rows are not looked up, beside what the visitor takes, and none for what counts.
+/// Visits each combination of one row of each table that counts for a query with the policy written
+/// into it, in the order of the product, the first table slowest, until the visitor has enough. The
+/// tables are joined in the order of FROM: where the query's outermost AND says the key of a
+/// table's row, or the value of a column by which the table has an order, by literals or by columns
+/// of tables before it, such rows are looked up; where it has another equality of columns of two
+/// tables, only rows whose values are equal are looked at. Takes memory in proportion to the tables
+/// whose rows are not looked up, beside what the visitor takes, and none for what counts.
 pub fn walk_joined<C: ChoiceView, V: Visitor>(
     alloc: Global,
     query: &Masked,

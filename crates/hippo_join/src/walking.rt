@@ -8,7 +8,7 @@ ghost use Rattle.hippo_join.specs.Known.{is_open};
 ghost use Rattle.hippo_join.specs.Places.{in_range, rows_at, stands};
 ghost use Rattle.hippo_join.specs.Finding.{Covers};
 ghost use Rattle.hippo_join.specs.Stages.{ReachesFrom};
-ghost use Rattle.hippo_join.specs.Walking.{followed, IsWalkable, CanWalk};
+ghost use Rattle.hippo_join.specs.Walking.{following_places, IsWalkable, CanWalk};
 ghost use Rattle.hippo_join.specs.Visiting.{Completes, Visited, Visits};
 
 use crate::following::{Following, listed};
@@ -21,18 +21,21 @@ use hippo_model::{ChoiceView, Combo};
 use hippo_values::Memory;
 use std::alloc::Global;
 
-// What is told of combinations that count, one after the other, and keeps something of their places in a state.
+// What is told of combinations that count, one after the other, and keeps something of their places
+// in a state.
 pub(crate) trait PlaceVisitor {
     ghost use Rattle.std.specs.Prelude.{◌≡◌, [], ◌∷◌, List, map, Some, IfOk};
     ghost use Rattle.hippo_model.specs.Terms.{Combination, Place};
     ghost use Rattle.hippo_model.specs.RowSets.{KeyedRows};
-    ghost use Rattle.hippo_join.specs.Places.{chosen};
+    ghost use Rattle.hippo_join.specs.Places.{chosen_rows};
     ghost use Rattle.hippo_join.specs.Visiting.{KeptOn};
 
     type State;
 
-    // Whether a state is what is kept of some combinations and then of these, by their places in tables.
-    ghost Keeps: { Self → List KeyedRows → List Combination → List (List Place) → Self.State → Type 0 };
+    // Whether a state is what is kept of some combinations and then of these, by their places in
+    // tables.
+    ghost Keeps: { Self → List KeyedRows → List Combination → List (List Place) → Self.State
+        → Type 0 };
 
     // Takes one combination more into the state, whose rows are all chosen.
     fn visit(
@@ -42,15 +45,19 @@ pub(crate) trait PlaceVisitor {
         slots: &[Option<usize>],
         rows: &Combo<'_>,
     ) -> Result<Onward, Memory>
-        ensures { (sets : List KeyedRows) (front : List Combination) (before : List (List Place)) (places : List Place)
-            → slots.now ≡ map Some places → rows.now ≡ chosen sets places → Keeps self.now sets front before state.old
-            → IfOk result (λ onward. KeptOn (Keeps self.now sets front) onward before (places ∷ []) state.new) };
+        ensures { (sets : List KeyedRows) (front : List Combination) (before : List (List Place))
+            (places : List Place)
+            → slots.now ≡ map Some places → rows.now ≡ chosen_rows sets places
+            → Keeps self.now sets front before state.old
+            → IfOk result (λ onward. KeptOn (Keeps self.now sets front) onward before (places ∷ [])
+            state.new) };
 }
 
 // The places that follow, each once, in ascending order.
 fn ascending(alloc: Global, following: &Following<'_>) -> Result<Vec<usize>, Memory>
     ensures order { IfOk result (λ places. IsStrictlyIncreasing places.items) }
-    ensures all { IfOk result (λ places. (place : Place) → Contains (followed following.now) place
+    ensures all { IfOk result (λ places. (place : Place)
+        → Contains (following_places following.now) place
         → Contains places.items place) }
 {
     let mut places = listed(alloc, following)?;
@@ -60,7 +67,8 @@ fn ascending(alloc: Global, following: &Following<'_>) -> Result<Vec<usize>, Mem
 }
 
 impl<'a, C: ChoiceView> Side<'a, C> {
-    // The places of a stage that may follow the rows that are chosen, in ascending order where that is asked for.
+    // The places of a stage that may follow the rows that are chosen, in ascending order where that
+    // is asked for.
     fn following_in<'s>(
         &self,
         alloc: Global,
@@ -69,11 +77,13 @@ impl<'a, C: ChoiceView> Side<'a, C> {
         slots: &[Option<usize>],
     ) -> Result<Following<'s>, Memory>
         requires table { stage.now.table < length self.now.sets.now }
-        requires stage { IsWalkable (C.choices self.now.choices.now) self.now.query.now self.now.sets.now stage.now }
+        requires stage { IsWalkable (C.choices self.now.choices.now) self.now.query.now
+            self.now.sets.now stage.now }
         ensures reaches { IfOk result (λ following. ReachesFrom
             (C.choices self.now.choices.now) self.now.query.now self.now.sets.now
-            slots.now stage.now.table (followed following)) }
-        ensures order { IfOk result (λ following. in_order ≡ true → IsStrictlyIncreasing (followed following)) }
+            slots.now stage.now.table (following_places following)) }
+        ensures order { IfOk result (λ following. in_order ≡ true
+            → IsStrictlyIncreasing (following_places following)) }
     {
         let following = self.following(alloc, stage, slots)?;
         if !in_order || following.rises() {
@@ -121,7 +131,8 @@ impl<'a, C: ChoiceView> Side<'a, C> {
         requires whole { Covers [] slots.now }
         requires rows { rows.now ≡ rows_at self.now.sets.now slots.now }
         ensures { Visits
-            (Completes (C.choices self.now.choices.now) self.now.query.now self.now.sets.now slots.now)
+            (Completes (C.choices self.now.choices.now) self.now.query.now self.now.sets.now
+            slots.now)
             in_order (V.Keeps visitor.now self.now.sets.now) result state.old state.new }
     {
         if self.counts(slots, rows) {
@@ -147,8 +158,8 @@ impl<'a, C: ChoiceView> Side<'a, C> {
         self.renew(rows, slots, table)
     }
 
-    // Visits what counts and has the rows that are chosen, where the row at a place of a stage's table is chosen too, in
-    // the place of the one before.
+    // Visits what counts and has the rows that are chosen, where the row at a place of a stage's
+    // table is chosen too, in the place of the one before.
     #[cycle(walk)]
     fn walk_with<V: PlaceVisitor>(
         &self,
@@ -163,7 +174,8 @@ impl<'a, C: ChoiceView> Side<'a, C> {
         state: &mut V::State,
     ) -> Result<Onward, Memory>
         requires table { stage.now.table < length slots.old }
-        requires walk { CanWalk (C.choices self.now.choices.now) self.now.query.now self.now.sets.now in_order
+        requires walk { CanWalk (C.choices self.now.choices.now) self.now.query.now
+            self.now.sets.now in_order
             (stage.now ∷ rest.now) slots.old }
         requires rows { rows.old ≡ rows_at self.now.sets.now slots.old }
         ensures slots { OnOk result (slots.new ≡ slice_set slots.old stage.now.table (Some place)) }
@@ -188,8 +200,8 @@ impl<'a, C: ChoiceView> Side<'a, C> {
         Ok(onward)
     }
 
-    // Visits what counts and has the rows that are chosen, for each of the places of a stage that may follow them. The
-    // last of these rows stays chosen.
+    // Visits what counts and has the rows that are chosen, for each of the places of a stage that
+    // may follow them. The last of these rows stays chosen.
     #[cycle(walk)]
     fn walk_each<V: PlaceVisitor>(
         &self,
@@ -204,16 +216,19 @@ impl<'a, C: ChoiceView> Side<'a, C> {
         state: &mut V::State,
     ) -> Result<Onward, Memory>
         requires still { is_open slots.old stage.now.table ≡ true }
-        requires walk { CanWalk (C.choices self.now.choices.now) self.now.query.now self.now.sets.now in_order
+        requires walk { CanWalk (C.choices self.now.choices.now) self.now.query.now
+            self.now.sets.now in_order
             (stage.now ∷ rest.now) slots.old }
         requires rows { rows.old ≡ rows_at self.now.sets.now slots.old }
-        requires reaches { ReachesFrom (C.choices self.now.choices.now) self.now.query.now self.now.sets.now
-            slots.old stage.now.table (followed following.now) }
-        requires order { in_order ≡ true → IsStrictlyIncreasing (followed following.now) }
+        requires reaches { ReachesFrom (C.choices self.now.choices.now) self.now.query.now
+            self.now.sets.now
+            slots.old stage.now.table (following_places following.now) }
+        requires order { in_order ≡ true → IsStrictlyIncreasing (following_places following.now) }
         ensures slots { OnOk result (slice_set slots.new stage.now.table None ≡ slots.old) }
         ensures rows { OnOk result (rows.new ≡ rows_at self.now.sets.now slots.new) }
         ensures kept { Visits
-            (Completes (C.choices self.now.choices.now) self.now.query.now self.now.sets.now slots.old)
+            (Completes (C.choices self.now.choices.now) self.now.query.now self.now.sets.now
+            slots.old)
             in_order (V.Keeps visitor.now self.now.sets.now) result state.old state.new }
     {
         for index in 0..following.len() {
@@ -241,13 +256,15 @@ impl<'a, C: ChoiceView> Side<'a, C> {
         visitor: &V,
         state: &mut V::State,
     ) -> Result<Onward, Memory>
-        requires walk { CanWalk (C.choices self.now.choices.now) self.now.query.now self.now.sets.now in_order
+        requires walk { CanWalk (C.choices self.now.choices.now) self.now.query.now
+            self.now.sets.now in_order
             rest.now slots.old }
         requires rows { rows.old ≡ rows_at self.now.sets.now slots.old }
         ensures slots { OnOk result (slots.new ≡ slots.old) }
         ensures rows { OnOk result (rows.new ≡ rows_at self.now.sets.now slots.new) }
         ensures kept { Visits
-            (Completes (C.choices self.now.choices.now) self.now.query.now self.now.sets.now slots.old)
+            (Completes (C.choices self.now.choices.now) self.now.query.now self.now.sets.now
+            slots.old)
             in_order (V.Keeps visitor.now self.now.sets.now) result state.old state.new }
     {
         if self.tests_hold(tests, slots, rows) {
@@ -257,8 +274,8 @@ impl<'a, C: ChoiceView> Side<'a, C> {
         }
     }
 
-    // Visits what counts and has the rows that are chosen, in the order of the product where that is asked for and the
-    // stages are in the order of FROM.
+    // Visits what counts and has the rows that are chosen, in the order of the product where that
+    // is asked for and the stages are in the order of FROM.
     #[cycle(walk)]
     pub(crate) fn walk<V: PlaceVisitor>(
         &self,
@@ -270,13 +287,15 @@ impl<'a, C: ChoiceView> Side<'a, C> {
         visitor: &V,
         state: &mut V::State,
     ) -> Result<Onward, Memory>
-        requires walk { CanWalk (C.choices self.now.choices.now) self.now.query.now self.now.sets.now in_order
+        requires walk { CanWalk (C.choices self.now.choices.now) self.now.query.now
+            self.now.sets.now in_order
             stages.now slots.old }
         requires rows { rows.old ≡ rows_at self.now.sets.now slots.old }
         ensures slots { OnOk result (slots.new ≡ slots.old) }
         ensures rows { OnOk result (rows.new ≡ rows_at self.now.sets.now slots.new) }
         ensures kept { Visits
-            (Completes (C.choices self.now.choices.now) self.now.query.now self.now.sets.now slots.old)
+            (Completes (C.choices self.now.choices.now) self.now.query.now self.now.sets.now
+            slots.old)
             in_order (V.Keeps visitor.now self.now.sets.now) result state.old state.new }
     {
         let Some((stage, rest)) = stages.split_first() else {
@@ -303,11 +322,13 @@ impl<'a, C: ChoiceView> Side<'a, C> {
         state: &mut V::State,
     ) -> Result<(), Memory>
         requires below { All (λ table. table < length self.now.sets.now) order.now }
-        requires whole { (table : Place) → table < length self.now.sets.now → Contains order.now table }
+        requires whole { (table : Place) → table < length self.now.sets.now
+            → Contains order.now table }
         requires rises { in_order ≡ true → IsStrictlyIncreasing order.now }
         ensures { (front : List Combination) (before : List (List Place))
             → V.Keeps visitor.now self.now.sets.now front before state.old → OnOk result (Visited
-            (λ places. stands (C.choices self.now.choices.now) self.now.query.now self.now.sets.now places ≡ true)
+            (λ places. stands (C.choices self.now.choices.now) self.now.query.now self.now.sets.now
+            places ≡ true)
             in_order (V.Keeps visitor.now self.now.sets.now front) MoreOn before state.new) }
     {
         let stages = self.stages_in(alloc, order, false)?;

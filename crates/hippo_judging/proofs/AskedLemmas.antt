@@ -16,7 +16,7 @@ use Rattle.hippo_model.specs.Validity.{may_follow}
 use Rattle.hippo_catalog.specs.Catalogs.{known_at}
 use Rattle.hippo_catalog.specs.Selects.{select_refused, query_of}
 use Rattle.hippo_typing.specs.Meanings.{meaning}
-use Rattle.hippo_reading_laws.specs.QuestionLaws.{question_of as question_in_statement}
+use Rattle.hippo_reading_laws.specs.QuestionLaws.{select_place as question_in_statement}
 use Rattle.hippo_following.specs.Written.{names_fit}
 use Rattle.hippo_following.proofs.AskedTheorem.{questions_may_follow}
 use Rattle.hippo_replay.specs.declared.state.State.{State}
@@ -31,10 +31,10 @@ use Rattle.hippo_judging.specs.declared.asking.Delivery.TheVariants as delivered
 use Rattle.hippo_judging.specs.declared.asking.Handing.{Handing}
 use Rattle.hippo_judging.specs.declared.asking.Handing.TheVariants.{Rows, Records, Cursor}
 use Rattle.hippo_judging.specs.declared.asking.WrittenQuestion.{WrittenQuestion}
-use Rattle.hippo_judging.specs.Asking.{question_of, statement_asked, command_of, text_of, deed_asked, IsAnswerable}
+use Rattle.hippo_judging.specs.Asking.{question_of, statement_asked, written_command, written_text, deed_asked, IsAnswerable}
 use Rattle.hippo_judging.proofs.FindingLemmas.{is_there, refused_or_short}
 use Rattle.hippo_report.specs.declared.refusal.Refusal.{Refusal}
-use Rattle.hippo_judging.specs.Checks.{Checked, Refuses, ◌>>=◌, open_session, allowed_by, authorized, meant, has_room}
+use Rattle.hippo_judging.specs.Checks.{Checked, Refuses, ◌>>=◌, open_session, allowed_by, by_authorized_user as authorized, unless_refused, has_room}
 use Rattle.hippo_judging.specs.Deeds.{Deed, Question}
 use Rattle.hippo_judging.specs.Deeds as deeds
 use Rattle.hippo_judging.specs.Judging.{question_in, delivery_for, deed_for, judged_question, judged}
@@ -43,11 +43,11 @@ use Rattle.hippo_judging.proofs.FollowingLemmas.{passed, found_same, unrefused, 
 use Rattle.hippo_judging.specs.declared.deeds.Question.{Question as AskedQuestion}
 use Rattle.hippo_judging.specs.Findings.{IsOfLine, IsRefused, MayBeAsked}
 use Rattle.hippo_report.specs.Speakers.{speaker_at}
-use Rattle.hippo_judging.specs.Asking.{entry_of}
+use Rattle.hippo_judging.specs.Asking.{question_entry}
 
 -- the question that a deed asks
 abbrev question_asked : Question → Checked Deed → Question
-question_asked other (Ok (deeds.answer question)) = question
+question_asked other (Ok (deeds.answer_question question)) = question
 question_asked other (Ok (deeds.extract question)) = question
 question_asked other (Ok (deeds.open_cursor session number question)) = question
 question_asked other judgement = other
@@ -83,10 +83,10 @@ module _ (handing : Handing) (history : History) (world : World) (number : ℕ) 
   from_question : (question : Question) → question_in history world number select text ≡ Ok question → question ≡ question_of number asking → IsAsked history select text asking
   from_question question is same =
       let opened = passed {A = Session} (open_session world number)
-      (λ session. authorized history session.user session.pair >>= λ allowed. meant refusals form >>= λ query. Ok (made session query)) question is in
+      (λ session. authorized history session.user session.pair >>= λ allowed. unless_refused refusals form >>= λ query. Ok (made session query)) question is in
       let allowed = passed {A = Unit {0}} (authorized history opened.found.user opened.found.pair)
-      (λ allowed. meant refusals form >>= λ query. Ok (made opened.found query)) question opened.on in
-      let means = passed {A = Query} (meant refusals form) (λ query. Ok (made opened.found query)) question allowed.on in
+      (λ allowed. unless_refused refusals form >>= λ query. Ok (made opened.found query)) question opened.on in
+      let means = passed {A = Query} (unless_refused refusals form) (λ query. Ok (made opened.found query)) question allowed.on in
       let made_is : made opened.found means.found ≡ question_of number asking = found_same (made opened.found means.found) question means.on ∙ same in
       let user : opened.found.user ≡ asking.asker.now.user = ap (λ (question : Question). question.user) made_is in
       let pair : opened.found.pair ≡ asking.asker.now.pair = ap (λ (question : Question). question.pair) made_is in
@@ -122,12 +122,12 @@ asks_select Cursor select start end = refl
 -- the entry that the checks of a question found may follow
 pub question_follows : (state : State) (held : HeldWorld) (session : ℕ) (written : WrittenQuestion) (text : Txt) (asking : Asking)
     → IsTimely state held.clock → is_moment held.clock ≡ true → names_fit asking.asker.now.user asking.asker.now.pair.purpose asking.asker.now.pair.recipient ≡ true
-    → IsOfLine (command_of session written text) → length (text_of written text) ≤ line_limit → state.count + 1 < 2 ^ 63
-    → ((history : History) → StandsFor state history → judged history (world_of held) (command_of session written text) ≡ Ok (deed_asked session asking))
-    → MayFollow state (entry_of state held.clock (question_of 0 asking))
+    → IsOfLine (written_command session written text) → length (written_text written text) ≤ line_limit → state.count + 1 < 2 ^ 63
+    → ((history : History) → StandsFor state history → judged history (world_of held) (written_command session written text) ≡ Ok (deed_asked session asking))
+    → MayFollow state (question_entry state held.clock (question_of 0 asking))
 question_follows state held session written text asking timely fits names of_line short below found = λ history stands.
     let asker : Session = asking.asker.now in
-    let part : Txt = text_of written text in
+    let part : Txt = written_text written text in
     let number : state.count + 1 ≡ length history + 1 = ap (λ (n : ℕ). n + 1) stands.count in
     let asked = is_asked written.handing history (world_of held) session written.select.now part asking
     (sym (judged_written written text history (world_of held) session) ∙ found history stands) in
@@ -140,20 +140,20 @@ question_follows state held session written text asking timely fits names of_lin
       names = names;
       authorized = asked.authorized;
     }) in
-    let same : entry_of state held.clock (question_of 0 asking) ≡ record { seq = length history + 1; moment = held.clock; act = Asked asker.user asker.pair.purpose asker.pair.recipient part } =
+    let same : question_entry state held.clock (question_of 0 asking) ≡ record { seq = length history + 1; moment = held.clock; act = Asked asker.user asker.pair.purpose asker.pair.recipient part } =
     λ i. record { seq = number i; moment = held.clock; act = Asked asker.user asker.pair.purpose asker.pair.recipient (sym asked.text_is i) } in
     subst (λ (entry : Entry). may_follow meaning history entry ≡ true) (sym same) follows
 
 -- a question that was found may be asked
 pub may_be_asked : (state : State) (held : HeldWorld) (session : ℕ) (written : WrittenQuestion) (text : Txt) (asking : Asking) (question : AskedQuestion)
     → IsTimely state held.clock → is_moment held.clock ≡ true → names_fit asking.asker.now.user asking.asker.now.pair.purpose asking.asker.now.pair.recipient ≡ true
-    → IsOfLine (command_of session written text) → length (text_of written text) ≤ line_limit → state.count + 1 < 2 ^ 63 → IsAnswerable state asking.query
+    → IsOfLine (written_command session written text) → length (written_text written text) ≤ line_limit → state.count + 1 < 2 ^ 63 → IsAnswerable state asking.query
     → open_session (world_of held) session ≡ Ok asking.asker.now → question.session ≡ session → asking.text.now ≡ question.text.now → question.query ≡ asking.query
-    → ((history : History) → StandsFor state history → judged_question written.handing history (world_of held) session written.select.now (text_of written text) ≡ Ok (deed_asked session asking))
-    → MayBeAsked (command_of session written text) question asking.delivery state held
+    → ((history : History) → StandsFor state history → judged_question written.handing history (world_of held) session written.select.now (written_text written text) ≡ Ok (deed_asked session asking))
+    → MayBeAsked (written_command session written text) question asking.delivery state held
 may_be_asked state held session written text asking question timely fits names of_line short below answerable opened own same query found =
     let asker : Session = asking.asker.now in
-    let judged_is : (history : History) → StandsFor state history → judged history (world_of held) (command_of session written text) ≡ Ok (deed_asked session asking) =
+    let judged_is : (history : History) → StandsFor state history → judged history (world_of held) (written_command session written text) ≡ Ok (deed_asked session asking) =
     λ history stands. judged_written written text history (world_of held) session ∙ found history stands in
     record {
       asker = asker;
@@ -165,15 +165,15 @@ may_be_asked state held session written text asking question timely fits names o
           ∙ (λ i. Ok (deed_for asker (record { session = sym own i; user = asker.user; pair = asker.pair; text = same i; query = sym query i }) asking.delivery));
       answerable = subst (λ (q : Query). IsAnswerable state q) (sym query) answerable;
       below = below;
-      follows = subst (λ (q : Question). MayFollow state (entry_of state held.clock q))
+      follows = subst (λ (q : Question). MayFollow state (question_entry state held.clock q))
           (λ i. record { session = 0; user = asker.user; pair = asker.pair; text = same i; query = sym query i })
           (question_follows state held session written text asking timely fits names of_line short below judged_is);
     }
 
 -- or it is refused
 pub refused_question : (state : State) (held : HeldWorld) (session : ℕ) (written : WrittenQuestion) (text : Txt) (refusal : Refusal)
-    → ((history : History) → StandsFor state history → Refuses (judged_question written.handing history (world_of held) session written.select.now (text_of written text)) refusal)
-    → IsRefused (command_of session written text) refusal state held
+    → ((history : History) → StandsFor state history → Refuses (judged_question written.handing history (world_of held) session written.select.now (written_text written text)) refusal)
+    → IsRefused (written_command session written text) refusal state held
 refused_question state held session written text refusal refuses =
-    refused_or_short (command_of session written text) refusal state held refl
+    refused_or_short (written_command session written text) refusal state held refl
     (λ history stands. subst (λ (judgement : Checked Deed). Refuses judgement refusal) (sym (judged_written written text history (world_of held) session)) (refuses history stands))

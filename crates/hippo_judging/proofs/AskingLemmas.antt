@@ -10,7 +10,7 @@ use Rattle.hippo_model.specs.declared.statement.RawSelect.{RawSelect}
 use Rattle.hippo_model.specs.Terms.{History}
 use Rattle.hippo_model.specs.Histories.{schema_at}
 use Rattle.hippo_catalog.specs.Catalogs.{KnownNames, known_at, table_of}
-use Rattle.hippo_catalog.specs.Refusals.{refused, unknown_table, IsFirstOf}
+use Rattle.hippo_catalog.specs.Refusals.{fault_if, unknown_table, IsFirstOf}
 use Rattle.hippo_catalog.specs.Selects.{select_refused, query_of}
 use Rattle.hippo_typing.specs.Meanings.{meaning}
 use Rattle.hippo_typing.specs.ResolutionLaws.{NamesAreThoseOf}
@@ -24,23 +24,23 @@ use Rattle.hippo_replay.specs.declared.state.State.{State}
 use Rattle.hippo_replay.specs.Standing.{StandsFor}
 use Rattle.hippo_world.specs.declared.sessions.Session.{Session}
 use Rattle.hippo_judging.specs.Deeds.{Deed, Question}
-use Rattle.hippo_judging.specs.Checks.{Checked, Finds, ◌>>=◌, open_session, authorized, meant, has_room}
+use Rattle.hippo_judging.specs.Checks.{Checked, Finds, ◌>>=◌, open_session, by_authorized_user, unless_refused, has_room}
 use Rattle.hippo_judging.specs.declared.asking.Asking.{Asking}
 use Rattle.hippo_judging.specs.declared.asking.Delivery.{Delivery}
 use Rattle.hippo_judging.specs.declared.asking.Handing.{Handing}
 use Rattle.hippo_judging.specs.declared.asking.Handing.TheVariants.{Rows, Records, Cursor}
 use Rattle.hippo_judging.specs.Judging.{text_between, delivery_for, deed_for, judged_question, judged}
 use Rattle.hippo_judging.specs.declared.asking.WrittenQuestion.{WrittenQuestion}
-use Rattle.hippo_judging.specs.Asking.{statement_asked, command_of, text_of, delivery_in_room, asking_with, deed_asked, IsAnswerable}
+use Rattle.hippo_judging.specs.Asking.{statement_asked, written_command, written_text, delivery_in_room, asking_with, deed_asked, IsAnswerable}
 
 -- where nothing is refused, the form is meant
-pub meant_so : {A : Type 0} (faults : List NameFault) (form made : A) → faults ≡ [] → made ≡ form → meant faults form ≡ Ok made
+pub meant_so : {A : Type 0} (faults : List NameFault) (form made : A) → faults ≡ [] → made ≡ form → unless_refused faults form ≡ Ok made
 meant_so [] form made none is = λ i. Ok (sym is i)
 meant_so (fault ∷ more) form made none is = absurd cc
 
 -- and else the first refusal is told, or want of memory
 pub meant_not : {A : Type 0} (faults : List NameFault) (form : A) (fault : NameFault) (refusal : Refusal) → IsFirstOf faults fault
-    → ((fault ≢ NoRoom) × (refusal ≡ Meaningless fault)) ⊎ (refusal ≡ Memory) → (meant faults form ≡ Err refusal) ⊎ (refusal ≡ Memory)
+    → ((fault ≢ NoRoom) × (refusal ≡ Meaningless fault)) ⊎ (refusal ≡ Memory) → (unless_refused faults form ≡ Err refusal) ⊎ (refusal ≡ Memory)
 meant_not faults form fault refusal first (inr short) = inr short
 meant_not [] form fault refusal first (inl (other, is)) = let none : slice_get {X = NameFault} [] 0 ≡ Some fault = first other in absurd cc
 meant_not (head ∷ more) form fault refusal first (inl (other, is)) =
@@ -50,15 +50,15 @@ meant_not (head ∷ more) form fault refusal first (inl (other, is)) =
 
 -- a SELECT, an EXTRACT or an OPEN is judged as a question
 judged_asked : (handing : Handing) (history : History) (world : World) (session : ℕ) (select : RawSelect) (start end : ℕ) (text : Txt)
-    → judged history world (commands.state session (statement_asked handing select start end) text)
+    → judged history world (commands.make_statement session (statement_asked handing select start end) text)
     ≡ judged_question handing history world session select (text_between text start end)
 judged_asked Rows history world session select start end text = refl
 judged_asked Records history world session select start end text = refl
 judged_asked Cursor history world session select start end text = refl
 
 pub judged_written : (written : WrittenQuestion) (text : Txt) (history : History) (world : World) (session : ℕ)
-    → judged history world (command_of session written text)
-    ≡ judged_question written.handing history world session written.select.now (text_of written text)
+    → judged history world (written_command session written text)
+    ≡ judged_question written.handing history world session written.select.now (written_text written text)
 judged_written written text history world session =
     judged_asked written.handing history world session written.select.now written.start written.end text
 
@@ -66,7 +66,7 @@ front_none : {A : Type 0} (front rest : List A) → front ++ rest ≡ [] → fro
 front_none [] rest none = refl
 front_none (first ∷ front) rest none = absurd cc
 
-not_refused : (test : Bool) (fault : NameFault) (rest : List NameFault) → refused test fault ++ rest ≡ [] → (test ≡ false) × (rest ≡ [])
+not_refused : (test : Bool) (fault : NameFault) (rest : List NameFault) → fault_if test fault ++ rest ≡ [] → (test ≡ false) × (rest ≡ [])
 not_refused true fault rest none = absurd cc
 not_refused false fault rest none = (refl, none)
 
@@ -126,26 +126,26 @@ module _ (handing : Handing) (history : History) (world : World) (session : ℕ)
   from_meant asker meaning = meaning >>= λ query. Ok (record { session = session; user = asker.user; pair = asker.pair; text = asking.text.now; query = query })
 
   from_opened : Checked Session → Checked Deed
-  from_opened opened = left_asker opened (opened >>= λ asker. authorized history asker.user asker.pair
-      >>= λ allowed. from_meant asker (meant (select_refused (known_at history) select) (query_of (known_at history) select)))
+  from_opened opened = left_asker opened (opened >>= λ asker. by_authorized_user history asker.user asker.pair
+      >>= λ allowed. from_meant asker (unless_refused (select_refused (known_at history) select) (query_of (known_at history) select)))
 
   judged_found : (allowed : Unit {0}) → open_session world session ≡ Ok asking.asker.now
-      → authorized history asking.asker.now.user asking.asker.now.pair ≡ Ok allowed
-      → meant (select_refused (known_at history) select) (query_of (known_at history) select) ≡ Ok asking.query
+      → by_authorized_user history asking.asker.now.user asking.asker.now.pair ≡ Ok allowed
+      → unless_refused (select_refused (known_at history) select) (query_of (known_at history) select) ≡ Ok asking.query
       → judged_question handing history world session select asking.text.now
       ≡ (delivery_in_room handing asking.asker.now (length history) world.limit >>= λ delivery. Ok (deed_asked session (record asking { delivery = delivery })))
   unfolding left_asker from_meant from_opened
   judged_found allowed opened may means =
       let asker : Session = asking.asker.now in
       ap from_opened opened
-      ∙ ap (λ (may : Checked (Unit {0})). left_asker (Ok asker) (may >>= λ allowed. from_meant asker (meant (select_refused (known_at history) select) (query_of (known_at history) select)))) may
+      ∙ ap (λ (may : Checked (Unit {0})). left_asker (Ok asker) (may >>= λ allowed. from_meant asker (unless_refused (select_refused (known_at history) select) (query_of (known_at history) select)))) may
       ∙ ap (λ (meaning : Checked Query). left_asker (Ok asker) (from_meant asker meaning)) means
       ∙ delivery_then_room (delivery_for handing asker) (has_room history world) (λ delivery. deed_asked session (record asking { delivery = delivery }))
 
   -- a question is found as the checks say
   pub question_found : (allowed : Unit {0}) (count : ℕ) (wanted : Checked Delivery) → open_session world session ≡ Ok asking.asker.now
-      → authorized history asking.asker.now.user asking.asker.now.pair ≡ Ok allowed
-      → meant (select_refused (known_at history) select) (query_of (known_at history) select) ≡ Ok asking.query
+      → by_authorized_user history asking.asker.now.user asking.asker.now.pair ≡ Ok allowed
+      → unless_refused (select_refused (known_at history) select) (query_of (known_at history) select) ≡ Ok asking.query
       → count ≡ length history → Finds (λ delivery. delivery) (delivery_in_room handing asking.asker.now count world.limit) wanted
       → Finds (deed_asked session) (judged_question handing history world session select asking.text.now) (asking_with asking wanted)
   question_found allowed count wanted opened may means counted found =

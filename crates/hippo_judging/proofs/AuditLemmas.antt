@@ -14,7 +14,7 @@ use Rattle.hippo_audit_job.specs.Examining.{IsAuditOf}
 use Rattle.hippo_audit_job.proofs.AuditLemmas.{unrefused_is_audit}
 use Rattle.hippo_replay.specs.declared.state.State.{State}
 use Rattle.hippo_replay.specs.Standing.{StandsFor}
-use Rattle.hippo_judging.specs.Checks.{Checked, Finds, ◌>>=◌, by_console, meant}
+use Rattle.hippo_judging.specs.Checks.{Checked, Finds, ◌>>=◌, by_console, unless_refused}
 use Rattle.hippo_judging.specs.Judging.{audit_in}
 
 -- the moment that is found in a text is the one that it writes
@@ -34,10 +34,10 @@ period_is written = record { from = moment_is written.from; to = moment_is writt
 
 -- the audit that a catalog's names give is that of the history, at the console
 pub audit_found : (history : History) (session : ℕ) (written : RawAudit) (known : KnownNames) (result : Checked Audit) → ◌≡◌ {A = Checked (Unit {0})} (Ok tt) (by_console session) → known ≡ known_at history
-    → Finds (λ audit. audit) (meant (audit_refused known (period_in written) written) (audit_of known (period_in written) written)) result → Finds (λ audit. audit) (audit_in history session written) result
+    → Finds (λ audit. audit) (unless_refused (audit_refused known (period_in written) written) (audit_of known (period_in written) written)) result → Finds (λ audit. audit) (audit_in history session written) result
 audit_found history session written known result passed same finds =
-    subst (λ (console : Checked (Unit {0})). Finds (λ audit. audit) (console >>= λ _. meant (audit_refused (known_at history) (period_in written) written) (audit_of (known_at history) (period_in written) written)) result) passed
-    (subst (λ (names : KnownNames). Finds (λ audit. audit) (meant (audit_refused names (period_in written) written) (audit_of names (period_in written) written)) result) same finds)
+    subst (λ (console : Checked (Unit {0})). Finds (λ audit. audit) (console >>= λ _. unless_refused (audit_refused (known_at history) (period_in written) written) (audit_of (known_at history) (period_in written) written)) result) passed
+    (subst (λ (names : KnownNames). Finds (λ audit. audit) (unless_refused (audit_refused names (period_in written) written) (audit_of names (period_in written) written)) result) same finds)
 
 -- an audit expression of which nothing is refused means an audit of each history that the state stands for
 pub audit_stands : (held : State) (written : RawAudit) (audit : Audit) (history : History) → StandsFor held history

@@ -12,7 +12,7 @@ use Rattle.hippo_keeper.proofs.Results.{err_of}
 use Rattle.hippo_report.specs.declared.refusal.Refusal.{Refusal}
 use Rattle.hippo_report.specs.declared.refusal.Refusal.TheVariants as refusals
 use Rattle.hippo_world.specs.Worlds.{World}
-use Rattle.hippo_commands.specs.Commands.{state}
+use Rattle.hippo_commands.specs.Commands.{make_statement}
 use Rattle.hippo_judging.specs.Checks.{Refuses, Checked, ◌>>=◌}
 use Rattle.hippo_judging.specs.Deeds.{Deed}
 use Rattle.hippo_judging.specs.Judging.{judged, judged_change}
@@ -40,7 +40,7 @@ names_refused (Ok x) (Ok (Some w)) next refusal passed (inl is) = absurd cc
 
 -- a statement that changes something is judged as a change
 pub judged_as_change : (history : History) (world : World) (session : ℕ) (statement : Stmt) (text : Txt) → changes_something statement ≡ true
-    → judged history world (state session statement text) ≡ judged_change history world session statement
+    → judged history world (make_statement session statement text) ≡ judged_change history world session statement
 judged_as_change history world session (stmt.Explain question) text changes = absurd (false≢true changes)
 judged_as_change history world session (stmt.Audit audit) text changes = absurd (false≢true changes)
 judged_as_change history world session (stmt.BeginAudit audit) text changes = absurd (false≢true changes)

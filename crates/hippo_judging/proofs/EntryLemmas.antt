@@ -21,7 +21,7 @@ use Rattle.hippo_laws.proofs.ValidFronts.{entry_has_its_number, front_is_valid}
 use Rattle.hippo_keeper.specs.declared.faults.KeeperFault.{KeeperFault}
 use Rattle.hippo_keeper.specs.Answering.{has_failed}
 use Rattle.hippo_keeper.specs.Keeping.{Store, KeeperState, RisesAbove, last_number, next_number}
-use Rattle.hippo_keeper.specs.Selecting.{is_any, handed_over, stored_versions, Reads}
+use Rattle.hippo_keeper.specs.Selecting.{is_any, handed_over, stored_versions, ReadsEntries}
 use Rattle.hippo_keeper.proofs.StoredLemmas.{stored_versions-stored}
 use Rattle.hippo_catalog.proofs.ListLemmas.{drop_at_item}
 use Rattle.hippo_typing.specs.Meanings.{meaning}
@@ -30,12 +30,12 @@ use Rattle.hippo_backlog.specs.declared.faults.ReadFault.{ReadFault}
 use Rattle.hippo_backlog.specs.declared.faults.ReadFault.TheVariants.{Keeper, Damaged, Memory}
 use Rattle.hippo_backlog.proofs.VersionsTheorem.{may_there}
 use Rattle.hippo_backlog.proofs.NumberLemmas.{valid-rises}
-use Rattle.hippo_backlog.proofs.CallLemmas.{as_call-fault_of, undamaged_by}
+use Rattle.hippo_backlog.proofs.CallLemmas.{reading_as_call-read_fault, undamaged_by}
 use Rattle.hippo_keeper.proofs.CallLemmas.{KeepsSame-Stays, IsAfterCall-as}
 use Rattle.hippo_replay.proofs.KeeperLemmas.{handed_over-behind, next_kept-stored}
 use Rattle.hippo_judging.specs.Checks.{question_at}
 use Rattle.hippo_model.specs.HandedOver.{is_question}
-use Rattle.hippo_judging.specs.Entries.{number_in, IsFormOf, IsRead, HasRead, ReadsEntry}
+use Rattle.hippo_judging.specs.Entries.{number_within, IsFormOf, IsRead, HasReadEntry, ReadsEntry}
 
 abbrev pub err_of : (T : Type 0) → {E : Type 0} → E → Result T E
 err_of T fault = Err fault
@@ -110,7 +110,7 @@ none_found test [] fails = refl
 none_found test (one ∷ more) fails = rw (fails 0 one refl) (none_found test more (λ other member is. fails (suc other) member is))
 
 -- no entry has a number that is none of so many
-pub no_question : (history : History) (number : ℤ) → is_valid meaning history ≡ true → number_in number (length history) ≡ None → question_at history number ≡ None
+pub no_question : (history : History) (number : ℤ) → is_valid meaning history ≡ true → number_within number (length history) ≡ None → question_at history number ≡ None
 no_question history (pos number) valid none =
     none_found (asks (pos number)) history (λ place entry is.
     let inside = within place history entry is in
@@ -122,7 +122,7 @@ no_question history (pos number) valid none =
     none_some : (n : ℕ) → ◌≡◌ {A = Option ℕ} None (Some n) → ⊥
     none_some n e = cc
 
-    outside : (number count : ℕ) → number_in (pos number) count ≡ None → 1 ≤ number → number ≤ count → ⊥
+    outside : (number count : ℕ) → number_within (pos number) count ≡ None → 1 ≤ number → number ≤ count → ⊥
     outside number count none from to =
         let low : int_lt (pos number) (pos 1) ≡ false = not_below number from in
         let high : nat_le number count ≡ true = grind (arith, nat_tests) in
@@ -134,7 +134,7 @@ no_question history (negsuc number) valid none =
     apart a b = refl
 
 -- a number is one of so many
-pub is_number : (number : ℤ) (count place : ℕ) → number_in number count ≡ Some place → IsNumber number count place
+pub is_number : (number : ℤ) (count place : ℕ) → number_within number count ≡ Some place → IsNumber number count place
 is_number (pos number) count place is =
     elim (int_lt (pos number) (pos 1)) as (λ low. int_lt (pos number) (pos 1) ≡ low → (if low then None else then_some (nat_le number count) number) ≡ Some place → IsNumber (pos number) count place) [
       | true ↦ λ low is. absurd cc
@@ -196,7 +196,7 @@ module _ (history : History) (valid : is_valid meaning history ≡ true) (number
   pub form : IsFormOf number (Some (stored entry)) entry
   form = record { form = refl; keepable = keepable; number_is = entry_has_its_number meaning history valid place entry is ∙ omega (arith, from) }
 
-good_read : (list : Store) (number : ℕ) (result : Result Entry ReadFault) → IsRead list number result → has_failed (reads.as_call result) ≡ false
+good_read : (list : Store) (number : ℕ) (result : Result Entry ReadFault) → IsRead list number result → has_failed (reads.reading_as_call result) ≡ false
 good_read list number (Ok entry) is = refl
 good_read list number (Err Keeper) is = absurd is
 good_read list number (Err (Damaged other)) is = refl
@@ -217,7 +217,7 @@ module _ (number : ℕ) (from : 1 ≤ number) (before after : KeeperState) (step
     few : steps' ≤ steps + versions history
     few = omega (arith, counted, one, versions_at history (number - 1) entry is)
 
-    read_as : (result : Result Entry ReadFault) → IsRead list number result → HasRead history number result steps steps'
+    read_as : (result : Result Entry ReadFault) → IsRead list number result → HasReadEntry history number result steps steps'
     read_as (Ok found) read =
         let same : found ≡ entry = read entry same_form in
         record {
@@ -231,10 +231,10 @@ module _ (number : ℕ) (from : 1 ≤ number) (before after : KeeperState) (step
     read_as (Err Memory) read = record { entry_is = tt; undamaged = λ other e. absurd cc; few = few; idle = tt }
 
   -- an entry was handed over
-  pub handed_entry : (list : Store) (result : Result Entry ReadFault) → Reads is_any (number - 1) 1 (Ok list) before after → steps' ≡ steps + stored_versions list → IsRead list number result
+  pub handed_entry : (list : Store) (result : Result Entry ReadFault) → ReadsEntries is_any (number - 1) 1 (Ok list) before after → steps' ≡ steps + stored_versions list → IsRead list number result
       → ReadsEntry number result before after steps steps'
   handed_entry list result over counted read = record {
-    call = IsAfterCall-as true false (Ok list) (reads.as_call result) before after (good_read list number result read) over.call;
+    call = IsAfterCall-as true false (Ok list) (reads.reading_as_call result) before after (good_read list number result read) over.call;
     stays = λ tells. KeepsSame-Stays before after (over.stays tells);
     told = λ tells held history forms stands inside.
         let at = there history (number - 1) (omega (arith, from, inside)) in
@@ -243,9 +243,9 @@ module _ (number : ℕ) (from : 1 ≤ number) (before after : KeeperState) (step
   }
 
   -- it was not
-  pub unhanded_entry : (fault : KeeperFault) → Reads is_any (number - 1) 1 (Err fault) before after → steps' ≡ steps → ReadsEntry number (Err (reads.fault_of fault)) before after steps steps'
+  pub unhanded_entry : (fault : KeeperFault) → ReadsEntries is_any (number - 1) 1 (Err fault) before after → steps' ≡ steps → ReadsEntry number (Err (reads.read_fault fault)) before after steps steps'
   unhanded_entry fault unread same = record {
-    call = IsAfterCall-as true false (err_of Store fault) (reads.as_call (err_of Entry (reads.fault_of fault))) before after (as_call-fault_of Entry Store fault) unread.call;
+    call = IsAfterCall-as true false (err_of Store fault) (reads.reading_as_call (err_of Entry (reads.read_fault fault))) before after (reading_as_call-read_fault Entry Store fault) unread.call;
     stays = λ tells. KeepsSame-Stays before after (unread.stays tells);
     told = λ tells held history forms stands inside. record {
       entry_is = tt;

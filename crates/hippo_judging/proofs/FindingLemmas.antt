@@ -25,7 +25,7 @@ use Rattle.hippo_world.specs.Holding.{world_of}
 use Rattle.hippo_world.specs.Worlds.{World, at_number, session_at, free_number}
 use Rattle.hippo_world.proofs.HeldLemmas.{seen-at, seen-free}
 use Rattle.hippo_lines.specs.Forms as requests
-use Rattle.hippo_commands.specs.Commands.{Command, ask, who_commands}
+use Rattle.hippo_commands.specs.Commands.{Command, make_request, who_commands}
 use Rattle.hippo_commands.specs.Commands as commands
 use Rattle.hippo_judging.specs.declared.asking.Delivery.{Delivery}
 use Rattle.hippo_judging.specs.declared.asking.Delivery.TheVariants as delivered
@@ -36,7 +36,7 @@ use Rattle.hippo_judging.specs.declared.deeds.Unjudged.{Unjudged}
 use Rattle.hippo_judging.specs.Checks.{Checked, Refuses, ◌>>=◌, refused_if, by_console, open_session, job_at, held_watch, reply_room}
 use Rattle.hippo_judging.specs.Deeds as deeds
 use Rattle.hippo_judging.specs.Changes.{IsChange}
-use Rattle.hippo_judging.specs.Findings.{Adds, IsJudged, IsRefused, MayBeAsked, Means, Does, FindsDeed, deed_by, begun_with, set_with, unread, Judges, may_do_nothing}
+use Rattle.hippo_judging.specs.Findings.{AddsNextEntry, IsJudged, IsRefused, MayBeAsked, IsAuditOfState, Does, FindsDeed, deed_by, begun_with, set_with, without_reading, Judges, may_do_nothing}
 use Rattle.hippo_judging.specs.Judging.{judged, audit_in}
 
 -- a command that takes memory is refused, or memory was short
@@ -64,12 +64,12 @@ refuses_on checked next refusal (inr short) = inr short
 
 -- what was found without reading is found whatever the keeper keeps
 pub judges_unread : (command : Command) (found : Checked Deed) (state : State) (world : HeldWorld) (before after : KeeperState) (steps steps' : ℕ) → FindsDeed command found state world
-    → Judges command (unread found) state world before after steps steps'
+    → Judges command (without_reading found) state world before after steps steps'
 judges_unread command (Ok (kinds.Explain entry)) state world before after steps steps' is = absurd is
 judges_unread command (Ok deed) state world before after steps steps' is = is
 judges_unread command (Err refusal) state world before after steps steps' is = is
 
-pub judges_found : (command : Command) (found : Checked Deed) (result : Result Deed Unjudged) (state : State) (world : HeldWorld) (before after : KeeperState) (steps steps' : ℕ) → result ≡ unread found → FindsDeed command found state world
+pub judges_found : (command : Command) (found : Checked Deed) (result : Result Deed Unjudged) (state : State) (world : HeldWorld) (before after : KeeperState) (steps steps' : ℕ) → result ≡ without_reading found → FindsDeed command found state world
     → Judges command result state world before after steps steps'
 judges_found command found result state world before after steps steps' is finds =
     subst (λ (one : Result Deed Unjudged). Judges command one state world before after steps steps') (sym is) (judges_unread command found state world before after steps steps' finds)
@@ -115,9 +115,9 @@ watch_first (Err other) found deed refusal is = let same : other ≡ refusal = c
 
 -- ending a watch is refused where none stands
 pub refused_unwatch : (world : HeldWorld) (state : State) (session number : ℕ) (refusal : Refusal) → held_watch (world_of world) session number ≡ Err refusal
-    → length (refusal_line (speaker_at session) refusal) ≤ reply_room → IsRefused (ask session (requests.unwatches number)) refusal state world
+    → length (refusal_line (speaker_at session) refusal) ≤ reply_room → IsRefused (make_request session (requests.unwatches number)) refusal state world
 refused_unwatch world state session number refusal is fits =
-    refused_so (ask session (requests.unwatches number)) refusal state world
+    refused_so (make_request session (requests.unwatches number)) refusal state world
     (λ history stands. watch_first (by_console session) (ok_or (at_number (world_of world).watches number) (NoWatch number)) (deeds.end_watch number) refusal is) fits
 
 -- a step of a job that stands there, and its end
@@ -125,7 +125,7 @@ module _ (world : HeldWorld) (state : State) (number : ℕ) (job : HeldJob) (the
   seen : at_number (world_of world).jobs number ≡ Some (open_audit job)
   seen = seen-at open_audit world.jobs number ∙ ap (option_map open_audit) there
 
-  pub may_step : (count : ℕ) → Does (ask 0 (requests.steps number count)) (kinds.StepJob number count) state world
+  pub may_step : (count : ℕ) → Does (make_request 0 (requests.steps number count)) (kinds.StepJob number count) state world
   may_step count = (
     refl,
     record {
@@ -135,7 +135,7 @@ module _ (world : HeldWorld) (state : State) (number : ℕ) (job : HeldJob) (the
     },
   )
 
-  pub may_drop : Does (ask 0 (requests.drops number)) (kinds.DropJob number) state world
+  pub may_drop : Does (make_request 0 (requests.drops number)) (kinds.DropJob number) state world
   may_drop = (
     refl,
     record {
@@ -156,15 +156,15 @@ job_first world session number next refusal is = parted (by_console session) ∙
     parted (Err other) = refl
 
 pub refused_step : (world : HeldWorld) (state : State) (session number count : ℕ) (refusal : Refusal) → job_at (world_of world) session number ≡ Err refusal
-    → length (refusal_line (speaker_at session) refusal) ≤ reply_room → IsRefused (ask session (requests.steps number count)) refusal state world
+    → length (refusal_line (speaker_at session) refusal) ≤ reply_room → IsRefused (make_request session (requests.steps number count)) refusal state world
 refused_step world state session number count refusal is fits =
-    refused_so (ask session (requests.steps number count)) refusal state world
+    refused_so (make_request session (requests.steps number count)) refusal state world
     (λ history stands. job_first (world_of world) session number (λ job. Ok (deeds.step_job number job count)) refusal is) fits
 
 pub refused_drop : (world : HeldWorld) (state : State) (session number : ℕ) (refusal : Refusal) → job_at (world_of world) session number ≡ Err refusal
-    → length (refusal_line (speaker_at session) refusal) ≤ reply_room → IsRefused (ask session (requests.drops number)) refusal state world
+    → length (refusal_line (speaker_at session) refusal) ≤ reply_room → IsRefused (make_request session (requests.drops number)) refusal state world
 refused_drop world state session number refusal is fits =
-    refused_so (ask session (requests.drops number)) refusal state world
+    refused_so (make_request session (requests.drops number)) refusal state world
     (λ history stands. job_first (world_of world) session number (λ job. Ok (deeds.drop_job number)) refusal is) fits
 
 -- ---- audits
@@ -172,12 +172,12 @@ module _ (state : State) (world : HeldWorld) (session : ℕ) (written : RawAudit
   abbrev of_audit : (Audit → Checked deeds.Deed) → History → Checked deeds.Deed
   of_audit next history = audit_in history session written >>= next
 
-  module _ (audit : Audit) (console : session ≡ 0) (means : Means audit state) (is : (history : History) → StandsFor state history → audit_in history session written ≡ Ok audit) where
+  module _ (audit : Audit) (console : session ≡ 0) (means : IsAuditOfState audit state) (is : (history : History) → StandsFor state history → audit_in history session written ≡ Ok audit) where
     judged_audit : (next : Audit → Checked deeds.Deed) (history : History) → StandsFor state history → of_audit next history ≡ next audit
     judged_audit next history stands = ap (λ (checked : Checked Audit). checked >>= next) (is history stands)
 
-    pub may_audit : Does (commands.state session (stmt.Audit written) text) (kinds.Audit audit) state world
-    may_audit = ((written, text, ap (λ (n : ℕ). commands.state n (stmt.Audit written) text) console), means, judged_audit (λ one. Ok (deeds.audit one)))
+    pub may_audit : Does (commands.make_statement session (stmt.Audit written) text) (kinds.Audit audit) state world
+    may_audit = ((written, text, ap (λ (n : ℕ). commands.make_statement n (stmt.Audit written) text) console), means, judged_audit (λ one. Ok (deeds.audit one)))
 
     abbrev begins : Audit → Checked deeds.Deed
     begins one = ok_or (free_number (world_of world).jobs) JobLimit >>= λ number. Ok (deeds.begin_audit number one)
@@ -189,29 +189,29 @@ module _ (state : State) (world : HeldWorld) (session : ℕ) (written : RawAudit
     by_free found free = ap (λ (one : Option ℕ). ok_or one JobLimit >>= λ number. Ok (deeds.begin_audit number audit)) (seen-free open_audit world.jobs ∙ free)
 
     -- a job begins where a number is free
-    pub may_begin : (found : Option ℕ) → free_number world.jobs ≡ found → FindsDeed (commands.state session (stmt.BeginAudit written) text) (begun_with audit (ok_or found JobLimit)) state world
+    pub may_begin : (found : Option ℕ) → free_number world.jobs ≡ found → FindsDeed (commands.make_statement session (stmt.BeginAudit written) text) (begun_with audit (ok_or found JobLimit)) state world
     may_begin (Some number) free = (
-      (written, text, ap (λ (n : ℕ). commands.state n (stmt.BeginAudit written) text) console),
+      (written, text, ap (λ (n : ℕ). commands.make_statement n (stmt.BeginAudit written) text) console),
       means,
       free,
       λ history stands. judged_audit begins history stands ∙ by_free (Some number) free,
     )
     may_begin None free =
-        refused_or_short (commands.state session (stmt.BeginAudit written) text) JobLimit state world refl
+        refused_or_short (commands.make_statement session (stmt.BeginAudit written) text) JobLimit state world refl
         (λ history stands. inl (judged_audit begins history stands ∙ by_free None free))
 
     by_free_watch : (found : Option ℕ) → free_number world.watches ≡ found → sets audit ≡ (ok_or found WatchLimit >>= λ number. Ok (deeds.watch number audit))
     by_free_watch found free = ap (λ (one : Option ℕ). ok_or one WatchLimit >>= λ number. Ok (deeds.watch number audit)) (seen-free watched world.watches ∙ free)
 
     -- a watch is set where a number is free
-    pub may_watch : (found : Option ℕ) → free_number world.watches ≡ found → FindsDeed (commands.state session (stmt.Watch written) text) (set_with audit (ok_or found WatchLimit)) state world
+    pub may_watch : (found : Option ℕ) → free_number world.watches ≡ found → FindsDeed (commands.make_statement session (stmt.Watch written) text) (set_with audit (ok_or found WatchLimit)) state world
     may_watch (Some number) free = (
-      (written, text, ap (λ (n : ℕ). commands.state n (stmt.Watch written) text) console),
+      (written, text, ap (λ (n : ℕ). commands.make_statement n (stmt.Watch written) text) console),
       means,
       λ history stands. judged_audit sets history stands ∙ by_free_watch (Some number) free,
     )
     may_watch None free =
-        refused_or_short (commands.state session (stmt.Watch written) text) WatchLimit state world refl
+        refused_or_short (commands.make_statement session (stmt.Watch written) text) WatchLimit state world refl
         (λ history stands. inl (judged_audit sets history stands ∙ by_free_watch None free))
 
 -- ---- questions
@@ -237,7 +237,7 @@ refused_audit state world session written command next refusal takes begins refu
 module _ (state : State) (world : HeldWorld) (command : Command) (judgement : History → Checked deeds.Deed) (takes : may_do_nothing command ≡ true)
     (begins : (history : History) → judged history (world_of world) command ≡ judgement history) where
   pub may_change : (entry : Entry) → who_commands command ≡ Console → ((history : History) → StandsFor state history → IsChange history (world_of world) (judgement history) entry) → entry.seq < 2 ^ 63 → MayFollow state entry
-      → Adds command entry state world
+      → AddsNextEntry command entry state world
   may_change entry console is number follows = record {
     console = console;
     memory = takes;

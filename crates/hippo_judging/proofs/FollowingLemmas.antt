@@ -15,7 +15,7 @@ use Rattle.hippo_model.specs.Validity.{may_follow}
 use Rattle.hippo_catalog.specs.Catalogs.{known_at}
 use Rattle.hippo_catalog.specs.ChangesRefused.{change_refused}
 use Rattle.hippo_catalog.specs.ChangesWanted.{wanted_by}
-use Rattle.hippo_tables.specs.Finished.{finished}
+use Rattle.hippo_tables.specs.Finished.{finished_act}
 use Rattle.hippo_typing.specs.Meanings.{meaning}
 use Rattle.hippo_report.specs.declared.refusal.Refusal.{Refusal}
 use Rattle.hippo_report.specs.declared.refusal.Refusal.TheVariants.{BadSyntax}
@@ -29,7 +29,7 @@ use Rattle.hippo_world.specs.declared.worlds.World.{World as HeldWorld}
 use Rattle.hippo_world.specs.Worlds.{World}
 use Rattle.hippo_world.specs.Holding.{world_of}
 use Rattle.hippo_judging.specs.Changes.{FindsChange}
-use Rattle.hippo_judging.specs.Checks.{Checked, ◌>>=◌, by_console, meant, act_made, has_room}
+use Rattle.hippo_judging.specs.Checks.{Checked, ◌>>=◌, by_console, unless_refused, act_made, has_room}
 use Rattle.hippo_judging.specs.Deeds.{Deed}
 use Rattle.hippo_judging.specs.Deeds as deeds
 use Rattle.hippo_judging.specs.Judging.{judged_wanted, judged_change}
@@ -48,7 +48,7 @@ pub found_same : {A : Type 0} (one other : A) → ◌≡◌ {A = Checked A} (Ok 
 found_same one other is = cc
 
 -- what is meant is not refused
-pub unrefused : {A : Type 0} (faults : List NameFault) (form found : A) → meant faults form ≡ Ok found → (faults ≡ []) × (form ≡ found)
+pub unrefused : {A : Type 0} (faults : List NameFault) (form found : A) → unless_refused faults form ≡ Ok found → (faults ≡ []) × (form ≡ found)
 unrefused [] form found is = (refl, found_same form found is)
 unrefused (fault ∷ more) form found is = absurd cc
 
@@ -71,10 +71,10 @@ comes_to history world session statement act written is =
     let refusals : List NameFault = change_refused (known_at history) statement in
     let form : Option Wanted = wanted_by (known_at history) statement in
     let console = passed {A = Unit {0}} (by_console session)
-    (λ console. meant refusals form >>= λ change. ok_or change BadSyntax >>= λ wanted. judged_wanted history world wanted) (deeds.change act) is in
-    let means = passed {A = Option Wanted} (meant refusals form) (λ change. ok_or change BadSyntax >>= λ wanted. judged_wanted history world wanted) (deeds.change act) console.on in
+    (λ console. unless_refused refusals form >>= λ change. ok_or change BadSyntax >>= λ wanted. judged_wanted history world wanted) (deeds.change act) is in
+    let means = passed {A = Option Wanted} (unless_refused refusals form) (λ change. ok_or change BadSyntax >>= λ wanted. judged_wanted history world wanted) (deeds.change act) console.on in
     let wants = passed {A = Wanted} (ok_or means.found BadSyntax) (λ wanted. judged_wanted history world wanted) (deeds.change act) means.on in
-    let makes = passed {A = Act} (act_made (finished history wants.found)) (λ act. has_room history world >>= λ room. Ok (deeds.change act)) (deeds.change act) wants.on in
+    let makes = passed {A = Act} (act_made (finished_act history wants.found)) (λ act. has_room history world >>= λ room. Ok (deeds.change act)) (deeds.change act) wants.on in
     let room = passed {A = Unit {0}} (has_room history world) (λ room. Ok (deeds.change makes.found)) (deeds.change act) makes.on in
     let same : makes.found ≡ act = ap (act_in act) room.on in
     let none = unrefused refusals form means.found means.is in
@@ -83,7 +83,7 @@ comes_to history world session statement act written is =
       unrefused = none.0;
       wanted = wants.found;
       wants = none.1 ∙ wanted_so means.found wants.found wants.is;
-      comes = finished_so (finished history wants.found) makes.found makes.is ∙ ap Ok same;
+      comes = finished_so (finished_act history wants.found) makes.found makes.is ∙ ap Ok same;
     }
 
 -- the next number has 64 bits, and the clock is not before the last entry

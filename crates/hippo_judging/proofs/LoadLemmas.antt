@@ -11,24 +11,24 @@ use Rattle.hippo_world.specs.Worlds.{World}
 use Rattle.hippo_judging.specs.Changes.{FindsChange}
 use Rattle.hippo_judging.specs.Checks.{Checked, Refuses, ◌>>=◌}
 use Rattle.hippo_judging.specs.Deeds.{Deed}
-use Rattle.hippo_judging.specs.Judging.{judged_change, insert_of, judged_load}
+use Rattle.hippo_judging.specs.Judging.{judged_change, loaded_insert, judged_load}
 
 module _ (history : History) (world : World) (session : ℕ) (table : Name) (text : Txt) (known : KnownNames) (console : session ≡ 0)
     (names : known ≡ known_at history) where
   -- at the console a record is judged once its INSERT is found
-  at_console : judged_load history world session table text ≡ (insert_of known table text >>= λ insert. judged_change history world 0 insert)
+  at_console : judged_load history world session table text ≡ (loaded_insert known table text >>= λ insert. judged_change history world 0 insert)
   at_console =
       ap (λ (n : ℕ). judged_load history world n table text) console
-      ∙ ap (λ (k : KnownNames). insert_of k table text >>= λ insert. judged_change history world 0 insert) (sym names)
+      ∙ ap (λ (k : KnownNames). loaded_insert k table text >>= λ insert. judged_change history world 0 insert) (sym names)
 
-  pub load_found : (insert : Stmt) (found : Result Entry Refusal) → insert_of known table text ≡ Ok insert
+  pub load_found : (insert : Stmt) (found : Result Entry Refusal) → loaded_insert known table text ≡ Ok insert
       → FindsChange history world (judged_change history world 0 insert) found
       → FindsChange history world (judged_load history world session table text) found
   load_found insert found is finds =
       subst (λ (judgement : Checked Deed). FindsChange history world judgement found)
       (sym (at_console ∙ ap (λ (checked : Checked Stmt). checked >>= λ insert. judged_change history world 0 insert) is)) finds
 
-  pub load_refused : (refusal : Refusal) → Refuses (insert_of known table text) refusal
+  pub load_refused : (refusal : Refusal) → Refuses (loaded_insert known table text) refusal
       → Refuses (judged_load history world session table text) refusal
   load_refused refusal (inl is) =
       inl (at_console ∙ ap (λ (checked : Checked Stmt). checked >>= λ insert. judged_change history world 0 insert) is)

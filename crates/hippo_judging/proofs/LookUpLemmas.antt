@@ -16,20 +16,20 @@ use Rattle.hippo_replay.specs.declared.state.State.{State}
 use Rattle.hippo_replay.specs.Standing.{StandsFor}
 use Rattle.hippo_judging.specs.Checks.{question_at}
 use Rattle.hippo_model.specs.HandedOver.{is_question}
-use Rattle.hippo_judging.specs.Entries.{number_in, HasRead, ReadsEntry}
-use Rattle.hippo_judging.specs.Findings.{HasFound, LooksUp}
+use Rattle.hippo_judging.specs.Entries.{number_within, HasReadEntry, ReadsEntry}
+use Rattle.hippo_judging.specs.Findings.{HasLookedUp, LooksUp}
 use Rattle.hippo_judging.proofs.EntryLemmas.{err_of, IsNumber, question_is, no_question}
 
 abbrev found_as : Option Entry → Result (Option Entry) ReadFault
 found_as entry = Ok entry
 
 -- no entry has the number
-pub missing_looks : (number : ℤ) (held : State) (keeper : KeeperState) (steps : ℕ) → IsReady true keeper → number_in number held.count ≡ None → LooksUp number (Ok None) held keeper keeper steps steps
+pub missing_looks : (number : ℤ) (held : State) (keeper : KeeperState) (steps : ℕ) → IsReady true keeper → number_within number held.count ≡ None → LooksUp number (Ok None) held keeper keeper steps steps
 missing_looks number held keeper steps ready none = record {
-  call = IsAfterCall-none (reads.as_call (found_as None)) keeper refl ready;
+  call = IsAfterCall-none (reads.reading_as_call (found_as None)) keeper refl ready;
   stays = λ tells. KeepsSame-here keeper;
   told = λ tells history forms stands. record {
-    is = no_question history number stands.valid (ap (number_in number) (sym stands.count) ∙ none);
+    is = no_question history number stands.valid (ap (number_within number) (sym stands.count) ∙ none);
     there = tt;
     undamaged = λ other e. absurd cc;
     few = omega arith;
@@ -45,8 +45,8 @@ module _ (number : ℤ) (held : State) (place : ℕ) (in_range : IsNumber number
   back from = omega (arith, from)
 
   -- its entry was read, which is a question or none
-  by_asking : (history : History) (entry : Entry) → HasRead history place (Ok entry) steps steps' → (asks : Bool) → is_question entry.act ≡ asks
-      → question_at history number ≡ then_some asks entry → HasFound history number (Ok (then_some asks entry)) steps steps'
+  by_asking : (history : History) (entry : Entry) → HasReadEntry history place (Ok entry) steps steps' → (asks : Bool) → is_question entry.act ≡ asks
+      → question_at history number ≡ then_some asks entry → HasLookedUp history number (Ok (then_some asks entry)) steps steps'
   by_asking history entry was true asks is = record { is = is; there = (place - 1, was.entry_is); undamaged = λ other e. absurd cc; few = was.few; idle = was.idle asks }
   by_asking history entry was false asks is = record { is = is; there = tt; undamaged = λ other e. absurd cc; few = was.few; idle = tt }
 
@@ -55,7 +55,7 @@ module _ (number : ℤ) (held : State) (place : ℕ) (in_range : IsNumber number
     call = read.call;
     stays = read.stays;
     told = λ tells history forms stands.
-        let was : HasRead history place (Ok entry) steps steps' = read.told tells held history forms stands (at_most history stands) in
+        let was : HasReadEntry history place (Ok entry) steps steps' = read.told tells held history forms stands (at_most history stands) in
         let numbered : pos entry.seq ≡ number = ap pos (entry_has_its_number meaning history stands.valid (place - 1) entry was.entry_is ∙ back in_range.from) ∙ sym in_range.same in
         let is : question_at history number ≡ then_some (is_question entry.act) entry =
         subst (λ (n : ℤ). question_at history n ≡ then_some (is_question entry.act) entry) numbered (question_is history stands.valid (place - 1) entry was.entry_is) in
@@ -65,14 +65,14 @@ module _ (number : ℤ) (held : State) (place : ℕ) (in_range : IsNumber number
   -- it was not read
   pub unread_looks : (fault : ReadFault) → ReadsEntry place (Err fault) before between steps steps' → LooksUp number (Err fault) held before between steps steps'
   unread_looks fault read = record {
-    call = IsAfterCall-as true false (reads.as_call (err_of Entry fault)) (reads.as_call (err_of (Option Entry) fault)) before between (same_call fault) read.call;
+    call = IsAfterCall-as true false (reads.reading_as_call (err_of Entry fault)) (reads.reading_as_call (err_of (Option Entry) fault)) before between (same_call fault) read.call;
     stays = read.stays;
     told = λ tells history forms stands.
         let was = read.told tells held history forms stands (at_most history stands) in
         record { is = tt; there = tt; undamaged = still fault was.undamaged; few = was.few; idle = tt };
   }
     where
-      same_call : (fault : ReadFault) → has_failed (reads.as_call (err_of (Option Entry) fault)) ≡ has_failed (reads.as_call (err_of Entry fault))
+      same_call : (fault : ReadFault) → has_failed (reads.reading_as_call (err_of (Option Entry) fault)) ≡ has_failed (reads.reading_as_call (err_of Entry fault))
       same_call Keeper = refl
       same_call (Damaged number) = refl
       same_call Memory = refl

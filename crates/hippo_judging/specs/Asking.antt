@@ -8,7 +8,7 @@ use Rattle.hippo_model.specs.declared.statement.RawSelect.{RawSelect}
 use Rattle.hippo_model.specs.declared.statement.Stmt.{Stmt}
 use Rattle.hippo_model.specs.declared.statement.Stmt.TheVariants as stmt
 use Rattle.hippo_report.specs.declared.refusal.Refusal.TheVariants.{HistoryFull}
-use Rattle.hippo_answering.specs.States.{AreKept}
+use Rattle.hippo_answering.specs.States.{AreKeptTables}
 use Rattle.hippo_replay.specs.declared.state.State.{State}
 use Rattle.hippo_world.specs.declared.sessions.Session.{Session}
 use Rattle.hippo_commands.specs.Commands.{Command}
@@ -19,7 +19,7 @@ use Rattle.hippo_judging.specs.declared.asking.Handing.{Handing}
 use Rattle.hippo_judging.specs.declared.asking.Handing.TheVariants.{Rows, Records, Cursor}
 use Rattle.hippo_judging.specs.declared.asking.WrittenQuestion.{WrittenQuestion}
 use Rattle.hippo_judging.specs.Checks.{Checked, ◌>>=◌, refused_if}
-use Rattle.hippo_judging.specs.Deeds.{Deed, Question, asked_by}
+use Rattle.hippo_judging.specs.Deeds.{Deed, Question, question_act}
 use Rattle.hippo_judging.specs.Judging.{text_between, delivery_for, deed_for}
 
 -- the question that is asked in a session, whose asker and text are lent
@@ -38,15 +38,18 @@ statement_asked Rows select start end = stmt.Select select start end
 statement_asked Records select start end = stmt.Extract select start end
 statement_asked Cursor select start end = stmt.Ask select start end
 
--- the statement of a written question, the command that it is in a session and a text, and its own text
-abbrev pub statement_of : WrittenQuestion → Stmt
-statement_of written = statement_asked written.handing written.select.now written.start written.end
+-- the statement of a written question, the command that it is in a session and a text, and its own
+-- text
+abbrev pub written_statement : WrittenQuestion → Stmt
+written_statement written =
+    statement_asked written.handing written.select.now written.start written.end
 
-abbrev pub command_of : ℕ → WrittenQuestion → Txt → Command
-command_of session written text = commands.state session (statement_of written) text
+abbrev pub written_command : ℕ → WrittenQuestion → Txt → Command
+written_command session written text =
+    commands.make_statement session (written_statement written) text
 
-abbrev pub text_of : WrittenQuestion → Txt → Txt
-text_of written text = text_between text written.start written.end
+abbrev pub written_text : WrittenQuestion → Txt → Txt
+written_text written text = text_between text written.start written.end
 
 -- a statement that asks a question
 abbrev pub is_asking : Stmt → Bool
@@ -57,7 +60,7 @@ is_asking statement = false
 
 -- the question that a statement asks; none where it asks nothing
 abbrev pub IsWritten : Stmt → Option WrittenQuestion → Type 0
-IsWritten statement (Some written) = statement ≡ statement_of written
+IsWritten statement (Some written) = statement ≡ written_statement written
 IsWritten statement None = is_asking statement ≡ false
 
 -- how an answer is handed out, where there is room for one entry more
@@ -76,9 +79,10 @@ abbrev pub deed_asked : ℕ → Asking → Deed
 deed_asked session asking = deed_for asking.asker.now (question_of session asking) asking.delivery
 
 -- the entry of a question that comes next
-abbrev pub entry_of : State → Moment → Question → Entry
-entry_of state clock question = record { seq = state.count + 1; moment = clock; act = asked_by question }
+abbrev pub question_entry : State → Moment → Question → Entry
+question_entry state clock question =
+    record { seq = state.count + 1; moment = clock; act = question_act question }
 
 -- a query that a state can answer: its tables are kept
 pub record IsAnswerable (state : State) (query : Query) : Type 0 where
-  pub tables : AreKept state.tables query.tables
+  pub tables : AreKeptTables state.tables query.tables

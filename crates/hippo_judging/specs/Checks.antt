@@ -57,8 +57,8 @@ abbrev pub open_session : World → ℕ → Checked Session
 open_session world number = by_session number >>= λ _. ok_or (session_at world number) NoSession
 
 -- the cursor of this number is open in such a session
-abbrev pub open_cursor : World → ℕ → ℕ → Checked Cursor
-open_cursor world number at =
+abbrev pub cursor_in_session : World → ℕ → ℕ → Checked Cursor
+cursor_in_session world number at =
     open_session world number >>= λ session. ok_or (at_number session.cursors at) (NoCursor at)
 
 -- no session of this number is open
@@ -71,17 +71,19 @@ abbrev pub allowed_by : Authorization → Checked (Unit {0})
 allowed_by Yes = Ok tt
 allowed_by (No number) = Err (NotAuthorized number)
 
-abbrev pub authorized : History → Name → Pair → Checked (Unit {0})
-authorized history user pair = allowed_by (authorized_at history user pair.purpose pair.recipient)
+abbrev pub by_authorized_user : History → Name → Pair → Checked (Unit {0})
+by_authorized_user history user pair =
+    allowed_by (authorized_at history user pair.purpose pair.recipient)
 
 -- a user may open the session of this number
 abbrev pub may_log_in : History → World → ℕ → Name → Pair → Checked (Unit {0})
-may_log_in history world number user pair = closed_session world number >>= λ _. authorized history user pair
+may_log_in history world number user pair =
+    closed_session world number >>= λ _. by_authorized_user history user pair
 
 -- a statement means this, or is refused by the first of these
-abbrev pub meant : {A : Type 0} → List NameFault → A → Checked A
-meant [] form = Ok form
-meant (fault ∷ more) form = Err (Meaningless fault)
+abbrev pub unless_refused : {A : Type 0} → List NameFault → A → Checked A
+unless_refused [] form = Ok form
+unless_refused (fault ∷ more) form = Err (Meaningless fault)
 
 -- why the rows that are there do not let a change be made
 abbrev pub rows_refusal : TableFault → Refusal
@@ -99,7 +101,8 @@ has_room history world = refused_if (nat_le world.limit (length history)) Histor
 
 -- the question with this number
 abbrev pub question_at : History → ℤ → Option Entry
-question_at history number = find (λ entry. int_eq (pos entry.seq) number && is_question entry.act) history
+question_at history number =
+    find (λ entry. int_eq (pos entry.seq) number && is_question entry.act) history
 
 -- the job with a number
 abbrev pub job_at : World → ℕ → ℕ → Checked OpenAudit

@@ -24,8 +24,9 @@ pub record Question : Type 0 where
   pub query : Query
 
 -- the act by which a question is logged
-abbrev pub asked_by : Question → Act
-asked_by question = Asked question.user question.pair.purpose question.pair.recipient question.text
+abbrev pub question_act : Question → Act
+question_act question =
+    Asked question.user question.pair.purpose question.pair.recipient question.text
 
 -- an act as the next entry
 abbrev pub next_entry : History → World → Act → Entry
@@ -44,7 +45,7 @@ pub data Deed : Type 0 where
   drop_job : ℕ → Deed
   end_watch : ℕ → Deed
   change : Act → Deed
-  answer : Question → Deed
+  answer_question : Question → Deed
   -- with the number that its cursor gets, in its session
   open_cursor : Session → ℕ → Question → Deed
   extract : Question → Deed

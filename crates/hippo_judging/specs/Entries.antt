@@ -16,9 +16,10 @@ use Rattle.hippo_replay.specs.Standing.{StandsFor}
 use Rattle.hippo_model.specs.HandedOver.{is_question}
 
 -- the number of one of so many entries
-abbrev pub number_in : ℤ → ℕ → Option ℕ
-number_in number count =
-    if int_lt number (pos 1) then None else then_some (nat_le (unsigned_abs number) count) (unsigned_abs number)
+abbrev pub number_within : ℤ → ℕ → Option ℕ
+number_within number count =
+    if int_lt number (pos 1) then None else then_some (nat_le (unsigned_abs number) count)
+    (unsigned_abs number)
 
 -- a stored form is that of this entry, which can be kept and has this number
 pub record IsFormOf (number : ℕ) (kept : Option StoredEntry) (entry : Entry) : Type 0 where
@@ -28,14 +29,17 @@ pub record IsFormOf (number : ℕ) (kept : Option StoredEntry) (entry : Entry) :
 
 -- what stands first with a number is this entry alone; or nothing does, or memory was short
 abbrev pub IsRead : Store → ℕ → Result Entry ReadFault → Type 0
-IsRead list number (Ok entry) = (other : Entry) → IsFormOf number (slice_get list 0) other → entry ≡ other
+IsRead list number (Ok entry) =
+    (other : Entry) → IsFormOf number (slice_get list 0) other → entry ≡ other
 IsRead list number (Err Keeper) = ⊥
-IsRead list number (Err (Damaged other)) = (entry : Entry) → IsFormOf number (slice_get list 0) entry → ⊥
+IsRead list number (Err (Damaged other)) =
+    (entry : Entry) → IsFormOf number (slice_get list 0) entry → ⊥
 IsRead list number (Err Memory) = Unit {0}
 
--- the entry of a history with a number was read, in no step where it is a question; or memory was short, or the keeper
--- failed
-pub record HasRead (history : History) (number : ℕ) (result : Result Entry ReadFault) (steps steps' : ℕ)
+-- the entry of a history with a number was read, in no step where it is a question; or memory was
+-- short, or the keeper failed
+pub record HasReadEntry (history : History) (number : ℕ) (result : Result Entry ReadFault)
+    (steps steps' : ℕ)
     : Type 0 where
   pub entry_is : IfOk result (λ entry. slice_get history (number - 1) ≡ Some entry)
   pub undamaged : (other : ℕ) → result ≡ Err (Damaged other) → ⊥
@@ -43,9 +47,11 @@ pub record HasRead (history : History) (number : ℕ) (result : Result Entry Rea
   pub idle : IfOk result (λ entry. is_question entry.act ≡ true → steps' ≡ steps)
 
 -- reading the entry with a number
-pub record ReadsEntry (number : ℕ) (result : Result Entry ReadFault) (before after : KeeperState) (steps steps' : ℕ)
+pub record ReadsEntry (number : ℕ) (result : Result Entry ReadFault) (before after : KeeperState)
+    (steps steps' : ℕ)
     : Type 0 where
-  pub call : IsAfterCall true false (reads.as_call result) before after
+  pub call : IsAfterCall true false (reads.reading_as_call result) before after
   pub stays : after.tells → KeepsSame before after
   pub told : after.tells → (state : State) (history : History) → map stored history ≡ before.kept
-      → StandsFor state history → number ≤ length history → HasRead history number result steps steps'
+      → StandsFor state history → number ≤ length history
+      → HasReadEntry history number result steps steps'

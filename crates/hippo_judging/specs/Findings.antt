@@ -1,4 +1,5 @@
--- What judging a command finds: what is to be done, with what performing it needs; or its first refusal.
+-- What judging a command finds: what is to be done, with what performing it needs; or its first
+-- refusal.
 use Rattle.std.specs.Prelude.{◌≡◌, ◌≢◌, ◌≤◌, ◌<◌, ◌^◌, ℕ, ◌+◌, ℤ, Bool, true, false, length, map, slice_get, bytes_eq, Option, Some, None, IfSome, Result, Ok, Err, IfOk}
 use Rattle.std.specs.List.{IsDistinct}
 use Rattle.hippo_values.specs.Texts.{Txt}
@@ -28,8 +29,8 @@ use Rattle.hippo_world.specs.Auditing.{HeldJob}
 use Rattle.hippo_world.specs.Holding.{world_of}
 use Rattle.hippo_world.specs.Worlds.{at_number, session_at, free_number}
 use Rattle.hippo_lines.specs.Forms as requests
-use Rattle.hippo_following.specs.CommandLaws.{IsOfLine as StandsIn}
-use Rattle.hippo_commands.specs.Commands.{Command, wrong, ask, who_commands, takes_memory}
+use Rattle.hippo_following.specs.CommandLaws.{StandsInLine as StandsIn}
+use Rattle.hippo_commands.specs.Commands.{Command, wrong, make_request, who_commands, takes_memory}
 use Rattle.hippo_commands.specs.Commands as commands
 use Rattle.hippo_judging.specs.declared.asking.Delivery.{Delivery}
 use Rattle.hippo_judging.specs.declared.asking.Delivery.TheVariants as delivered
@@ -38,38 +39,45 @@ use Rattle.hippo_judging.specs.declared.deeds.Deed.TheVariants as kinds
 use Rattle.hippo_judging.specs.declared.deeds.Question.{Question}
 use Rattle.hippo_judging.specs.declared.deeds.Unjudged.{Unjudged}
 use Rattle.hippo_judging.specs.declared.deeds.Unjudged.TheVariants.{Refused, NoQuestion, Unread}
-use Rattle.hippo_judging.specs.Asking.{IsAnswerable, entry_of}
+use Rattle.hippo_judging.specs.Asking.{IsAnswerable, question_entry}
 use Rattle.hippo_judging.specs.Changes.{IsChange}
 use Rattle.hippo_judging.specs.Checks.{Checked, Refuses, question_at, reply_room}
 use Rattle.hippo_judging.specs.Deeds as deeds
 use Rattle.hippo_judging.specs.Judging.{deed_for, judged}
 
--- what holds of each command that a line gives: a refusal of nobody's line is short, and a statement stands in the line
+-- what holds of each command that a line gives: a refusal of nobody's line is short, and a
+-- statement stands in the line
 abbrev pub IsOfLine : Command → Type 0
 IsOfLine (wrong Nobody refusal) = length (refusal_line Nobody refusal) ≤ reply_room
-IsOfLine (commands.state session statement text) = (line : Txt) × StandsIn line statement text
+IsOfLine (commands.make_statement session statement text) =
+    (line : Txt) × StandsIn line statement text
 IsOfLine command = Unit {0}
 
--- a command that takes memory and may be answered by want of it so that nothing changes, in any world: not a step, which
--- leaves its job at some number up to the step's end
+-- a command that takes memory and may be answered by want of it so that nothing changes, in any
+-- world: not a step, which leaves its job at some number up to the step's end
 abbrev pub may_do_nothing : Command → Bool
-may_do_nothing (ask session (requests.steps job count)) = false
+may_do_nothing (make_request session (requests.steps job count)) = false
 may_do_nothing command = takes_memory command
 
 -- a command is judged so, whatever history the state stands for
 abbrev pub IsJudged : Command → State → HeldWorld → Checked deeds.Deed → Type 0
 IsJudged command state world judgement =
-    (history : History) → StandsFor state history → judged history (world_of world) command ≡ judgement
+    (history : History) → StandsFor state history
+    → judged history (world_of world) command ≡ judgement
 
--- a command is refused, or memory was short, if it takes any; where it may not be answered so, its refusal is short
-pub record IsRefused (command : Command) (refusal : Refusal) (state : State) (world : HeldWorld) : Type 0 where
+-- a command is refused, or memory was short, if it takes any; where it may not be answered so, its
+-- refusal is short
+pub record IsRefused (command : Command) (refusal : Refusal) (state : State) (world : HeldWorld)
+    : Type 0 where
   pub refuses : (history : History) → StandsFor state history
       → Refuses (judged history (world_of world) command) refusal
   pub exact : may_do_nothing command ≡ false → IsJudged command state world (Err refusal)
-  pub short : may_do_nothing command ≡ false → length (refusal_line (who_commands command) refusal) ≤ reply_room
+  pub short : may_do_nothing command ≡ false
+      → length (refusal_line (who_commands command) refusal) ≤ reply_room
 
 -- the cursor at a number of an open session
-pub record HoldsCursor (world : HeldWorld) (session at : ℕ) (holds : Session → Cursor → Type 0) : Type 0 where
+pub record HoldsCursor (world : HeldWorld) (session at : ℕ) (holds : Session → Cursor → Type 0)
+    : Type 0 where
   pub held : Session
   pub cursor : Cursor
   pub there : session_at (world_of world) session ≡ Some held
@@ -83,7 +91,8 @@ pub record HoldsJob (world : HeldWorld) (number : ℕ) (holds : HeldJob → Type
   pub does : holds job
 
 -- an entry is the next one, and may follow
-pub record Adds (command : Command) (entry : Entry) (state : State) (world : HeldWorld) : Type 0 where
+pub record AddsNextEntry (command : Command) (entry : Entry) (state : State) (world : HeldWorld)
+    : Type 0 where
   pub console : who_commands command ≡ Console
   pub memory : may_do_nothing command ≡ true
   pub does : (history : History) → StandsFor state history
@@ -108,59 +117,71 @@ deed_by question delivered.Records = kinds.Extract question
 deed_by question (delivered.Cursor number) = kinds.OpenCursor number question
 
 -- a question can be answered, and its entry may follow
-pub record MayBeAsked (command : Command) (question : Question) (delivery : Delivery) (state : State) (world : HeldWorld)
+pub record MayBeAsked (command : Command) (question : Question) (delivery : Delivery)
+    (state : State) (world : HeldWorld)
     : Type 0 where
   pub asker : Session
   pub there : session_at (world_of world) question.session ≡ Some asker
   pub who : who_commands command ≡ speaker_at question.session
   pub memory : may_do_nothing command ≡ true
-  pub does : IsJudged command state world (Ok (deed_for asker (question_by asker question) delivery))
+  pub does : IsJudged command state world
+      (Ok (deed_for asker (question_by asker question) delivery))
   pub answerable : IsAnswerable state question.query
   pub below : state.count + 1 < 2 ^ 63
-  pub follows : MayFollow state (entry_of state world.clock (question_by asker question))
+  pub follows : MayFollow state (question_entry state world.clock (question_by asker question))
 
 -- an audit of the history
-pub record Means (audit : Audit) (state : State) : Type 0 where
+pub record IsAuditOfState (audit : Audit) (state : State) : Type 0 where
   pub fits : (history : History) → StandsFor state history → IsAuditOf history audit
   pub differ : IsDistinct bytes_eq audit.tables
 
 -- what is to be done for a command, and what performing it needs
 abbrev pub Does : Command → Deed → State → HeldWorld → Type 0
 Does command kinds.DoNothing state world = IsJudged command state world (Ok deeds.do_nothing)
-Does command (kinds.SetClock moment) state world = IsJudged command state world (Ok (deeds.set_clock moment))
+Does command (kinds.SetClock moment) state world =
+    IsJudged command state world (Ok (deeds.set_clock moment))
 Does command (kinds.LogIn session user pair) state world =
     (who_commands command ≡ speaker_at session) × (may_do_nothing command ≡ true)
     × IsJudged command state world (Ok (deeds.log_in session user pair))
-Does command (kinds.LogOut session) state world = IsJudged command state world (Ok (deeds.log_out session))
+Does command (kinds.LogOut session) state world =
+    IsJudged command state world (Ok (deeds.log_out session))
 Does command (kinds.HandOut session at count) state world =
     (who_commands command ≡ speaker_at session) × (may_do_nothing command ≡ true)
     × HoldsCursor world session at (λ held cursor.
     IsJudged command state world (Ok (deeds.hand_out session held at cursor count)))
 Does command (kinds.CloseCursor session at) state world =
-    HoldsCursor world session at (λ held cursor. IsJudged command state world (Ok (deeds.close_cursor session held at)))
+    HoldsCursor world session at (λ held cursor. IsJudged command state world
+    (Ok (deeds.close_cursor session held at)))
 Does command (kinds.StepJob number count) state world =
-    (command ≡ ask 0 (requests.steps number count))
-    × HoldsJob world number (λ job. IsJudged command state world (Ok (deeds.step_job number (open_audit job) count)))
+    (command ≡ make_request 0 (requests.steps number count))
+    × HoldsJob world number (λ job. IsJudged command state world
+    (Ok (deeds.step_job number (open_audit job) count)))
 Does command (kinds.DropJob number) state world =
-    (command ≡ ask 0 (requests.drops number))
+    (command ≡ make_request 0 (requests.drops number))
     × HoldsJob world number (λ job. IsJudged command state world (Ok (deeds.drop_job number)))
-Does command (kinds.EndWatch number) state world = IsJudged command state world (Ok (deeds.end_watch number))
-Does command (kinds.Change entry) state world = Adds command entry state world
-Does command (kinds.Answer question) state world = MayBeAsked command question delivered.Rows state world
+Does command (kinds.EndWatch number) state world =
+    IsJudged command state world (Ok (deeds.end_watch number))
+Does command (kinds.Change entry) state world = AddsNextEntry command entry state world
+Does command (kinds.Answer question) state world =
+    MayBeAsked command question delivered.Rows state world
 Does command (kinds.OpenCursor number question) state world =
     MayBeAsked command question (delivered.Cursor number) state world
-Does command (kinds.Extract question) state world = MayBeAsked command question delivered.Records state world
+Does command (kinds.Extract question) state world =
+    MayBeAsked command question delivered.Records state world
 Does command (kinds.Explain entry) state world = ⊥
 Does command (kinds.Audit audit) state world =
-    ((written : RawAudit) × (text : Txt) × (command ≡ commands.state 0 (stmt.Audit written) text))
-    × Means audit state × IsJudged command state world (Ok (deeds.audit audit))
+    ((written : RawAudit) × (text : Txt)
+    × (command ≡ commands.make_statement 0 (stmt.Audit written) text))
+    × IsAuditOfState audit state × IsJudged command state world (Ok (deeds.audit audit))
 Does command (kinds.BeginAudit number audit) state world =
-    ((written : RawAudit) × (text : Txt) × (command ≡ commands.state 0 (stmt.BeginAudit written) text))
-    × Means audit state × (free_number world.jobs ≡ Some number)
+    ((written : RawAudit) × (text : Txt)
+    × (command ≡ commands.make_statement 0 (stmt.BeginAudit written) text))
+    × IsAuditOfState audit state × (free_number world.jobs ≡ Some number)
     × IsJudged command state world (Ok (deeds.begin_audit number audit))
 Does command (kinds.Watch number audit) state world =
-    ((written : RawAudit) × (text : Txt) × (command ≡ commands.state 0 (stmt.Watch written) text))
-    × Means audit state × IsJudged command state world (Ok (deeds.watch number audit))
+    ((written : RawAudit) × (text : Txt)
+    × (command ≡ commands.make_statement 0 (stmt.Watch written) text))
+    × IsAuditOfState audit state × IsJudged command state world (Ok (deeds.watch number audit))
 
 -- a command that names no logged question does this, or is refused
 abbrev pub FindsDeed : Command → Result Deed Refusal → State → HeldWorld → Type 0
@@ -176,46 +197,53 @@ abbrev pub set_with : Audit → Checked ℕ → Result Deed Refusal
 set_with audit (Ok number) = Ok (kinds.Watch number audit)
 set_with audit (Err refusal) = Err refusal
 
--- the question with a number was looked up in a history, or memory was short, or the keeper failed; no step is taken
--- for one that is there
-pub record HasFound (history : History) (number : ℤ) (result : Result (Option Entry) ReadFault) (steps steps' : ℕ)
+-- the question with a number was looked up in a history, or memory was short, or the keeper failed;
+-- no step is taken for one that is there
+pub record HasLookedUp (history : History) (number : ℤ) (result : Result (Option Entry) ReadFault)
+    (steps steps' : ℕ)
     : Type 0 where
   pub is : IfOk result (λ entry. question_at history number ≡ entry)
-  pub there : IfOk result (λ entry. IfSome entry (λ one. (place : Place) × (slice_get history place ≡ Some one)))
+  pub there : IfOk result (λ entry. IfSome entry
+      (λ one. (place : Place) × (slice_get history place ≡ Some one)))
   pub undamaged : (other : ℕ) → result ≢ Err (Damaged other)
   pub few : steps' ≤ steps + versions history
   pub idle : IfOk result (λ entry. IfSome entry (λ one. steps' ≡ steps))
 
 -- looking up the question with a number in the history that is kept
-pub record LooksUp (number : ℤ) (result : Result (Option Entry) ReadFault) (state : State) (before after : KeeperState)
+pub record LooksUp (number : ℤ) (result : Result (Option Entry) ReadFault) (state : State)
+    (before after : KeeperState)
     (steps steps' : ℕ) : Type 0 where
-  pub call : IsAfterCall true false (reads.as_call result) before after
+  pub call : IsAfterCall true false (reads.reading_as_call result) before after
   pub stays : after.tells → KeepsSame before after
-  pub told : after.tells → (history : History) → map stored history ≡ before.kept → StandsFor state history
-      → HasFound history number result steps steps'
+  pub told : after.tells → (history : History) → map stored history ≡ before.kept
+      → StandsFor state history
+      → HasLookedUp history number result steps steps'
 
 -- the console asks why cells were denied to the question with a number, and that is looked up
-pub record LooksUpFor (command : Command) (number : ℤ) (result : Result (Option Entry) ReadFault) (state : State)
+pub record LooksUpFor (command : Command) (number : ℤ) (result : Result (Option Entry) ReadFault)
+    (state : State)
     (before after : KeeperState) (steps steps' : ℕ) : Type 0 where
   pub text : Txt
-  pub is : command ≡ commands.state 0 (stmt.Explain number) text
+  pub is : command ≡ commands.make_statement 0 (stmt.Explain number) text
   pub looks : LooksUp number result state before after steps steps'
 
 -- what judging a command comes to: a question's entry or none was looked up, or nothing was read
-abbrev pub Judges : Command → Result Deed Unjudged → State → HeldWorld → KeeperState → KeeperState → ℕ → ℕ → Type 0
+abbrev pub Judges : Command → Result Deed Unjudged → State → HeldWorld → KeeperState → KeeperState
+    → ℕ → ℕ → Type 0
 Judges command (Ok (kinds.Explain entry)) state world before after steps steps' =
     (number : ℤ) × LooksUpFor command number (Ok (Some entry)) state before after steps steps'
 Judges command (Ok deed) state world before after steps steps' = Does command deed state world
-Judges command (Err (Refused refusal)) state world before after steps steps' = IsRefused command refusal state world
+Judges command (Err (Refused refusal)) state world before after steps steps' =
+    IsRefused command refusal state world
 Judges command (Err (NoQuestion number)) state world before after steps steps' =
     LooksUpFor command number (Ok None) state before after steps steps'
 Judges command (Err (Unread fault)) state world before after steps steps' =
     (number : ℤ) × LooksUpFor command number (Err fault) state before after steps steps'
 
 -- what was found without reading
-abbrev pub unread : Result Deed Refusal → Result Deed Unjudged
-unread (Ok deed) = Ok deed
-unread (Err refusal) = Err (Refused refusal)
+abbrev pub without_reading : Result Deed Refusal → Result Deed Unjudged
+without_reading (Ok deed) = Ok deed
+without_reading (Err refusal) = Err (Refused refusal)
 
 -- nothing was read for what was found
 abbrev pub is_still : Result Deed Unjudged → Bool

@@ -19,7 +19,7 @@ use Rattle.hippo_catalog.specs.Selects.{select_refused, query_of}
 use Rattle.hippo_catalog.specs.AuditExpressions.{audit_refused, audit_of}
 use Rattle.hippo_catalog.specs.ChangesRefused.{change_refused}
 use Rattle.hippo_catalog.specs.ChangesWanted.{wanted_by}
-use Rattle.hippo_tables.specs.Finished.{finished}
+use Rattle.hippo_tables.specs.Finished.{finished_act}
 use Rattle.hippo_csv.specs.declared.faults.CsvFault.{CsvFault}
 use Rattle.hippo_csv.specs.declared.faults.CsvFault.TheVariants as csv
 use Rattle.hippo_csv.specs.Records.{record_fields}
@@ -30,7 +30,7 @@ use Rattle.hippo_world.specs.declared.sessions.Session.{Session}
 use Rattle.hippo_world.specs.Worlds.{World, at_number, free_number}
 use Rattle.hippo_commands.specs.Moments.{period_in}
 use Rattle.hippo_lines.specs.Forms.{Request, logs_in, logs_out, fetches, closes, steps, drops, unwatches, loads}
-use Rattle.hippo_commands.specs.Commands.{Command, nothing, wrong, ask, state}
+use Rattle.hippo_commands.specs.Commands.{Command, nothing, wrong, make_request, make_statement}
 use Rattle.hippo_commands.specs.Commands as commands
 use Rattle.hippo_judging.specs.declared.asking.Delivery.{Delivery}
 use Rattle.hippo_judging.specs.declared.asking.Delivery.TheVariants as delivered
@@ -38,12 +38,13 @@ use Rattle.hippo_judging.specs.declared.asking.Handing.{Handing}
 use Rattle.hippo_judging.specs.declared.asking.Handing.TheVariants.{Rows, Records, Cursor}
 use Rattle.hippo_judging.specs.Deeds.{Deed, Question}
 use Rattle.hippo_judging.specs.Deeds as deeds
-use Rattle.hippo_judging.specs.Checks.{Checked, ◌>>=◌, refused_if, by_console, open_session, may_log_in, authorized, meant, act_made, has_room, question_at}
+use Rattle.hippo_judging.specs.Checks.{Checked, ◌>>=◌, refused_if, by_console, open_session, may_log_in, by_authorized_user, unless_refused, act_made, has_room, question_at}
 
 -- the clock does not go back
 abbrev pub judged_clock : World → ℤ → Checked Deed
 judged_clock world moment =
-    refused_if (int_lt moment world.clock) (MomentBack world.clock) >>= λ _. Ok (deeds.set_clock moment)
+    refused_if (int_lt moment world.clock) (MomentBack world.clock) >>=
+    λ _. Ok (deeds.set_clock moment)
 
 abbrev pub judged_login : History → World → ℕ → Name → Pair → Checked Deed
 judged_login history world number user pair =
@@ -85,7 +86,7 @@ judged_unwatch world number at = do
 -- what is wanted is made, where the rows that are there let it be, and the history has room
 abbrev pub judged_wanted : History → World → Wanted → Checked Deed
 judged_wanted history world wanted = do
-  act ← act_made (finished history wanted)
+  act ← act_made (finished_act history wanted)
   room ← has_room history world
   Ok (deeds.change act)
 
@@ -93,18 +94,20 @@ judged_wanted history world wanted = do
 abbrev pub judged_change : History → World → ℕ → Stmt → Checked Deed
 judged_change history world number statement = do
   console ← by_console number
-  change ← meant (change_refused (known_at history) statement) (wanted_by (known_at history) statement)
+  change ← unless_refused (change_refused (known_at history) statement)
+      (wanted_by (known_at history) statement)
   wanted ← ok_or change BadSyntax
   judged_wanted history world wanted
 
 -- the name of the column at a place
-abbrev pub name_at : Schema → ℕ → Name
-name_at schema place = option_map_or (λ column. column.name) (slice_get schema.columns place) []
+abbrev pub schema_column_name : Schema → ℕ → Name
+schema_column_name schema place =
+    option_map_or (λ column. column.name) (slice_get schema.columns place) []
 
 -- why the fields of a record are no row of a table
 abbrev pub record_refusal : Schema → CsvFault → Refusal
 record_refusal schema csv.Count = Meaningless (faults.WrongCount (length schema.columns))
-record_refusal schema (csv.Field place) = BadField (name_at schema place)
+record_refusal schema (csv.Field place) = BadField (schema_column_name schema place)
 record_refusal schema csv.Memory = Memory
 
 -- the row of a table that a text is, as one record
@@ -114,8 +117,8 @@ loaded_row schema text = do
   result_map_both (λ row. row) (record_refusal schema) (row_of_fields schema fields)
 
 -- the INSERT of that row
-abbrev pub insert_of : KnownNames → Name → Txt → Checked Stmt
-insert_of known table text = do
+abbrev pub loaded_insert : KnownNames → Name → Txt → Checked Stmt
+loaded_insert known table text = do
   schema ← ok_or (table_of known table) (Meaningless (faults.UnknownTable table))
   row ← loaded_row schema text
   Ok (stmt.Insert table row)
@@ -124,7 +127,7 @@ insert_of known table text = do
 abbrev pub judged_load : History → World → ℕ → Name → Txt → Checked Deed
 judged_load history world number table text = do
   console ← by_console number
-  insert ← insert_of (known_at history) table text
+  insert ← loaded_insert (known_at history) table text
   judged_change history world number insert
 
 -- the text of a question, from its first byte to its last
@@ -135,18 +138,26 @@ text_between text start end = take (end - start) (drop start text)
 abbrev pub question_in : History → World → ℕ → RawSelect → Txt → Checked Question
 question_in history world number select text = do
   session ← open_session world number
-  allowed ← authorized history session.user session.pair
-  query ← meant (select_refused (known_at history) select) (query_of (known_at history) select)
-  Ok (record { session = number; user = session.user; pair = session.pair; text = text; query = query })
+  allowed ← by_authorized_user history session.user session.pair
+  query ← unless_refused (select_refused (known_at history) select)
+      (query_of (known_at history) select)
+  Ok (record {
+    session = number;
+    user = session.user;
+    pair = session.pair;
+    text = text;
+    query = query;
+  })
 
 -- how an answer is handed out: an OPEN wants a free cursor of its session
 abbrev pub delivery_for : Handing → Session → Checked Delivery
 delivery_for Rows session = Ok delivered.Rows
 delivery_for Records session = Ok delivered.Records
-delivery_for Cursor session = ok_or (option_map delivered.Cursor (free_number session.cursors)) CursorLimit
+delivery_for Cursor session =
+    ok_or (option_map delivered.Cursor (free_number session.cursors)) CursorLimit
 
 abbrev pub deed_for : Session → Question → Delivery → Deed
-deed_for session question delivered.Rows = deeds.answer question
+deed_for session question delivered.Rows = deeds.answer_question question
 deed_for session question delivered.Records = deeds.extract question
 deed_for session question (delivered.Cursor number) = deeds.open_cursor session number question
 
@@ -169,10 +180,12 @@ judged_explain history number question = do
 abbrev pub audit_in : History → ℕ → RawAudit → Checked Audit
 audit_in history number audit = do
   console ← by_console number
-  meant (audit_refused (known_at history) (period_in audit) audit) (audit_of (known_at history) (period_in audit) audit)
+  unless_refused (audit_refused (known_at history) (period_in audit) audit)
+      (audit_of (known_at history) (period_in audit) audit)
 
 abbrev pub judged_audit : History → ℕ → RawAudit → Checked Deed
-judged_audit history number written = audit_in history number written >>= λ audit. Ok (deeds.audit audit)
+judged_audit history number written =
+    audit_in history number written >>= λ audit. Ok (deeds.audit audit)
 
 abbrev pub judged_begin : History → World → ℕ → RawAudit → Checked Deed
 judged_begin history world number written = do
@@ -193,10 +206,13 @@ judged_statement history world number (stmt.Ask select start end) text =
     judged_question Cursor history world number select (text_between text start end)
 judged_statement history world number (stmt.Extract select start end) text =
     judged_question Records history world number select (text_between text start end)
-judged_statement history world number (stmt.Explain question) text = judged_explain history number question
+judged_statement history world number (stmt.Explain question) text =
+    judged_explain history number question
 judged_statement history world number (stmt.Audit audit) text = judged_audit history number audit
-judged_statement history world number (stmt.BeginAudit audit) text = judged_begin history world number audit
-judged_statement history world number (stmt.Watch audit) text = judged_watch history world number audit
+judged_statement history world number (stmt.BeginAudit audit) text =
+    judged_begin history world number audit
+judged_statement history world number (stmt.Watch audit) text =
+    judged_watch history world number audit
 judged_statement history world number statement text = judged_change history world number statement
 
 abbrev pub judged_request : History → World → ℕ → Request → Checked Deed
@@ -215,5 +231,6 @@ abbrev pub judged : History → World → Command → Checked Deed
 judged history world nothing = Ok deeds.do_nothing
 judged history world (wrong who refusal) = Err refusal
 judged history world (commands.set_clock moment) = judged_clock world moment
-judged history world (ask number request) = judged_request history world number request
-judged history world (state number statement text) = judged_statement history world number statement text
+judged history world (make_request number request) = judged_request history world number request
+judged history world (make_statement number statement text) =
+    judged_statement history world number statement text

@@ -9,10 +9,10 @@ ghost use Rattle.hippo_catalog.specs.Selects.{select_refused, query_of};
 ghost use Rattle.hippo_following.specs.Written.{names_fit};
 ghost use Rattle.hippo_replay.specs.Standing.{StandsFor, IsSound, IsTimely};
 ghost use Rattle.hippo_world.specs.Holding.{world_of};
-ghost use Rattle.hippo_judging.specs.Checks.{Finds, open_session, meant};
+ghost use Rattle.hippo_judging.specs.Checks.{Finds, open_session, unless_refused};
 ghost use Rattle.hippo_judging.specs.declared.asking.Delivery.TheVariants as delivered;
 ghost use Rattle.hippo_judging.specs.Judging.{delivery_for, judged_question, text_between};
-ghost use Rattle.hippo_judging.specs.Asking.{IsWritten, command_of, IsAnswerable};
+ghost use Rattle.hippo_judging.specs.Asking.{IsWritten, written_command, IsAnswerable};
 ghost use Rattle.hippo_judging.specs.Asking.{delivery_in_room, asking_with, deed_asked};
 ghost use Rattle.hippo_judging.specs.Findings.{IsOfLine, FindsDeed, deed_by};
 
@@ -37,8 +37,8 @@ pub enum Handing {
     Cursor,
 }
 
-/// A question as it is written: its select, what its answer is to be, and where it begins and ends in its text, in
-/// bytes.
+/// A question as it is written: its select, what its answer is to be, and where it begins and ends
+/// in its text, in bytes.
 #[derive(Clone, Copy)]
 pub struct WrittenQuestion<'a> {
     pub handing: Handing,
@@ -83,8 +83,8 @@ pub(crate) fn written_question(statement: &Stmt) -> Option<WrittenQuestion<'_>>
     })
 }
 
-// The part of a text that is a question; one that cannot be cut out, or is longer than a line, is answered by want of
-// memory.
+// The part of a text that is a question; one that cannot be cut out, or is longer than a line, is
+// answered by want of memory.
 fn cut(text: &str, start: usize, end: usize) -> Result<&str, Refusal>
     ensures cut { MatchResult result (λ cut. cut.now ≡ text_between text.now start end)
         (λ refusal. refusal ≡ NoMemory) }
@@ -103,7 +103,8 @@ fn cut(text: &str, start: usize, end: usize) -> Result<&str, Refusal>
 
 // Who asks in a session.
 fn asker(world: &World, session: u8) -> Result<&Session, Refusal>
-    ensures { MatchResult result (λ asker. open_session (world_of world.now) session ≡ Good asker.now)
+    ensures { MatchResult result (λ asker. open_session (world_of world.now) session
+        ≡ Good asker.now)
         (λ refusal. open_session (world_of world.now) session ≡ Bad refusal) }
 {
     open_session(world, session)
@@ -114,7 +115,8 @@ fn meaning(alloc: Global, state: &State, select: &RawSelect) -> Result<Query, Re
     requires { IsSound state.now }
     ensures found { (history : History) → StandsFor state.now history
         → Finds (λ query. query)
-        (meant (select_refused (known_at history) select.now) (query_of (known_at history) select.now)) result }
+        (unless_refused (select_refused (known_at history) select.now)
+        (query_of (known_at history) select.now)) result }
     ensures answerable { IfOk result (λ query. IsAnswerable state.now query) }
 {
     match resolve_select(alloc, &state.catalog, select) {
@@ -125,7 +127,8 @@ fn meaning(alloc: Global, state: &State, select: &RawSelect) -> Result<Query, Re
 
 // A number that a cursor may have; one that none has is answered by want of memory.
 fn cursor_number(number: usize) -> Result<Delivery, Refusal>
-    ensures { MatchResult result (λ delivery. delivery ≡ delivered.Cursor number) (λ refusal. refusal ≡ NoMemory) }
+    ensures { MatchResult result (λ delivery. delivery ≡ delivered.Cursor number)
+        (λ refusal. refusal ≡ NoMemory) }
 {
     match u8::try_from(number) {
         Ok(number) => Ok(Delivery::Cursor(number)),
@@ -160,7 +163,8 @@ fn delivery_in_room(
     count: u64,
     limit: u32,
 ) -> Result<Delivery, Refusal>
-    ensures found { Finds (λ delivery. delivery) (delivery_in_room handing asker.now count limit) result }
+    ensures found { Finds (λ delivery. delivery) (delivery_in_room handing asker.now count limit)
+        result }
     ensures below { OnOk result (count + 1 < 2 ^ 63) }
 {
     let delivery = delivery_for(handing, asker)?;
@@ -192,9 +196,11 @@ fn question<'a>(
 ) -> Result<Asking<'a>, Refusal>
     requires { IsSound state.now }
     ensures found { (history : History) → StandsFor state.now history → Finds (deed_asked session)
-        (judged_question written.now.handing history (world_of world.now) session written.now.select.now text.now)
+        (judged_question written.now.handing history (world_of world.now) session
+        written.now.select.now text.now)
         result }
-    ensures asker { IfOk result (λ asking. open_session (world_of world.now) session ≡ Good asking.asker.now) }
+    ensures asker { IfOk result (λ asking. open_session (world_of world.now) session
+        ≡ Good asking.asker.now) }
     ensures answerable { IfOk result (λ asking. IsAnswerable state.now asking.query) }
     ensures text { IfOk result (λ asking. asking.text.now ≡ text.now) }
     ensures below { OnOk result (state.now.count + 1 < 2 ^ 63) }
@@ -223,7 +229,11 @@ fn names_fit(asker: &Session)
 
 // What is to be done for a question, whose text is the line's own.
 fn deed_of<'t>(session: u8, text: &'t str, asking: Asking<'_>) -> Deed<'t>
-    ensures { result ≡ deed_by (record { session = session; text = text.entry; query = asking.entry.query })
+    ensures { result ≡ deed_by (record {
+      session = session;
+      text = text.entry;
+      query = asking.entry.query;
+    })
         asking.entry.delivery }
 {
     let question = Question {
@@ -238,9 +248,10 @@ fn deed_of<'t>(session: u8, text: &'t str, asking: Asking<'_>) -> Deed<'t>
     }
 }
 
-/// What is to be done for a SELECT, an EXTRACT or an OPEN that stands in a text, or why it may not be asked: its session
-/// has to be open, its user still authorized, its names and types have to mean something, an OPEN's session has to have
-/// a cursor left, and the history has to have room. Want of memory may refuse it, too.
+/// What is to be done for a SELECT, an EXTRACT or an OPEN that stands in a text, or why it may not
+/// be asked: its session has to be open, its user still authorized, its names and types have to
+/// mean something, an OPEN's session has to have a cursor left, and the history has to have room.
+/// Want of memory may refuse it, too.
 pub(crate) fn judge_question<'t>(
     alloc: Global,
     state: &State,
@@ -251,8 +262,8 @@ pub(crate) fn judge_question<'t>(
 ) -> Result<Deed<'t>, Refusal>
     requires sound { IsSound state.now }
     requires timely { IsTimely state.now world.now.clock }
-    requires of_line { IsOfLine (command_of session written.now text.now) }
-    ensures { FindsDeed (command_of session written.now text.now) result state.now world.now }
+    requires of_line { IsOfLine (written_command session written.now text.now) }
+    ensures { FindsDeed (written_command session written.now text.now) result state.now world.now }
 {
     let part = cut(text, written.start, written.end)?;
     match question(alloc, state, world, session, written, part) {

@@ -6,7 +6,7 @@ ghost use Rattle.hippo_audit_job.specs.Examining.{IsAuditOf};
 ghost use Rattle.hippo_replay.specs.Standing.{StandsFor, IsSound};
 ghost use Rattle.hippo_catalog.specs.AuditExpressions.{audit_refused, audit_of};
 ghost use Rattle.hippo_commands.specs.Moments.{period_in};
-ghost use Rattle.hippo_judging.specs.Checks.{Finds, meant};
+ghost use Rattle.hippo_judging.specs.Checks.{Finds, unless_refused};
 ghost use Rattle.hippo_judging.specs.Judging.{audit_in};
 
 use crate::console_checks::check_console;
@@ -21,7 +21,7 @@ use std::alloc::Global;
 // What an audit expression means, by names, types and period.
 fn meaning(alloc: Global, catalog: &Catalog, written: &RawAudit) -> Result<Audit, Refusal>
     ensures found { let period = period_in written.now in Finds (λ audit. audit)
-        (meant (audit_refused catalog.now.names period written.now)
+        (unless_refused (audit_refused catalog.now.names period written.now)
         (audit_of catalog.now.names period written.now)) result }
     ensures unrefused { let period = period_in written.now in IfOk result (λ audit.
         (audit_refused catalog.now.names period written.now ≡ [])

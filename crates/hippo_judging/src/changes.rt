@@ -2,8 +2,8 @@
 ghost use Rattle.std.specs.Prelude.{◌≡◌, ◌^◌, ◌<◌, true, length, IfOk, OnOk};
 ghost use Rattle.hippo_values.specs.Moments.{is_moment};
 ghost use Rattle.hippo_model.specs.Terms.{History};
-ghost use Rattle.hippo_tables.specs.Finished.{finished};
-ghost use Rattle.hippo_tables.specs.Standing.{StandsFor as TablesStandFor};
+ghost use Rattle.hippo_tables.specs.Finished.{finished_act};
+ghost use Rattle.hippo_tables.specs.Standing.{TablesStandFor};
 ghost use Rattle.hippo_replay.specs.Standing.{StandsFor, MayFollow, IsTimely};
 ghost use Rattle.hippo_world.specs.Holding.{world_of};
 ghost use Rattle.hippo_following.specs.Written.{is_written};
@@ -46,7 +46,7 @@ fn check_names(alloc: Global, catalog: &Catalog, statement: &Stmt) -> Result<Wan
 // What is wanted is made, where the rows that are there let it be.
 fn check_rows(alloc: Global, tables: &Tables, wanted: Wanted) -> Result<Act, Refusal>
     ensures { (history : History) → TablesStandFor tables.now history
-        → Finds (λ found. found) (act_made (finished history wanted)) result }
+        → Finds (λ found. found) (act_made (finished_act history wanted)) result }
 {
     match tables.finish(alloc, wanted) {
         Ok(act) => Ok(act),
@@ -57,7 +57,8 @@ fn check_rows(alloc: Global, tables: &Tables, wanted: Wanted) -> Result<Act, Ref
 // The next entry with an act, where the history has room for it.
 fn entry_in_room(count: u64, world: &World, act: Act) -> Result<Entry, Refusal>
     ensures found { (history : History) → count ≡ length history
-        → FindsChange history (world_of world.now) (change_in_room history (world_of world.now) act) result }
+        → FindsChange history (world_of world.now) (change_in_room history (world_of world.now) act)
+        result }
     ensures number { IfOk result (λ entry. entry.seq < 2 ^ 63) }
     ensures moment { IfOk result (λ entry. is_moment entry.moment ≡ true) }
 {

@@ -24,7 +24,8 @@ pub(crate) fn check_console(session: u8) -> Result<(), Refusal>
 /// which none stands. Its refusals are short.
 pub(crate) fn held_watch(world: &World, session: u8, number: u8) -> Result<(), Refusal>
     ensures found { result ≡ held_watch (world_of world.now) session number }
-    ensures fits { IfErr result (λ refusal. length (refusal_line (speaker_at session) refusal) ≤ reply_room) }
+    ensures fits { IfErr result (λ refusal. length (refusal_line (speaker_at session) refusal)
+        ≤ reply_room) }
 {
     if session != 0 {
         return Err(Refusal::ConsoleOnly);
@@ -35,12 +36,13 @@ pub(crate) fn held_watch(world: &World, session: u8, number: u8) -> Result<(), R
     }
 }
 
-/// Whether a job stands at a number, for the console: a session is refused, and so is a number at which none stands. Its
-/// refusals are short.
+/// Whether a job stands at a number, for the console: a session is refused, and so is a number at
+/// which none stands. Its refusals are short.
 pub(crate) fn check_job(world: &World, session: u8, number: u8) -> Result<(), Refusal>
     ensures found { MatchResult result (λ passed. (session ≡ 0) × StandsJob world.now number)
         (λ refusal. job_at (world_of world.now) session number ≡ Bad refusal) }
-    ensures fits { IfErr result (λ refusal. length (refusal_line (speaker_at session) refusal) ≤ reply_room) }
+    ensures fits { IfErr result (λ refusal. length (refusal_line (speaker_at session) refusal)
+        ≤ reply_room) }
 {
     if session != 0 {
         return Err(Refusal::ConsoleOnly);

@@ -12,8 +12,8 @@ pub struct Question<'a> {
     pub query: Query,
 }
 
-/// What is to be done for a line, with what the checks found. Sessions, cursors, jobs and watches are told by their
-/// numbers.
+/// What is to be done for a line, with what the checks found. Sessions, cursors, jobs and watches
+/// are told by their numbers.
 #[derive(Drop)]
 pub enum Deed<'a> {
     DoNothing,

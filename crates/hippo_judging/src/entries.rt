@@ -3,7 +3,7 @@ ghost use Rattle.std.specs.Prelude.{◌≡◌, ◌≤◌, ◌∷◌, [], true};
 ghost use Rattle.std.specs.Bool.{then_some};
 ghost use Rattle.hippo_keeper.specs.Keeping.{IsReady};
 ghost use Rattle.hippo_model.specs.HandedOver.{is_question};
-ghost use Rattle.hippo_judging.specs.Entries.{number_in, IsRead, ReadsEntry};
+ghost use Rattle.hippo_judging.specs.Entries.{number_within, IsRead, ReadsEntry};
 ghost use Rattle.hippo_judging.specs.Findings.{LooksUp};
 
 use hippo_backlog::{ReadFault, fault_of};
@@ -17,7 +17,7 @@ use std::sync::ledger::Ledger;
 
 // A number as that of one of so many entries; none where it is below one or above their count.
 fn number_in(number: &i64, count: u64) -> Option<u64>
-    ensures { result ≡ number_in number.now count }
+    ensures { result ≡ number_within number.now count }
 {
     if *number < 1 {
         return None;
@@ -72,7 +72,8 @@ fn read_entry<P: Keeper, L: Ledger>(
 ) -> Result<Entry, ReadFault>
     requires ready { IsReady true (P.state keeper.old) }
     requires some { 1 ≤ number }
-    ensures reads { ReadsEntry number result (P.state keeper.old) (P.state keeper.new) steps.old steps.new }
+    ensures reads { ReadsEntry number result (P.state keeper.old) (P.state keeper.new) steps.old
+        steps.new }
 {
     match keeper.read_all(alloc, number - 1, 1, steps) {
         Ok(list) => {
@@ -96,8 +97,8 @@ fn if_question(entry: Entry) -> Option<Entry>
     }
 }
 
-/// The question with a number in the history that a keeper keeps; none where no question has it. Or a fault, as reading
-/// an entry has it. A version that is read counts as a step.
+/// The question with a number in the history that a keeper keeps; none where no question has it. Or
+/// a fault, as reading an entry has it. A version that is read counts as a step.
 pub(crate) fn question_at<P: Keeper, L: Ledger>(
     alloc: Global,
     keeper: &mut P,

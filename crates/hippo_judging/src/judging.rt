@@ -25,13 +25,14 @@ pub fn who_commands(found: &Command<'_>) -> Speaker
         Command::Nothing => Speaker::Nobody,
         Command::Wrong { who, .. } => *who,
         Command::SetClock { .. } => Speaker::Nobody,
-        Command::Ask { session, .. } => Speaker::at(*session),
-        Command::State { session, .. } => Speaker::at(*session),
+        Command::Request { session, .. } => Speaker::at(*session),
+        Command::Statement { session, .. } => Speaker::at(*session),
     }
 }
 
-/// What is to be done for a command, or why not: its first refusal, or want of memory. An EXPLAIN of the console looks up
-/// its question in what the keeper keeps, where each version that is read counts as a step; nothing else reads.
+/// What is to be done for a command, or why not: its first refusal, or want of memory. An EXPLAIN
+/// of the console looks up its question in what the keeper keeps, where each version that is read
+/// counts as a step; nothing else reads.
 pub fn judge<'t, P: Keeper, L: Ledger>(
     alloc: Global,
     state: &State,
@@ -44,7 +45,8 @@ pub fn judge<'t, P: Keeper, L: Ledger>(
     requires timely { IsTimely state.now world.now.clock }
     requires ready { IsReady true (P.state keeper.old) }
     requires of_line { IsOfLine (command found) }
-    ensures judges { Judges (command found.entry) result state.now world.now (P.state keeper.old) (P.state keeper.new)
+    ensures judges { Judges (command found.entry) result state.now world.now (P.state keeper.old)
+        (P.state keeper.new)
         steps.old steps.new }
     ensures still { is_still result ≡ true → keeper.new ≡ keeper.old }
     ensures idle { is_still result ≡ true → steps.new ≡ steps.old }
@@ -53,10 +55,10 @@ pub fn judge<'t, P: Keeper, L: Ledger>(
         Command::Nothing => Ok(Deed::DoNothing),
         Command::Wrong { refusal, .. } => Err(Unjudged::Refused(refusal)),
         Command::SetClock { moment } => unread(judge_clock(world, moment)),
-        Command::Ask { session, request } => unread(judge_request(
+        Command::Request { session, request } => unread(judge_request(
             alloc, state, world, session, &request,
         )),
-        Command::State {
+        Command::Statement {
             session,
             statement,
             text,

@@ -13,7 +13,7 @@ ghost use Rattle.hippo_replay.specs.Standing.{StandsFor, MayFollow, IsTimely};
 ghost use Rattle.hippo_report.specs.declared.refusal.Refusal.TheVariants.{Memory as NoMemory};
 ghost use Rattle.hippo_world.specs.Holding.{world_of};
 ghost use Rattle.hippo_judging.specs.Checks.{Finds};
-ghost use Rattle.hippo_judging.specs.Judging.{record_refusal, loaded_row, insert_of, judged_load};
+ghost use Rattle.hippo_judging.specs.Judging.{record_refusal, loaded_row, loaded_insert, judged_load};
 ghost use Rattle.hippo_judging.specs.Changes.{FindsChange};
 
 use crate::changes::entry_for;
@@ -55,7 +55,8 @@ fn record_refusal(alloc: Global, schema: &Schema, fault: CsvFault) -> Refusal
 // The row that fields are, or why they are none.
 fn row_of(alloc: Global, schema: &Schema, fields: &Fields) -> Result<Cells, Refusal>
     ensures { Finds (λ row. row)
-        (result_map_both (λ row. row) (record_refusal schema.now) (row_of_fields schema.now fields.now)) result }
+        (result_map_both (λ row. row) (record_refusal schema.now)
+        (row_of_fields schema.now fields.now)) result }
 {
     match field_values(alloc, schema, fields) {
         Ok(row) => Ok(row),
@@ -74,8 +75,8 @@ fn loaded_row(alloc: Global, schema: &Schema, text: &str) -> Result<Cells, Refus
     }
 }
 
-// By their types each number has 64 bits, each text is UTF-8, and each day is one of the years 0001 to 9999: nothing of
-// them is looked at.
+// By their types each number has 64 bits, each text is UTF-8, and each day is one of the years 0001
+// to 9999: nothing of them is looked at.
 fn number_fits(_number: i64)
     ensures { is_signed_number _number ≡ true }
 {}
@@ -118,7 +119,8 @@ fn insert_fits(table: &Name, values: &[Value])
 
 // The INSERT of that row into a table.
 fn insert_into(alloc: Global, catalog: &Catalog, table: Name, text: &str) -> Result<Stmt, Refusal>
-    ensures found { Finds (λ insert. insert) (insert_of catalog.now.names table text.now) result }
+    ensures found { Finds (λ insert. insert) (loaded_insert catalog.now.names table text.now)
+        result }
     ensures written { IfOk result (λ insert. is_written insert ≡ true) }
 {
     match catalog.table(&table) {
@@ -137,7 +139,8 @@ fn insert_of(
     table: &WrittenName<'_>,
     text: &str,
 ) -> Result<Stmt, Refusal>
-    ensures found { Finds (λ insert. insert) (insert_of catalog.now.names table.now text.now) result }
+    ensures found { Finds (λ insert. insert) (loaded_insert catalog.now.names table.now text.now)
+        result }
     ensures written { IfOk result (λ insert. is_written insert ≡ true) }
 {
     match table.name(alloc) {
@@ -147,9 +150,9 @@ fn insert_of(
 }
 
 /// The entry that a record for a table adds, which is that of its row's INSERT and may follow the
-/// history. Or its first refusal: that it is a session's, that there is no such table, that the text
-/// is not one record with a field of its form for each column, or that of the INSERT. Want of memory
-/// may refuse it, too.
+/// history. Or its first refusal: that it is a session's, that there is no such table, that the
+/// text is not one record with a field of its form for each column, or that of the INSERT. Want of
+/// memory may refuse it, too.
 pub(crate) fn entry_of_record(
     alloc: Global,
     state: &State,

@@ -9,7 +9,8 @@ use hippo_report::Refusal;
 
 /// The refusal of a statement that means nothing, or of one for which memory was short.
 pub(crate) fn name_refusal(fault: NameFault) -> Refusal
-    ensures { (fault ≢ faults.Memory × result ≡ refusals.Meaningless fault) ⊎ (result ≡ refusals.Memory) }
+    ensures { (fault ≢ faults.Memory × result ≡ refusals.Meaningless fault)
+        ⊎ (result ≡ refusals.Memory) }
 {
     match fault {
         NameFault::Memory => Refusal::Memory,

@@ -60,7 +60,8 @@ fn judge_user(
     user: Name,
     pair: Pair,
 ) -> Result<Deed<'static>, Refusal>
-    ensures { FindsDeed (commands.ask session (requests.logs_in user pair.purpose pair.recipient)) result
+    ensures { FindsDeed (commands.make_request session
+        (requests.logs_in user pair.purpose pair.recipient)) result
         state.now world.now }
 {
     match check_login(state, world, session, &user, &pair) {
@@ -82,7 +83,8 @@ fn judge_login(
     purpose: &WrittenName<'_>,
     recipient: &WrittenName<'_>,
 ) -> Result<Deed<'static>, Refusal>
-    ensures { FindsDeed (commands.ask session (requests.logs_in user.now purpose.now recipient.now)) result
+    ensures { FindsDeed (commands.make_request session
+        (requests.logs_in user.now purpose.now recipient.now)) result
         state.now world.now }
 {
     match login_names(alloc, user, purpose, recipient) {
@@ -92,7 +94,8 @@ fn judge_login(
 }
 
 fn judge_logout(world: &World, session: u8) -> Result<Deed<'static>, Refusal>
-    ensures { (state : HeldState) → FindsDeed (commands.ask session requests.logs_out) result state world.now }
+    ensures { (state : HeldState) → FindsDeed (commands.make_request session requests.logs_out)
+        result state world.now }
 {
     match open_session(world, session) {
         Ok(_) => Ok(Deed::LogOut { session }),
@@ -102,7 +105,8 @@ fn judge_logout(world: &World, session: u8) -> Result<Deed<'static>, Refusal>
 
 fn judge_fetch(world: &World, session: u8, cursor: u8, count: u32) -> Result<Deed<'static>, Refusal>
     ensures { (state : HeldState)
-        → FindsDeed (commands.ask session (requests.fetches cursor count)) result state world.now }
+        → FindsDeed (commands.make_request session (requests.fetches cursor count)) result state
+        world.now }
 {
     match open_cursor(world, session, cursor) {
         Ok(_) => Ok(Deed::HandOut {
@@ -116,7 +120,8 @@ fn judge_fetch(world: &World, session: u8, cursor: u8, count: u32) -> Result<Dee
 
 fn judge_close(world: &World, session: u8, cursor: u8) -> Result<Deed<'static>, Refusal>
     ensures { (state : HeldState)
-        → FindsDeed (commands.ask session (requests.closes cursor)) result state world.now }
+        → FindsDeed (commands.make_request session (requests.closes cursor)) result state
+        world.now }
 {
     match open_cursor(world, session, cursor) {
         Ok(_) => Ok(Deed::CloseCursor { session, cursor }),
@@ -126,7 +131,8 @@ fn judge_close(world: &World, session: u8, cursor: u8) -> Result<Deed<'static>, 
 
 fn judge_step(world: &World, session: u8, job: u8, count: u32) -> Result<Deed<'static>, Refusal>
     ensures { (state : HeldState)
-        → FindsDeed (commands.ask session (requests.steps job count)) result state world.now }
+        → FindsDeed (commands.make_request session (requests.steps job count)) result state
+        world.now }
 {
     match check_job(world, session, job) {
         Ok(()) => Ok(Deed::StepJob { job, count }),
@@ -136,7 +142,7 @@ fn judge_step(world: &World, session: u8, job: u8, count: u32) -> Result<Deed<'s
 
 fn judge_drop(world: &World, session: u8, job: u8) -> Result<Deed<'static>, Refusal>
     ensures { (state : HeldState)
-        → FindsDeed (commands.ask session (requests.drops job)) result state world.now }
+        → FindsDeed (commands.make_request session (requests.drops job)) result state world.now }
 {
     match check_job(world, session, job) {
         Ok(()) => Ok(Deed::DropJob { job }),
@@ -146,7 +152,8 @@ fn judge_drop(world: &World, session: u8, job: u8) -> Result<Deed<'static>, Refu
 
 fn judge_unwatch(world: &World, session: u8, watch: u8) -> Result<Deed<'static>, Refusal>
     ensures { (state : HeldState)
-        → FindsDeed (commands.ask session (requests.unwatches watch)) result state world.now }
+        → FindsDeed (commands.make_request session (requests.unwatches watch)) result state
+        world.now }
 {
     match held_watch(world, session, watch) {
         Ok(()) => Ok(Deed::EndWatch { watch }),
@@ -163,7 +170,8 @@ fn judge_load(
     text: &str,
 ) -> Result<Deed<'static>, Refusal>
     requires timely { IsTimely state.now world.now.clock }
-    ensures { FindsDeed (commands.ask session (requests.loads table.now text.now)) result state.now world.now }
+    ensures { FindsDeed (commands.make_request session (requests.loads table.now text.now)) result
+        state.now world.now }
 {
     match entry_of_record(alloc, state, world, session, table, text) {
         Ok(entry) => Ok(Deed::Change { entry }),
@@ -180,7 +188,8 @@ pub(crate) fn judge_request(
     asked: &RequestForm<'_>,
 ) -> Result<Deed<'static>, Refusal>
     requires timely { IsTimely state.now world.now.clock }
-    ensures { FindsDeed (commands.ask session (request asked.now)) result state.now world.now }
+    ensures { FindsDeed (commands.make_request session (request asked.now)) result state.now
+        world.now }
 {
     match asked {
         RequestForm::Login {

@@ -8,7 +8,7 @@ ghost use Rattle.hippo_report.specs.Refusals.{refusal_line};
 ghost use Rattle.hippo_report.specs.Speakers.{speaker_at};
 ghost use Rattle.hippo_world.specs.Worlds.{at_number};
 ghost use Rattle.hippo_world.specs.Holding.{world_of};
-ghost use Rattle.hippo_judging.specs.Checks.{open_session, open_cursor, closed_session, authorized};
+ghost use Rattle.hippo_judging.specs.Checks.{open_session, cursor_in_session, closed_session, by_authorized_user};
 ghost use Rattle.hippo_judging.specs.Checks.{may_log_in, reply_room};
 
 use hippo_model::{Authorization, Pair};
@@ -22,7 +22,8 @@ use hippo_world::{Cursor, Session, World};
 pub(crate) fn open_session(world: &World, number: u8) -> Result<&Session, Refusal>
     ensures found { result_map_both (λ session. session.now) (λ refusal. refusal) result
         ≡ open_session (world_of world.now) number }
-    ensures fits { IfErr result (λ refusal. length (refusal_line (speaker_at number) refusal) ≤ reply_room) }
+    ensures fits { IfErr result (λ refusal. length (refusal_line (speaker_at number) refusal)
+        ≤ reply_room) }
 {
     if number == 0 {
         return Err(Refusal::SessionsOnly);
@@ -36,7 +37,8 @@ pub(crate) fn open_session(world: &World, number: u8) -> Result<&Session, Refusa
 fn held_cursor(session: &Session, number: u8, cursor: u8) -> Result<&Cursor, Refusal>
     ensures found { result_map_both (λ held. held.now) (λ refusal. refusal) result
         ≡ ok_or (at_number session.now.cursors cursor) (CursorMissing cursor) }
-    ensures fits { IfErr result (λ refusal. length (refusal_line (speaker_at number) refusal) ≤ reply_room) }
+    ensures fits { IfErr result (λ refusal. length (refusal_line (speaker_at number) refusal)
+        ≤ reply_room) }
 {
     match session.cursors.at(usize::from(cursor)) {
         Some(held) => Ok(held),
@@ -48,8 +50,9 @@ fn held_cursor(session: &Session, number: u8, cursor: u8) -> Result<&Cursor, Ref
 /// that there is no such cursor. Its refusals are short.
 pub(crate) fn open_cursor(world: &World, number: u8, cursor: u8) -> Result<&Cursor, Refusal>
     ensures found { result_map_both (λ held. held.now) (λ refusal. refusal) result
-        ≡ open_cursor (world_of world.now) number cursor }
-    ensures fits { IfErr result (λ refusal. length (refusal_line (speaker_at number) refusal) ≤ reply_room) }
+        ≡ cursor_in_session (world_of world.now) number cursor }
+    ensures fits { IfErr result (λ refusal. length (refusal_line (speaker_at number) refusal)
+        ≤ reply_room) }
 {
     match open_session(world, number) {
         Ok(session) => held_cursor(session, number, cursor),
@@ -72,7 +75,8 @@ fn check_closed(world: &World, number: u8) -> Result<(), Refusal>
 
 /// Whether a user may ask for a purpose and recipient.
 pub(crate) fn check_allowed(state: &State, user: &Name, pair: &Pair) -> Result<(), Refusal>
-    ensures { (history : History) → StandsFor state.now history → result ≡ authorized history user.now pair.now }
+    ensures { (history : History) → StandsFor state.now history → result
+        ≡ by_authorized_user history user.now pair.now }
 {
     let word = state
         .book

@@ -10,7 +10,7 @@ ghost use Rattle.hippo_replay.specs.Standing.{IsSound, IsTimely};
 ghost use Rattle.hippo_report.specs.declared.refusal.Refusal.TheVariants as refusals;
 ghost use Rattle.hippo_world.specs.declared.worlds.World.{World as HeldWorld};
 ghost use Rattle.hippo_world.specs.Worlds.{free_number};
-ghost use Rattle.hippo_judging.specs.Findings.{IsOfLine, FindsDeed, begun_with, set_with, unread, Judges, is_still};
+ghost use Rattle.hippo_judging.specs.Findings.{IsOfLine, FindsDeed, begun_with, set_with, without_reading, Judges, is_still};
 
 use crate::asking::{judge_question, written_question};
 use crate::audits::audit_in;
@@ -36,7 +36,8 @@ fn judge_change(
     requires timely { IsTimely state.now world.now.clock }
     requires changes { changes_something statement.now ≡ true }
     requires written { is_written statement.now ≡ true }
-    ensures { (text : Text) → FindsDeed (commands.state session statement.now text) result state.now world.now }
+    ensures { (text : Text) → FindsDeed (commands.make_statement session statement.now text) result
+        state.now world.now }
 {
     match entry_of_change(alloc, state, world, session, statement) {
         Ok(entry) => Ok(Deed::Change { entry }),
@@ -52,7 +53,8 @@ fn judge_audit(
 ) -> Result<Deed<'static>, Refusal>
     requires sound { IsSound state.now }
     ensures { (text : Text) (world : HeldWorld)
-        → FindsDeed (commands.state session (stmt.Audit written.now) text) result state.now world }
+        → FindsDeed (commands.make_statement session (stmt.Audit written.now) text) result state.now
+        world }
 {
     match audit_in(alloc, state, session, written) {
         Ok(audit) => Ok(Deed::Audit { audit }),
@@ -90,7 +92,8 @@ fn judge_begin(
     written: &RawAudit,
 ) -> Result<Deed<'static>, Refusal>
     requires sound { IsSound state.now }
-    ensures { (text : Text) → FindsDeed (commands.state session (stmt.BeginAudit written.now) text) result
+    ensures { (text : Text) → FindsDeed (commands.make_statement session
+        (stmt.BeginAudit written.now) text) result
         state.now world.now }
 {
     match audit_in(alloc, state, session, written) {
@@ -129,7 +132,8 @@ fn judge_watch(
     written: &RawAudit,
 ) -> Result<Deed<'static>, Refusal>
     requires sound { IsSound state.now }
-    ensures { (text : Text) → FindsDeed (commands.state session (stmt.Watch written.now) text) result
+    ensures { (text : Text) → FindsDeed (commands.make_statement session (stmt.Watch written.now)
+        text) result
         state.now world.now }
 {
     match audit_in(alloc, state, session, written) {
@@ -140,7 +144,7 @@ fn judge_watch(
 
 // What was found without reading.
 pub(crate) fn unread<'t>(found: Result<Deed<'t>, Refusal>) -> Result<Deed<'t>, Unjudged>
-    ensures { result ≡ unread found.entry }
+    ensures { result ≡ without_reading found.entry }
 {
     match found {
         Ok(deed) => Ok(deed),
@@ -157,7 +161,8 @@ fn look_up<P: Keeper, L: Ledger>(
     steps: &mut Steps<L>,
 ) -> Result<Deed<'static>, Unjudged>
     requires ready { IsReady true (P.state keeper.old) }
-    ensures judges { (text : Text) (world : HeldWorld) → Judges (commands.state 0 (stmt.Explain number.now) text) result
+    ensures judges { (text : Text) (world : HeldWorld)
+        → Judges (commands.make_statement 0 (stmt.Explain number.now) text) result
         state.now world (P.state keeper.old) (P.state keeper.new) steps.old steps.new }
     ensures looks { is_still result ≡ false }
 {
@@ -177,7 +182,8 @@ fn judge_explain<P: Keeper, L: Ledger>(
     steps: &mut Steps<L>,
 ) -> Result<Deed<'static>, Unjudged>
     requires ready { IsReady true (P.state keeper.old) }
-    ensures judges { (text : Text) (world : HeldWorld) → Judges (commands.state session (stmt.Explain number.now) text)
+    ensures judges { (text : Text) (world : HeldWorld)
+        → Judges (commands.make_statement session (stmt.Explain number.now) text)
         result state.now world (P.state keeper.old) (P.state keeper.new) steps.old steps.new }
     ensures still { is_still result ≡ true → keeper.new ≡ keeper.old }
     ensures idle { is_still result ≡ true → steps.new ≡ steps.old }
@@ -188,7 +194,8 @@ fn judge_explain<P: Keeper, L: Ledger>(
     }
 }
 
-/// What is to be done for a statement that stands in a text, or why not. Only EXPLAIN reads what is kept.
+/// What is to be done for a statement that stands in a text, or why not. Only EXPLAIN reads what is
+/// kept.
 pub(crate) fn judge_statement<'t, P: Keeper, L: Ledger>(
     alloc: Global,
     state: &State,
@@ -202,8 +209,9 @@ pub(crate) fn judge_statement<'t, P: Keeper, L: Ledger>(
     requires sound { IsSound state.now }
     requires timely { IsTimely state.now world.now.clock }
     requires ready { IsReady true (P.state keeper.old) }
-    requires of_line { IsOfLine (commands.state session statement.now text.now) }
-    ensures judges { Judges (commands.state session statement.now text.now) result state.now world.now
+    requires of_line { IsOfLine (commands.make_statement session statement.now text.now) }
+    ensures judges { Judges (commands.make_statement session statement.now text.now) result
+        state.now world.now
         (P.state keeper.old) (P.state keeper.new) steps.old steps.new }
     ensures still { is_still result ≡ true → keeper.new ≡ keeper.old }
     ensures idle { is_still result ≡ true → steps.new ≡ steps.old }

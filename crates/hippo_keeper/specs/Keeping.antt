@@ -54,12 +54,14 @@ pub record IsReady (is_started : Bool) (keeper : KeeperState) : Type 0 where
   pub not_spent : keeper.spent ≡ false
 
 -- the count of faults rises where a call failed, and any other answer leaves it
-pub record CountsFaults {A : Type 0} (result : Result A KeeperFault) (before after : ℕ) : Type 0 where
+pub record CountsFaults {A : Type 0} (result : Result A KeeperFault) (before after : ℕ)
+    : Type 0 where
   pub cause : has_failed result ≡ true → HasRisen before after
   pub unfailed : has_failed result ≡ false → after ≡ before
   pub rises : before ≤ after
 
--- after a call, whatever it answers: a sound keeper, started and closed as said, spent where the call failed
+-- after a call, whatever it answers: a sound keeper, started and closed as said, spent where the
+-- call failed
 pub record IsAfterCall {A : Type 0} (is_started is_closed : Bool) (result : Result A KeeperFault)
     (before after : KeeperState) : Type 0 where
   pub is_sound : after.sound
@@ -85,10 +87,12 @@ pub record HasOneMore (entry : StoredEntry) (before after : KeeperState) : Type 
   pub longer : after.kept ≡ before.kept ++ entry ∷ []
   pub stop : OnlySurvives after
 
--- the old list is kept or the longer one, and no list survives a stop that did not before, but for the longer one
+-- the old list is kept or the longer one, and no list survives a stop that did not before, but for
+-- the longer one
 pub record MayHaveOneMore (entry : StoredEntry) (before after : KeeperState) : Type 0 where
   pub either : (after.kept ≡ before.kept) ⊎ (after.kept ≡ before.kept ++ entry ∷ [])
-  pub stop : (store : Store) → after.survives store → before.survives store ⊎ (store ≡ before.kept ++ entry ∷ [])
+  pub stop : (store : Store) → after.survives store → before.survives store
+      ⊎ (store ≡ before.kept ++ entry ∷ [])
 
 -- the same list is kept, and no other list survives a stop than before, but one does
 pub record Stays (before after : KeeperState) : Type 0 where
@@ -96,11 +100,13 @@ pub record Stays (before after : KeeperState) : Type 0 where
   pub stop : (store : Store) → after.survives store → before.survives store
   pub some : ∥ ((store : Store) × after.survives store) ∥₁
 
--- what is kept is the same, and no more survives a stop than before, but something still where something did
+-- what is kept is the same, and no more survives a stop than before, but something still where
+-- something did
 pub record KeepsSame (before after : KeeperState) : Type 0 where
   pub same : after.kept ≡ before.kept
   pub stop : (store : Store) → after.survives store → before.survives store
-  pub some : ∥ ((store : Store) × before.survives store) ∥₁ → ∥ ((store : Store) × after.survives store) ∥₁
+  pub some : ∥ ((store : Store) × before.survives store) ∥₁
+      → ∥ ((store : Store) × after.survives store) ∥₁
 
 -- what a start with a name does
 pub record Starts {A : Type 0} (name : List ℕ) (result : Result A KeeperFault)
@@ -109,7 +115,7 @@ pub record Starts {A : Type 0} (name : List ℕ) (result : Result A KeeperFault)
   pub ok : OnOk result (after.tells → HasFound (before.finds name) after)
 
 -- what an append does
-pub record Appends {A : Type 0} (entry : StoredEntry) (result : Result A KeeperFault)
+pub record AppendsEntry {A : Type 0} (entry : StoredEntry) (result : Result A KeeperFault)
     (before after : KeeperState) : Type 0 where
   pub call : IsAfterCall true false result before after
   pub ok : OnOk result (after.tells → HasOneMore entry before after)

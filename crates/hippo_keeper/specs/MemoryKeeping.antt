@@ -1,7 +1,7 @@
 -- What a keeper in memory is, and what a call does to it.
 use Rattle.std.specs.Prelude.{◌≡◌, ℕ, Bool, true, false, not, ◌&&◌, ◌||◌, ◌==◌, List, [], ◌∷◌, ◌++◌, find, Option, option_map, is_ok, Result, if◌then◌else◌, ⊤}
 use Rattle.std.specs.Option.{option_map_or}
-use Rattle.hippo_io.specs.Faults.{counted}
+use Rattle.hippo_io.specs.Faults.{next_count}
 use Rattle.hippo_model.specs.declared.stored.StoredEntry.{StoredEntry}
 use Rattle.hippo_keeper.specs.Answering.{has_failed, wants_memory}
 use Rattle.hippo_keeper.specs.Keeping.{Store, Survivors, KeeperState}
@@ -25,41 +25,47 @@ new_store kept failing =
 
 -- whether the next call is to fail, and whether an append then keeps its entry
 abbrev pub next_failure : MemoryStore → Option Bool
-next_failure store = option_map (λ fail. fail.keeps) (find (λ fail. fail.call == counted store.made) store.failing)
+next_failure store =
+    option_map (λ fail. fail.keeps) (find
+    (λ fail. fail.call == next_count store.made) store.failing)
 
 -- after one more call
-abbrev pub after_call : MemoryStore → MemoryStore
-after_call store = record store { made = counted store.made }
+abbrev pub memory_after_call : MemoryStore → MemoryStore
+memory_after_call store = record store { made = next_count store.made }
 
 -- after one more fault
-abbrev pub after_fault : MemoryStore → MemoryStore
-after_fault store = record store { faults = counted store.faults; spent = true }
+abbrev pub memory_after_fault : MemoryStore → MemoryStore
+memory_after_fault store = record store { faults = next_count store.faults; spent = true }
 
 -- after a call with this answer
-abbrev pub after_answer : {A : Type 0} → Result A KeeperFault → MemoryStore → MemoryStore
-after_answer result store = record store {
-  made = counted store.made;
-  faults = if has_failed result then counted store.faults else store.faults;
+abbrev pub memory_after_answer : {A : Type 0} → Result A KeeperFault → MemoryStore → MemoryStore
+memory_after_answer result store = record store {
+  made = next_count store.made;
+  faults = if has_failed result then next_count store.faults else store.faults;
   spent = store.spent || has_failed result;
 }
 
 -- what a keeper is after a start
-abbrev pub after_start : {A : Type 0} → Result A KeeperFault → MemoryStore → MemoryStore
-after_start result store = record (after_answer result store) { started = store.started || is_ok result }
+abbrev pub memory_after_start : {A : Type 0} → Result A KeeperFault → MemoryStore → MemoryStore
+memory_after_start result store =
+    record (memory_after_answer result store) { started = store.started || is_ok result }
 
 -- with one more entry
 abbrev pub with_entry : StoredEntry → MemoryStore → MemoryStore
 with_entry entry store = record store { kept = store.kept ++ entry ∷ [] }
 
--- what is kept after an append: the entry too, unless the call was to fail without it or found no memory for it
+-- what is kept after an append: the entry too, unless the call was to fail without it or found no
+-- memory for it
 abbrev pub kept_after : {A : Type 0} → Result A KeeperFault → StoredEntry → MemoryStore → Store
 kept_after result entry store =
     if option_map_or (λ keeps. keeps) (next_failure store) true && not (wants_memory result)
     then store.kept ++ entry ∷ [] else store.kept
 
 -- what a keeper is after an append
-abbrev pub after_append : {A : Type 0} → Result A KeeperFault → StoredEntry → MemoryStore → MemoryStore
-after_append result entry store = record (after_answer result store) { kept = kept_after result entry store }
+abbrev pub memory_after_append : {A : Type 0} → Result A KeeperFault → StoredEntry → MemoryStore
+    → MemoryStore
+memory_after_append result entry store =
+    record (memory_after_answer result store) { kept = kept_after result entry store }
 
 -- what a start finds, whatever the name, and what survives a stop: the kept list
 abbrev pub FindsInMemory : MemoryStore → List ℕ → Store → Type 0
@@ -69,8 +75,8 @@ abbrev pub SurvivesInMemory : MemoryStore → Survivors
 SurvivesInMemory keeper store = store ≡ keeper.kept
 
 -- what clauses see of it
-abbrev pub seen : MemoryStore → KeeperState
-seen keeper = record {
+abbrev pub memory_keeper_state : MemoryStore → KeeperState
+memory_keeper_state keeper = record {
   tells = ⊤;
   kept = keeper.kept;
   started = keeper.started;

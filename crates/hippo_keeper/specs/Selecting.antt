@@ -12,8 +12,8 @@ use Rattle.hippo_keeper.specs.declared.selection.Selection.TheVariants.{All, Ver
 abbrev pub is_stored_version : StoredEntry → Bool
 is_stored_version entry = entry.kind == 2 || entry.kind == 3 || entry.kind == 4
 
-abbrev pub is_version_of : Name → StoredEntry → Bool
-is_version_of table entry = is_stored_version entry && bytes_eq entry.table table
+abbrev pub is_stored_version_of : Name → StoredEntry → Bool
+is_stored_version_of table entry = is_stored_version entry && bytes_eq entry.table table
 
 -- the kind of a question, and a moment of the period
 abbrev pub was_asked_in : Moment → Moment → StoredEntry → Bool
@@ -24,7 +24,8 @@ is_any entry = true
 
 -- the first so many kept entries above a number that pass a test
 abbrev pub handed_over : (StoredEntry → Bool) → ℕ → ℕ → Store → Store
-handed_over test after max kept = take max (filter test (filter (λ entry. nat_lt after entry.seq) kept))
+handed_over test after max kept =
+    take max (filter test (filter (λ entry. nat_lt after entry.seq) kept))
 
 -- how many of the entries are versions
 abbrev pub stored_versions : Store → ℕ
@@ -35,15 +36,17 @@ abbrev pub versions_read : Result Store KeeperFault → ℕ
 versions_read (Ok list) = stored_versions list
 versions_read (Err fault) = 0
 
--- the list that a read answers: the one that was asked for, where the keeper tells what it keeps, and always at most so
--- many entries above the number, in order
-pub record IsHandedOver (tells : Type 0) (test : StoredEntry → Bool) (after max : ℕ) (kept list : Store) : Type 0 where
+-- the list that a read answers: the one that was asked for, where the keeper tells what it keeps,
+-- and always at most so many entries above the number, in order
+pub record IsHandedOver (tells : Type 0) (test : StoredEntry → Bool) (after max : ℕ)
+    (kept list : Store) : Type 0 where
   pub told : tells → list ≡ handed_over test after max kept
   pub few : length list ≤ max
   pub order : RisesAbove after list
 
 -- what a read does: it changes nothing that is kept, and answers what was asked for
-pub record Reads (test : StoredEntry → Bool) (after max : ℕ) (result : Result Store KeeperFault)
+pub record ReadsEntries (test : StoredEntry → Bool) (after max : ℕ)
+    (result : Result Store KeeperFault)
     (old new : KeeperState) : Type 0 where
   pub call : IsAfterCall true false result old new
   pub stays : new.tells → Stays old new
@@ -52,5 +55,5 @@ pub record Reads (test : StoredEntry → Bool) (after max : ℕ) (result : Resul
 -- the test of a read
 abbrev pub is_selected : Selection → StoredEntry → Bool
 is_selected All entry = is_any entry
-is_selected (VersionsOf table) entry = is_version_of table.now entry
+is_selected (VersionsOf table) entry = is_stored_version_of table.now entry
 is_selected (AskedIn from to) entry = was_asked_in from to entry

@@ -1,7 +1,7 @@
 //! What keeps the history: the calls of every keeper, and what they promise.
 ghost use Rattle.std.specs.Prelude.{◌≡◌, ℕ, ◌+◌, ◌^◌, ◌<◌, ◌≤◌, true, false};
-ghost use Rattle.hippo_keeper.specs.Keeping.{KeeperState, IsReady, next_number, Starts, Appends};
-ghost use Rattle.hippo_keeper.specs.Selecting.{is_any, is_version_of, was_asked_in, versions_read, Reads};
+ghost use Rattle.hippo_keeper.specs.Keeping.{KeeperState, IsReady, next_number, Starts, AppendsEntry};
+ghost use Rattle.hippo_keeper.specs.Selecting.{is_any, is_stored_version_of, was_asked_in, versions_read, ReadsEntries};
 
 use crate::faults::KeeperFault;
 use crate::steps::Steps;
@@ -12,10 +12,10 @@ use std::sync::ledger::Ledger;
 
 /// What keeps the stored entries of a history.
 ///
-/// A keeper is started once, and then appended to and read. It answers `Failed` only where its count of faults rises,
-/// and is then spent; any other answer leaves the count. A start that answers `Memory` closes it. No call is made on a
-/// keeper that is spent or closed. What a call says of the entries holds where the keeper tells what it keeps when the
-/// call returns.
+/// A keeper is started once, and then appended to and read. It answers `Failed` only where its
+/// count of faults rises, and is then spent; any other answer leaves the count. A start that
+/// answers `Memory` closes it. No call is made on a keeper that is spent or closed. What a call
+/// says of the entries holds where the keeper tells what it keeps when the call returns.
 pub trait Keeper {
     // What the clauses see of a keeper.
     ghost state: { Self → KeeperState };
@@ -25,15 +25,16 @@ pub trait Keeper {
         requires ready { IsReady false (state self.old) }
         ensures starts { Starts name.now result (state self.old) (state self.new) };
 
-    /// Keeps one more entry, whose number is the one after the last. Where the call fails, the entry is kept or not;
-    /// where memory is short, it is not.
+    /// Keeps one more entry, whose number is the one after the last. Where the call fails, the
+    /// entry is kept or not; where memory is short, it is not.
     fn append(&mut self, alloc: Global, entry: &StoredEntry) -> Result<(), KeeperFault>
         requires ready { IsReady true (state self.old) }
         requires number { entry.now.seq < 2 ^ 63 }
         requires next { (state self.old).tells → entry.now.seq ≡ next_number (state self.old).kept }
-        ensures appends { Appends entry.now result (state self.old) (state self.new) };
+        ensures appends { AppendsEntry entry.now result (state self.old) (state self.new) };
 
-    /// The first `max` entries, from 1 to 1,000, whose numbers are above `after`. Each version among them is a step.
+    /// The first `max` entries, from 1 to 1,000, whose numbers are above `after`. Each version
+    /// among them is a step.
     fn read_all<L: Ledger>(
         &mut self,
         alloc: Global,
@@ -44,10 +45,11 @@ pub trait Keeper {
         requires ready { IsReady true (state self.old) }
         requires some { 0 < max }
         requires limit { max ≤ 1000 }
-        ensures reads { Reads is_any after max result (state self.old) (state self.new) }
+        ensures reads { ReadsEntries is_any after max result (state self.old) (state self.new) }
         ensures steps { steps.new ≡ steps.old + versions_read result };
 
-    /// The first `max` versions of a table's rows, from 1 to 1,000, whose numbers are above `after`. Each is a step.
+    /// The first `max` versions of a table's rows, from 1 to 1,000, whose numbers are above
+    /// `after`. Each is a step.
     fn read_backlog<L: Ledger>(
         &mut self,
         alloc: Global,
@@ -59,11 +61,13 @@ pub trait Keeper {
         requires ready { IsReady true (state self.old) }
         requires some { 0 < max }
         requires limit { max ≤ 1000 }
-        ensures reads { Reads (is_version_of table.now) after max result (state self.old) (state self.new) }
+        ensures reads { ReadsEntries (is_stored_version_of table.now) after max result
+            (state self.old)
+            (state self.new) }
         ensures steps { steps.new ≡ steps.old + versions_read result };
 
-    /// The first `max` questions, from 1 to 1,000, that were asked from one moment to another, both among them, and
-    /// whose numbers are above `after`.
+    /// The first `max` questions, from 1 to 1,000, that were asked from one moment to another, both
+    /// among them, and whose numbers are above `after`.
     fn read_asked(
         &mut self,
         alloc: Global,
@@ -75,5 +79,6 @@ pub trait Keeper {
         requires ready { IsReady true (state self.old) }
         requires some { 0 < max }
         requires limit { max ≤ 1000 }
-        ensures reads { Reads (was_asked_in from to) after max result (state self.old) (state self.new) };
+        ensures reads { ReadsEntries (was_asked_in from to) after max result (state self.old)
+            (state self.new) };
 }

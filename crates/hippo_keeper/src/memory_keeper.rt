@@ -2,8 +2,8 @@
 ghost use Rattle.std.specs.Prelude.{◌≡◌, ℕ, ◌+◌, ◌≤◌, true, false, List, [], filter, Some, is_some, nat_lt, IfOk, OnOk, OnErr, ⊤};
 ghost use Rattle.hippo_keeper.specs.Answering.{has_failed, wants_memory};
 ghost use Rattle.hippo_keeper.specs.Keeping.{Store, RisesAbove, next_number};
-ghost use Rattle.hippo_keeper.specs.MemoryKeeping.{new_store, next_failure, after_call, after_fault, after_answer, after_start, after_append, with_entry, FindsInMemory, SurvivesInMemory, seen};
-ghost use Rattle.hippo_keeper.specs.Selecting.{is_any, is_version_of, was_asked_in, is_selected, versions_read, IsHandedOver};
+ghost use Rattle.hippo_keeper.specs.MemoryKeeping.{new_store, next_failure, memory_after_call, memory_after_fault, memory_after_answer, memory_after_start, memory_after_append, with_entry, FindsInMemory, SurvivesInMemory, memory_keeper_state};
+ghost use Rattle.hippo_keeper.specs.Selecting.{is_any, is_stored_version_of, was_asked_in, is_selected, versions_read, IsHandedOver};
 
 use crate::faults::{KeeperFails, KeeperFault};
 use crate::keeper::Keeper;
@@ -45,9 +45,9 @@ impl Model for MemoryKeeper {
 }
 
 impl MemoryKeeper {
-    /// A keeper of these entries, whose numbers begin above 0 and rise. Of all calls of the trait `Keeper`, counted
-    /// from 1, those fail that are in `failing`; where an append is to keep its entry and fail, and finds no memory for
-    /// it, it answers `Memory` instead.
+    /// A keeper of these entries, whose numbers begin above 0 and rise. Of all calls of the trait
+    /// `Keeper`, counted from 1, those fail that are in `failing`; where an append is to keep its
+    /// entry and fail, and finds no memory for it, it answers `Memory` instead.
     pub fn new(kept: StoredList, failing: KeeperFails) -> MemoryKeeper
         requires { RisesAbove 0 kept }
         ensures { result ≡ new_store kept failing }
@@ -85,7 +85,7 @@ impl MemoryKeeper {
     // Counts a call, and answers whether it is to fail, and whether an append then keeps its entry.
     fn begin_call(&mut self) -> Option<bool>
         ensures failure { result ≡ next_failure self.old }
-        ensures counted { self.new ≡ after_call self.old }
+        ensures counted { self.new ≡ memory_after_call self.old }
     {
         self.made = self.made.saturating_add(1);
         let number = self.made;
@@ -100,7 +100,7 @@ impl MemoryKeeper {
     // Counts a fault, and makes no more calls.
     fn fail(&mut self) -> KeeperFault
         ensures fault { result ≡ KeeperFault.Failed }
-        ensures counted { self.new ≡ after_fault self.old }
+        ensures counted { self.new ≡ memory_after_fault self.old }
         ensures rises { self.old.faults ≤ self.new.faults }
     {
         self.faults = self.faults.saturating_add(1);
@@ -125,10 +125,11 @@ impl MemoryKeeper {
         after: u64,
         max: u64,
     ) -> Result<StoredList, KeeperFault>
-        ensures store { self.new ≡ after_answer result self.old }
+        ensures store { self.new ≡ memory_after_answer result self.old }
         ensures fails { has_failed result ≡ is_some (next_failure self.old) }
         ensures faults { self.old.faults ≤ self.new.faults }
-        ensures read { IfOk result (IsHandedOver ⊤ (is_selected selection.now) after max self.old.kept) }
+        ensures read { IfOk result (IsHandedOver ⊤ (is_selected selection.now) after max
+            self.old.kept) }
     {
         if self.begin_call().is_some() {
             return Err(self.fail());
@@ -152,10 +153,10 @@ impl MemoryKeeper {
 }
 
 impl Keeper for MemoryKeeper {
-    ghost state = { seen };
+    ghost state = { memory_keeper_state };
 
     fn start(&mut self, _alloc: Global, _name: &str) -> Result<(), KeeperFault>
-        ensures store { self.new ≡ after_start result self.old }
+        ensures store { self.new ≡ memory_after_start result self.old }
         ensures fails { has_failed result ≡ is_some (next_failure self.old) }
         ensures faults { self.old.faults ≤ self.new.faults }
         ensures order { OnOk result (RisesAbove 0 self.new.kept) }
@@ -170,8 +171,9 @@ impl Keeper for MemoryKeeper {
 
     fn append(&mut self, alloc: Global, entry: &StoredEntry) -> Result<(), KeeperFault>
         requires next { entry.now.seq ≡ next_number self.old.kept }
-        ensures store { self.new ≡ after_append result entry.now self.old }
-        ensures fails { wants_memory result ≡ false → has_failed result ≡ is_some (next_failure self.old) }
+        ensures store { self.new ≡ memory_after_append result entry.now self.old }
+        ensures fails { wants_memory result ≡ false
+            → has_failed result ≡ is_some (next_failure self.old) }
         ensures faults { self.old.faults ≤ self.new.faults }
         ensures keeps { next_failure self.old ≡ Some false → has_failed result ≡ true }
     {
@@ -195,7 +197,7 @@ impl Keeper for MemoryKeeper {
         max: u64,
         steps: &mut Steps<L>,
     ) -> Result<StoredList, KeeperFault>
-        ensures store { self.new ≡ after_answer result self.old }
+        ensures store { self.new ≡ memory_after_answer result self.old }
         ensures fails { has_failed result ≡ is_some (next_failure self.old) }
         ensures faults { self.old.faults ≤ self.new.faults }
         ensures read { IfOk result (IsHandedOver ⊤ is_any after max self.old.kept) }
@@ -214,10 +216,11 @@ impl Keeper for MemoryKeeper {
         max: u64,
         steps: &mut Steps<L>,
     ) -> Result<StoredList, KeeperFault>
-        ensures store { self.new ≡ after_answer result self.old }
+        ensures store { self.new ≡ memory_after_answer result self.old }
         ensures fails { has_failed result ≡ is_some (next_failure self.old) }
         ensures faults { self.old.faults ≤ self.new.faults }
-        ensures read { IfOk result (IsHandedOver ⊤ (is_version_of table.now) after max self.old.kept) }
+        ensures read { IfOk result (IsHandedOver ⊤ (is_stored_version_of table.now) after max
+            self.old.kept) }
         ensures steps { steps.new ≡ steps.old + versions_read result }
     {
         let list = self.read(alloc, &Selection::VersionsOf(table.as_str()), after, max)?;
@@ -233,7 +236,7 @@ impl Keeper for MemoryKeeper {
         after: u64,
         max: u64,
     ) -> Result<StoredList, KeeperFault>
-        ensures store { self.new ≡ after_answer result self.old }
+        ensures store { self.new ≡ memory_after_answer result self.old }
         ensures fails { has_failed result ≡ is_some (next_failure self.old) }
         ensures faults { self.old.faults ≤ self.new.faults }
         ensures read { IfOk result (IsHandedOver ⊤ (was_asked_in from to) after max self.old.kept) }

@@ -54,7 +54,8 @@ pub(crate) fn select(
     selection: &Selection<'_>,
     max: u64,
 ) -> Result<StoredList, Memory>
-    ensures { IfOk result (λ list. list ≡ take max (filter (is_selected selection.now) entries.now)) }
+    ensures { IfOk result (λ list. list ≡ take max
+        (filter (is_selected selection.now) entries.now)) }
 {
     let mut list = StoredList::new(alloc);
     for entry in entries {

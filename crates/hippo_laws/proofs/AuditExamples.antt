@@ -18,7 +18,7 @@ use Rattle.hippo_model.specs.declared.query.Query.{Query}
 use Rattle.hippo_model.specs.declared.query.Ref.{Ref}
 use Rattle.hippo_model.specs.declared.schema.Schema.{Schema}
 use Rattle.hippo_model.specs.Terms.{History, Meaning}
-use Rattle.hippo_model.specs.Audits.{shared}
+use Rattle.hippo_model.specs.Audits.{shared_tuple}
 use Rattle.hippo_model.specs.Hits.{hits}
 use Rattle.hippo_model.proofs.NamedColumns.{named_columns}
 use Rattle.hippo_model.proofs.Truths.{truths}
@@ -42,7 +42,7 @@ abbrev pub asks : Query → Meaning
 asks query history text = Some query
 
 abbrev flag_of : Query → History → Audit → ℕ → Option (List SharedRow)
-flag_of query history expression number = shared (asks query) history expression (asked number)
+flag_of query history expression number = shared_tuple (asks query) history expression (asked number)
 
 abbrev pub row_of : List ℕ → List Value → Option (List SharedRow)
 row_of table key = Some (record { table = table; key = key } ∷ [])
@@ -121,16 +121,16 @@ asked_at number moment = record { seq = number; moment = moment; act = Asked ann
 abbrev seconds : Audit
 seconds = record names_seen { from = pos 1704182401; to = pos 1704182402 }
 
-before_the_period : shared (asks names) clinic seconds (asked_at 8 (pos 1704182400)) ≡ None
+before_the_period : shared_tuple (asks names) clinic seconds (asked_at 8 (pos 1704182400)) ≡ None
 before_the_period = refl
 
-at_the_beginning_of_the_period : shared (asks names) clinic seconds (asked_at 9 (pos 1704182401)) ≡ first_patient
+at_the_beginning_of_the_period : shared_tuple (asks names) clinic seconds (asked_at 9 (pos 1704182401)) ≡ first_patient
 at_the_beginning_of_the_period = simp truths
 
-at_the_end_of_the_period : shared (asks names) clinic seconds (asked_at 10 (pos 1704182402)) ≡ first_patient
+at_the_end_of_the_period : shared_tuple (asks names) clinic seconds (asked_at 10 (pos 1704182402)) ≡ first_patient
 at_the_end_of_the_period = simp truths
 
-after_the_period : shared (asks names) clinic seconds (asked_at 11 (pos 1704182403)) ≡ None
+after_the_period : shared_tuple (asks names) clinic seconds (asked_at 11 (pos 1704182403)) ≡ None
 after_the_period = refl
 
 -- the same names are asked for two recipients, of which one is exempt
@@ -140,10 +140,10 @@ two_recipients = clinic ++ entry 8 (Recipient clerk) ∷ entry 9 (Authorize ann 
 abbrev but_for_nurses : Audit
 but_for_nurses = record names_seen { exempt = record { purpose = treatment; recipient = nurse } ∷ [] }
 
-exempt_pair_is_not_flagged : shared (asks names) two_recipients but_for_nurses (asked 11) ≡ None
+exempt_pair_is_not_flagged : shared_tuple (asks names) two_recipients but_for_nurses (asked 11) ≡ None
 exempt_pair_is_not_flagged = refl
 
-other_pair_is_flagged : shared (asks names) two_recipients but_for_nurses (entry 12 (Asked ann treatment clerk (codes "q"))) ≡ first_patient
+other_pair_is_flagged : shared_tuple (asks names) two_recipients but_for_nurses (entry 12 (Asked ann treatment clerk (codes "q"))) ≡ first_patient
 other_pair_is_flagged = simp truths
 
 -- a table whose key has two columns

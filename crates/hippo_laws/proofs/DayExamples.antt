@@ -20,7 +20,7 @@ use Rattle.hippo_model.specs.declared.query.Query.{Query}
 use Rattle.hippo_model.specs.Terms.{History, Meaning}
 use Rattle.hippo_model.specs.Verdicts.{Context}
 use Rattle.hippo_model.specs.Answers.{answer}
-use Rattle.hippo_model.specs.Audits.{shared}
+use Rattle.hippo_model.specs.Audits.{shared_tuple}
 use Rattle.hippo_model.specs.Denials.{denials}
 use Rattle.hippo_model.specs.Hits.{hits}
 use Rattle.hippo_model.specs.Validity.{damage}
@@ -120,14 +120,14 @@ names_in_south = record {
   cond = in_south;
 }
 
-first_shared_tuple_of_two_tables : shared meaning day names_in_south ann_asks
+first_shared_tuple_of_two_tables : shared_tuple meaning day names_in_south ann_asks
     ≡ Some (record { table = patient; key = Int (pos 1) ∷ [] } ∷ record { table = visit; key = Int (pos 12) ∷ [] } ∷ [])
 first_shared_tuple_of_two_tables = simp truths
 
-shared_tuple_of_the_one_common_table : shared meaning day names_in_south carl_asks ≡ Some (record { table = patient; key = Int (pos 1) ∷ [] } ∷ [])
+shared_tuple_of_the_one_common_table : shared_tuple meaning day names_in_south carl_asks ≡ Some (record { table = patient; key = Int (pos 1) ∷ [] } ∷ [])
 shared_tuple_of_the_one_common_table = simp truths
 
-query_without_the_column_is_not_flagged : shared meaning day names_in_south carl_asks_again ≡ None
+query_without_the_column_is_not_flagged : shared_tuple meaning day names_in_south carl_asks_again ≡ None
 query_without_the_column_is_not_flagged = simp named_columns
 
 denials_as_they_were : denials meaning day ann_asks ≡ record { table = patient; key = Int (pos 2) ∷ []; column = codes "phone"; rule = 11 } ∷ []
@@ -136,21 +136,21 @@ denials_as_they_were = simp named_columns
 abbrev names_shown_in_south : Audit
 names_shown_in_south = record names_in_south { shown = true }
 
-shown_names_are_flagged : shared meaning day names_shown_in_south ann_asks
+shown_names_are_flagged : shared_tuple meaning day names_shown_in_south ann_asks
     ≡ Some (record { table = patient; key = Int (pos 1) ∷ [] } ∷ record { table = visit; key = Int (pos 12) ∷ [] } ∷ [])
 shown_names_are_flagged = simp truths
 
-denied_name_is_not_flagged_as_shown : shared meaning day names_shown_in_south carl_asks ≡ None
+denied_name_is_not_flagged_as_shown : shared_tuple meaning day names_shown_in_south carl_asks ≡ None
 denied_name_is_not_flagged_as_shown = simp truths
 
 -- who asked for the second patient's phone, or saw it
 abbrev phone_asked : Audit
 phone_asked = record names_in_south { columns = column 2 ∷ []; tables = patient ∷ []; cond = Compare Eq (ColumnOperand (column 1)) (Literal (Text (codes "Bob"))) }
 
-denied_phone_is_flagged_as_asked : shared meaning day phone_asked ann_asks ≡ Some (record { table = patient; key = Int (pos 2) ∷ [] } ∷ [])
+denied_phone_is_flagged_as_asked : shared_tuple meaning day phone_asked ann_asks ≡ Some (record { table = patient; key = Int (pos 2) ∷ [] } ∷ [])
 denied_phone_is_flagged_as_asked = simp truths
 
-denied_phone_is_not_flagged_as_shown : shared meaning day (record phone_asked { shown = true }) ann_asks ≡ None
+denied_phone_is_not_flagged_as_shown : shared_tuple meaning day (record phone_asked { shown = true }) ann_asks ≡ None
 denied_phone_is_not_flagged_as_shown = simp truths
 
 each_tables_own_conditions_find_rows : (hits day names_in_south 0 ≡ 2) × (hits day names_in_south 1 ≡ 2)

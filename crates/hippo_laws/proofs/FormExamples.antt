@@ -10,7 +10,7 @@ use Rattle.hippo_model.specs.declared.query.Out.TheVariants.{Column, Min, Max}
 use Rattle.hippo_model.specs.declared.query.Query.{Query}
 use Rattle.hippo_model.specs.declared.query.Ref.{Ref}
 use Rattle.hippo_model.specs.Terms.{History, Row}
-use Rattle.hippo_model.specs.Audits.{shared}
+use Rattle.hippo_model.specs.Audits.{shared_tuple}
 use Rattle.hippo_model.proofs.Truths.{truths}
 use Rattle.hippo_laws.proofs.ExampleHistories.{treatment, nurse, patient, entry, clinic, column, equals, always, ask, asked}
 use Rattle.hippo_laws.proofs.AuditExamples.{audit, asks, row_of}
@@ -34,13 +34,13 @@ equal_rows_are_answered_once = simp truths
 cells_that_one_rule_denies_are_equal : ask with_two_adas (distinct (column 2)) ≡ (Denied 0 ∷ []) ∷ []
 cells_that_one_rule_denies_are_equal = simp truths
 
-row_that_another_equals_is_not_shared : shared (asks (distinct (column 1))) with_two_adas (one_patient 1 (column 1)) (asked 9) ≡ None
+row_that_another_equals_is_not_shared : shared_tuple (asks (distinct (column 1))) with_two_adas (one_patient 1 (column 1)) (asked 9) ≡ None
 row_that_another_equals_is_not_shared = simp truths
 
-row_that_stands_alone_is_shared : shared (asks (distinct (column 1))) with_two_adas (one_patient 2 (column 1)) (asked 9) ≡ row_of patient (Int (pos 2) ∷ [])
+row_that_stands_alone_is_shared : shared_tuple (asks (distinct (column 1))) with_two_adas (one_patient 2 (column 1)) (asked 9) ≡ row_of patient (Int (pos 2) ∷ [])
 row_that_stands_alone_is_shared = simp truths
 
-rows_denied_alike_are_not_shared : shared (asks (distinct (column 2))) with_two_adas (audit patient (column 2 ∷ []) always) (asked 9) ≡ None
+rows_denied_alike_are_not_shared : shared_tuple (asks (distinct (column 2))) with_two_adas (audit patient (column 2 ∷ []) always) (asked 9) ≡ None
 rows_denied_alike_are_not_shared = simp truths
 
 -- zips may be seen, and phones may not
@@ -68,8 +68,8 @@ groups_stand_where_their_first_rows_do : ask (zips_of_two_adas ++ entry 10 (Inse
     ≡ (Shown (Text (codes "Cy")) ∷ []) ∷ (Shown (Text (codes "Ada")) ∷ []) ∷ (Shown (Text (codes "Bob")) ∷ []) ∷ []
 groups_stand_where_their_first_rows_do = simp truths
 
-row_with_the_least_value_is_shared : shared (asks least_zips) zips_of_two_adas (one_patient 3 (column 3)) (asked 10) ≡ row_of patient (Int (pos 3) ∷ [])
+row_with_the_least_value_is_shared : shared_tuple (asks least_zips) zips_of_two_adas (one_patient 3 (column 3)) (asked 10) ≡ row_of patient (Int (pos 3) ∷ [])
 row_with_the_least_value_is_shared = simp truths
 
-row_without_the_greatest_value_is_not_shared : shared (asks greatest_zips) zips_of_two_adas (one_patient 3 (column 3)) (asked 11) ≡ None
+row_without_the_greatest_value_is_not_shared : shared_tuple (asks greatest_zips) zips_of_two_adas (one_patient 3 (column 3)) (asked 11) ≡ None
 row_without_the_greatest_value_is_not_shared = simp truths

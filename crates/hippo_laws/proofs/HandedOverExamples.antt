@@ -9,7 +9,7 @@ use Rattle.hippo_model.specs.declared.schema.Schema.{Schema}
 use Rattle.hippo_model.specs.declared.stored.StoredEntry.{StoredEntry}
 use Rattle.hippo_model.specs.StoredForms.{body, stored}
 use Rattle.hippo_model.specs.Keepable.{is_keepable}
-use Rattle.hippo_model.specs.HandedOver.{version_was_asked, question_was_asked, IsFit}
+use Rattle.hippo_model.specs.HandedOver.{is_sought_version, is_sought_question, IsFit}
 use Rattle.hippo_laws.proofs.ActCodes.{a_body, stored_again}
 use Rattle.hippo_laws.proofs.DamageExamples.{meaning}
 use Rattle.hippo_laws.proofs.ExampleHistories.{treatment, nurse, morning, patient, patients, number_column, required, entry, ada, bob, clinic, asked, words_and_texts}
@@ -18,42 +18,42 @@ use Rattle.hippo_laws.proofs.ExampleHistories.{treatment, nurse, morning, patien
 abbrev bob_comes : Entry
 bob_comes = entry 7 (Insert patient bob)
 
-version_above_the_number : version_was_asked patients 6 (take 6 clinic) bob_comes ≡ true
+version_above_the_number : is_sought_version patients 6 (take 6 clinic) bob_comes ≡ true
 version_above_the_number = refl
 
-version_of_the_number_itself : version_was_asked patients 7 (take 6 clinic) bob_comes ≡ false
+version_of_the_number_itself : is_sought_version patients 7 (take 6 clinic) bob_comes ≡ false
 version_of_the_number_itself = refl
 
-insert_of_a_key_that_is_live : version_was_asked patients 6 clinic (entry 8 (Insert patient ada)) ≡ false
+insert_of_a_key_that_is_live : is_sought_version patients 6 clinic (entry 8 (Insert patient ada)) ≡ false
 insert_of_a_key_that_is_live = refl
 
-update_of_a_key_that_is_live : version_was_asked patients 6 clinic (entry 8 (Update patient ada)) ≡ true
+update_of_a_key_that_is_live : is_sought_version patients 6 clinic (entry 8 (Update patient ada)) ≡ true
 update_of_a_key_that_is_live = refl
 
-update_of_a_key_that_is_not_live : version_was_asked patients 6 (take 6 clinic) (entry 8 (Update patient bob)) ≡ false
+update_of_a_key_that_is_not_live : is_sought_version patients 6 (take 6 clinic) (entry 8 (Update patient bob)) ≡ false
 update_of_a_key_that_is_not_live = refl
 
-delete_of_a_key_that_is_live : version_was_asked patients 6 clinic (entry 8 (Delete patient (Int (pos 2) ∷ []))) ≡ true
+delete_of_a_key_that_is_live : is_sought_version patients 6 clinic (entry 8 (Delete patient (Int (pos 2) ∷ []))) ≡ true
 delete_of_a_key_that_is_live = refl
 
-delete_of_a_key_that_is_not_live : version_was_asked patients 6 clinic (entry 8 (Delete patient (Int (pos 3) ∷ []))) ≡ false
+delete_of_a_key_that_is_not_live : is_sought_version patients 6 clinic (entry 8 (Delete patient (Int (pos 3) ∷ []))) ≡ false
 delete_of_a_key_that_is_not_live = refl
 
-row_with_a_cell_less : version_was_asked patients 6 clinic (entry 8 (Insert patient (Int (pos 3) ∷ Null ∷ Null ∷ []))) ≡ false
+row_with_a_cell_less : is_sought_version patients 6 clinic (entry 8 (Insert patient (Int (pos 3) ∷ Null ∷ Null ∷ []))) ≡ false
 row_with_a_cell_less = refl
 
 abbrev wards : Schema
 wards = record { name = codes "ward"; columns = required (number_column (codes "room")) ∷ []; key = 0 ∷ []; subject = None }
 
-version_of_another_table : version_was_asked wards 6 (take 6 clinic) bob_comes ≡ false
+version_of_another_table : is_sought_version wards 6 (take 6 clinic) bob_comes ≡ false
 version_of_another_table = refl
 
-question_is_no_version : version_was_asked patients 6 clinic (asked 8) ≡ false
+question_is_no_version : is_sought_version patients 6 clinic (asked 8) ≡ false
 question_is_no_version = refl
 
 -- questions of a period
 abbrev is_asked_in : ℤ → ℤ → Entry → Bool
-is_asked_in from to entry = question_was_asked meaning from to 7 clinic entry
+is_asked_in from to entry = is_sought_question meaning from to 7 clinic entry
 
 question_at_both_ends_of_the_period : is_asked_in morning morning (asked 8) ≡ true
 question_at_both_ends_of_the_period = refl
@@ -70,10 +70,10 @@ question_of_the_number_itself = refl
 question_of_a_user_who_is_not_authorized : is_asked_in morning morning (entry 8 (Asked (codes "bea") treatment nurse (codes "q"))) ≡ false
 question_of_a_user_who_is_not_authorized = refl
 
-question_before_its_user_is_authorized : question_was_asked meaning morning morning 0 (take 3 clinic) (asked 4) ≡ false
+question_before_its_user_is_authorized : is_sought_question meaning morning morning 0 (take 3 clinic) (asked 4) ≡ false
 question_before_its_user_is_authorized = refl
 
-question_that_means_nothing : question_was_asked (λ history text. None) morning morning 7 clinic (asked 8) ≡ false
+question_that_means_nothing : is_sought_question (λ history text. None) morning morning 7 clinic (asked 8) ≡ false
 question_that_means_nothing = refl
 
 version_is_no_question : is_asked_in morning morning (entry 8 (Update patient ada)) ≡ false
@@ -84,15 +84,15 @@ bob_can_be_kept : is_keepable bob_comes ≡ true
 unfolding words_and_texts
 bob_can_be_kept = refl
 
-stored_version_that_was_asked : IsFit (version_was_asked patients 6 (take 6 clinic)) (stored bob_comes)
+stored_version_that_was_asked : IsFit (is_sought_version patients 6 (take 6 clinic)) (stored bob_comes)
 stored_version_that_was_asked = record { entry = bob_comes; form = refl; keepable = bob_can_be_kept; asked = refl }
 
-stored_version_that_was_not_asked : ¬ (IsFit (version_was_asked patients 7 (take 6 clinic)) (stored bob_comes))
+stored_version_that_was_not_asked : ¬ (IsFit (is_sought_version patients 7 (take 6 clinic)) (stored bob_comes))
 stored_version_that_was_not_asked fit =
     let same : fit.entry ≡ bob_comes = stored_again fit.entry bob_comes fit.keepable bob_can_be_kept fit.form in
-    false≢true (sym (ap (version_was_asked patients 7 (take 6 clinic)) same) ∙ fit.asked)
+    false≢true (sym (ap (is_sought_version patients 7 (take 6 clinic)) same) ∙ fit.asked)
 
-stored_question_that_was_asked : IsFit (question_was_asked meaning morning morning 7 clinic) (stored (asked 8))
+stored_question_that_was_asked : IsFit (is_sought_question meaning morning morning 7 clinic) (stored (asked 8))
 unfolding words_and_texts
 stored_question_that_was_asked = record { entry = asked 8; form = refl; keepable = refl; asked = refl }
 

@@ -31,8 +31,8 @@ use Rattle.hippo_model.specs.Views.{unmasked_at}
 use Rattle.hippo_model.specs.Conditions.{truth, is_true, outer_parts}
 use Rattle.hippo_model.specs.Columns.{columns_in, condition_columns}
 use Rattle.hippo_model.specs.Forms.{value_in}
-use Rattle.hippo_model.specs.Answers.{product, selected, operand_value, passes, unmasked_combinations}
-use Rattle.hippo_model.specs.Audits.{common, virtual_tuples, has_tuple, query_needs, audit_needs, is_seen, serves, is_candidate, shared_by, shared_in, flagged}
+use Rattle.hippo_model.specs.Answers.{product, selected_cells, operand_value, passes, unmasked_combinations}
+use Rattle.hippo_model.specs.Audits.{common, virtual_tuples, has_tuple, query_needs, audit_needs, is_seen, serves, is_candidate, shared_by, shared_in, is_flagged}
 use Rattle.hippo_model.specs.Hits.{own_conditions, value_in_row, is_hit}
 use Rattle.hippo_laws.specs.Hits.{HasNoHits}
 use Rattle.hippo_laws.proofs.NeededTuples.{needs_what_is_lost}
@@ -172,7 +172,7 @@ module _ (history : History) (audit : Audit) where
     -- an audit without hits needs nothing
     pub needs_none : (tuple : List SharedRow) → audit_needs history audit tuple ≡ false
     needs_none tuple =
-        needs_what_is_lost (selected audit.columns) (passes audit.cond) (has_tuple history audit.tables tuple) (unmasked_combinations history audit)
+        needs_what_is_lost (selected_cells audit.columns) (passes audit.cond) (has_tuple history audit.tables tuple) (unmasked_combinations history audit)
         ∙ none_lost (has_tuple history audit.tables tuple) (passes audit.cond) (λ combination. is_found own (get_or combination no_hits.table [])) (found_where_true no_hits.table) (unmasked_combinations history audit) none_in_product
 
     -- nothing serves
@@ -193,5 +193,5 @@ module _ (history : History) (audit : Audit) where
     shares_in_none meaning moment act = refl
 
 -- no entry is flagged
-pub flags_none : (meaning : Meaning) (history : History) (audit : Audit) (entry : Entry) → HasNoHits (before_entry entry history) audit → flagged meaning history audit entry ≡ false
+pub flags_none : (meaning : Meaning) (history : History) (audit : Audit) (entry : Entry) → HasNoHits (before_entry entry history) audit → is_flagged meaning history audit entry ≡ false
 flags_none meaning history audit entry no_hits = ap is_some (shares_in_none (before_entry entry history) audit no_hits meaning entry.moment entry.act)

@@ -3,7 +3,7 @@ use Rattle.std.specs.Prelude.{◌≡◌, true, ◌++◌, Some, slice_get}
 use Rattle.hippo_model.specs.declared.audit.Audit.{Audit}
 use Rattle.hippo_model.specs.declared.entry.Entry.{Entry}
 use Rattle.hippo_model.specs.Terms.{History, Meaning, Place}
-use Rattle.hippo_model.specs.Audits.{shared, flagged}
+use Rattle.hippo_model.specs.Audits.{shared_tuple, is_flagged}
 use Rattle.hippo_model.specs.Denials.{denials}
 use Rattle.hippo_model.specs.Validity.{is_valid}
 
@@ -18,11 +18,13 @@ abbrev pub FlagsLast : Type 0
 FlagsLast =
     (meaning : Meaning) (history : History) (entry : Entry) → StandsIn meaning history entry
     → (later : History) (audit : Audit)
-    → (shared meaning (history ++ later) audit entry ≡ shared meaning history audit entry)
-    × (flagged meaning (history ++ later) audit entry ≡ flagged meaning history audit entry)
+    → (shared_tuple meaning (history ++ later) audit entry
+    ≡ shared_tuple meaning history audit entry)
+    × (is_flagged meaning (history ++ later) audit entry ≡ is_flagged meaning history audit entry)
 
 -- what was denied to an entry stays the same when entries are added
 abbrev pub DenialsLast : Type 0
 DenialsLast =
-    (meaning : Meaning) (history : History) (entry : Entry) → StandsIn meaning history entry → (later : History)
+    (meaning : Meaning) (history : History) (entry : Entry) → StandsIn meaning history entry
+    → (later : History)
     → denials meaning (history ++ later) entry ≡ denials meaning history entry

@@ -4,9 +4,11 @@ use Rattle.hippo_model.specs.declared.audit.Audit.{Audit}
 use Rattle.hippo_model.specs.Terms.{History, Meaning}
 use Rattle.hippo_model.specs.Audits.{flags_between}
 
--- the flags of a stretch of entry numbers are those of its parts, one after the other, wherever it is cut
+-- the flags of a stretch of entry numbers are those of its parts, one after the other, wherever it
+-- is cut
 abbrev pub FlagsAreThoseOfParts : Type 0
 FlagsAreThoseOfParts =
-    (meaning : Meaning) (history : History) (audit : Audit) (above cut upto : ℕ) → above ≤ cut → cut ≤ upto
+    (meaning : Meaning) (history : History) (audit : Audit) (above cut upto : ℕ) → above ≤ cut
+    → cut ≤ upto
     → flags_between meaning history audit above upto
     ≡ flags_between meaning history audit above cut ++ flags_between meaning history audit cut upto

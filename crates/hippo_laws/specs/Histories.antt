@@ -11,7 +11,8 @@ IsKeptByEach meaning holds =
     (history : History) (entry : Entry) → is_valid meaning history ≡ true → holds history ≡ true
     → may_follow meaning history entry ≡ true → holds (history ++ entry ∷ []) ≡ true
 
--- what holds of the empty history and is kept by each entry that may follow holds of each valid history
+-- what holds of the empty history and is kept by each entry that may follow holds of each valid
+-- history
 abbrev pub WhatIsKeptHolds : Type 0
 WhatIsKeptHolds =
     (meaning : Meaning) (holds : History → Bool) → holds [] ≡ true → IsKeptByEach meaning holds
@@ -21,12 +22,14 @@ WhatIsKeptHolds =
 abbrev pub ValidWithOneMore : Type 0
 ValidWithOneMore =
     (meaning : Meaning) (history : History) (entry : Entry)
-    → is_valid meaning (history ++ entry ∷ []) ≡ (is_valid meaning history && may_follow meaning history entry)
+    → is_valid meaning (history ++ entry ∷ [])
+    ≡ (is_valid meaning history && may_follow meaning history entry)
 
 -- a front of a valid history is valid
 abbrev pub FrontIsValid : Type 0
 FrontIsValid =
-    (meaning : Meaning) (front rest : History) → is_valid meaning (front ++ rest) ≡ true → is_valid meaning front ≡ true
+    (meaning : Meaning) (front rest : History) → is_valid meaning (front ++ rest) ≡ true
+    → is_valid meaning front ≡ true
 
 -- in a valid history the entry at a place, counted from 0, has the number one above it
 abbrev pub EntryHasItsNumber : Type 0
@@ -37,5 +40,6 @@ EntryHasItsNumber =
 -- the entries before one that may follow a history are that history
 abbrev pub EntriesBefore : Type 0
 EntriesBefore =
-    (meaning : Meaning) (history : History) (entry : Entry) → may_follow meaning history entry ≡ true
+    (meaning : Meaning) (history : History) (entry : Entry)
+    → may_follow meaning history entry ≡ true
     → (later : History) → before_entry entry (history ++ entry ∷ later) ≡ history

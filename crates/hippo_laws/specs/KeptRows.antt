@@ -9,8 +9,8 @@ use Rattle.hippo_model.specs.StoredForms.{table_changed}
 use Rattle.hippo_model.specs.Versions.{is_version, version_fits}
 use Rattle.hippo_model.specs.Changes.{changed}
 
--- an entry changes the kept rows of a history to those of the history with it where it is a version that fits, and to
--- none where it is not
+-- an entry changes the kept rows of a history to those of the history with it where it is a version
+-- that fits, and to none where it is not
 abbrev pub ChangeIsThatOfHistory : Type 0
 ChangeIsThatOfHistory =
     (schema : Schema) (history : History) (entry : Entry)
@@ -21,9 +21,11 @@ ChangeIsThatOfHistory =
 abbrev pub LeavesRows : Schema → History → Entry → Type 0
 LeavesRows schema history entry = kept_at schema (history ++ entry ∷ []) ≡ kept_at schema history
 
--- an entry that is no version leaves the kept rows of each table, and a version those of each other table
+-- an entry that is no version leaves the kept rows of each table, and a version those of each other
+-- table
 pub record OthersLeaveRows : Type 0 where
-  pub no_version : (schema : Schema) (history : History) (entry : Entry) → is_version entry.act ≡ false
+  pub no_version : (schema : Schema) (history : History) (entry : Entry)
+      → is_version entry.act ≡ false
       → LeavesRows schema history entry
   pub other_table : (schema : Schema) (history : History) (entry : Entry)
       → bytes_eq (table_changed entry.act) schema.name ≡ false → LeavesRows schema history entry

@@ -7,15 +7,18 @@ use Rattle.hippo_model.specs.StoredForms.{body, stored}
 use Rattle.hippo_model.specs.Keepable.{is_keepable}
 use Rattle.hippo_model.specs.Stores.{IsStoreOf, IsDamagedAt}
 
--- where the bodies of entries that can be kept stand first in the same bytes, they are one entry, with one rest
+-- where the bodies of entries that can be kept stand first in the same bytes, they are one entry,
+-- with one rest
 abbrev pub BodyTellsEntry : Type 0
 BodyTellsEntry =
-    (a b : Entry) (rest other : List ℕ) → is_keepable a ≡ true → is_keepable b ≡ true → body a ++ rest ≡ body b ++ other
+    (a b : Entry) (rest other : List ℕ) → is_keepable a ≡ true → is_keepable b ≡ true
+    → body a ++ rest ≡ body b ++ other
     → (a ≡ b) × (rest ≡ other)
 
 -- entries that can be kept and have one stored form are one
 abbrev pub StoredFormTellsEntry : Type 0
-StoredFormTellsEntry = (a b : Entry) → is_keepable a ≡ true → is_keepable b ≡ true → stored a ≡ stored b → a ≡ b
+StoredFormTellsEntry =
+    (a b : Entry) → is_keepable a ≡ true → is_keepable b ≡ true → stored a ≡ stored b → a ≡ b
 
 -- stored entries are those of at most one valid history
 abbrev pub StoreTellsHistory : Type 0
@@ -25,7 +28,9 @@ StoreTellsHistory =
 
 -- stored entries that are damaged are those of no valid history, and have one place of damage
 pub record DamageTellsPlace : Type 0 where
-  pub of_none : (meaning : Meaning) (store : List StoredEntry) (place : ℕ) → IsDamagedAt meaning store place
+  pub of_none : (meaning : Meaning) (store : List StoredEntry) (place : ℕ)
+      → IsDamagedAt meaning store place
       → (history : History) → ¬ (IsStoreOf meaning store history)
-  pub one_place : (meaning : Meaning) (store : List StoredEntry) (p q : ℕ) → IsDamagedAt meaning store p
+  pub one_place : (meaning : Meaning) (store : List StoredEntry) (p q : ℕ)
+      → IsDamagedAt meaning store p
       → IsDamagedAt meaning store q → p ≡ q

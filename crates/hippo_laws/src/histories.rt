@@ -2,13 +2,14 @@
 ghost use Rattle.hippo_laws.specs.Histories.{WhatIsKeptHolds, ValidWithOneMore, FrontIsValid};
 ghost use Rattle.hippo_laws.specs.Histories.{EntryHasItsNumber, EntriesBefore};
 
-/// What holds of the empty history, and still holds when an entry that may follow is added, holds of each valid
-/// history.
+/// What holds of the empty history, and still holds when an entry that may follow is added, holds
+/// of each valid history.
 pub fn what_is_kept_holds()
     ensures { WhatIsKeptHolds }
 {}
 
-/// A history with one entry more is valid exactly where the history is valid and the entry may follow it.
+/// A history with one entry more is valid exactly where the history is valid and the entry may
+/// follow it.
 pub fn valid_with_one_more()
     ensures { ValidWithOneMore }
 {}

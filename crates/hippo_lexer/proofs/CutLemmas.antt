@@ -9,8 +9,8 @@ use Rattle.hippo_lexer.specs.declared.kinds.Token.{Token}
 use Rattle.hippo_lexer.specs.declared.faults.LexFault.{LexFault}
 use Rattle.hippo_lexer.specs.declared.faults.LexFault.TheVariants as faults
 use Rattle.hippo_lexer.specs.Spelling.{is_blank, begins_with}
-use Rattle.hippo_lexer.specs.Cutting.{Fails, blanks_len, token_first, tokens_from, with_front, outcome_of}
-use Rattle.hippo_lexer.specs.Grammar.{with_first}
+use Rattle.hippo_lexer.specs.Cutting.{FailsOutcome, blanks_len, token_first, tokens_from, with_front_tokens, outcome_of}
+use Rattle.hippo_lexer.specs.Grammar.{with_first_token}
 use Rattle.hippo_lexer.proofs.EdgeLemmas.{BeginsPlain, EndsPlain, token_begins, token_ends}
 use Rattle.hippo_lexer.proofs.FirstLemmas.{token_or_fault}
 use Rattle.hippo_lexer.proofs.FrontLemmas.{boundary-ascii}
@@ -28,11 +28,11 @@ tokens_from-blanks place (byte ∷ rest) = elim (cases_Bool (is_blank byte)) [
   | inr other ↦ let here : place + 0 ≡ place = omega arith in rw (other, here, other) refl
 ]
 
-front_nothing : (outcome : Result (List Token) LexFault) → with_front [] outcome ≡ outcome
+front_nothing : (outcome : Result (List Token) LexFault) → with_front_tokens [] outcome ≡ outcome
 front_nothing (Ok tokens) = refl
 front_nothing (Err fault) = refl
 
-front_more : (front : List Token) (token : Token) (outcome : Result (List Token) LexFault) → with_front front (with_first token outcome) ≡ with_front (front ++ token ∷ []) outcome
+front_more : (front : List Token) (token : Token) (outcome : Result (List Token) LexFault) → with_front_tokens front (with_first_token token outcome) ≡ with_front_tokens (front ++ token ∷ []) outcome
 front_more front token (Ok tokens) = ap Ok (sym (append_assoc front (token ∷ []) tokens))
 front_more front token (Err fault) = refl
 
@@ -78,21 +78,21 @@ cut_token place (byte ∷ rest) kind n utf8 some filled first = elim (token_or_f
 ]
 
 -- Before the first token.
-pub cuts_start : (text : List ℕ) → with_front [] (tokens_from (length text - length (drop (blanks_len text) text)) 0 (drop (blanks_len text) text)) ≡ outcome_of text
+pub cuts_start : (text : List ℕ) → with_front_tokens [] (tokens_from (length text - length (drop (blanks_len text) text)) 0 (drop (blanks_len text) text)) ≡ outcome_of text
 unfolding outcome_of
 cuts_start text =
     let there : length text - length (drop (blanks_len text) text) ≡ 0 + blanks_len text = simp length-drop (omega (arith, prefix_len-le-length is_blank text)) in
     rw there (front_nothing _ ∙ sym (tokens_from-blanks 0 text))
 
-first_token : (place : ℕ) (bytes text rest : List ℕ) (kind : TokenKind) (n : ℕ) → BeginsPlain text → bytes ≡ text ++ rest → length text ≡ n → token_first place bytes ≡ Ok (kind, n) → tokens_from place 0 bytes ≡ with_first (record { kind = kind; start = place; end = place + n }) (tokens_from (place + n) 0 rest)
+first_token : (place : ℕ) (bytes text rest : List ℕ) (kind : TokenKind) (n : ℕ) → BeginsPlain text → bytes ≡ text ++ rest → length text ≡ n → token_first place bytes ≡ Ok (kind, n) → tokens_from place 0 bytes ≡ with_first_token (record { kind = kind; start = place; end = place + n }) (tokens_from (place + n) 0 rest)
 first_token place bytes text rest kind n begins parts size first =
     let same : ◌≡◌ {A = Result (TokenKind × ℕ) LexFault} (Ok (kind, n)) (Ok (kind, length text)) = ap (λ k. Ok (kind, k)) (sym size) in
     tokens_from-token place bytes text rest kind begins parts (first ∙ same)
-    ∙ ap (λ k. with_first (record { kind = kind; start = place; end = place + k }) (tokens_from (place + k) 0 rest)) size
+    ∙ ap (λ k. with_first_token (record { kind = kind; start = place; end = place + k }) (tokens_from (place + k) 0 rest)) size
 
 -- A token was found.
-pub cuts_token : (text rest : List ℕ) (found : List Token) (kind : TokenKind) (n : ℕ) → length rest ≤ length text → IsCutOff rest n → token_first (length text - length rest) rest ≡ Ok (kind, n) → with_front found (tokens_from (length text - length rest) 0 rest) ≡ outcome_of text
-    → with_front (found ++ record { kind = kind; start = length text - length rest; end = length text - length rest + n } ∷ []) (tokens_from (length text - length (drop (blanks_len (drop n rest)) (drop n rest))) 0 (drop (blanks_len (drop n rest)) (drop n rest))) ≡ outcome_of text
+pub cuts_token : (text rest : List ℕ) (found : List Token) (kind : TokenKind) (n : ℕ) → length rest ≤ length text → IsCutOff rest n → token_first (length text - length rest) rest ≡ Ok (kind, n) → with_front_tokens found (tokens_from (length text - length rest) 0 rest) ≡ outcome_of text
+    → with_front_tokens (found ++ record { kind = kind; start = length text - length rest; end = length text - length rest + n } ∷ []) (tokens_from (length text - length (drop (blanks_len (drop n rest)) (drop n rest))) 0 (drop (blanks_len (drop n rest)) (drop n rest))) ≡ outcome_of text
 cuts_token text rest found kind n within cut first told =
     let start = length text - length rest in
     let dropped : drop n rest ≡ cut.rest = rw cut.parts (drop_at cut.text cut.rest n cut.size) in
@@ -101,24 +101,24 @@ cuts_token text rest found kind n within cut first told =
     let place : start + n + blanks_len cut.rest ≡ length text - length behind =
     simp length-drop (omega (arith, cut.size, size, within, prefix_len-le-length is_blank cut.rest)) in
     rw dropped (sym (sym told
-    ∙ ap (with_front found) (first_token start rest cut.text cut.rest kind n cut.begins cut.parts cut.size first)
+    ∙ ap (with_front_tokens found) (first_token start rest cut.text cut.rest kind n cut.begins cut.parts cut.size first)
     ∙ front_more found _ _
-    ∙ ap (with_front (found ++ record { kind = kind; start = start; end = start + n } ∷ [])) (tokens_from-blanks (start + n) cut.rest ∙ ap (λ p. tokens_from p 0 behind) place)))
+    ∙ ap (with_front_tokens (found ++ record { kind = kind; start = start; end = start + n } ∷ [])) (tokens_from-blanks (start + n) cut.rest ∙ ap (λ p. tokens_from p 0 behind) place)))
 
 -- A fault was found.
-cuts_this : (place : ℕ) (rest text : List ℕ) (found : List Token) (fault : LexFault) → 0 < length rest → begins_with is_blank rest ≡ false → with_front found (tokens_from place 0 rest) ≡ outcome_of text → token_first place rest ≡ Err fault → outcome_of text ≡ Err fault
+cuts_this : (place : ℕ) (rest text : List ℕ) (found : List Token) (fault : LexFault) → 0 < length rest → begins_with is_blank rest ≡ false → with_front_tokens found (tokens_from place 0 rest) ≡ outcome_of text → token_first place rest ≡ Err fault → outcome_of text ≡ Err fault
 cuts_this place [] text found fault some filled told first = absurd (omega arith)
 cuts_this place (byte ∷ rest) text found fault some filled told first =
-    sym told ∙ ap (with_front found) (tokens_from-fault place byte rest fault filled first)
+    sym told ∙ ap (with_front_tokens found) (tokens_from-fault place byte rest fault filled first)
 
-pub cuts_fault : (place : ℕ) (rest text : List ℕ) (found : List Token) (fault : LexFault) → 0 < length rest → begins_with is_blank rest ≡ false → with_front found (tokens_from place 0 rest) ≡ outcome_of text → Fails fault (token_first place rest) → Fails fault (outcome_of text)
+pub cuts_fault : (place : ℕ) (rest text : List ℕ) (found : List Token) (fault : LexFault) → 0 < length rest → begins_with is_blank rest ≡ false → with_front_tokens found (tokens_from place 0 rest) ≡ outcome_of text → FailsOutcome fault (token_first place rest) → FailsOutcome fault (outcome_of text)
 cuts_fault place rest text found faults.Memory some filled told first = tt
 cuts_fault place rest text found (faults.BadToken at) some filled told first = cuts_this place rest text found (faults.BadToken at) some filled told first
 cuts_fault place rest text found (faults.NumberTooLarge at) some filled told first = cuts_this place rest text found (faults.NumberTooLarge at) some filled told first
 cuts_fault place rest text found (faults.BadDate at) some filled told first = cuts_this place rest text found (faults.BadDate at) some filled told first
 
 -- Nothing is left.
-pub cuts_end : (place : ℕ) (rest text : List ℕ) (found : List Token) → length rest ≡ 0 → with_front found (tokens_from place 0 rest) ≡ outcome_of text → outcome_of text ≡ Ok found
+pub cuts_end : (place : ℕ) (rest text : List ℕ) (found : List Token) → length rest ≡ 0 → with_front_tokens found (tokens_from place 0 rest) ≡ outcome_of text → outcome_of text ≡ Ok found
 unfolding tokens_from
 cuts_end place rest text found none told =
     let empty = nil_from_length rest none in

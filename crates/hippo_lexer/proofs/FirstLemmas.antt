@@ -11,7 +11,7 @@ use Rattle.hippo_lexer.specs.declared.kinds.TokenKind.{TokenKind}
 use Rattle.hippo_lexer.specs.declared.faults.LexFault.{LexFault}
 use Rattle.hippo_lexer.specs.Spelling.{is_blank, is_quote, is_minus, begins_with}
 use Rattle.hippo_lexer.specs.Cutting.{word_len, blanks_len, day_of}
-use Rattle.hippo_lexer.specs.Grammar.{IsToken, a_keyword, a_refused_word, a_name, a_number, a_quoted_text, a_day, a_sign, IsFault, long_word, letter_behind, large, lone_minus, unclosed, no_day, stray, IsWholeWord, OpensDay, quoted}
+use Rattle.hippo_lexer.specs.Grammar.{IsToken, a_keyword, a_refused_word, a_name, a_number, a_quoted_text, a_day, a_sign, IsFault, long_word, letter_behind, large, lone_minus, unclosed, no_day, stray, IsWholeWord, OpensDay, quoted_text}
 use Rattle.hippo_lexer.proofs.DayLemmas.{day_of-found, day_of-none}
 use Rattle.hippo_lexer.proofs.NumeralLemmas.{number_or_minus, in_range_or_not}
 use Rattle.hippo_lexer.proofs.QuotedLemmas.{quoted_or_open}
@@ -42,10 +42,10 @@ date_first_is place bytes word behind cut whole date = elim (quoted_or_none behi
       let opens : OpensDay word behind (take (blanks_len behind) behind) found.0 found.1 = record { whole = whole; date = date; quotation = found.2 } in
       elim (day_or_none found.0) [
         | inl day ↦ inl (
-          word ++ (take (blanks_len behind) behind ++ quoted found.0),
+          word ++ (take (blanks_len behind) behind ++ quoted_text found.0),
           found.1,
           _,
-          cut ∙ sym (regrouped word _ (quoted found.0) found.1 behind _ found.2.parts refl),
+          cut ∙ sym (regrouped word _ (quoted_text found.0) found.1 behind _ found.2.parts refl),
           a_day _ word behind _ found.0 found.1 day.0 opens day.1 refl,
         )
         | inr none ↦ inr (_, no_day place bytes word behind _ found.0 found.1 opens none cut)
@@ -79,7 +79,7 @@ number_is place byte rest h = elim (number_or_minus byte rest h) [
 
 quote_is : (place byte : ℕ) (rest : List ℕ) → byte ≡ 39 → HasToken (byte ∷ rest) ⊎ HasFault place (byte ∷ rest)
 quote_is place byte rest quote = elim (quoted_or_open rest) [
-  | inl found ↦ inl (quoted found.0, found.1, _, ap (λ b. b ∷ rest) quote ∙ found.2, a_quoted_text _ found.0 found.1 refl found.3)
+  | inl found ↦ inl (quoted_text found.0, found.1, _, ap (λ b. b ∷ rest) quote ∙ found.2, a_quoted_text _ found.0 found.1 refl found.3)
   | inr stays ↦ inr (_, unclosed place _ stays.0 (ap (λ b. b ∷ rest) quote ∙ stays.1))
 ]
 

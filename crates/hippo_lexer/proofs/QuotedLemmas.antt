@@ -2,38 +2,38 @@
 use Rattle.std.proofs.Common.{◌≡◌, ℕ, suc, ◌+◌, ◌⊎◌, false, List, [], ◌∷◌, ◌++◌, length, Some, None, refl, sym, ap, ◌∙◌, inl, inr, arith}
 use Rattle.std.proofs.lemmas.Bool.{cases_Bool, eqb-true}
 use Rattle.std.proofs.lemmas.List.{append_assoc, length-append}
-use Rattle.hippo_lexer.specs.Spelling.{is_quote, begins_with, doubled}
+use Rattle.hippo_lexer.specs.Spelling.{is_quote, begins_with, doubled_quotes}
 use Rattle.hippo_lexer.specs.Cutting.{closing, onto, quoted_first}
-use Rattle.hippo_lexer.specs.Grammar.{quoted}
+use Rattle.hippo_lexer.specs.Grammar.{quoted_text}
 use Rattle.hippo_lexer.proofs.QuoteLemmas.{closing-other, closing-two, closing-end, closing-nil}
 
 -- a spelled text closes at its quote
-closing-doubled : (text rest : List ℕ) → begins_with is_quote rest ≡ false → closing (doubled text ++ 39 ∷ rest) ≡ Some (text, length (doubled text) + 1)
-closing-doubled [] rest ends = closing-end rest ends
-closing-doubled (byte ∷ text) rest ends = elim (cases_Bool (is_quote byte)) [
+closing-doubled_quotes : (text rest : List ℕ) → begins_with is_quote rest ≡ false → closing (doubled_quotes text ++ 39 ∷ rest) ≡ Some (text, length (doubled_quotes text) + 1)
+closing-doubled_quotes [] rest ends = closing-end rest ends
+closing-doubled_quotes (byte ∷ text) rest ends = elim (cases_Bool (is_quote byte)) [
   | inl quote ↦
       let same : byte ≡ 39 = eqb-true byte 39 quote in
-      let count : 2 + (length (doubled text) + 1) ≡ suc (suc (length (doubled text))) + 1 = omega arith in
-      rw quote (closing-two (doubled text ++ 39 ∷ rest) ∙ (ap (onto (39 ∷ []) 2) (closing-doubled text rest ends) ∙ rw (count, same) refl))
+      let count : 2 + (length (doubled_quotes text) + 1) ≡ suc (suc (length (doubled_quotes text))) + 1 = omega arith in
+      rw quote (closing-two (doubled_quotes text ++ 39 ∷ rest) ∙ (ap (onto (39 ∷ []) 2) (closing-doubled_quotes text rest ends) ∙ rw (count, same) refl))
   | inr other ↦
-      let count : 1 + (length (doubled text) + 1) ≡ suc (length (doubled text)) + 1 = omega arith in
-      rw other (closing-other byte (doubled text ++ 39 ∷ rest) other ∙ (ap (onto (byte ∷ []) 1) (closing-doubled text rest ends) ∙ rw count refl))
+      let count : 1 + (length (doubled_quotes text) + 1) ≡ suc (length (doubled_quotes text)) + 1 = omega arith in
+      rw other (closing-other byte (doubled_quotes text ++ 39 ∷ rest) other ∙ (ap (onto (byte ∷ []) 1) (closing-doubled_quotes text rest ends) ∙ rw count refl))
 ]
 
 -- without that quote it doesn't close
-closing-unclosed : (text : List ℕ) → closing (doubled text) ≡ None
+closing-unclosed : (text : List ℕ) → closing (doubled_quotes text) ≡ None
 closing-unclosed [] = closing-nil
 closing-unclosed (byte ∷ text) = elim (cases_Bool (is_quote byte)) [
-  | inl quote ↦ rw quote (closing-two (doubled text) ∙ ap (onto (39 ∷ []) 2) (closing-unclosed text))
-  | inr other ↦ rw other (closing-other byte (doubled text) other ∙ ap (onto (byte ∷ []) 1) (closing-unclosed text))
+  | inl quote ↦ rw quote (closing-two (doubled_quotes text) ∙ ap (onto (39 ∷ []) 2) (closing-unclosed text))
+  | inr other ↦ rw other (closing-other byte (doubled_quotes text) other ∙ ap (onto (byte ∷ []) 1) (closing-unclosed text))
 ]
 
 -- bytes behind an opening quote: a text that closes, or one that does not
 abbrev Closes : List ℕ → Type 0
-Closes bytes = (text : List ℕ) × (rest : List ℕ) × (bytes ≡ doubled text ++ 39 ∷ rest) × (begins_with is_quote rest ≡ false)
+Closes bytes = (text : List ℕ) × (rest : List ℕ) × (bytes ≡ doubled_quotes text ++ 39 ∷ rest) × (begins_with is_quote rest ≡ false)
 
 abbrev StaysOpen : List ℕ → Type 0
-StaysOpen bytes = (text : List ℕ) × (bytes ≡ doubled text)
+StaysOpen bytes = (text : List ℕ) × (bytes ≡ doubled_quotes text)
 
 -- one byte more in front
 more_quote : (bytes : List ℕ) → Closes bytes ⊎ StaysOpen bytes → Closes (39 ∷ 39 ∷ bytes) ⊎ StaysOpen (39 ∷ 39 ∷ bytes)
@@ -59,20 +59,20 @@ closes_or_not (byte ∷ next ∷ rest) = elim (cases_Bool (is_quote byte)) [
 ]
 
 -- the cut finds a quoted text by its spelling
-pub quoted_first-is : (text rest : List ℕ) → begins_with is_quote rest ≡ false → quoted_first (quoted text ++ rest) ≡ Some (text, length (quoted text))
+pub quoted_first-is : (text rest : List ℕ) → begins_with is_quote rest ≡ false → quoted_first (quoted_text text ++ rest) ≡ Some (text, length (quoted_text text))
 unfolding quoted_first
 quoted_first-is text rest ends =
-    let count : 1 + (length (doubled text) + 1) ≡ length (quoted text) = simp length-append (omega arith) in
-    rw (append_assoc (doubled text) (39 ∷ []) rest) (ap (onto [] 1) (closing-doubled text rest ends) ∙ rw count refl)
+    let count : 1 + (length (doubled_quotes text) + 1) ≡ length (quoted_text text) = simp length-append (omega arith) in
+    rw (append_assoc (doubled_quotes text) (39 ∷ []) rest) (ap (onto [] 1) (closing-doubled_quotes text rest ends) ∙ rw count refl)
 
 -- and none where it stays open
-pub quoted_first-unclosed : (text : List ℕ) → quoted_first (39 ∷ doubled text) ≡ None
+pub quoted_first-unclosed : (text : List ℕ) → quoted_first (39 ∷ doubled_quotes text) ≡ None
 unfolding quoted_first
 quoted_first-unclosed text = ap (onto [] 1) (closing-unclosed text)
 
 -- a quote begins a quoted text or one that stays open
-pub quoted_or_open : (bytes : List ℕ) → ((text : List ℕ) × (rest : List ℕ) × (39 ∷ bytes ≡ quoted text ++ rest) × (begins_with is_quote rest ≡ false)) ⊎ ((text : List ℕ) × (39 ∷ bytes ≡ 39 ∷ doubled text))
+pub quoted_or_open : (bytes : List ℕ) → ((text : List ℕ) × (rest : List ℕ) × (39 ∷ bytes ≡ quoted_text text ++ rest) × (begins_with is_quote rest ≡ false)) ⊎ ((text : List ℕ) × (39 ∷ bytes ≡ 39 ∷ doubled_quotes text))
 quoted_or_open bytes = elim (closes_or_not bytes) [
-  | inl closed ↦ inl (closed.0, closed.1, ap (λ b. 39 ∷ b) (closed.2 ∙ sym (append_assoc (doubled closed.0) (39 ∷ []) closed.1)), closed.3)
+  | inl closed ↦ inl (closed.0, closed.1, ap (λ b. 39 ∷ b) (closed.2 ∙ sym (append_assoc (doubled_quotes closed.0) (39 ∷ []) closed.1)), closed.3)
   | inr open_text ↦ inr (open_text.0, ap (λ b. 39 ∷ b) open_text.1)
 ]

@@ -6,8 +6,8 @@ use Rattle.hippo_lexer.specs.declared.kinds.TokenKind.{TokenKind}
 use Rattle.hippo_lexer.specs.declared.kinds.Token.{Token}
 use Rattle.hippo_lexer.specs.declared.faults.LexFault.{LexFault}
 use Rattle.hippo_lexer.specs.Spelling.{is_blank}
-use Rattle.hippo_lexer.specs.Cutting.{token_first, tokens_from, with_front}
-use Rattle.hippo_lexer.specs.Grammar.{IsCut, at_end, at_blank, at_token, at_fault, with_first, IsOutcome}
+use Rattle.hippo_lexer.specs.Cutting.{token_first, tokens_from, with_front_tokens}
+use Rattle.hippo_lexer.specs.Grammar.{IsCut, at_end, at_blank, at_token, at_fault, with_first_token, IsOutcome}
 use Rattle.hippo_lexer.proofs.EdgeLemmas.{BeginsPlain, token_begins, fault_begins}
 use Rattle.hippo_lexer.proofs.FirstLemmas.{token_or_fault}
 use Rattle.hippo_lexer.proofs.TokenLemmas.{token-is, fault-is}
@@ -20,11 +20,11 @@ tokens_from-skip place (byte ∷ text) rest =
     let there : place + 1 + length text ≡ place + suc (length text) = omega arith in
     tokens_from-skip (place + 1) text rest ∙ ap (λ p. tokens_from p 0 rest) there
 
-one_front : (token : Token) (outcome : Result (List Token) LexFault) → with_front (token ∷ []) outcome ≡ with_first token outcome
+one_front : (token : Token) (outcome : Result (List Token) LexFault) → with_front_tokens (token ∷ []) outcome ≡ with_first_token token outcome
 one_front token (Ok tokens) = refl
 one_front token (Err fault) = refl
 
-token_step : (place byte : ℕ) (tail rest : List ℕ) (kind : TokenKind) → is_blank byte ≡ false → token_first place (byte ∷ (tail ++ rest)) ≡ Ok (kind, suc (length tail)) → tokens_from place 0 (byte ∷ (tail ++ rest)) ≡ with_first (record { kind = kind; start = place; end = place + suc (length tail) }) (tokens_from (place + suc (length tail)) 0 rest)
+token_step : (place byte : ℕ) (tail rest : List ℕ) (kind : TokenKind) → is_blank byte ≡ false → token_first place (byte ∷ (tail ++ rest)) ≡ Ok (kind, suc (length tail)) → tokens_from place 0 (byte ∷ (tail ++ rest)) ≡ with_first_token (record { kind = kind; start = place; end = place + suc (length tail) }) (tokens_from (place + suc (length tail)) 0 rest)
 unfolding tokens_from
 token_step place byte tail rest kind blank first =
     let count : suc (length tail) - 1 ≡ length tail = omega arith in
@@ -32,7 +32,7 @@ token_step place byte tail rest kind blank first =
     rw (blank, first, count, tokens_from-skip (place + 1) tail rest, there) (one_front _ _)
 
 -- a token in front
-pub tokens_from-token : (place : ℕ) (bytes text rest : List ℕ) (kind : TokenKind) → BeginsPlain text → bytes ≡ text ++ rest → token_first place bytes ≡ Ok (kind, length text) → tokens_from place 0 bytes ≡ with_first (record { kind = kind; start = place; end = place + length text }) (tokens_from (place + length text) 0 rest)
+pub tokens_from-token : (place : ℕ) (bytes text rest : List ℕ) (kind : TokenKind) → BeginsPlain text → bytes ≡ text ++ rest → token_first place bytes ≡ Ok (kind, length text) → tokens_from place 0 bytes ≡ with_first_token (record { kind = kind; start = place; end = place + length text }) (tokens_from (place + length text) 0 rest)
 tokens_from-token place bytes text rest kind begins cut first =
     let here = rw (cut, begins.parts) at first in
     rw (cut, begins.parts) (token_step place begins.first begins.tail rest kind begins.blank here)
@@ -49,7 +49,7 @@ cut-is place bytes outcome (at_end _) = refl
 cut-is place bytes outcome (at_blank _ byte rest _ h later) = rw h (cut-is (place + 1) rest outcome later)
 cut-is place bytes outcome (at_token _ _ text rest kind later _ h is_cut cut first) =
     tokens_from-token place bytes text rest kind (token_begins text rest kind h) cut (ap (token_first place) cut ∙ token-is place text rest kind h)
-    ∙ (ap (with_first _) (cut-is (place + length text) rest later is_cut) ∙ sym first)
+    ∙ (ap (with_first_token _) (cut-is (place + length text) rest later is_cut) ∙ sym first)
 cut-is place bytes outcome (at_fault _ _ fault h) =
     let begins = fault_begins place bytes fault h in
     let here = rw begins.2 at (fault-is place bytes fault h) in

@@ -10,7 +10,7 @@ use Rattle.std.proofs.lemmas.Str.{IsCharBoundary-before_ascii}
 use Rattle.hippo_lexer.specs.declared.kinds.TokenKind.{TokenKind}
 use Rattle.hippo_lexer.specs.declared.kinds.Token.{Token}
 use Rattle.hippo_lexer.specs.declared.faults.LexFault.{LexFault}
-use Rattle.hippo_lexer.specs.Grammar.{IsCut, at_end, at_blank, at_token, at_fault, with_first, IsOutcome, IsSpan}
+use Rattle.hippo_lexer.specs.Grammar.{IsCut, at_end, at_blank, at_token, at_fault, with_first_token, IsOutcome, IsSpan}
 use Rattle.hippo_lexer.proofs.EdgeLemmas.{BeginsPlain, EndsPlain, token_begins, token_ends}
 use Rattle.hippo_lexer.proofs.FrontLemmas.{boundary-ascii}
 
@@ -34,7 +34,7 @@ span_there text front said rest place kind utf8 parts size begins ends =
       to = boundary-ascii text (place + length said) utf8 (omega arith) (λ _. small_end);
     }
 
-more_tokens : (text : List ℕ) (place : ℕ) (token : Token) (later outcome : Result (List Token) LexFault) → place ≤ token.start → IsSpan text token → IfOk later (InOrder text token.end) → outcome ≡ with_first token later → IfOk outcome (InOrder text place)
+more_tokens : (text : List ℕ) (place : ℕ) (token : Token) (later outcome : Result (List Token) LexFault) → place ≤ token.start → IsSpan text token → IfOk later (InOrder text token.end) → outcome ≡ with_first_token token later → IfOk outcome (InOrder text place)
 more_tokens text place token (Ok tokens) outcome from span behind first = rw first (from, span, behind)
 more_tokens text place token (Err fault) outcome from span behind first = rw first tt
 

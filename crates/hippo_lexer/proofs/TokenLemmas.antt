@@ -13,7 +13,7 @@ use Rattle.hippo_lexer.specs.declared.faults.LexFault.{LexFault}
 use Rattle.hippo_lexer.specs.declared.faults.LexFault.TheVariants as faults
 use Rattle.hippo_lexer.specs.Spelling.{is_blank, is_quote, is_minus, begins_with, sign_of}
 use Rattle.hippo_lexer.specs.Cutting.{◌>>=◌, word_kind, is_date, day_first, date_first, word_first, number_first, quoted_first, sign_first, token_first}
-use Rattle.hippo_lexer.specs.Grammar.{IsToken, a_keyword, a_refused_word, a_name, a_number, a_quoted_text, a_day, a_sign, IsFault, long_word, letter_behind, large, lone_minus, unclosed, no_day, stray, IsNumber, IsWholeWord, IsQuotedBehind, OpensDay, quoted}
+use Rattle.hippo_lexer.specs.Grammar.{IsToken, a_keyword, a_refused_word, a_name, a_number, a_quoted_text, a_day, a_sign, IsFault, long_word, letter_behind, large, lone_minus, unclosed, no_day, stray, IsNumber, IsWholeWord, IsQuotedBehind, OpensDay, quoted_text}
 use Rattle.hippo_lexer.proofs.DayLemmas.{day_of-day, day_of-no_day}
 use Rattle.hippo_lexer.proofs.NumeralLemmas.{number_begins, number-token, number-letter, number-large, lone-minus}
 use Rattle.hippo_lexer.proofs.QuotedLemmas.{quoted_first-is, quoted_first-unclosed}
@@ -51,7 +51,7 @@ keyword_end place n rest _ alone = refl
 word_cut : (place : ℕ) (word rest : List ℕ) → IsWholeWord word rest → token_first place (word ++ rest) ≡ (ok_or (word_kind word) (faults.BadToken place) >>= λ kind. if is_date kind then date_first place (length word) rest else Ok (kind, length word))
 word_cut place word rest h = letter_first place (word ++ rest) (whole-begins word rest h) ∙ word_step place word rest h
 
-day_cut : (place : ℕ) (word behind blanks text rest : List ℕ) → OpensDay word behind blanks text rest → token_first place (word ++ behind) ≡ day_first place (length word + length blanks) (text, length (quoted text))
+day_cut : (place : ℕ) (word behind blanks text rest : List ℕ) → OpensDay word behind blanks text rest → token_first place (word ++ behind) ≡ day_first place (length word + length blanks) (text, length (quoted_text text))
 day_cut place word behind blanks text rest h =
     word_cut place word behind h.whole ∙ rw (kind-keyword word KDate h.date) (date-day place (length word) behind blanks text rest h.quotation)
 
@@ -69,7 +69,7 @@ sign_cut place (byte ∷ text) rest sign h =
     let parts = parts_of byte (sign-begins (byte ∷ text) sign h) in
     sign_chosen place byte (text ++ rest) parts.0 parts.1 parts.2
 
-quoted_cut : (place : ℕ) (text rest : List ℕ) → begins_with is_quote rest ≡ false → token_first place (quoted text ++ rest) ≡ Ok (kinds.Quoted text, length (quoted text))
+quoted_cut : (place : ℕ) (text rest : List ℕ) → begins_with is_quote rest ≡ false → token_first place (quoted_text text ++ rest) ≡ Ok (kinds.Quoted text, length (quoted_text text))
 quoted_cut place text rest ends = quote_chosen place _ ∙ rw (quoted_first-is text rest ends) refl
 
 -- a day's text, and what stands behind it, in two groupings
@@ -91,8 +91,8 @@ token-is place text rest kind (a_name _ _ whole form) = word_cut place text rest
 token-is place text rest kind (a_number _ _ number h fits ends) = number_cut place text rest number h ∙ number-token place text rest number h fits ends
 token-is place text rest kind (a_quoted_text _ said _ spelled ends) = rw spelled (quoted_cut place said rest ends)
 token-is place text rest kind (a_day _ word behind blanks said _ day opens is_day spelled) =
-    let whole = regrouped word blanks (quoted said) rest behind text opens.quotation.parts spelled in
-    let len = day_len word blanks (quoted said) text spelled in
+    let whole = regrouped word blanks (quoted_text said) rest behind text opens.quotation.parts spelled in
+    let len = day_len word blanks (quoted_text said) text spelled in
     ap (token_first place) whole ∙ (day_cut place word behind blanks said rest opens ∙ (day_found place _ said _ day is_day ∙ ap (λ n. Ok (kinds.Day day, n)) len))
 token-is place text rest kind (a_sign _ _ sign h longest) = sign_cut place text rest sign h ∙ rw (sign_first-is text rest sign h longest) refl
 

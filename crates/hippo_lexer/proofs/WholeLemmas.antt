@@ -10,7 +10,7 @@ use Rattle.hippo_lexer.specs.declared.kinds.TokenKind.TheVariants as kinds
 use Rattle.hippo_lexer.specs.declared.faults.LexFault.TheVariants as faults
 use Rattle.hippo_lexer.specs.Spelling.{is_blank, is_quote, begins_with}
 use Rattle.hippo_lexer.specs.Cutting.{◌>>=◌, word_len, blanks_len, word_kind, is_date, quoted_first, day_first, date_first, word_first}
-use Rattle.hippo_lexer.specs.Grammar.{IsWholeWord, IsQuotedBehind, quoted}
+use Rattle.hippo_lexer.specs.Grammar.{IsWholeWord, IsQuotedBehind, quoted_text}
 use Rattle.hippo_lexer.proofs.PrefixLemmas.{all-front, ends-front, len-front}
 use Rattle.hippo_lexer.proofs.QuotedLemmas.{quoted_first-is, quoted_first-unclosed, quoted_or_open}
 
@@ -43,14 +43,14 @@ word_step place word rest h = rw (whole-len word rest h, take_at word rest (leng
 
 -- a quoted text behind blanks is found
 quoted_len : (behind blanks text rest : List ℕ) → IsQuotedBehind behind blanks text rest → blanks_len behind ≡ length blanks
-quoted_len behind blanks text rest h = rw h.parts (len-front is_blank blanks (quoted text ++ rest) h.gap refl)
+quoted_len behind blanks text rest h = rw h.parts (len-front is_blank blanks (quoted_text text ++ rest) h.gap refl)
 
-pub quoted_there : (behind blanks text rest : List ℕ) → IsQuotedBehind behind blanks text rest → quoted_first (drop (blanks_len behind) behind) ≡ Some (text, length (quoted text))
+pub quoted_there : (behind blanks text rest : List ℕ) → IsQuotedBehind behind blanks text rest → quoted_first (drop (blanks_len behind) behind) ≡ Some (text, length (quoted_text text))
 quoted_there behind blanks text rest h =
-    rw (quoted_len behind blanks text rest h, h.parts, drop_at blanks (quoted text ++ rest) (length blanks) refl) (quoted_first-is text rest h.ends)
+    rw (quoted_len behind blanks text rest h, h.parts, drop_at blanks (quoted_text text ++ rest) (length blanks) refl) (quoted_first-is text rest h.ends)
 
 -- or none stands there
-quoted_at : (bytes : List ℕ) → ((text : List ℕ) × (rest : List ℕ) × (bytes ≡ quoted text ++ rest) × (begins_with is_quote rest ≡ false)) ⊎ (quoted_first bytes ≡ None)
+quoted_at : (bytes : List ℕ) → ((text : List ℕ) × (rest : List ℕ) × (bytes ≡ quoted_text text ++ rest) × (begins_with is_quote rest ≡ false)) ⊎ (quoted_first bytes ≡ None)
 unfolding quoted_first
 quoted_at [] = inr refl
 quoted_at (byte ∷ rest) = elim (cases_Bool (is_quote byte)) [
@@ -78,7 +78,7 @@ quoted_or_none behind = elim (quoted_at (drop (blanks_len behind) behind)) [
 ]
 
 -- The word DATE, before a quoted text and without one.
-pub date-day : (place n : ℕ) (behind blanks text rest : List ℕ) → IsQuotedBehind behind blanks text rest → date_first place n behind ≡ day_first place (n + length blanks) (text, length (quoted text))
+pub date-day : (place n : ℕ) (behind blanks text rest : List ℕ) → IsQuotedBehind behind blanks text rest → date_first place n behind ≡ day_first place (n + length blanks) (text, length (quoted_text text))
 unfolding date_first
 date-day place n behind blanks text rest h =
     rw (quoted_there behind blanks text rest h, quoted_len behind blanks text rest h) refl

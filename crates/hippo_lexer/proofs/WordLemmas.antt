@@ -8,33 +8,33 @@ use Rattle.std.proofs.lemmas.Bool.{cases_Bool, and_parts, both_ways, leb-true, l
 use Rattle.std.proofs.lemmas.List.{length-map}
 use Rattle.std.proofs.lemmas.Map.Made.{is_some-lookup}
 use Rattle.std.proofs.lemmas.Slice.Eq.{bytes_eq-Decides}
-use Rattle.hippo_values.specs.Names.{folded, keywords, unsupported_words, is_among, reserved_of, is_reserved, is_word, is_name, keyword_of}
+use Rattle.hippo_values.specs.Names.{lower_case, keywords, unsupported_words, is_among, reserved_of, is_reserved, is_word, is_name, keyword_of}
 use Rattle.hippo_values.specs.declared.keywords.Keyword.{Keyword}
 use Rattle.hippo_values.specs.declared.keywords.Reserved.{Reserved}
 use Rattle.hippo_values.specs.declared.keywords.Reserved.TheVariants as reserved
 use Rattle.hippo_values.specs.Words.{said_by, word_of}
 use Rattle.hippo_lexer.specs.declared.kinds.TokenKind.TheVariants as kinds
-use Rattle.hippo_lexer.specs.Cutting.{kind_of, word_kind}
+use Rattle.hippo_lexer.specs.Cutting.{kind_of_word, word_kind}
 
 -- the words that stand in the grammar
 abbrev grammar_words : List (List ℕ)
 grammar_words = keys_of keywords
 
 -- a word among others is one of them in lower case
-among_one : (words : List (List ℕ)) (test : List ℕ → Bool) (word : List ℕ) → list_all test words ≡ true → is_among words word ≡ true → test (folded word) ≡ true
+among_one : (words : List (List ℕ)) (test : List ℕ → Bool) (word : List ℕ) → list_all test words ≡ true → is_among words word ≡ true → test (lower_case word) ≡ true
 among_one [] test word all among = absurd (both_ways _ refl among)
-among_one (known ∷ words) test word all among = elim (cases_Bool (bytes_eq known (folded word))) [
-  | inl same ↦ rw (sym ((bytes_eq-Decides known (folded word)).0 same)) (and_parts _ _ all).0
+among_one (known ∷ words) test word all among = elim (cases_Bool (bytes_eq known (lower_case word))) [
+  | inl same ↦ rw (sym ((bytes_eq-Decides known (lower_case word)).0 same)) (and_parts _ _ all).0
   | inr other ↦ among_one words test word (and_parts _ _ all).1 (rw other at among)
 ]
 
 -- a word is a keyword where it is among them
 pub keyword-among : (word : List ℕ) → is_some (keyword_of word) ≡ is_among grammar_words word
-keyword-among word = is_some-lookup (λ known. bytes_eq known (folded word)) keywords
+keyword-among word = is_some-lookup (λ known. bytes_eq known (lower_case word)) keywords
 
 among_short : (words : List (List ℕ)) (word : List ℕ) → list_all (λ known. nat_le (length known) 63) words ≡ true → is_among words word ≡ true → length word ≤ 63
 among_short words word all among =
-    rw (← length-map word to_ascii_lowercase) (leb-true (length (folded word)) 63 (among_one words (λ known. nat_le (length known) 63) word all among))
+    rw (← length-map word to_ascii_lowercase) (leb-true (length (lower_case word)) 63 (among_one words (λ known. nat_le (length known) 63) word all among))
 
 keywords_short : list_all (λ known. nat_le (length known) 63) grammar_words ≡ true
 unfolding keywords
@@ -70,9 +70,9 @@ not_among words word short long = elim (cases_Bool (is_among words word)) [
 ]
 
 -- Each kind of word.
-kind_by : (word : List ℕ) (why : Option Reserved) → reserved_of word ≡ why → word_kind word ≡ option_map kind_of (said_by word why)
+kind_by : (word : List ℕ) (why : Option Reserved) → reserved_of word ≡ why → word_kind word ≡ option_map kind_of_word (said_by word why)
 unfolding word_of
-kind_by word why h = ap (λ o. option_map kind_of (said_by word o)) h
+kind_by word why h = ap (λ o. option_map kind_of_word (said_by word o)) h
 
 free_word : (word : List ℕ) → is_among grammar_words word ≡ false → is_among unsupported_words word ≡ false → reserved_of word ≡ None
 free_word word other free = rw (no_keyword word other, free) refl
@@ -80,13 +80,13 @@ free_word word other free = rw (no_keyword word other, free) refl
 pub kind-keyword : (word : List ℕ) (keyword : Keyword) → keyword_of word ≡ Some keyword → word_kind word ≡ Some (kinds.Keyword keyword)
 kind-keyword word keyword h = kind_by word (Some (reserved.Keyword keyword)) (rw h refl)
 
-pub kind-refused : (word : List ℕ) → is_among unsupported_words word ≡ true → word_kind word ≡ Some (kinds.Unsupported (folded word))
+pub kind-refused : (word : List ℕ) → is_among unsupported_words word ≡ true → word_kind word ≡ Some (kinds.Unsupported (lower_case word))
 kind-refused word among = elim (cases_Bool (is_among grammar_words word)) [
   | inl keyword ↦ absurd (both_ways _ (keyword_not_refused word keyword) among)
   | inr other ↦ kind_by word (Some reserved.Unsupported) (rw (no_keyword word other, among) refl)
 ]
 
-pub kind-name : (word : List ℕ) → is_name word ≡ true → word_kind word ≡ Some (kinds.Word (folded word))
+pub kind-name : (word : List ℕ) → is_name word ≡ true → word_kind word ≡ Some (kinds.Word (lower_case word))
 kind-name word h =
     let parts = and_parts (is_word word && nat_le (length word) 63) (not (is_reserved word)) h in
     let free : reserved_of word ≡ None = none_from (reserved_of word) (not-true (is_reserved word) parts.1) in

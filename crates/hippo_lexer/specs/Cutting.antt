@@ -1,5 +1,5 @@
--- How a text is cut into tokens, from the left. What the tokens are is said by the relation `IsOutcome`, and that
--- `outcome_of` is a text's one outcome by it is proved.
+-- How a text is cut into tokens, from the left. What the tokens are is said by the relation
+-- `IsOutcome`, and that `outcome_of` is a text's one outcome by it is proved.
 use Rattle.std.specs.Prelude.{◌≡◌, ℕ, zero, suc, ◌+◌, ◌-◌, ◌^◌, ◌<◌, ◌==◌, Bool, true, false, ◌||◌, List, [], ◌∷◌, length, take, drop, nat_lt, nat_le, bytes_eq, ℤ, pos, negsuc, neg_ℤ, ◌+ℤ◌, ◌++◌, Option, Some, None, Result, Ok, Err, option_map, ok_or, if◌then◌else◌}
 use Rattle.std.specs.Bool.{then_some}
 use Rattle.std.specs.Option.{option_or, option_map_or}
@@ -27,25 +27,25 @@ abbrev pub ◌>>=◌ : {A B : Type 0} → Result A LexFault → (A → Result B 
 (Err fault) >>= f = Err fault
 
 -- What a call gives is this, or want of memory.
-abbrev pub Fails : {A : Type 0} → LexFault → Result A LexFault → Type 0
-Fails faults.Memory right = Unit {0}
-Fails (faults.BadToken place) right = right ≡ Err (faults.BadToken place)
-Fails (faults.NumberTooLarge place) right = right ≡ Err (faults.NumberTooLarge place)
-Fails (faults.BadDate place) right = right ≡ Err (faults.BadDate place)
+abbrev pub FailsOutcome : {A : Type 0} → LexFault → Result A LexFault → Type 0
+FailsOutcome faults.Memory right = Unit {0}
+FailsOutcome (faults.BadToken place) right = right ≡ Err (faults.BadToken place)
+FailsOutcome (faults.NumberTooLarge place) right = right ≡ Err (faults.NumberTooLarge place)
+FailsOutcome (faults.BadDate place) right = right ≡ Err (faults.BadDate place)
 
-abbrev pub Gives : {A : Type 0} → Result A LexFault → Result A LexFault → Type 0
-Gives (Ok x) right = right ≡ Ok x
-Gives (Err fault) right = Fails fault right
+abbrev pub GivesOutcome : {A : Type 0} → Result A LexFault → Result A LexFault → Type 0
+GivesOutcome (Ok x) right = right ≡ Ok x
+GivesOutcome (Err fault) right = FailsOutcome fault right
 
 -- the token that a word is
-abbrev pub kind_of : Word → TokenKind
-kind_of (words.Name name) = kinds.Word name
-kind_of (words.Keyword keyword) = kinds.Keyword keyword
-kind_of (words.Unsupported word) = kinds.Unsupported word
+abbrev pub kind_of_word : Word → TokenKind
+kind_of_word (words.Name name) = kinds.Word name
+kind_of_word (words.Keyword keyword) = kinds.Keyword keyword
+kind_of_word (words.Unsupported word) = kinds.Unsupported word
 
 -- what kind of token a word is; none where it is too long
 abbrev pub word_kind : List ℕ → Option TokenKind
-word_kind word = option_map kind_of (word_of word)
+word_kind word = option_map kind_of_word (word_of word)
 
 -- the length of the word, of the digits or of the blanks at the front
 abbrev pub word_len : List ℕ → ℕ
@@ -82,7 +82,8 @@ number_len bytes = sign_len bytes + digits_len (drop (sign_len bytes) bytes)
 
 -- digits, one or more, behind a `-` or not
 abbrev pub IsNumeral : List ℕ → Type 0
-IsNumeral bytes = (sign_len bytes < length bytes) × (list_all is_ascii_digit (drop (sign_len bytes) bytes) ≡ true)
+IsNumeral bytes =
+    (sign_len bytes < length bytes) × (list_all is_ascii_digit (drop (sign_len bytes) bytes) ≡ true)
 
 -- the number at the front
 unfoldable pub number_first : ℕ → List ℕ → First
@@ -118,7 +119,8 @@ nth_day n = first_day +ℤ pos n
 -- the day that a text writes, among so many of them
 unfoldable pub day_among : ℕ → List ℕ → Option ℤ
 day_among zero text = None
-day_among (suc n) text = if bytes_eq text (day_text (nth_day n)) then Some (nth_day n) else day_among n text
+day_among (suc n) text =
+    if bytes_eq text (day_text (nth_day n)) then Some (nth_day n) else day_among n text
 
 -- the day that a text writes as YYYY-MM-DD, among all
 unfoldable pub day_of : List ℕ → Option ℤ
@@ -138,14 +140,16 @@ day_first place n quoted = do
 -- the token of the word DATE of n bytes, with what stands behind it
 unfoldable pub date_first : ℕ → ℕ → List ℕ → First
 date_first place n behind =
-    option_map_or (day_first place (n + blanks_len behind)) (quoted_first (drop (blanks_len behind) behind))
+    option_map_or (day_first place (n + blanks_len behind))
+    (quoted_first (drop (blanks_len behind) behind))
     (Ok (kinds.Keyword KDate, n))
 
 -- the token of the word at the front
 unfoldable pub word_first : ℕ → List ℕ → First
 word_first place bytes = do
   kind ← ok_or (word_kind (take (word_len bytes) bytes)) (faults.BadToken place)
-  if is_date kind then date_first place (word_len bytes) (drop (word_len bytes) bytes) else Ok (kind, word_len bytes)
+  if is_date kind then date_first place (word_len bytes) (drop (word_len bytes) bytes)
+      else Ok (kind, word_len bytes)
 
 -- the longest sign at the front, and its length
 unfoldable pub sign_first : List ℕ → Option (Symbol × ℕ)
@@ -156,7 +160,8 @@ sign_first bytes =
 -- the token of the quoted text or of the sign at the front
 abbrev pub quoted_token : ℕ → List ℕ → First
 quoted_token place bytes =
-    ok_or (quoted_first bytes) (faults.BadToken place) >>= λ found. Ok (kinds.Quoted found.0, found.1)
+    ok_or (quoted_first bytes) (faults.BadToken place) >>=
+    λ found. Ok (kinds.Quoted found.0, found.1)
 
 abbrev pub sign_token : ℕ → List ℕ → First
 sign_token place bytes =
@@ -166,12 +171,14 @@ sign_token place bytes =
 unfoldable pub token_first : ℕ → List ℕ → First
 token_first place bytes =
     if begins_with is_ascii_alphabetic bytes then word_first place bytes else
-    (if begins_with is_ascii_digit bytes || begins_with is_minus bytes then number_first place bytes else
+    (if begins_with is_ascii_digit bytes || begins_with is_minus bytes then number_first place bytes
+    else
     (if begins_with is_quote bytes then quoted_token place bytes else sign_token place bytes))
 
 -- tokens in front of others
-abbrev pub with_front : List Token → Result (List Token) LexFault → Result (List Token) LexFault
-with_front tokens others = others >>= λ more. Ok (tokens ++ more)
+abbrev pub with_front_tokens : List Token → Result (List Token) LexFault
+    → Result (List Token) LexFault
+with_front_tokens tokens others = others >>= λ more. Ok (tokens ++ more)
 
 -- the tokens of what stands at a place, once so many bytes are passed over, or the first fault
 unfoldable pub tokens_from : ℕ → ℕ → List ℕ → Result (List Token) LexFault
@@ -180,7 +187,7 @@ tokens_from place (suc skip) (byte ∷ rest) = tokens_from (place + 1) skip rest
 tokens_from place zero (byte ∷ rest) =
     if is_blank byte then tokens_from (place + 1) 0 rest else (do
       found ← token_first place (byte ∷ rest)
-      with_front (record { kind = found.0; start = place; end = place + found.1 } ∷ [])
+      with_front_tokens (record { kind = found.0; start = place; end = place + found.1 } ∷ [])
           (tokens_from (place + 1) (found.1 - 1) rest))
 
 -- the tokens of a whole text, or its first fault

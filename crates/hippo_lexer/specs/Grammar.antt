@@ -1,9 +1,10 @@
--- The tokens of a text: how each is spelled, that the longest is taken, and which fault a text has where it has none.
+-- The tokens of a text: how each is spelled, that the longest is taken, and which fault a text has
+-- where it has none.
 use Rattle.std.specs.Prelude.{◌≡◌, ℕ, ◌+◌, ◌^◌, ◌<◌, true, false, List, [], ◌∷◌, ◌++◌, length, ℤ, pos, neg_ℤ, ◌≤ℤ◌, ◌<ℤ◌, IsCharBoundary, Some, None, Result, Ok, Err}
 use Rattle.std.specs.List.{list_all}
 use Rattle.std.specs.Char.{is_ascii_alphabetic, is_ascii_digit}
 use Rattle.std.specs.Str.Parse.{digits_value}
-use Rattle.hippo_values.specs.Names.{folded, unsupported_words, is_among, is_word_byte, is_word, is_name, keyword_of}
+use Rattle.hippo_values.specs.Names.{lower_case, unsupported_words, is_among, is_word_byte, is_word, is_name, keyword_of}
 use Rattle.hippo_values.specs.Dates.{IsDayText}
 use Rattle.hippo_values.specs.Limits.{name_limit}
 use Rattle.hippo_values.specs.Moments.{IsSignedNumber}
@@ -15,8 +16,8 @@ use Rattle.hippo_lexer.specs.declared.kinds.TokenKind.TheVariants as kinds
 use Rattle.hippo_lexer.specs.declared.kinds.Token.{Token}
 use Rattle.hippo_lexer.specs.declared.faults.LexFault.{LexFault}
 use Rattle.hippo_lexer.specs.declared.faults.LexFault.TheVariants as faults
-pub use Rattle.hippo_values.specs.Quoting.{quoted}
-use Rattle.hippo_lexer.specs.Spelling.{is_blank, is_quote, is_minus, begins_with, sign_of, doubled}
+pub use Rattle.hippo_values.specs.Quoting.{quoted_text}
+use Rattle.hippo_lexer.specs.Spelling.{is_blank, is_quote, is_minus, begins_with, sign_of, doubled_quotes}
 
 -- a word, and what stands behind does not go on with it
 pub record IsWholeWord (word behind : List ℕ) : Type 0 where
@@ -37,7 +38,7 @@ pub data IsNumber : List ℕ → ℤ → Type 0 where
 -- behind blanks or none a quoted text, and then what does not go on with it
 pub record IsQuotedBehind (behind blanks text rest : List ℕ) : Type 0 where
   pub gap : list_all is_blank blanks ≡ true
-  pub parts : behind ≡ blanks ++ (quoted text ++ rest)
+  pub parts : behind ≡ blanks ++ (quoted_text text ++ rest)
   pub ends : begins_with is_quote rest ≡ false
 
 -- the word DATE, behind which a quoted text stands
@@ -48,25 +49,32 @@ pub record OpensDay (word behind blanks text rest : List ℕ) : Type 0 where
 
 -- no byte more makes a longer sign of it
 abbrev pub IsLongestSign : List ℕ → List ℕ → Type 0
-IsLongestSign text rest = (byte : ℕ) (more : List ℕ) → rest ≡ byte ∷ more → sign_of (text ++ byte ∷ []) ≡ None
+IsLongestSign text rest =
+    (byte : ℕ) (more : List ℕ) → rest ≡ byte ∷ more → sign_of (text ++ byte ∷ []) ≡ None
 
--- The text is a token of this kind where `rest` stands behind it: a word of the grammar, DATE only where no quoted text
--- stands behind it; a word of SQL that is refused; another word of at most 63 bytes; a number that fits, behind which
--- no digit, letter or `_` stands; a quoted text; DATE with a quoted text that is a day; a sign, the longest there.
+-- The text is a token of this kind where `rest` stands behind it: a word of the grammar, DATE only
+-- where no quoted text stands behind it; a word of SQL that is refused; another word of at most 63
+-- bytes; a number that fits, behind which no digit, letter or `_` stands; a quoted text; DATE with
+-- a quoted text that is a day; a sign, the longest there.
 pub data IsToken : List ℕ → TokenKind → List ℕ → Type 0 where
-  a_keyword : (word rest : List ℕ) (keyword : Keyword) → IsWholeWord word rest → keyword_of word ≡ Some keyword
+  a_keyword : (word rest : List ℕ) (keyword : Keyword) → IsWholeWord word rest
+      → keyword_of word ≡ Some keyword
       → (keyword ≡ KDate → (blanks text more : List ℕ) → ¬ (IsQuotedBehind rest blanks text more))
       → IsToken word (kinds.Keyword keyword) rest
-  a_refused_word : (word rest : List ℕ) → IsWholeWord word rest → is_among unsupported_words word ≡ true
-      → IsToken word (kinds.Unsupported (folded word)) rest
+  a_refused_word : (word rest : List ℕ) → IsWholeWord word rest
+      → is_among unsupported_words word ≡ true
+      → IsToken word (kinds.Unsupported (lower_case word)) rest
   a_name : (word rest : List ℕ) → IsWholeWord word rest → is_name word ≡ true
-      → IsToken word (kinds.Word (folded word)) rest
+      → IsToken word (kinds.Word (lower_case word)) rest
   a_number : (text rest : List ℕ) (number : ℤ) → IsNumber text number → IsSignedNumber number
       → begins_with is_word_byte rest ≡ false → IsToken text (kinds.Number number) rest
-  a_quoted_text : (written text rest : List ℕ) → written ≡ quoted text → begins_with is_quote rest ≡ false
+  a_quoted_text : (written text rest : List ℕ) → written ≡ quoted_text text
+      → begins_with is_quote rest ≡ false
       → IsToken written (kinds.Quoted text) rest
-  a_day : (written word behind blanks text rest : List ℕ) (day : ℤ) → OpensDay word behind blanks text rest
-      → IsDayText text day → written ≡ word ++ (blanks ++ quoted text) → IsToken written (kinds.Day day) rest
+  a_day : (written word behind blanks text rest : List ℕ) (day : ℤ)
+      → OpensDay word behind blanks text rest
+      → IsDayText text day → written ≡ word ++ (blanks ++ quoted_text text)
+      → IsToken written (kinds.Day day) rest
   a_sign : (text rest : List ℕ) (sign : Symbol) → sign_of text ≡ Some sign → IsLongestSign text rest
       → IsToken text (kinds.Symbol sign) rest
 
@@ -80,41 +88,52 @@ pub record IsStray (byte : ℕ) (rest : List ℕ) : Type 0 where
   pub sign : sign_of (byte ∷ []) ≡ None
   pub longer : IsLongestSign (byte ∷ []) rest
 
--- No token stands first in this text, which stands at the place, and this is why: a word of more than 63 bytes; a
--- letter or `_` directly behind a number that fits; a number that does not fit; a `-` without a digit; a quote from
--- which to the end each other quote is doubled; DATE with a quoted text that is no day; a byte with which nothing
--- begins.
+-- No token stands first in this text, which stands at the place, and this is why: a word of more
+-- than 63 bytes; a letter or `_` directly behind a number that fits; a number that does not fit; a
+-- `-` without a digit; a quote from which to the end each other quote is doubled; DATE with a
+-- quoted text that is no day; a byte with which nothing begins.
 pub data IsFault : ℕ → List ℕ → LexFault → Type 0 where
-  long_word : (place : ℕ) (bytes word rest : List ℕ) → IsWholeWord word rest → name_limit < length word
+  long_word : (place : ℕ) (bytes word rest : List ℕ) → IsWholeWord word rest
+      → name_limit < length word
       → bytes ≡ word ++ rest → IsFault place bytes (faults.BadToken place)
-  letter_behind : (place at : ℕ) (bytes text rest : List ℕ) (number : ℤ) → IsNumber text number → IsSignedNumber number
-      → begins_with is_ascii_digit rest ≡ false → begins_with is_word_byte rest ≡ true → bytes ≡ text ++ rest
+  letter_behind : (place at : ℕ) (bytes text rest : List ℕ) (number : ℤ) → IsNumber text number
+      → IsSignedNumber number
+      → begins_with is_ascii_digit rest ≡ false → begins_with is_word_byte rest ≡ true
+      → bytes ≡ text ++ rest
       → at ≡ place + length text → IsFault place bytes (faults.BadToken at)
-  large : (place : ℕ) (bytes text rest : List ℕ) (number : ℤ) → IsNumber text number → ¬ (IsSignedNumber number)
+  large : (place : ℕ) (bytes text rest : List ℕ) (number : ℤ) → IsNumber text number
+      → ¬ (IsSignedNumber number)
       → begins_with is_ascii_digit rest ≡ false → bytes ≡ text ++ rest
       → IsFault place bytes (faults.NumberTooLarge place)
-  lone_minus : (place : ℕ) (bytes rest : List ℕ) → begins_with is_ascii_digit rest ≡ false → bytes ≡ 45 ∷ rest
+  lone_minus : (place : ℕ) (bytes rest : List ℕ) → begins_with is_ascii_digit rest ≡ false
+      → bytes ≡ 45 ∷ rest
       → IsFault place bytes (faults.BadToken place)
-  unclosed : (place : ℕ) (bytes text : List ℕ) → bytes ≡ 39 ∷ doubled text → IsFault place bytes (faults.BadToken place)
-  no_day : (place : ℕ) (bytes word behind blanks text rest : List ℕ) → OpensDay word behind blanks text rest
-      → ((day : ℤ) → ¬ (IsDayText text day)) → bytes ≡ word ++ behind → IsFault place bytes (faults.BadDate place)
+  unclosed : (place : ℕ) (bytes text : List ℕ) → bytes ≡ 39 ∷ doubled_quotes text
+      → IsFault place bytes (faults.BadToken place)
+  no_day : (place : ℕ) (bytes word behind blanks text rest : List ℕ)
+      → OpensDay word behind blanks text rest
+      → ((day : ℤ) → ¬ (IsDayText text day)) → bytes ≡ word ++ behind
+      → IsFault place bytes (faults.BadDate place)
   stray : (place byte : ℕ) (bytes rest : List ℕ) → IsStray byte rest → bytes ≡ byte ∷ rest
       → IsFault place bytes (faults.BadToken place)
 
 -- a token in front of what comes of the rest
-abbrev pub with_first : Token → Result (List Token) LexFault → Result (List Token) LexFault
-with_first token (Ok tokens) = Ok (token ∷ tokens)
-with_first token (Err fault) = Err fault
+abbrev pub with_first_token : Token → Result (List Token) LexFault → Result (List Token) LexFault
+with_first_token token (Ok tokens) = Ok (token ∷ tokens)
+with_first_token token (Err fault) = Err fault
 
--- The text, which stands at the place, has these tokens, or this is its first fault: blanks are passed over, and then
--- the token or the fault counts that stands first.
+-- The text, which stands at the place, has these tokens, or this is its first fault: blanks are
+-- passed over, and then the token or the fault counts that stands first.
 pub data IsCut : ℕ → List ℕ → Result (List Token) LexFault → Type 0 where
   at_end : (place : ℕ) → IsCut place [] (Ok [])
-  at_blank : (place byte : ℕ) (rest : List ℕ) (outcome : Result (List Token) LexFault) → is_blank byte ≡ true
+  at_blank : (place byte : ℕ) (rest : List ℕ) (outcome : Result (List Token) LexFault)
+      → is_blank byte ≡ true
       → IsCut (place + 1) rest outcome → IsCut place (byte ∷ rest) outcome
-  at_token : (place : ℕ) (bytes text rest : List ℕ) (kind : TokenKind) (later outcome : Result (List Token) LexFault)
+  at_token : (place : ℕ) (bytes text rest : List ℕ) (kind : TokenKind)
+      (later outcome : Result (List Token) LexFault)
       → IsToken text kind rest → IsCut (place + length text) rest later → bytes ≡ text ++ rest
-      → outcome ≡ with_first (record { kind = kind; start = place; end = place + length text }) later
+      → outcome ≡ with_first_token (record
+      { kind = kind; start = place; end = place + length text }) later
       → IsCut place bytes outcome
   at_fault : (place : ℕ) (bytes : List ℕ) (fault : LexFault) → IsFault place bytes fault
       → IsCut place bytes (Err fault)
@@ -126,7 +145,8 @@ IsOutcome text outcome = IsCut 0 text outcome
 -- this comes of the text, and nothing else does
 abbrev pub IsOnlyOutcome : List ℕ → Result (List Token) LexFault → Type 0
 IsOnlyOutcome text outcome =
-    IsOutcome text outcome × ((other : Result (List Token) LexFault) → IsOutcome text other → other ≡ outcome)
+    IsOutcome text outcome × ((other : Result (List Token) LexFault) → IsOutcome text other
+    → other ≡ outcome)
 
 -- the token stands in the text, and is cut out at the bounds of characters
 pub record IsSpan (text : List ℕ) (token : Token) : Type 0 where

@@ -1,7 +1,7 @@
 -- How signs, numbers and texts are spelled, by bytes.
 use Rattle.std.specs.Prelude.{ℕ, ◌==◌, Bool, false, ◌||◌, List, [], ◌∷◌, codes, bytes_eq, Option, if◌then◌else◌}
 use Rattle.std.specs.Map.{lookup}
-pub use Rattle.hippo_values.specs.Quoting.{is_quote, doubled}
+pub use Rattle.hippo_values.specs.Quoting.{is_quote, doubled_quotes}
 use Rattle.hippo_lexer.specs.declared.kinds.Symbol.{Symbol}
 use Rattle.hippo_lexer.specs.declared.kinds.Symbol.TheVariants.{LeftParen, RightParen, Comma, Dot, Star, Equal, NotEqual, Less, LessEqual, Greater, GreaterEqual, Semicolon}
 
@@ -20,9 +20,10 @@ is_minus byte = byte == 45
 -- the signs
 unfoldable pub sign_table : List (List ℕ × Symbol)
 sign_table =
-    (codes "(", LeftParen) ∷ (codes ")", RightParen) ∷ (codes ",", Comma) ∷ (codes ".", Dot) ∷ (codes "*", Star)
-    ∷ (codes "=", Equal) ∷ (codes "<>", NotEqual) ∷ (codes "!=", NotEqual) ∷ (codes "<", Less)
-    ∷ (codes "<=", LessEqual) ∷ (codes ">", Greater) ∷ (codes ">=", GreaterEqual) ∷ (codes ";", Semicolon) ∷ []
+    (codes "(", LeftParen) ∷ (codes ")", RightParen) ∷ (codes ",", Comma) ∷ (codes ".", Dot)
+    ∷ (codes "*", Star) ∷ (codes "=", Equal) ∷ (codes "<>", NotEqual) ∷ (codes "!=", NotEqual)
+    ∷ (codes "<", Less) ∷ (codes "<=", LessEqual) ∷ (codes ">", Greater)
+    ∷ (codes ">=", GreaterEqual) ∷ (codes ";", Semicolon) ∷ []
 
 -- the sign that a text is
 unfoldable pub sign_of : List ℕ → Option Symbol

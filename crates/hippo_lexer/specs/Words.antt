@@ -1,4 +1,5 @@
--- What is refused before the grammar is read: tokens that nest too deep, and words of SQL that it lacks.
+-- What is refused before the grammar is read: tokens that nest too deep, and words of SQL that it
+-- lacks.
 use Rattle.std.specs.Prelude.{ℕ, ◌+◌, Bool, true, false, ◌||◌, List, length, take, count_by, position, nat_lt, Option, Some, None, Result, Ok, Err, if◌then◌else◌}
 use Rattle.std.specs.List.{list_any, range_with_len}
 use Rattle.hippo_values.specs.Limits.{depth_limit}
@@ -11,14 +12,14 @@ use Rattle.hippo_lexer.specs.declared.faults.SyntaxFault.{SyntaxFault}
 use Rattle.hippo_lexer.specs.declared.faults.SyntaxFault.TheVariants.{TooDeep, Unsupported}
 
 -- whether a token is `(`
-abbrev pub opens : TokenKind → Bool
-opens (kinds.Symbol LeftParen) = true
-opens _ = false
+abbrev pub is_left_paren : TokenKind → Bool
+is_left_paren (kinds.Symbol LeftParen) = true
+is_left_paren _ = false
 
 -- whether a token is `)`
-abbrev pub closes : TokenKind → Bool
-closes (kinds.Symbol RightParen) = true
-closes _ = false
+abbrev pub is_right_paren : TokenKind → Bool
+is_right_paren (kinds.Symbol RightParen) = true
+is_right_paren _ = false
 
 -- whether a token is NOT
 abbrev pub negates : TokenKind → Bool
@@ -31,18 +32,19 @@ is_unsupported (kinds.Unsupported _) = true
 is_unsupported _ = false
 
 -- how many tokens pass a test
-abbrev pub count_of : (TokenKind → Bool) → List Token → ℕ
-count_of test tokens = count_by (λ token. test token.kind) tokens
+abbrev pub token_count : (TokenKind → Bool) → List Token → ℕ
+token_count test tokens = count_by (λ token. test token.kind) tokens
 
 -- whether `(` outnumbers `)` by more than the limit
 abbrev pub is_steep : List Token → Bool
-is_steep tokens = nat_lt (count_of closes tokens + depth_limit) (count_of opens tokens)
+is_steep tokens =
+    nat_lt (token_count is_right_paren tokens + depth_limit) (token_count is_left_paren tokens)
 
 -- whether some prefix of the tokens is such, or more tokens than the limit are NOT
 abbrev pub is_too_deep : List Token → Bool
 is_too_deep tokens =
     list_any (λ n. is_steep (take n tokens)) (range_with_len 0 (length tokens + 1))
-    || nat_lt depth_limit (count_of negates tokens)
+    || nat_lt depth_limit (token_count negates tokens)
 
 -- the first refused word, as a fault
 abbrev pub support_of : Option ℕ → Result (Unit {0}) SyntaxFault
@@ -52,4 +54,5 @@ support_of (Some place) = Err (Unsupported place)
 -- what the words of a statement are refused for: its depth, else its first refused word
 unfoldable pub words_check : List Token → Result (Unit {0}) SyntaxFault
 words_check tokens =
-    if is_too_deep tokens then Err TooDeep else support_of (position (λ token. is_unsupported token.kind) tokens)
+    if is_too_deep tokens then Err TooDeep
+    else support_of (position (λ token. is_unsupported token.kind) tokens)

@@ -34,7 +34,8 @@ pub enum TokenKind {
     Symbol(Symbol),
 }
 
-/// A token and where it stands in the text: from the byte `start` up to the byte before `end`, counted from 0.
+/// A token and where it stands in the text: from the byte `start` up to the byte before `end`,
+/// counted from 0.
 #[derive(Debug, Drop, PartialEq, Eq)]
 pub struct Token {
     pub kind: TokenKind,

@@ -4,7 +4,7 @@ ghost use Rattle.std.specs.Prelude.{◌≡◌, ◌≤◌, ◌⊎◌, List, All, 
 ghost use Rattle.hippo_lexer.specs.declared.kinds.Token.{Token};
 ghost use Rattle.hippo_lexer.specs.declared.faults.LexFault.{LexFault};
 ghost use Rattle.hippo_lexer.specs.Grammar.{IsOutcome, IsOnlyOutcome, IsSpan};
-ghost use Rattle.hippo_lexer.specs.Cutting.{Gives, outcome_of};
+ghost use Rattle.hippo_lexer.specs.Cutting.{GivesOutcome, outcome_of};
 
 use crate::faults::LexFault;
 use crate::kinds::{Token, Tokens};
@@ -16,7 +16,7 @@ use std::alloc::Global;
 const TOKEN_LENGTH: usize = 3;
 
 fn cut_tokens(alloc: Global, text: &str) -> Result<Tokens, LexFault>
-    ensures { Gives result (outcome_of text.now) }
+    ensures { GivesOutcome result (outcome_of text.now) }
 {
     let mut found = Sequence::with_capacity(alloc, text.len() / TOKEN_LENGTH)?;
     let mut rest = without_blanks(text);
@@ -33,19 +33,20 @@ fn cut_tokens(alloc: Global, text: &str) -> Result<Tokens, LexFault>
     Ok(found)
 }
 
-/// The tokens of a text with their places, each the longest that can stand there. `BadToken`, `NumberTooLarge` and
-/// `BadDate` have the place of the one fault that stands first; the other error is want of memory. The time is linear
-/// in the text.
+/// The tokens of a text with their places, each the longest that can stand there. `BadToken`,
+/// `NumberTooLarge` and `BadDate` have the place of the one fault that stands first; the other
+/// error is want of memory. The time is linear in the text.
 pub fn tokens(alloc: Global, text: &str) -> Result<Tokens, LexFault>
     // By the grammar these are the text's tokens, or this is its first fault.
     ensures found { IfOk result (λ tokens. IsOutcome text.now (Ok tokens)) }
-    ensures fault { IfErr result (λ fault. (fault ≡ LexFault.Memory) ⊎ IsOutcome text.now (Err fault)) }
+    ensures fault { IfErr result (λ fault. (fault ≡ LexFault.Memory)
+        ⊎ IsOutcome text.now (Err fault)) }
 
     // Whatever the text has is given, unless memory runs out, and a text has one outcome.
     ensures only { (outcome : Result (List Token) LexFault) → IsOutcome text.now outcome
         → (result ≡ outcome) ⊎ (result ≡ Err LexFault.Memory) }
     ensures one { IsOnlyOutcome text.now (outcome_of text.now) }
-    ensures exact { Gives result (outcome_of text.now) }
+    ensures exact { GivesOutcome result (outcome_of text.now) }
 
     // Each token can be cut out of the text, and each later one stands behind it.
     ensures spans { IfOk result (All (IsSpan text.now)) }

@@ -3,7 +3,7 @@ ghost use Rattle.std.specs.Prelude.{◌≡◌, true, ◌+◌, ◌<◌, ◌≤◌
 ghost use Rattle.std.specs.Char.{is_ascii_alphabetic};
 ghost use Rattle.hippo_values.specs.Names.{is_word_byte, is_word};
 ghost use Rattle.hippo_lexer.specs.Spelling.{is_blank, begins_with};
-ghost use Rattle.hippo_lexer.specs.Cutting.{Gives, kind_of, word_kind, word_len, digits_len, blanks_len, sign_len, number_len, number_of, word_first, number_first, closing, quoted_first, IsNumeral, day_of, day_first, is_date, date_first, quoted_token, sign_token, token_first};
+ghost use Rattle.hippo_lexer.specs.Cutting.{GivesOutcome, kind_of_word, word_kind, word_len, digits_len, blanks_len, sign_len, number_len, number_of, word_first, number_first, closing, quoted_first, IsNumeral, day_of, day_first, is_date, date_first, quoted_token, sign_token, token_first};
 
 use crate::faults::LexFault;
 use crate::kinds::TokenKind;
@@ -46,7 +46,7 @@ fn blanks_len(bytes: &[u8]) -> usize
 }
 
 fn kind_of(word: Word) -> TokenKind
-    ensures { result ≡ kind_of word }
+    ensures { result ≡ kind_of_word word }
 {
     match word {
         Word::Name(name) => TokenKind::Word(name),
@@ -139,7 +139,7 @@ fn number_len(bytes: &[u8]) -> usize
 #[tactic(auto, unfolding(crate::specs::Cutting::number_first))]
 fn number_first(place: usize, text: &str) -> Result<(TokenKind, usize), LexFault>
     requires { place + length text.now < 2 ^ 64 }
-    ensures { Gives result (number_first place text.now) }
+    ensures { GivesOutcome result (number_first place text.now) }
 {
     let bytes = text.as_bytes();
     let len = number_len(bytes);
@@ -161,7 +161,8 @@ fn day_of(text: &Txt) -> Option<DayNumber>
     read_day(text.as_str())
 }
 
-// The day of a quoted text behind the word DATE. `len` counts the bytes from that word up to the text.
+// The day of a quoted text behind the word DATE. `len` counts the bytes from that word up to the
+// text.
 #[tactic(auto, unfolding(crate::specs::Cutting::day_first))]
 fn day_first(
     place: usize,
@@ -170,7 +171,7 @@ fn day_first(
     quoted_len: usize,
 ) -> Result<(TokenKind, usize), LexFault>
     requires { len + quoted_len < 2 ^ 64 }
-    ensures { Gives result (day_first place len (quoted, quoted_len)) }
+    ensures { GivesOutcome result (day_first place len (quoted, quoted_len)) }
 {
     let day = day_of(&quoted).ok_or(LexFault::BadDate(place))?;
     Ok((TokenKind::Day(day), len + quoted_len))
@@ -191,7 +192,7 @@ fn date_first(
     behind: &str,
 ) -> Result<(TokenKind, usize), LexFault>
     requires { len + length behind.now < 2 ^ 64 }
-    ensures { Gives result (date_first place len behind.now) }
+    ensures { GivesOutcome result (date_first place len behind.now) }
 {
     let blanks = blanks_len(behind.as_bytes());
     match quoted_first(alloc, &behind[blanks..])? {
@@ -204,7 +205,7 @@ fn date_first(
 #[tactic(auto, unfolding(crate::specs::Cutting::word_first))]
 fn word_first(alloc: Global, place: usize, text: &str) -> Result<(TokenKind, usize), LexFault>
     requires { begins_with is_ascii_alphabetic text.now ≡ true }
-    ensures { Gives result (word_first place text.now) }
+    ensures { GivesOutcome result (word_first place text.now) }
 {
     let len = word_len(text.as_bytes());
     let (word, behind) = text.split_at(len);
@@ -216,24 +217,25 @@ fn word_first(alloc: Global, place: usize, text: &str) -> Result<(TokenKind, usi
 }
 
 fn quoted_token(alloc: Global, place: usize, text: &str) -> Result<(TokenKind, usize), LexFault>
-    ensures { Gives result (quoted_token place text.now) }
+    ensures { GivesOutcome result (quoted_token place text.now) }
 {
     let (quoted, len) = quoted_first(alloc, text)?.ok_or(LexFault::BadToken(place))?;
     Ok((TokenKind::Quoted(quoted), len))
 }
 
 fn sign_token(place: usize, text: &str) -> Result<(TokenKind, usize), LexFault>
-    ensures { Gives result (sign_token place text.now) }
+    ensures { GivesOutcome result (sign_token place text.now) }
 {
     let (sign, len) = sign_first(text.as_bytes()).ok_or(LexFault::BadToken(place))?;
     Ok((TokenKind::Symbol(sign), len))
 }
 
-/// What stands first in a text that begins with no blank and stands at `place`: a kind of token and its length.
+/// What stands first in a text that begins with no blank and stands at `place`: a kind of token and
+/// its length.
 #[tactic(auto, unfolding(crate::specs::Cutting::token_first))]
 pub fn token_first(alloc: Global, place: usize, text: &str) -> Result<(TokenKind, usize), LexFault>
     requires { place + length text.now < 2 ^ 64 }
-    ensures { Gives result (token_first place text.now) }
+    ensures { GivesOutcome result (token_first place text.now) }
 {
     match text.as_bytes() {
         [b'a'..=b'z' | b'A'..=b'Z', ..] => word_first(alloc, place, text),

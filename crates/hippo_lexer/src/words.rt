@@ -2,20 +2,20 @@
 ghost use Rattle.std.specs.Prelude.{◌≡◌, ◌+◌, length, take, nat_lt, position};
 ghost use Rattle.std.specs.List.{list_any, range_with_len};
 ghost use Rattle.hippo_values.specs.Limits.{depth_limit};
-ghost use Rattle.hippo_lexer.specs.Words.{opens, closes, negates, is_unsupported, count_of, is_steep, is_too_deep, words_check};
+ghost use Rattle.hippo_lexer.specs.Words.{is_left_paren, is_right_paren, negates, is_unsupported, token_count, is_steep, is_too_deep, words_check};
 
 use crate::faults::SyntaxFault;
 use crate::kinds::{Symbol, Token, TokenKind, Tokens};
 use hippo_values::{DEPTH_LIMIT, Keyword};
 
 fn opens(kind: &TokenKind) -> bool
-    ensures { result ≡ opens kind.now }
+    ensures { result ≡ is_left_paren kind.now }
 {
     matches!(kind, TokenKind::Symbol(Symbol::LeftParen))
 }
 
 fn closes(kind: &TokenKind) -> bool
-    ensures { result ≡ closes kind.now }
+    ensures { result ≡ is_right_paren kind.now }
 {
     matches!(kind, TokenKind::Symbol(Symbol::RightParen))
 }
@@ -33,7 +33,8 @@ fn is_unsupported(kind: &TokenKind) -> bool
 }
 
 fn nests_too_deep(tokens: &[Token]) -> bool
-    ensures { result ≡ list_any (λ n. is_steep (take n tokens.now)) (range_with_len 0 (length tokens.now + 1)) }
+    ensures { result ≡ list_any (λ n. is_steep (take n tokens.now))
+        (range_with_len 0 (length tokens.now + 1)) }
 {
     let mut open: usize = 0;
     let mut closed: usize = 0;
@@ -48,7 +49,7 @@ fn nests_too_deep(tokens: &[Token]) -> bool
 }
 
 fn negates_too_often(tokens: &[Token]) -> bool
-    ensures { result ≡ nat_lt depth_limit (count_of negates tokens.now) }
+    ensures { result ≡ nat_lt depth_limit (token_count negates tokens.now) }
 {
     tokens.iter().filter(|token| negates(&token.kind)).count() > DEPTH_LIMIT
 }
@@ -72,9 +73,9 @@ fn is_too_deep(tokens: &[Token]) -> bool
     tokens.len() > DEPTH_LIMIT && goes_too_deep(tokens)
 }
 
-/// Whether the words of a statement are fit to be read: `TooDeep` where in some prefix of the tokens `(` outnumbers `)`
-/// by more than 64, or where more than 64 tokens are NOT; else `Unsupported` with the place of the first word of SQL
-/// that is refused. It takes no memory.
+/// Whether the words of a statement are fit to be read: `TooDeep` where in some prefix of the
+/// tokens `(` outnumbers `)` by more than 64, or where more than 64 tokens are NOT; else
+/// `Unsupported` with the place of the first word of SQL that is refused. It takes no memory.
 #[tactic(auto, unfolding(crate::specs::Words::words_check))]
 pub fn check_words(tokens: &Tokens) -> Result<(), SyntaxFault>
     ensures { result ≡ words_check tokens.now }

@@ -4,7 +4,7 @@ use Rattle.std.specs.Prelude.{⊤}
 use Rattle.hippo_values.specs.Texts.{Txt}
 use Rattle.hippo_values.specs.Names.{keywords, unsupported_words}
 use Rattle.hippo_lines.specs.Words.{words_of}
-use Rattle.hippo_lines.specs.Forms.{Form, says_nothing, sets_clock, asks, states, logs_in, logs_out, fetches, closes, steps, drops, unwatches, loads, line_form}
+use Rattle.hippo_lines.specs.Forms.{Form, says_nothing, sets_clock, makes_request, makes_statement, logs_in, logs_out, fetches, closes, steps, drops, unwatches, loads, line_form}
 
 abbrev HaveForms : List (Txt × Option Form) → Type 0
 HaveForms rows = map (λ row. line_form row.0) rows ≡ map (λ row. row.1) rows
@@ -25,16 +25,16 @@ return = 13 ∷ []
 
 each_form_has_its_line : HaveForms (
     (codes "at 2024-01-02T08:00:00Z", Some (sets_clock (codes "2024-01-02T08:00:00Z")))
-    ∷ (codes "1 login ann treatment nurse", Some (asks 1 (logs_in (codes "ann") (codes "treatment") (codes "nurse"))))
-    ∷ (codes "64 logout", Some (asks 64 logs_out))
-    ∷ (codes "0 fetch 1 1", Some (asks 0 (fetches 1 1)))
-    ∷ (codes "1 close 4", Some (asks 1 (closes 4)))
-    ∷ (codes "0 step 8 1000000", Some (asks 0 (steps 8 1000000)))
-    ∷ (codes "1 step 1 1", Some (asks 1 (steps 1 1)))
-    ∷ (codes "0 drop 1", Some (asks 0 (drops 1)))
-    ∷ (codes "0 unwatch 8", Some (asks 0 (unwatches 8)))
-    ∷ (codes "0 load patient 4,Di", Some (asks 0 (loads (codes "patient") (codes "4,Di"))))
-    ∷ (codes "1 SELECT name FROM patient", Some (states 1 (codes "SELECT name FROM patient")))
+    ∷ (codes "1 login ann treatment nurse", Some (makes_request 1 (logs_in (codes "ann") (codes "treatment") (codes "nurse"))))
+    ∷ (codes "64 logout", Some (makes_request 64 logs_out))
+    ∷ (codes "0 fetch 1 1", Some (makes_request 0 (fetches 1 1)))
+    ∷ (codes "1 close 4", Some (makes_request 1 (closes 4)))
+    ∷ (codes "0 step 8 1000000", Some (makes_request 0 (steps 8 1000000)))
+    ∷ (codes "1 step 1 1", Some (makes_request 1 (steps 1 1)))
+    ∷ (codes "0 drop 1", Some (makes_request 0 (drops 1)))
+    ∷ (codes "0 unwatch 8", Some (makes_request 0 (unwatches 8)))
+    ∷ (codes "0 load patient 4,Di", Some (makes_request 0 (loads (codes "patient") (codes "4,Di"))))
+    ∷ (codes "1 SELECT name FROM patient", Some (makes_statement 1 (codes "SELECT name FROM patient")))
     ∷ [])
 unfolding word_lists
 each_form_has_its_line = refl
@@ -53,12 +53,12 @@ no_space_may_stand_in_front = refl
 
 a_tab_separates_nothing : HaveForms (
     (tab, None)
-    ∷ (codes "1 " ++ (tab ++ codes "login a b c"), Some (states 1 (tab ++ codes "login a b c")))
-    ∷ (codes "1 " ++ (tab ++ codes " login a b c"), Some (states 1 (tab ++ codes " login a b c")))
+    ∷ (codes "1 " ++ (tab ++ codes "login a b c"), Some (makes_statement 1 (tab ++ codes "login a b c")))
+    ∷ (codes "1 " ++ (tab ++ codes " login a b c"), Some (makes_statement 1 (tab ++ codes " login a b c")))
     ∷ (codes "1 login ann" ++ (tab ++ codes "x nurse"), None)
     ∷ (codes "1 login ann treatment" ++ (tab ++ codes " nurse"), None)
     ∷ (codes "1" ++ (tab ++ codes "SELECT name FROM patient"), None)
-    ∷ (codes "0 " ++ tab, Some (states 0 tab))
+    ∷ (codes "0 " ++ tab, Some (makes_statement 0 tab))
     ∷ (codes "at x" ++ tab, Some (sets_clock (codes "x" ++ tab)))
     ∷ [])
 unfolding word_lists
@@ -80,9 +80,9 @@ at_wants_one_word = refl
 
 short_words_have_any_case : HaveForms (
     (codes "AT x", Some (sets_clock (codes "x")))
-    ∷ (codes "1 LogIn Ann TREATMENT nurse", Some (asks 1 (logs_in (codes "ann") (codes "treatment") (codes "nurse"))))
-    ∷ (codes "0 UNWATCH 1", Some (asks 0 (unwatches 1)))
-    ∷ (codes "0 Load Patient A", Some (asks 0 (loads (codes "patient") (codes "A"))))
+    ∷ (codes "1 LogIn Ann TREATMENT nurse", Some (makes_request 1 (logs_in (codes "ann") (codes "treatment") (codes "nurse"))))
+    ∷ (codes "0 UNWATCH 1", Some (makes_request 0 (unwatches 1)))
+    ∷ (codes "0 Load Patient A", Some (makes_request 0 (loads (codes "patient") (codes "A"))))
     ∷ [])
 unfolding word_lists
 short_words_have_any_case = refl
@@ -90,26 +90,26 @@ short_words_have_any_case = refl
 -- the carriage return that ends a line is gone already; a further one is part of a word
 a_carriage_return_is_no_space : HaveForms (
     (return, None)
-    ∷ (codes "1 logout" ++ return, Some (states 1 (codes "logout" ++ return)))
+    ∷ (codes "1 logout" ++ return, Some (makes_statement 1 (codes "logout" ++ return)))
     ∷ (codes "  " ++ return, None)
     ∷ [])
 unfolding word_lists
 a_carriage_return_is_no_space = refl
 
 a_statement_begins_behind_one_space : HaveForms (
-    (codes "1  logout  ", Some (asks 1 logs_out))
-    ∷ (codes "1   fetch  2   3 ", Some (asks 1 (fetches 2 3)))
-    ∷ (codes "1  SELECT ~", Some (states 1 (codes " SELECT ~")))
-    ∷ (codes "0 x  ", Some (states 0 (codes "x  ")))
+    (codes "1  logout  ", Some (makes_request 1 logs_out))
+    ∷ (codes "1   fetch  2   3 ", Some (makes_request 1 (fetches 2 3)))
+    ∷ (codes "1  SELECT ~", Some (makes_statement 1 (codes " SELECT ~")))
+    ∷ (codes "0 x  ", Some (makes_statement 0 (codes "x  ")))
     ∷ [])
 unfolding word_lists
 a_statement_begins_behind_one_space = refl
 
 a_semicolon_ends_no_form : HaveForms (
     (codes "1 logout ;", None)
-    ∷ (codes "1 logout;", Some (states 1 (codes "logout;")))
-    ∷ (codes "0 DROP;", Some (states 0 (codes "DROP;")))
-    ∷ (codes "0 ;DROP", Some (states 0 (codes ";DROP")))
+    ∷ (codes "1 logout;", Some (makes_statement 1 (codes "logout;")))
+    ∷ (codes "0 DROP;", Some (makes_statement 0 (codes "DROP;")))
+    ∷ (codes "0 ;DROP", Some (makes_statement 0 (codes ";DROP")))
     ∷ [])
 unfolding word_lists
 a_semicolon_ends_no_form = refl
@@ -142,7 +142,7 @@ names_are_names : HaveForms (
     ∷ (codes "1 login ann treatment drop", None)
     ∷ (codes "1 login ann treatment 1nurse", None)
     ∷ (codes "1 login ann treatment " ++ replicate 64 97, None)
-    ∷ (codes "1 login ann treatment " ++ replicate 63 97, Some (asks 1 (logs_in (codes "ann") (codes "treatment") (replicate 63 97))))
+    ∷ (codes "1 login ann treatment " ++ replicate 63 97, Some (makes_request 1 (logs_in (codes "ann") (codes "treatment") (replicate 63 97))))
     ∷ (codes "0 load table 1", None)
     ∷ (codes "0 load 'patient' 1", None)
     ∷ [])
@@ -152,21 +152,21 @@ names_are_names = refl
 a_record_is_all_behind_one_space : HaveForms (
     (codes "0 load patient", None)
     ∷ (codes "0 load  ", None)
-    ∷ (codes "0 load patient ", Some (asks 0 (loads (codes "patient") [])))
-    ∷ (codes "0  load   patient  4,Di,, ", Some (asks 0 (loads (codes "patient") (codes " 4,Di,, "))))
-    ∷ (codes "0 load patient 3,\"O'Hara, Pat\",,7", Some (asks 0 (loads (codes "patient") (codes "3,\"O'Hara, Pat\",,7"))))
+    ∷ (codes "0 load patient ", Some (makes_request 0 (loads (codes "patient") [])))
+    ∷ (codes "0  load   patient  4,Di,, ", Some (makes_request 0 (loads (codes "patient") (codes " 4,Di,, "))))
+    ∷ (codes "0 load patient 3,\"O'Hara, Pat\",,7", Some (makes_request 0 (loads (codes "patient") (codes "3,\"O'Hara, Pat\",,7"))))
     ∷ [])
 unfolding word_lists
 a_record_is_all_behind_one_space = refl
 
 any_other_text_is_a_statement : HaveForms (
-    (codes "0 INSERT INTO patient VALUES (3, 'x", Some (states 0 (codes "INSERT INTO patient VALUES (3, 'x")))
-    ∷ (codes "1 SELECT drop FROM t", Some (states 1 (codes "SELECT drop FROM t")))
-    ∷ (codes "1 SELECT " ++ replicate 100 40, Some (states 1 (codes "SELECT " ++ replicate 100 40)))
-    ∷ (codes "0 CREATE TABLE select (a INTEGER)", Some (states 0 (codes "CREATE TABLE select (a INTEGER)")))
-    ∷ (codes "2 at x", Some (states 2 (codes "at x")))
-    ∷ (codes "0 loads patient 1", Some (states 0 (codes "loads patient 1")))
-    ∷ (codes "0 #", Some (states 0 (codes "#")))
+    (codes "0 INSERT INTO patient VALUES (3, 'x", Some (makes_statement 0 (codes "INSERT INTO patient VALUES (3, 'x")))
+    ∷ (codes "1 SELECT drop FROM t", Some (makes_statement 1 (codes "SELECT drop FROM t")))
+    ∷ (codes "1 SELECT " ++ replicate 100 40, Some (makes_statement 1 (codes "SELECT " ++ replicate 100 40)))
+    ∷ (codes "0 CREATE TABLE select (a INTEGER)", Some (makes_statement 0 (codes "CREATE TABLE select (a INTEGER)")))
+    ∷ (codes "2 at x", Some (makes_statement 2 (codes "at x")))
+    ∷ (codes "0 loads patient 1", Some (makes_statement 0 (codes "loads patient 1")))
+    ∷ (codes "0 #", Some (makes_statement 0 (codes "#")))
     ∷ [])
 unfolding word_lists
 any_other_text_is_a_statement = refl

@@ -7,7 +7,7 @@ use Rattle.std.proofs.lemmas.Bool.Decides.{nat_tests}
 use Rattle.std.proofs.lemmas.List.{take_all, drop_all}
 use Rattle.std.proofs.lemmas.List.Sums.{prefix_len_passes, prefix_len-le-length}
 use Rattle.std.proofs.lemmas.Str.{IsCharBoundary-start, IsCharBoundary-after_ascii}
-use Rattle.hippo_lines.specs.Words.{is_space, is_filled, words_of, around_space, trimmed}
+use Rattle.hippo_lines.specs.Words.{is_space, is_filled, words_of, around_space, trimmed_text}
 
 -- a text may be cut behind spaces
 cut_at : (text : List ℕ) (n : ℕ) → IsUtf8 text → n ≤ length text → (0 < n → get_or text (n - 1) 0 < 128) → IsCharBoundary text n
@@ -66,36 +66,36 @@ words_of-first x xs other =
 abbrev IsTrimmed : List ℕ → Type 0
 IsTrimmed text = (text ≡ []) ⊎ ((x : ℕ) × (xs : List ℕ) × (text ≡ x ∷ xs) × (is_space x ≡ false))
 
-trimmed-is : (text : List ℕ) → IsTrimmed (trimmed text)
-trimmed-is [] = inl refl
-trimmed-is (x ∷ xs) = elim (cases_Bool (is_space x)) [
-  | inl space ↦ rw (space, one-add) (trimmed-is xs)
+trimmed_text-is : (text : List ℕ) → IsTrimmed (trimmed_text text)
+trimmed_text-is [] = inl refl
+trimmed_text-is (x ∷ xs) = elim (cases_Bool (is_space x)) [
+  | inl space ↦ rw (space, one-add) (trimmed_text-is xs)
   | inr other ↦ rw other (inr (x, xs, refl, other))
 ]
 
-words_of-trimmed : (text : List ℕ) → words_of text ≡ words_of (trimmed text)
-words_of-trimmed [] = refl
-words_of-trimmed (x ∷ xs) = elim (cases_Bool (is_space x)) [
+words_of-trimmed_text : (text : List ℕ) → words_of text ≡ words_of (trimmed_text text)
+words_of-trimmed_text [] = refl
+words_of-trimmed_text (x ∷ xs) = elim (cases_Bool (is_space x)) [
   | inl space ↦
       let same : words_of (x ∷ xs) ≡ words_of xs = unfold words_of in rw space refl in
-      same ∙ (words_of-trimmed xs ∙ ap words_of (sym (shorter space)))
+      same ∙ (words_of-trimmed_text xs ∙ ap words_of (sym (shorter space)))
   | inr other ↦ rw other refl
 ]
   where
-    shorter : is_space x ≡ true → trimmed (x ∷ xs) ≡ trimmed xs
+    shorter : is_space x ≡ true → trimmed_text (x ∷ xs) ≡ trimmed_text xs
     shorter space = rw (space, one-add) refl
 
 -- no word stands in a text of spaces
-pub words_of-blank : (text : List ℕ) → length (trimmed text) ≡ 0 → words_of text ≡ []
-words_of-blank text none = words_of-trimmed text ∙ by_form (trimmed text) (trimmed-is text) none
+pub words_of-blank : (text : List ℕ) → length (trimmed_text text) ≡ 0 → words_of text ≡ []
+words_of-blank text none = words_of-trimmed_text text ∙ by_form (trimmed_text text) (trimmed_text-is text) none
   where
     by_form : (rest : List ℕ) → IsTrimmed rest → length rest ≡ 0 → words_of rest ≡ []
     by_form rest (inl empty) none = rw empty (unfold words_of in refl)
     by_form rest (inr some) none = let more : suc (length some.1) ≡ 0 = rw some.2 at none in absurd (omega arith)
 
 -- the first word has a space behind it
-pub words_of-more : (text word more : List ℕ) → around_space (trimmed text) ≡ Some (word, more) → words_of text ≡ word ∷ words_of more
-words_of-more text word more found = words_of-trimmed text ∙ by_form (trimmed text) (trimmed-is text) found
+pub words_of-more : (text word more : List ℕ) → around_space (trimmed_text text) ≡ Some (word, more) → words_of text ≡ word ∷ words_of more
+words_of-more text word more found = words_of-trimmed_text text ∙ by_form (trimmed_text text) (trimmed_text-is text) found
   where
     by_form : (rest : List ℕ) → IsTrimmed rest → around_space rest ≡ Some (word, more) → words_of rest ≡ word ∷ words_of more
     by_form rest (inl empty) found = let nothing : None ≡ Some (word, more) = rw empty at found in cc
@@ -117,8 +117,8 @@ words_of-more text word more found = words_of-trimmed text ∙ by_form (trimmed 
         second_in (Some parts) = parts.1
 
 -- the first word is the last one
-pub words_of-last : (text : List ℕ) → eqb (length (trimmed text)) 0 ≡ false → around_space (trimmed text) ≡ None → words_of text ≡ trimmed text ∷ words_of []
-words_of-last text some missing = words_of-trimmed text ∙ by_form (trimmed text) (trimmed-is text) some missing
+pub words_of-last : (text : List ℕ) → eqb (length (trimmed_text text)) 0 ≡ false → around_space (trimmed_text text) ≡ None → words_of text ≡ trimmed_text text ∷ words_of []
+words_of-last text some missing = words_of-trimmed_text text ∙ by_form (trimmed_text text) (trimmed_text-is text) some missing
   where
     by_form : (rest : List ℕ) → IsTrimmed rest → eqb (length rest) 0 ≡ false → around_space rest ≡ None → words_of rest ≡ rest ∷ words_of []
     by_form rest (inl empty) some missing = let none : true ≡ false = rw empty at some in cc

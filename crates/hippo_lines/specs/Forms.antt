@@ -4,14 +4,14 @@ use Rattle.std.specs.List.{list_all}
 use Rattle.std.specs.Map.{lookup}
 use Rattle.hippo_values.specs.declared.names.Name.{Name}
 use Rattle.hippo_values.specs.Texts.{Txt}
-use Rattle.hippo_values.specs.Names.{folded, name_of}
+use Rattle.hippo_values.specs.Names.{lower_case, name_of}
 use Rattle.hippo_lines.specs.declared.short_words.ShortWord.{ShortWord}
 use Rattle.hippo_lines.specs.declared.short_words.ShortWord.TheVariants.{Login, Logout, Fetch, Close, Step, Drop, Unwatch, Load}
 use Rattle.hippo_values.specs.Limits.{session_limit, cursor_limit, job_limit, watch_limit, fetch_limit, step_limit}
-use Rattle.hippo_lines.specs.Words.{words_of, is_space, around_space, trimmed, only, two, three}
-use Rattle.hippo_lines.specs.Numbers.{number_in}
+use Rattle.hippo_lines.specs.Words.{words_of, is_space, around_space, trimmed_text, only, two, three}
+use Rattle.hippo_lines.specs.Numbers.{numeral_value}
 
--- what a short word and the words behind it ask for
+-- the request that a short word and the words behind it make
 pub data Request : Type 0 where
   logs_in : Name → Name → Name → Request
   logs_out : Request
@@ -22,12 +22,12 @@ pub data Request : Type 0 where
   unwatches : ℕ → Request
   loads : Name → Txt → Request
 
--- a line says nothing, sets the clock, asks for something in a session, or makes a statement there
+-- a line says nothing, sets the clock, makes a request in a session, or a statement there
 pub data Form : Type 0 where
   says_nothing : Form
   sets_clock : Txt → Form
-  asks : ℕ → Request → Form
-  states : ℕ → Txt → Form
+  makes_request : ℕ → Request → Form
+  makes_statement : ℕ → Txt → Form
 
 infixl 10 ◌>>=◌
 -- one and then the next, where both are there
@@ -50,20 +50,21 @@ logout_of (word ∷ words) = None
 
 -- the number that the one word writes, from 1
 abbrev pub one_number : ℕ → List Txt → Option ℕ
-one_number most arguments = option_and_then (number_in 1 most) (only arguments)
+one_number most arguments = option_and_then (numeral_value 1 most) (only arguments)
 
 -- the numbers that the two words write, each from 1
 abbrev pub two_numbers : ℕ → ℕ → List Txt → Option (ℕ × ℕ)
 two_numbers most most_behind arguments = do
   (word, behind) ← two arguments
-  number ← number_in 1 most word
-  other ← number_in 1 most_behind behind
+  number ← numeral_value 1 most word
+  other ← numeral_value 1 most_behind behind
   Some (number, other)
 
 -- fetch CURSOR COUNT
 abbrev pub fetch_of : List Txt → Option Request
 fetch_of arguments =
-    option_map (λ (cursor, count). fetches cursor count) (two_numbers cursor_limit fetch_limit arguments)
+    option_map (λ (cursor, count). fetches cursor count)
+    (two_numbers cursor_limit fetch_limit arguments)
 
 -- close CURSOR
 abbrev pub close_of : List Txt → Option Request
@@ -71,7 +72,8 @@ close_of arguments = option_map closes (one_number cursor_limit arguments)
 
 -- step JOB COUNT
 abbrev pub step_of : List Txt → Option Request
-step_of arguments = option_map (λ (job, count). steps job count) (two_numbers job_limit step_limit arguments)
+step_of arguments =
+    option_map (λ (job, count). steps job count) (two_numbers job_limit step_limit arguments)
 
 -- drop JOB
 abbrev pub drop_of : List Txt → Option Request
@@ -84,19 +86,20 @@ unwatch_of arguments = option_map unwatches (one_number watch_limit arguments)
 -- load TABLE RECORD: all that stands behind the one space behind TABLE is the record
 abbrev pub load_of : Txt → Option Request
 load_of text = do
-  (_, behind) ← around_space (trimmed text)
-  (table, fields) ← around_space (trimmed behind)
+  (_, behind) ← around_space (trimmed_text text)
+  (table, fields) ← around_space (trimmed_text behind)
   name ← name_of table
   Some (loads name fields)
 
 -- the short words, in whatever case
 abbrev pub short_words : List (Txt × ShortWord)
 short_words =
-    (codes "login", Login) ∷ (codes "logout", Logout) ∷ (codes "fetch", Fetch) ∷ (codes "close", Close)
-    ∷ (codes "step", Step) ∷ (codes "drop", Drop) ∷ (codes "unwatch", Unwatch) ∷ (codes "load", Load) ∷ []
+    (codes "login", Login) ∷ (codes "logout", Logout) ∷ (codes "fetch", Fetch)
+    ∷ (codes "close", Close) ∷ (codes "step", Step) ∷ (codes "drop", Drop)
+    ∷ (codes "unwatch", Unwatch) ∷ (codes "load", Load) ∷ []
 
 abbrev pub short_word_of : Txt → Option ShortWord
-short_word_of word = lookup (λ known. bytes_eq known (folded word)) short_words
+short_word_of word = lookup (λ known. bytes_eq known (lower_case word)) short_words
 
 -- what a text asks for that begins with a short word and has these words behind it
 abbrev pub request_by : ShortWord → Txt → List Txt → Option Request
@@ -115,10 +118,12 @@ at_of text = do
   moment ← only (words_of text)
   Some (sets_clock moment)
 
--- the form of a line with a session's number and this text behind it; without a short word the text is a statement
+-- the form of a line with a session's number and this text behind it; without a short word the text
+-- is a statement
 abbrev pub form_in : ℕ → Txt → Option ShortWord → List Txt → Option Form
-form_in session text (Some short) arguments = option_map (asks session) (request_by short text arguments)
-form_in session text None arguments = Some (states session text)
+form_in session text (Some short) arguments =
+    option_map (makes_request session) (request_by short text arguments)
+form_in session text None arguments = Some (makes_statement session text)
 
 abbrev pub form_with : ℕ → Txt → List Txt → Option Form
 form_with session text [] = None
@@ -127,7 +132,7 @@ form_with session text (word ∷ arguments) = form_in session text (short_word_o
 -- SESSION, and a text behind it
 abbrev pub session_form : Txt → Txt → Option Form
 session_form number text = do
-  session ← number_in 0 session_limit number
+  session ← numeral_value 0 session_limit number
   form_with session text (words_of text)
 
 -- it begins with `#`
@@ -141,9 +146,11 @@ is_silent line = is_comment line || list_all is_space line
 
 -- the form of a line by its first word and what stands behind the one space behind it
 abbrev pub form_by : Txt → Txt → Option Form
-form_by first behind = if bytes_eq (codes "at") (folded first) then at_of behind else session_form first behind
+form_by first behind =
+    if bytes_eq (codes "at") (lower_case first) then at_of behind else session_form first behind
 
 -- the form of a line; in front of the first word no space may stand
 abbrev pub line_form : Txt → Option Form
 line_form line =
-    if is_silent line then Some says_nothing else (around_space line >>= λ (first, behind). form_by first behind)
+    if is_silent line then Some says_nothing
+    else (around_space line >>= λ (first, behind). form_by first behind)

@@ -1,9 +1,9 @@
 -- What the code's forms say, which borrow their texts from a line.
-use Rattle.hippo_lines.specs.Forms.{Request, logs_in, logs_out, fetches, closes, steps, drops, unwatches, loads, Form, says_nothing, sets_clock, asks, states}
+use Rattle.hippo_lines.specs.Forms.{Request, logs_in, logs_out, fetches, closes, steps, drops, unwatches, loads, Form, says_nothing, sets_clock, makes_request, makes_statement}
 use Rattle.hippo_lines.specs.declared.forms.RequestForm.{RequestForm}
 use Rattle.hippo_lines.specs.declared.forms.RequestForm.TheVariants.{Login, Logout, Fetch, Close, Step, Drop, Unwatch, Load}
 use Rattle.hippo_lines.specs.declared.forms.LineForm.{LineForm}
-use Rattle.hippo_lines.specs.declared.forms.LineForm.TheVariants.{Silent, At, Asking, Statement}
+use Rattle.hippo_lines.specs.declared.forms.LineForm.TheVariants.{Silent, At, Short, Statement}
 
 abbrev pub request : RequestForm → Request
 request (Login user purpose recipient) = logs_in user purpose recipient
@@ -18,5 +18,5 @@ request (Load table fields) = loads table fields.now
 abbrev pub form : LineForm → Form
 form Silent = says_nothing
 form (At moment) = sets_clock moment.now
-form (Asking session asked) = asks session (request asked)
-form (Statement session text) = states session text.now
+form (Short session asked) = makes_request session (request asked)
+form (Statement session text) = makes_statement session text.now

@@ -19,6 +19,7 @@ abbrev pub is_within : ℕ → ℕ → ℕ → Bool
 is_within least most number = nat_le least number && nat_le number most
 
 -- the number that a word writes, where it is within these limits
-abbrev pub number_in : ℕ → ℕ → Txt → Option ℕ
-number_in least most word =
-    then_some (is_numeral word && is_within least most (digits_value 10 word)) (digits_value 10 word)
+abbrev pub numeral_value : ℕ → ℕ → Txt → Option ℕ
+numeral_value least most word =
+    then_some (is_numeral word && is_within least most (digits_value 10 word))
+    (digits_value 10 word)

@@ -22,8 +22,8 @@ around_space text =
     (before_first is_space text, after_first is_space text)
 
 -- the text without the spaces at its front
-abbrev pub trimmed : Txt → Txt
-trimmed text = drop (prefix_len is_space text) text
+abbrev pub trimmed_text : Txt → Txt
+trimmed_text text = drop (prefix_len is_space text) text
 
 -- the members of a list that has just one, two or three
 abbrev pub only : {A : Type 0} → List A → Option A

@@ -51,11 +51,12 @@ pub enum LineForm<'a> {
         moment: &'a str,
     },
     /// Do what a short word asks for, in a session or at the console, which is session 0.
-    Asking {
+    Short {
         session: u8,
         request: RequestForm<'a>,
     },
-    /// Carry out a statement in a session or at the console: all that stands behind the one space behind its number.
+    /// Carry out a statement in a session or at the console: all that stands behind the one space
+    /// behind its number.
     Statement {
         session: u8,
         text: &'a str,

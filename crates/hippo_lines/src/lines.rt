@@ -41,7 +41,7 @@ fn form_with(session: u8, text: &str) -> Option<LineForm<'_>>
     match short_word_of(word) {
         Some(short) => {
             let request = request_by(short, text, arguments)?;
-            Some(LineForm::Asking { session, request })
+            Some(LineForm::Short { session, request })
         }
         None => Some(LineForm::Statement { session, text }),
     }
@@ -53,8 +53,8 @@ fn session_form<'a>(number: &str, text: &'a str) -> Option<LineForm<'a>>
     form_with(small_number(number, 0, SESSION_LIMIT)?, text)
 }
 
-/// The form of a line of the input, which is a text without its line feed; none where it has no form. Words have one
-/// space or more between them, and short words are known in whatever case.
+/// The form of a line of the input, which is a text without its line feed; none where it has no
+/// form. Words have one space or more between them, and short words are known in whatever case.
 pub fn line_form(line: &str) -> Option<LineForm<'_>>
     ensures { option_map form result ≡ line_form line.now }
 {

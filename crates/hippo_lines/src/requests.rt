@@ -92,8 +92,8 @@ fn load_of(text: &str) -> Option<RequestForm<'_>>
     Some(RequestForm::Load { table, record })
 }
 
-/// What a text asks for that begins with a short word and has these words behind it; none where it lacks the word's
-/// form.
+/// What a text asks for that begins with a short word and has these words behind it; none where it
+/// lacks the word's form.
 pub fn request_by<'a>(
     short: ShortWord,
     text: &'a str,

@@ -1,7 +1,7 @@
 //! The short words, which say what form a line has.
 ghost use Rattle.std.specs.Prelude.{◌≡◌, map, bytes_eq};
 ghost use Rattle.std.specs.Map.{lookup};
-ghost use Rattle.hippo_values.specs.Names.{folded};
+ghost use Rattle.hippo_values.specs.Names.{lower_case};
 ghost use Rattle.hippo_lines.specs.Forms.{short_word_of};
 
 /// A word behind a session's number that says what form the line has.
@@ -30,13 +30,14 @@ const SHORT_WORDS: [(&str, ShortWord); 8] = [
 
 /// Whether a word is the known one, in whatever case.
 pub fn equals_folded(known: &str, word: &str) -> bool
-    ensures { result ≡ bytes_eq (folded known.now) (folded word.now) }
+    ensures { result ≡ bytes_eq (lower_case known.now) (lower_case word.now) }
 {
     known.eq_ignore_ascii_case(word)
 }
 
 fn find_word(table: &[(&str, ShortWord)], word: &str) -> Option<ShortWord>
-    ensures { result ≡ lookup (λ known. bytes_eq (folded known.now) (folded word.now)) table.now }
+    ensures { result ≡ lookup (λ known. bytes_eq (lower_case known.now) (lower_case word.now))
+        table.now }
 {
     for (known, short) in table {
         if equals_folded(known, word) {

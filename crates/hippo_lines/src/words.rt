@@ -1,7 +1,7 @@
 //! Words of a text, which have spaces between them.
 ghost use Rattle.std.specs.Prelude.{◌≡◌, [], ◌∷◌, option_map, option_copied, MatchOption};
 ghost use Rattle.std.specs.List.{list_all, prefix_len};
-ghost use Rattle.hippo_lines.specs.Words.{is_space, words_of, around_space, trimmed, only, two, three};
+ghost use Rattle.hippo_lines.specs.Words.{is_space, words_of, around_space, trimmed_text, only, two, three};
 
 fn spaces_len(bytes: &[u8]) -> usize
     ensures { result ≡ prefix_len is_space bytes.now }
@@ -18,7 +18,7 @@ pub fn is_blank(text: &str) -> bool
 
 /// The text without the spaces at its front.
 pub fn trimmed(text: &str) -> &str
-    ensures { result.now ≡ trimmed text.now }
+    ensures { result.now ≡ trimmed_text text.now }
 {
     &text[spaces_len(text.as_bytes())..]
 }
@@ -67,7 +67,8 @@ pub fn two_words(text: &str) -> Option<(&str, &str)>
 
 /// The words of a text that has three words.
 pub fn three_words(text: &str) -> Option<(&str, &str, &str)>
-    ensures { option_map (λ words. (words.0.now, words.1.now, words.2.now)) result ≡ three (words_of text.now) }
+    ensures { option_map (λ words. (words.0.now, words.1.now, words.2.now)) result
+        ≡ three (words_of text.now) }
 {
     let (first, rest) = first_word(text)?;
     let (second, third) = two_words(rest)?;

@@ -6,7 +6,8 @@ use hippo_values::{Memory, Name, is_name};
 use std::alloc::Global;
 use std::marker::Model;
 
-/// A word of a line that is a name: a letter, then letters, digits and `_`, at most 63 bytes, and not reserved.
+/// A word of a line that is a name: a letter, then letters, digits and `_`, at most 63 bytes, and
+/// not reserved.
 #[derive(Debug, Drop)]
 pub struct WrittenName<'a> {
     word: &'a str,
@@ -14,11 +15,11 @@ pub struct WrittenName<'a> {
 
 impl<'a> Model for WrittenName<'a> {
     ghost use Rattle.std.specs.Prelude.{List, ℕ, IsTrue};
-    ghost use Rattle.hippo_values.specs.Names.{folded, is_name};
+    ghost use Rattle.hippo_values.specs.Names.{lower_case, is_name};
 
     ghost Value = { List ℕ };
 
-    ghost view = { λ name. folded name.word.now };
+    ghost view = { λ name. lower_case name.word.now };
 
     ghost invariant = { λ name. IsTrue (is_name name.word.now) };
 }

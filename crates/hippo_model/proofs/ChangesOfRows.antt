@@ -13,7 +13,7 @@ use Rattle.hippo_model.specs.Rows.{key_of, key_named, row_at, born_at, table_row
 use Rattle.hippo_model.specs.RowSets.{KeyedRows, kept_at, with_row, without_row, find_row, row_with}
 use Rattle.hippo_model.specs.StoredForms.{table_changed}
 use Rattle.hippo_model.specs.Versions.{is_version, row_fits, key_fits, is_live, version_fits}
-use Rattle.hippo_model.specs.Changes.{renewed, changed}
+use Rattle.hippo_model.specs.Changes.{with_renewed_row, changed}
 use Rattle.hippo_model.proofs.KeptRows.{shown, is_some-option_map, is_some-find_row}
 use Rattle.hippo_model.proofs.RowsAfter.{table_rows-Insert, table_rows-Update, table_rows-Delete, table_rows-other, row_with-table_rows}
 
@@ -65,7 +65,7 @@ module _ (schema : Schema) where
           (λ same. ap (shown schema.key) (sym (table_rows-Insert schema history entry table row is same)))
       by_act (Update table row) is =
           let key = key_of schema.key row in
-          ap (option_and_then (λ old. then_some (bytes_eq table schema.name && row_fits schema row) (renewed row (kept_at schema history) old))) (row_with-table_rows schema history key)
+          ap (option_and_then (λ old. then_some (bytes_eq table schema.name && row_fits schema row) (with_renewed_row row (kept_at schema history) old))) (row_with-table_rows schema history key)
           ∙ renewals_agree (bytes_eq table schema.name) (row_fits schema row) (row_at schema history key) (born_at schema history key)
           (λ born. with_row (record { row = row; born = born }) (kept_at schema history)) (kept_at schema (history ++ entry ∷ []))
           (λ same. ap (shown schema.key) (sym (table_rows-Update schema history entry table row is same)))

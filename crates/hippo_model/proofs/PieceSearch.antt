@@ -9,7 +9,7 @@ use Rattle.std.proofs.lemmas.Bool.{cases_lt, false≢true}
 use Rattle.std.proofs.lemmas.List.{length-map}
 use Rattle.std.proofs.lemmas.List.Concat.{get_or-flat_map}
 use Rattle.hippo_model.specs.declared.pieces.Piece.{Piece}
-use Rattle.hippo_model.specs.Pieces.{contents, joined, start_of, AreFull, begins_low, PartsLow}
+use Rattle.hippo_model.specs.Pieces.{contents, all_members, start_of, AreFull, begins_low, PartsLow}
 use Rattle.hippo_model.proofs.PiecesLemmas.{piece_at, start_of-next, start_of-rises, start_of-end, start_of-within}
 
 greater_from : (o : Ordering) → 2 ≤ ordering_index o → o ≡ Greater
@@ -52,40 +52,40 @@ module _ {A : Type 0} (order : A → Ordering) where
   begins_low-first (first ∷ rest) d some = refl
 
   module _ (contents : List (List A)) (full : AreFull contents) where
-    first_at : (i : ℕ) (d : A) → i < length contents → get_or (get_or contents i []) 0 d ≡ get_or (joined contents) (start_of contents i) d
-    first_at i d within = sym (get_or-flat_map (λ members. members) contents i 0 [] d within (full_at contents full i within)) ∙ ap (λ place. get_or (joined contents) place d) (add-zero (start_of contents i))
+    first_at : (i : ℕ) (d : A) → i < length contents → get_or (get_or contents i []) 0 d ≡ get_or (all_members contents) (start_of contents i) d
+    first_at i d within = sym (get_or-flat_map (λ members. members) contents i 0 [] d within (full_at contents full i within)) ∙ ap (λ place. get_or (all_members contents) place d) (add-zero (start_of contents i))
 
-    low_at : (i : ℕ) (d : A) → i < length contents → begins_low order (get_or contents i []) ≡ is_le (order (get_or (joined contents) (start_of contents i) d))
+    low_at : (i : ℕ) (d : A) → i < length contents → begins_low order (get_or contents i []) ≡ is_le (order (get_or (all_members contents) (start_of contents i) d))
     low_at i d within = begins_low-first (get_or contents i []) d (full_at contents full i within) ∙ ap (λ member. is_le (order member)) (first_at i d within)
 
-    start_within : (i : ℕ) → i < length contents → start_of contents i < length (joined contents)
+    start_within : (i : ℕ) → i < length contents → start_of contents i < length (all_members contents)
     start_within i within = omega (arith, full_at contents full i within, start_of-next contents i within, start_of-within contents (suc i))
 
-    module _ (rises : IsNonDecreasingBy (λ member. ordering_index (order member)) (joined contents)) where
+    module _ (rises : IsNonDecreasingBy (λ member. ordering_index (order member)) (all_members contents)) where
       lows_first : (i j : ℕ) → i ≤ j → j < length contents → begins_low order (get_or contents j []) ≡ true → begins_low order (get_or contents i []) ≡ true
       lows_first i j before within low =
           let d : A = some_member (get_or contents j []) (full_at contents full j within) in
-          let at_j = low_from_test (order (get_or (joined contents) (start_of contents j) d)) (sym (low_at j d within) ∙ low) in
+          let at_j = low_from_test (order (get_or (all_members contents) (start_of contents j) d)) (sym (low_at j d within) ∙ low) in
           let up = rises (start_of contents i) (start_of contents j) d (start_of-rises contents i j before) (start_within j within) in
-          low_at i d (omega arith) ∙ test_from_low (order (get_or (joined contents) (start_of contents i) d)) (omega arith)
+          low_at i d (omega arith) ∙ test_from_low (order (get_or (all_members contents) (start_of contents i) d)) (omega arith)
 
       -- behind a piece that does not begin low all is above
-      above_from : (i : ℕ) → i < length contents → begins_low order (get_or contents i []) ≡ false → AllWithin (λ member. order member ≡ Greater) (joined contents) (start_of contents i) (length (joined contents))
+      above_from : (i : ℕ) → i < length contents → begins_low order (get_or contents i []) ≡ false → AllWithin (λ member. order member ≡ Greater) (all_members contents) (start_of contents i) (length (all_members contents))
       above_from i within high k d low inside =
-          let at_i = high_from_test (order (get_or (joined contents) (start_of contents i) d)) (sym (low_at i d within) ∙ high) in
+          let at_i = high_from_test (order (get_or (all_members contents) (start_of contents i) d)) (sym (low_at i d within) ∙ high) in
           let up = rises (start_of contents i) k d low inside in
-          greater_from (order (get_or (joined contents) k d)) (omega arith)
+          greater_from (order (get_or (all_members contents) k d)) (omega arith)
 
       module _ (i : ℕ) (within : i < length contents) (low : begins_low order (get_or contents i []) ≡ true) (next : suc i < length contents → begins_low order (get_or contents (suc i) []) ≡ false) where
-        here : (k : ℕ) (d : A) → start_of contents i ≤ k → k < start_of contents i + length (get_or contents i []) → get_or (get_or contents i []) (k - start_of contents i) d ≡ get_or (joined contents) k d
+        here : (k : ℕ) (d : A) → start_of contents i ≤ k → k < start_of contents i + length (get_or contents i []) → get_or (get_or contents i []) (k - start_of contents i) d ≡ get_or (all_members contents) k d
         here k d after before =
             let place : start_of contents i + (k - start_of contents i) ≡ k = omega arith in
-            sym (get_or-flat_map (λ members. members) contents i (k - start_of contents i) [] d within (omega arith)) ∙ ap (λ place. get_or (joined contents) place d) place
+            sym (get_or-flat_map (λ members. members) contents i (k - start_of contents i) [] d within (omega arith)) ∙ ap (λ place. get_or (all_members contents) place d) place
 
-        there : (k : ℕ) (d : A) → k < length (get_or contents i []) → get_or (joined contents) (start_of contents i + k) d ≡ get_or (get_or contents i []) k d
+        there : (k : ℕ) (d : A) → k < length (get_or contents i []) → get_or (all_members contents) (start_of contents i + k) d ≡ get_or (get_or contents i []) k d
         there k d inside = get_or-flat_map (λ members. members) contents i k [] d within inside
 
-        end_here : start_of contents i + length (get_or contents i []) ≤ length (joined contents)
+        end_here : start_of contents i + length (get_or contents i []) ≤ length (all_members contents)
         end_here = omega (arith, start_of-next contents i within, start_of-within contents (suc i))
 
         rises_here : IsNonDecreasingBy (λ member. ordering_index (order member)) (get_or contents i [])
@@ -101,16 +101,16 @@ module _ {A : Type 0} (order : A → Ordering) where
                 absurd (false≢true (sym (ap is_le greater) ∙ sym (begins_low-first (get_or contents i []) d (full_at contents full i within)) ∙ low))
           ]
 
-          below : AllWithin (λ member. order member ≡ Less) (joined contents) 0 (start_of contents i + j)
+          below : AllWithin (λ member. order member ≡ Less) (all_members contents) 0 (start_of contents i + j)
           below k d from inside = elim (cases_lt k (start_of contents i)) [
             | inl before ↦
                 let least = parted.0 0 d (omega arith) not_first in
                 let up = rises k (start_of contents i) d (omega arith) (start_within i within) in
-                less_from (order (get_or (joined contents) k d)) (subst (λ (o : Ordering). ordering_index (order (get_or (joined contents) k d)) ≤ ordering_index o) (ap order (sym (first_at i d within)) ∙ least) up)
+                less_from (order (get_or (all_members contents) k d)) (subst (λ (o : Ordering). ordering_index (order (get_or (all_members contents) k d)) ≤ ordering_index o) (ap order (sym (first_at i d within)) ∙ least) up)
             | inr after ↦ ap order (sym (here k d after (omega arith))) ∙ parted.0 (k - start_of contents i) d (omega arith) (omega arith)
           ]
 
-          above : AllWithin (λ member. order member ≡ Greater) (joined contents) (start_of contents i + j) (length (joined contents))
+          above : AllWithin (λ member. order member ≡ Greater) (all_members contents) (start_of contents i + j) (length (all_members contents))
           above k d after inside = elim (cases_lt k (start_of contents i + length (get_or contents i []))) [
             | inl before ↦ ap order (sym (here k d (omega arith) before)) ∙ parted.1 (k - start_of contents i) d (omega arith) (omega arith)
             | inr past ↦ elim (cases_lt (suc i) (length contents)) [
@@ -127,18 +127,18 @@ module _ {A : Type 0} (order : A → Ordering) where
       → IsPartitionPoint (λ member. order member ≡ Less) (λ member. order member ≡ Greater) members place
 
   -- The pieces are those of these rows, and so many of them begin low.
-  module _ (rows : List A) {value : List (Piece A)} (pieces : List (Piece A)) (same : pieces ≡ value) (invariant : AreFull (contents value)) (view : joined (contents value) ≡ rows)
+  module _ (rows : List A) {value : List (Piece A)} (pieces : List (Piece A)) (same : pieces ≡ value) (invariant : AreFull (contents value)) (view : all_members (contents value) ≡ rows)
       (split : ℕ) (range : split ≤ length pieces) (clause : PartsLow order pieces split) where
     full : AreFull (contents pieces)
     full = subst (λ (held : List (Piece A)). AreFull (contents held)) (sym same) invariant
 
-    whole : joined (contents pieces) ≡ rows
-    whole = ap (λ (held : List (Piece A)). joined (contents held)) same ∙ view
+    whole : all_members (contents pieces) ≡ rows
+    whole = ap (λ (held : List (Piece A)). all_members (contents held)) same ∙ view
 
     size : length (contents pieces) ≡ length pieces
     size = length-map pieces (λ (piece : Piece A). piece.members.items)
 
-    parted : IsNonDecreasingBy (λ member. ordering_index (order member)) (joined (contents pieces)) → IsPartitionPoint (λ (piece : Piece A). begins_low order piece.members.items ≡ true) (λ (piece : Piece A). begins_low order piece.members.items ≡ false) pieces split
+    parted : IsNonDecreasingBy (λ member. ordering_index (order member)) (all_members (contents pieces)) → IsPartitionPoint (λ (piece : Piece A). begins_low order piece.members.items ≡ true) (λ (piece : Piece A). begins_low order piece.members.items ≡ false) pieces split
     parted rises = clause (λ i j d before within low.
         rw (← piece_at pieces i d (omega arith)) (lows_first (contents pieces) full rises i j before (omega (arith, size)) (rw (piece_at pieces j d within) low)))
 
@@ -146,15 +146,15 @@ module _ {A : Type 0} (order : A → Ordering) where
     pub missing_before : split ≡ 0 → Parts rows 0
     missing_before none = subst (λ (rows : List A). Parts rows 0) whole (λ rises. (λ k d from inside. absurd (omega arith), above rises))
       where
-        some_piece : (ps : List (Piece A)) → 0 < length (joined (contents ps)) → Piece A
+        some_piece : (ps : List (Piece A)) → 0 < length (all_members (contents ps)) → Piece A
         some_piece [] some = absurd (omega arith)
         some_piece (first ∷ rest) some = first
 
-        some_left : (ps : List (Piece A)) → 0 < length (joined (contents ps)) → 0 < length ps
+        some_left : (ps : List (Piece A)) → 0 < length (all_members (contents ps)) → 0 < length ps
         some_left [] some = absurd (omega arith)
         some_left (first ∷ rest) some = omega arith
 
-        above : IsNonDecreasingBy (λ member. ordering_index (order member)) (joined (contents pieces)) → AllWithin (λ member. order member ≡ Greater) (joined (contents pieces)) 0 (length (joined (contents pieces)))
+        above : IsNonDecreasingBy (λ member. ordering_index (order member)) (all_members (contents pieces)) → AllWithin (λ member. order member ≡ Greater) (all_members (contents pieces)) 0 (length (all_members (contents pieces)))
         above rises k d low inside =
             let some : 0 < length pieces = some_left pieces (omega arith) in
             let p : Piece A = some_piece pieces (omega arith) in

@@ -9,13 +9,13 @@ use Rattle.hippo_model.specs.declared.born_row.BornRow.{BornRow}
 use Rattle.hippo_model.specs.declared.ranges.Bound.{Bound}
 use Rattle.hippo_model.specs.Terms.{Key, Place, Row}
 use Rattle.hippo_model.specs.Rows.{cell_at, key_of}
-use Rattle.hippo_model.specs.RowSets.{KeyedRows, IsAscending, key_in, find_row, row_with, blank, value_at}
-use Rattle.hippo_model.specs.ColumnOrders.{entry_of, HasEntry, AreEntriesOf, AreGathered}
+use Rattle.hippo_model.specs.RowSets.{KeyedRows, IsAscending, key_in, find_row, row_with, blank, value_at_place}
+use Rattle.hippo_model.specs.ColumnOrders.{order_key, HasOrderKey, AreOrderKeysOf, AreGathered}
 use Rattle.hippo_model.specs.Ranges.{HasFront, KeepsBound, IsEdge}
 use Rattle.hippo_model.proofs.RowsByKey.{slice_get-within, find_row-at, row_with-found, place-row_with}
 
 -- an entry stands at some place
-entry-place : (entries : KeyedRows) (entry : Key) → HasEntry entries entry → (place : Place) × (kept : BornRow) × (slice_get entries.rows place ≡ Some kept) × (kept.row ≡ entry)
+entry-place : (entries : KeyedRows) (entry : Key) → HasOrderKey entries entry → (place : Place) × (kept : BornRow) × (slice_get entries.rows place ≡ Some kept) × (kept.row ≡ entry)
 entry-place entries entry =
     elim (row_with entry entries) as (λ found. row_with entry entries ≡ found → option_map (λ kept. kept.row) found ≡ Some entry → (place : Place) × (kept : BornRow) × (slice_get entries.rows place ≡ Some kept) × (kept.row ≡ entry)) [
       | None ↦ λ e has. absurd cc
@@ -54,7 +54,7 @@ contains-pushed old new place other pushed is =
 
 -- a place among those that stand within two ends
 within-ends : (set : KeyedRows) (column : Place) (low high : Option Bound) (start end place : Place) → IsEdge set [] column false low start → IsEdge set [] column true high end → place < length set.rows
-    → KeepsBound false low (value_at set column place) → KeepsBound true high (value_at set column place) → (start ≤ place) × (place < end)
+    → KeepsBound false low (value_at_place set column place) → KeepsBound true high (value_at_place set column place) → (start ≤ place) × (place < end)
 within-ends set column low high start end place from to within over under =
     let front : HasFront set [] place = refl in
     (ltb-false place start (from place within front over), ltb-true place end (to place within front under))
@@ -68,7 +68,7 @@ between-more start here found later pushed so_far place from to = subst (λ (l :
 
 pub own-within : (set : KeyedRows) (column : Place) (low high : Option Bound) (start end : Place) (found : List Place) → IsEdge set [] column false low start → IsEdge set [] column true high end
     → ((place : Place) → start ≤ place → place < end → Contains found place)
-    → (place : Place) → place < length set.rows → KeepsBound false low (value_at set column place) → KeepsBound true high (value_at set column place) → Contains found place
+    → (place : Place) → place < length set.rows → KeepsBound false low (value_at_place set column place) → KeepsBound true high (value_at_place set column place) → Contains found place
 own-within set column low high start end found from to all place within over under =
     let inside = within-ends set column low high start end place from to within over under in
     all place inside.0 inside.1
@@ -80,16 +80,16 @@ slice_get-some [] i within = absurd (omega arith)
 slice_get-some (x ∷ xs) zero within = (x, refl)
 slice_get-some (x ∷ xs) (suc i) within = slice_get-some xs i (omega arith)
 
-pub places-within : (column : Place) (set entries : KeyedRows) (low high : Option Bound) (start end : Place) (found : List Place) → AreEntriesOf column set entries → IsAscending (map (key_in set.key) set.rows)
+pub places-within : (column : Place) (set entries : KeyedRows) (low high : Option Bound) (start end : Place) (found : List Place) → AreOrderKeysOf column set entries → IsAscending (map (key_in set.key) set.rows)
     → IsEdge entries [] 0 false low start → IsEdge entries [] 0 true high end → AreGathered entries set start end found
-    → (place : Place) → place < length set.rows → KeepsBound false low (value_at set column place) → KeepsBound true high (value_at set column place) → Contains found place
+    → (place : Place) → place < length set.rows → KeepsBound false low (value_at_place set column place) → KeepsBound true high (value_at_place set column place) → Contains found place
 places-within column set entries low high start end found are ascends from to gathered place within over under =
     let here = slice_get-some set.rows place within in
     let own : row_with (key_in set.key here.0) set ≡ Some here.0 = row_with-found set.key set.rows (key_in set.key here.0) place here.0 (find_row-at set.key set.rows place here.0 ascends here.1) here.1 in
-    let has : HasEntry entries (entry_of column set.key here.0.row) = subst (λ (known : Option BornRow). IfSome known (λ kept. HasEntry entries (entry_of column set.key kept.row))) own (are.covers (key_in set.key here.0)) in
-    let entry = entry-place entries (entry_of column set.key here.0.row) has in
-    let cell : value_at set column place ≡ cell_at here.0.row column = ap (λ (known : Option BornRow). cell_at (unwrap_or known blank).row column) here.1 in
-    let first : value_at entries 0 entry.0 ≡ cell_at here.0.row column = ap (λ (known : Option BornRow). cell_at (unwrap_or known blank).row 0) entry.2 ∙ ap (λ (r : Row). cell_at r 0) entry.3 in
-    let same : value_at set column place ≡ value_at entries 0 entry.0 = cell ∙ sym first in
+    let has : HasOrderKey entries (order_key column set.key here.0.row) = subst (λ (known : Option BornRow). IfSome known (λ kept. HasOrderKey entries (order_key column set.key kept.row))) own (are.covers (key_in set.key here.0)) in
+    let entry = entry-place entries (order_key column set.key here.0.row) has in
+    let cell : value_at_place set column place ≡ cell_at here.0.row column = ap (λ (known : Option BornRow). cell_at (unwrap_or known blank).row column) here.1 in
+    let first : value_at_place entries 0 entry.0 ≡ cell_at here.0.row column = ap (λ (known : Option BornRow). cell_at (unwrap_or known blank).row 0) entry.2 ∙ ap (λ (r : Row). cell_at r 0) entry.3 in
+    let same : value_at_place set column place ≡ value_at_place entries 0 entry.0 = cell ∙ sym first in
     let inside = within-ends entries 0 low high start end entry.0 from to (slice_get-within entries.rows entry.0 entry.1 entry.2) (subst (KeepsBound false low) same over) (subst (KeepsBound true high) same under) in
     gathered entry.0 inside.0 inside.1 entry.1 entry.2 (cell_at here.0.row column) here.0 place here.1 entry.3

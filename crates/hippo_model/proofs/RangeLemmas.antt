@@ -14,7 +14,7 @@ use Rattle.hippo_values.specs.Truths.{is_allowed}
 use Rattle.hippo_model.specs.declared.born_row.BornRow.{BornRow}
 use Rattle.hippo_model.specs.declared.ranges.Bound.{Bound}
 use Rattle.hippo_model.specs.Terms.{Key, Place}
-use Rattle.hippo_model.specs.RowSets.{KeyedRows, IsAscending, IsBelowAll, key_in, row_at}
+use Rattle.hippo_model.specs.RowSets.{KeyedRows, IsAscending, IsBelowAll, key_in, row_at_place}
 use Rattle.hippo_model.specs.Rows.{cell_at, key_of}
 use Rattle.hippo_model.specs.Ranges.{front_cmp, is_low, is_past, stands_low, bounding, IsEdge}
 
@@ -74,12 +74,12 @@ front-past_end (column ∷ columns) row (value ∷ front) (suc n) e = let shorte
 
 -- ---- keys that ascend
 
-below-at : (of_row : BornRow → Key) (key : Key) (rows : List BornRow) (k : ℕ) → IsBelowAll key (map of_row rows) → k < length rows → cells_cmp key (of_row (row_at rows k)) ≡ Less
+below-at : (of_row : BornRow → Key) (key : Key) (rows : List BornRow) (k : ℕ) → IsBelowAll key (map of_row rows) → k < length rows → cells_cmp key (of_row (row_at_place rows k)) ≡ Less
 below-at of_row key [] k below within = absurd (omega arith)
 below-at of_row key (row ∷ rows) zero below within = below.0
 below-at of_row key (row ∷ rows) (suc k) below within = below-at of_row key rows k below.1 (omega arith)
 
-pub ascends-at : (of_row : BornRow → Key) (rows : List BornRow) (j k : ℕ) → IsAscending (map of_row rows) → j < k → k < length rows → cells_cmp (of_row (row_at rows j)) (of_row (row_at rows k)) ≡ Less
+pub ascends-at : (of_row : BornRow → Key) (rows : List BornRow) (j k : ℕ) → IsAscending (map of_row rows) → j < k → k < length rows → cells_cmp (of_row (row_at_place rows j)) (of_row (row_at_place rows k)) ≡ Less
 ascends-at of_row [] j k ascends lower within = absurd (omega arith)
 ascends-at of_row (row ∷ rows) zero zero ascends lower within = absurd (omega arith)
 ascends-at of_row (row ∷ rows) zero (suc k) ascends lower within = below-at of_row (of_row row) rows k ascends.0 (omega arith)
@@ -93,7 +93,7 @@ lower_or_same j k at_most = grind arith
 pub low-before : (set : KeyedRows) (front : Key) (past : Bool) (j k : ℕ) → IsAscending (map (key_in set.key) set.rows) → j ≤ k → k < length set.rows → stands_low set front past k ≡ true → stands_low set front past j ≡ true
 low-before set front past j k ascends at_most within low =
     elim (lower_or_same j k at_most) as (λ _. stands_low set front past j ≡ true) [
-      | inl lower ↦ front-low past (cell_at (row_at set.rows j).row) (cell_at (row_at set.rows k).row) set.key front (ap is_le (ascends-at (key_in set.key) set.rows j k ascends lower within)) low
+      | inl lower ↦ front-low past (cell_at (row_at_place set.rows j).row) (cell_at (row_at_place set.rows k).row) set.key front (ap is_le (ascends-at (key_in set.key) set.rows j k ascends lower within)) low
       | inr same ↦ subst (λ (i : ℕ). stands_low set front past i ≡ true) (sym same) low
     ]
 
@@ -153,11 +153,11 @@ low-bounded true true Greater e = absurd (false≢true e)
 
 pub front-edge : (set : KeyedRows) (front : Key) (column : Place) (above : Bool) (edge : Place) → ((place : Place) → place < length set.rows → stands_low set front above place ≡ nat_lt place edge) → IsEdge set front column above None edge
 front-edge set front column above edge splits place within begins keeps =
-    sym (splits place within) ∙ ap (is_low above) (at-front (cell_at (row_at set.rows place).row) set.key front begins) ∙ low_equal above
+    sym (splits place within) ∙ ap (is_low above) (at-front (cell_at (row_at_place set.rows place).row) set.key front begins) ∙ low_equal above
 
 pub bounded-edge : (set : KeyedRows) (front values : Key) (column : Place) (above : Bool) (bound : Bound) (edge : Place) → slice_get set.key (length front) ≡ Some column → values ≡ front ++ bound.value.now ∷ []
     → ((place : Place) → place < length set.rows → stands_low set values (is_past above bound.strict) place ≡ nat_lt place edge) → IsEdge set front column above (Some bound) edge
 bounded-edge set front values column above bound edge next pushed splits place within begins keeps =
-    let cell = cell_at (row_at set.rows place).row in
+    let cell = cell_at (row_at_place set.rows place).row in
     sym (splits place within) ∙ ap (is_low (is_past above bound.strict)) (ap (front_cmp (map cell set.key)) pushed ∙ past-front cell set.key front column bound.value.now begins next)
     ∙ low-bounded above bound.strict (value_cmp (cell column) bound.value.now) keeps

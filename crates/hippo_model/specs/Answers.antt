@@ -13,7 +13,7 @@ use Rattle.hippo_model.specs.Terms.{History, ShownRow}
 use Rattle.hippo_model.specs.Verdicts.{Context}
 use Rattle.hippo_model.specs.Views.{view_at, unmasked_at}
 use Rattle.hippo_model.specs.Conditions.{truth, is_true}
-use Rattle.hippo_model.specs.Forms.{value_in, formed}
+use Rattle.hippo_model.specs.Forms.{value_in, rows_by_form}
 
 -- all combinations, one member of each list, the first list slowest
 abbrev pub product : {A : Type 0} → List (List A) → List (List A)
@@ -22,7 +22,8 @@ product (first ∷ rest) = flat_map (λ member. map (λ others. member ∷ other
 
 -- the cell of a column in a combination of rows
 abbrev pub cell_in : List ShownRow → Ref → Cell
-cell_in combination column = slice_index_or (slice_index_or combination column.table []) column.column (Denied 0)
+cell_in combination column =
+    slice_index_or (slice_index_or combination column.table []) column.column (Denied 0)
 
 abbrev pub operand_value : List ShownRow → Operand → Value
 operand_value combination (Column column) = value_in (cell_in combination column)
@@ -31,16 +32,18 @@ operand_value combination (Literal value) = value
 abbrev pub passes : CondOf Operand → List ShownRow → Bool
 passes condition combination = is_true (truth (operand_value combination) condition)
 
-abbrev pub selected : List Ref → List ShownRow → ShownRow
-selected items combination = map (cell_in combination) items
+abbrev pub selected_cells : List Ref → List ShownRow → ShownRow
+selected_cells items combination = map (cell_in combination) items
 
 -- the selected cells of the combinations whose condition is true; equal rows stay
 abbrev pub answer_of : List Ref → CondOf Operand → List (List ShownRow) → List ShownRow
-answer_of items condition combinations = map (selected items) (filter (passes condition) combinations)
+answer_of items condition combinations =
+    map (selected_cells items) (filter (passes condition) combinations)
 
 -- what a query answers over these combinations
 abbrev pub query_answer : Query → List (List ShownRow) → List ShownRow
-query_answer query combinations = formed query.form (answer_of query.items query.cond combinations)
+query_answer query combinations =
+    rows_by_form query.form (answer_of query.items query.cond combinations)
 
 -- the combinations of the rows of a query's tables, as they are seen
 abbrev pub seen_combinations : History → Context → Query → List (List ShownRow)

@@ -1,6 +1,7 @@
--- Which queries an audit flags, and by which shared tuple (after the indispensable tuples of Agrawal and others,
--- Auditing Compliance with a Hippocratic Database, VLDB 2004; that answers are compared as bags, that a query is judged
--- over its view and the audit over unmasked rows, and SHOWN are this project's own).
+-- Which queries an audit flags, and by which shared tuple (after the indispensable tuples of
+-- Agrawal and others, Auditing Compliance with a Hippocratic Database, VLDB 2004; that answers are
+-- compared as bags, that a query is judged over its view and the audit over unmasked rows, and
+-- SHOWN are this project's own).
 use Rattle.std.specs.Prelude.{ℕ, ◌-◌, Bool, false, not, ◌&&◌, ◌||◌, int_le, List, [], map, filter, filter_map, find, take, drop, slice_index_or, Option, Some, None, is_some, option_and_then, if◌then◌else◌, bytes_eq}
 use Rattle.std.specs.List.{list_any, list_all, position_or_len}
 use Rattle.std.specs.Option.{option_map_or}
@@ -36,7 +37,8 @@ abbrev pub shared_rows : History → Name → List SharedRow
 shared_rows history table =
     let by_key : Schema → BornRow → SharedRow =
     λ schema kept. record { table = table; key = key_of schema.key kept.row } in
-    option_map_or (λ schema. map (by_key schema) (table_rows schema history)) (schema_at history table) []
+    option_map_or (λ schema. map (by_key schema) (table_rows schema history))
+    (schema_at history table) []
 
 -- a virtual tuple is a row of each common table; they stand in the order of the product
 abbrev pub virtual_tuples : History → List Name → List (List SharedRow)
@@ -45,28 +47,35 @@ virtual_tuples history tables = product (map (shared_rows history) tables)
 -- the key of a combination's row of one of its tables
 abbrev pub key_at : History → List Name → List ShownRow → Name → Key
 key_at history tables combination table =
-    let row = map value_in (slice_index_or combination (position_or_len (bytes_eq table) tables) []) in
+    let row =
+    map value_in (slice_index_or combination (position_or_len (bytes_eq table) tables) []) in
     option_map_or (λ schema. key_of schema.key row) (schema_at history table) []
 
 -- whether a combination's rows of the common tables have exactly the keys of a virtual tuple
 abbrev pub has_tuple : History → List Name → List SharedRow → List ShownRow → Bool
 has_tuple history tables tuple combination =
-    list_all (λ shared. same_cells (key_at history tables combination shared.table) shared.key) tuple
+    list_all (λ shared. same_cells (key_at history tables combination shared.table) shared.key)
+    tuple
 
 -- whether an answer is another bag when the combinations that pass the test are taken out
-abbrev pub needs : (List (List ShownRow) → List ShownRow) → (List ShownRow → Bool) → List (List ShownRow) → Bool
+abbrev pub needs : (List (List ShownRow) → List ShownRow) → (List ShownRow → Bool)
+    → List (List ShownRow) → Bool
 needs answered is_out combinations =
-    not (same_bag (answered (filter (λ combination. not (is_out combination)) combinations)) (answered combinations))
+    not (same_bag (answered (filter (λ combination. not (is_out combination)) combinations))
+    (answered combinations))
 
--- a query needs a virtual tuple where its answer without it is another bag; it is judged over its view
+-- a query needs a virtual tuple where its answer without it is another bag; it is judged over its
+-- view
 abbrev pub query_needs : History → Context → Query → List SharedRow → Bool
 query_needs history context query tuple =
-    needs (query_answer query) (has_tuple history query.tables tuple) (seen_combinations history context query)
+    needs (query_answer query) (has_tuple history query.tables tuple)
+    (seen_combinations history context query)
 
 -- an audit expression needs it where its answer without it, over unmasked rows, is another bag
 abbrev pub audit_needs : History → Audit → List SharedRow → Bool
 audit_needs history audit tuple =
-    needs (audit_answer audit) (has_tuple history audit.tables tuple) (unmasked_combinations history audit)
+    needs (audit_answer audit) (has_tuple history audit.tables tuple)
+    (unmasked_combinations history audit)
 
 -- the row that a virtual tuple names in a table
 abbrev pub row_named : History → List SharedRow → Schema → Option BornRow
@@ -77,11 +86,13 @@ row_named history tuple schema =
 -- whether the verdict on a column's cell, of the row that a virtual tuple names, is Shown
 abbrev pub is_seen : History → Context → List Name → List SharedRow → Ref → Bool
 is_seen history context tables tuple column =
-    let sees : Schema → BornRow → Bool = λ schema kept. is_shown (verdict history context schema kept column.column) in
+    let sees : Schema → BornRow → Bool =
+    λ schema kept. is_shown (verdict history context schema kept column.column) in
     option_map_or (λ schema. option_map_or (sees schema) (row_named history tuple schema) false)
     (schema_at history (slice_index_or tables column.table [])) false
 
--- a virtual tuple serves where both need it and, if the audit asks for cells that were shown, each audited one was
+-- a virtual tuple serves where both need it and, if the audit asks for cells that were shown, each
+-- audited one was
 abbrev pub serves : History → Context → Query → Audit → List SharedRow → Bool
 serves history context query audit tuple =
     query_needs history context query tuple && audit_needs history audit tuple
@@ -93,19 +104,22 @@ in_period audit moment = int_le audit.from moment && int_le moment audit.to
 
 abbrev pub is_exempt : Audit → Name → Name → Bool
 is_exempt audit purpose recipient =
-    list_any (λ pair. bytes_eq pair.purpose purpose && bytes_eq pair.recipient recipient) audit.exempt
+    list_any (λ pair. bytes_eq pair.purpose purpose && bytes_eq pair.recipient recipient)
+    audit.exempt
 
 -- whether a query is in the period, not exempt, and names every audited column
 abbrev pub is_candidate : Context → Query → Audit → Bool
 is_candidate context query audit =
-    in_period audit context.moment && not (is_exempt audit context.purpose context.recipient) && names_all query audit
+    in_period audit context.moment && not (is_exempt audit context.purpose context.recipient)
+    && names_all query audit
 
 -- the first virtual tuple that serves
 abbrev pub first_serving : History → Context → Query → Audit → Option (List SharedRow)
 first_serving history context query audit =
     find (serves history context query audit) (virtual_tuples history (common query audit))
 
--- the shared tuple of a query and an audit: the first virtual tuple that serves, where the query is a candidate
+-- the shared tuple of a query and an audit: the first virtual tuple that serves, where the query is
+-- a candidate
 abbrev pub shared_by : History → Context → Query → Audit → Option (List SharedRow)
 shared_by history context query audit =
     if is_candidate context query audit then first_serving history context query audit else None
@@ -117,12 +131,13 @@ shared_in meaning history audit moment (Asked user purpose recipient text) =
 shared_in meaning history audit moment act = None
 
 -- the shared tuple of an entry and an audit, as of the entry's own time
-abbrev pub shared : Meaning → History → Audit → Entry → Option (List SharedRow)
-shared meaning history audit entry = shared_in meaning (before_entry entry history) audit entry.moment entry.act
+abbrev pub shared_tuple : Meaning → History → Audit → Entry → Option (List SharedRow)
+shared_tuple meaning history audit entry =
+    shared_in meaning (before_entry entry history) audit entry.moment entry.act
 
 -- an entry is flagged where it has a shared tuple
-abbrev pub flagged : Meaning → History → Audit → Entry → Bool
-flagged meaning history audit entry = is_some (shared meaning history audit entry)
+abbrev pub is_flagged : Meaning → History → Audit → Entry → Bool
+is_flagged meaning history audit entry = is_some (shared_tuple meaning history audit entry)
 
 -- an entry as a flag, where an audit flags it
 abbrev pub flag_by : Entry → Act → List SharedRow → Option Flag
@@ -138,7 +153,7 @@ flag_by entry act tuple = None
 
 abbrev pub flag_of : Meaning → History → Audit → Entry → Option Flag
 flag_of meaning history audit entry =
-    option_and_then (flag_by entry entry.act) (shared meaning history audit entry)
+    option_and_then (flag_by entry entry.act) (shared_tuple meaning history audit entry)
 
 -- the flags of the entries above a number, up to another
 abbrev pub flags_between : Meaning → History → Audit → ℕ → ℕ → List Flag

@@ -22,4 +22,5 @@ occurrences row rows = count_by (same_row row) rows
 
 -- each row stands as often in the one list as in the other
 abbrev pub same_bag : List ShownRow → List ShownRow → Bool
-same_bag left right = list_all (λ row. occurrences row left == occurrences row right) (left ++ right)
+same_bag left right =
+    list_all (λ row. occurrences row left == occurrences row right) (left ++ right)

@@ -32,9 +32,10 @@ condition_columns condition = fold-CondOf Operand (List Ref) columns_layer condi
 abbrev pub named_column : List Name → Ref → Name × Place
 named_column tables column = (slice_index_or tables column.table [], column.column)
 
--- the columns that stand anywhere in a query: in its items, as an argument, in GROUP BY, in ON or in WHERE
-abbrev pub named : Query → List (Name × Place)
-named query = map (named_column query.tables) (query.items ++ condition_columns query.cond)
+-- the columns that stand anywhere in a query: in its items, as an argument, in GROUP BY, in ON or
+-- in WHERE
+abbrev pub query_columns : Query → List (Name × Place)
+query_columns query = map (named_column query.tables) (query.items ++ condition_columns query.cond)
 
 abbrev pub same_column : Name × Place → Name × Place → Bool
 same_column a b = bytes_eq a.0 b.0 && a.1 == b.1
@@ -42,4 +43,5 @@ same_column a b = bytes_eq a.0 b.0 && a.1 == b.1
 -- whether a query names every audited column
 abbrev pub names_all : Query → Audit → Bool
 names_all query audit =
-    list_all (λ column. list_any (same_column (named_column audit.tables column)) (named query)) audit.columns
+    list_all (λ column. list_any (same_column (named_column audit.tables column))
+    (query_columns query)) audit.columns

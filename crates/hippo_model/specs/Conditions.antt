@@ -29,8 +29,10 @@ truth_layer value (Any parts) = greatest parts
 truth_layer value (Not part) = truth_not part
 truth_layer value (Compare op left right) = comparison op (value left) (value right)
 truth_layer value (Between operand low high) =
-    truth_and (comparison Ge (value operand) (value low)) (comparison Le (value operand) (value high))
-truth_layer value (Among operand list) = greatest (map (λ member. comparison Eq (value operand) (value member)) list)
+    truth_and (comparison Ge (value operand) (value low))
+    (comparison Le (value operand) (value high))
+truth_layer value (Among operand list) =
+    greatest (map (λ member. comparison Eq (value operand) (value member)) list)
 truth_layer value (Missing operand) = truth_of (is_null (value operand))
 
 -- the truth of a condition, where each operand has a value
@@ -48,13 +50,15 @@ changed_layer change (All parts) = conditions.All parts
 changed_layer change (Any parts) = conditions.Any parts
 changed_layer change (Not part) = conditions.Not part
 changed_layer change (Compare op left right) = conditions.Compare op (change left) (change right)
-changed_layer change (Between operand low high) = conditions.Between (change operand) (change low) (change high)
+changed_layer change (Between operand low high) =
+    conditions.Between (change operand) (change low) (change high)
 changed_layer change (Among operand list) = conditions.Among (change operand) (map change list)
 changed_layer change (Missing operand) = conditions.Missing (change operand)
 
 -- a condition with its operands changed
 abbrev pub changed_operands : {O P : Type 0} → (O → P) → CondOf O → CondOf P
-changed_operands {O} {P} change condition = fold-CondOf O (CondOf P) (changed_layer change) condition
+changed_operands {O} {P} change condition =
+    fold-CondOf O (CondOf P) (changed_layer change) condition
 
 -- the parts of a condition's outermost All; a condition that is no All is its own one part
 abbrev pub outer_parts : {O : Type 0} → CondOf O → List (CondOf O)

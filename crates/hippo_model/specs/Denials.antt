@@ -17,9 +17,10 @@ use Rattle.hippo_model.specs.Terms.{History, Row, Key, Place, Meaning}
 use Rattle.hippo_model.specs.Histories.{before_entry, schema_at}
 use Rattle.hippo_model.specs.Rows.{key_of, table_rows}
 use Rattle.hippo_model.specs.Verdicts.{Context, verdict}
-use Rattle.hippo_model.specs.Columns.{named, same_column}
+use Rattle.hippo_model.specs.Columns.{query_columns, same_column}
 
--- a denied cell: its table, its row's key, its column's name, and the number of the rule that denies it
+-- a denied cell: its table, its row's key, its column's name, and the number of the rule that
+-- denies it
 pub record Denial : Type 0 where
   pub table : Name
   pub key : Key
@@ -34,14 +35,17 @@ denial_by schema row column (Denied rule) =
 -- a column of the key, or one that the query names
 abbrev pub is_listed : Query → Schema → Place → Bool
 is_listed query schema place =
-    list_any (nat_eq place) schema.key || list_any (same_column (schema.name, place)) (named query)
+    list_any (nat_eq place) schema.key || list_any (same_column (schema.name, place))
+    (query_columns query)
 
 -- the denied cells of a row that are listed, in the schema's order
 abbrev pub row_denials : History → Context → Query → Schema → BornRow → List Denial
 row_denials history context query schema kept =
     let denial : Place → Column → Option Denial =
-    λ place column. denial_by schema kept.row column.name (verdict history context schema kept place) in
-    filter_map (λ (place, column). if is_listed query schema place then denial place column else None)
+    λ place column. denial_by schema kept.row column.name
+    (verdict history context schema kept place) in
+    filter_map (λ (place, column). if is_listed query schema place then denial place column
+    else None)
     (enumerate_from 0 schema.columns)
 
 -- those of a table's rows, in the order of their keys
@@ -52,7 +56,8 @@ table_denials history context query schema =
 -- those of a query's tables, in the order of FROM
 abbrev pub query_denials : History → Context → Query → List Denial
 query_denials history context query =
-    flat_map (λ table. option_map_or (table_denials history context query) (schema_at history table) []) query.tables
+    flat_map (λ table. option_map_or (table_denials history context query) (schema_at history table)
+    []) query.tables
 
 -- those of an act that asks, where the entries before it stand
 abbrev pub denials_in : Meaning → History → Moment → Act → List Denial
@@ -63,4 +68,5 @@ denials_in meaning history moment act = []
 
 -- the cells that were denied to an entry, at its own time
 abbrev pub denials : Meaning → History → Entry → List Denial
-denials meaning history entry = denials_in meaning (before_entry entry history) entry.moment entry.act
+denials meaning history entry =
+    denials_in meaning (before_entry entry history) entry.moment entry.act

@@ -20,9 +20,10 @@ value_in (Shown value) = value
 value_in (Denied rule) = Null
 
 -- the different rows, each at its first place
-abbrev pub different : List ShownRow → List ShownRow
-different [] = []
-different (first ∷ rest) = first ∷ filter (λ row. not (same_row first row)) (different rest)
+abbrev pub different_rows : List ShownRow → List ShownRow
+different_rows [] = []
+different_rows (first ∷ rest) =
+    first ∷ filter (λ row. not (same_row first row)) (different_rows rest)
 
 -- the lesser of two values; a null yields to the other
 abbrev pub lesser : Value → Value → Value
@@ -49,19 +50,21 @@ members rows key keys = filter (λ row. same_row key (take keys row)) rows
 abbrev pub values_in : Place → List ShownRow → List Value
 values_in place rows = map (λ row. value_in (slice_index_or row place (Denied 0))) rows
 
--- a cell of a group's row: one of the cells that all of its members share, or the least or greatest of their values
+-- a cell of a group's row: one of the cells that all of its members share, or the least or greatest
+-- of their values
 abbrev pub group_cell : ShownRow → List ShownRow → Out → Cell
 group_cell key rows (Column place) = slice_index_or key place (Denied 0)
 group_cell key rows (Min place) = Shown (least_value (values_in place rows))
 group_cell key rows (Max place) = Shown (greatest_value (values_in place rows))
 
 -- one row for each different list of the first cells, at the place of its first
-abbrev pub grouped : Shape → List ShownRow → List ShownRow
-grouped shape rows =
-    map (λ key. map (group_cell key (members rows key shape.keys)) shape.outs) (different (map (take shape.keys) rows))
+abbrev pub grouped_rows : Shape → List ShownRow → List ShownRow
+grouped_rows shape rows =
+    map (λ key. map (group_cell key (members rows key shape.keys)) shape.outs)
+    (different_rows (map (take shape.keys) rows))
 
 -- the rows of an answer by its form
-abbrev pub formed : Form → List ShownRow → List ShownRow
-formed Plain rows = rows
-formed Distinct rows = different rows
-formed (Grouped shape) rows = grouped shape rows
+abbrev pub rows_by_form : Form → List ShownRow → List ShownRow
+rows_by_form Plain rows = rows
+rows_by_form Distinct rows = different_rows rows
+rows_by_form (Grouped shape) rows = grouped_rows shape rows

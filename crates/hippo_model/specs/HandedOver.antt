@@ -20,17 +20,21 @@ is_question act = false
 abbrev pub question_fits : Meaning → History → Act → Bool
 question_fits meaning history act = is_question act && is_acceptable meaning history act
 
--- whether an entry may be handed over where a table's versions above a number are asked for, after these versions
-abbrev pub version_was_asked : Schema → ℕ → History → Entry → Bool
-version_was_asked schema after earlier entry = nat_lt after entry.seq && version_fits schema earlier entry.act
+-- whether an entry may be handed over where a table's versions above a number are asked for, after
+-- these versions
+abbrev pub is_sought_version : Schema → ℕ → History → Entry → Bool
+is_sought_version schema after earlier entry =
+    nat_lt after entry.seq && version_fits schema earlier entry.act
 
--- whether an entry may be handed over where the questions of a period above a number are asked for, after these entries
-abbrev pub question_was_asked : Meaning → Moment → Moment → ℕ → History → Entry → Bool
-question_was_asked meaning from to after history entry =
+-- whether an entry may be handed over where the questions of a period above a number are asked for,
+-- after these entries
+abbrev pub is_sought_question : Meaning → Moment → Moment → ℕ → History → Entry → Bool
+is_sought_question meaning from to after history entry =
     nat_lt after entry.seq && int_le from entry.moment && int_le entry.moment to
     && question_fits meaning history entry.act
 
--- a stored entry fits what was asked where it is the stored form of an entry that does; any other one is unfit
+-- a stored entry fits what was asked where it is the stored form of an entry that does; any other
+-- one is unfit
 pub record IsFit (was_asked : Entry → Bool) (kept : StoredEntry) : Type 0 where
   pub entry : Entry
   pub form : stored entry ≡ kept

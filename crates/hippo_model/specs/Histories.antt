@@ -1,5 +1,6 @@
--- A history is a list of entries; the state of entry number n is what the first n - 1 of them make. Every definition
--- takes the entries that stand, and looks for the last one that speaks of what is asked.
+-- A history is a list of entries; the state of entry number n is what the first n - 1 of them make.
+-- Every definition takes the entries that stand, and looks for the last one that speaks of what is
+-- asked.
 use Rattle.std.specs.Prelude.{[], ◌∷◌, ◌-◌, take, Option, None, bytes_eq}
 use Rattle.std.specs.Bool.{then_some}
 use Rattle.std.specs.Option.{option_or}
@@ -20,13 +21,13 @@ abbrev pub last_word : {A : Type 0} → (Entry → Option A) → History → Opt
 last_word word [] = None
 last_word word (entry ∷ later) = option_or (last_word word later) (word entry)
 
-abbrev pub created : Name → Act → Option Schema
-created table (Create schema) = then_some (bytes_eq schema.name table) schema
-created table act = None
+abbrev pub schema_created : Name → Act → Option Schema
+schema_created table (Create schema) = then_some (bytes_eq schema.name table) schema
+schema_created table act = None
 
 -- the schema of a table, where it is created
 abbrev pub schema_at : History → Name → Option Schema
-schema_at history table = last_word (λ entry. created table entry.act) history
+schema_at history table = last_word (λ entry. schema_created table entry.act) history
 
 abbrev pub item_created : Name → Act → Option ItemKind
 item_created item (Item name kind) = then_some (bytes_eq name item) kind

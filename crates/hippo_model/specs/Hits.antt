@@ -17,7 +17,8 @@ use Rattle.hippo_model.specs.Columns.{condition_columns}
 -- the parts of an audit's condition whose columns all belong to one of its tables
 abbrev pub own_conditions : Audit → Place → List (CondOf Operand)
 own_conditions audit table =
-    filter (λ part. list_all (λ column. column.table == table) (condition_columns part)) (outer_parts audit.cond)
+    filter (λ part. list_all (λ column. column.table == table) (condition_columns part))
+    (outer_parts audit.cond)
 
 abbrev pub value_in_row : Row → Operand → Value
 value_in_row row (Column column) = cell_at row column.column
@@ -25,10 +26,12 @@ value_in_row row (Literal value) = value
 
 -- whether these conditions are all true of a row
 abbrev pub is_hit : List (CondOf Operand) → BornRow → Bool
-is_hit conditions kept = list_all (λ condition. is_true (truth (value_in_row kept.row) condition)) conditions
+is_hit conditions kept =
+    list_all (λ condition. is_true (truth (value_in_row kept.row) condition)) conditions
 
 -- the number of rows of one of an audit's tables that its own conditions find
 abbrev pub hits : History → Audit → Place → ℕ
 hits history audit table =
-    option_map_or (λ schema. length (filter (is_hit (own_conditions audit table)) (table_rows schema history)))
+    option_map_or (λ schema. length (filter (is_hit (own_conditions audit table))
+    (table_rows schema history)))
     (schema_at history (slice_index_or audit.tables table [])) 0

@@ -1,12 +1,12 @@
--- Which entries can be kept: those whose parts have room in the stored form, as the types of numbers, days and names
--- say and the counts of the stored form allow.
+-- Which entries can be kept: those whose parts have room in the stored form, as the types of
+-- numbers, days and names say and the counts of the stored form allow.
 use Rattle.std.specs.Prelude.{ℕ, Bool, true, ◌&&◌, List, Option, length, nat_lt, nat_le, bytes_eq}
 use Rattle.std.specs.List.{list_all}
 use Rattle.std.specs.Option.{option_map_or}
 use Rattle.std.specs.Str.{is_utf8}
 use Rattle.hippo_values.specs.Limits.{text_limit, line_limit, column_limit}
 use Rattle.hippo_values.specs.Moments.{is_day, is_moment, is_signed_number}
-use Rattle.hippo_values.specs.Names.{is_name, folded}
+use Rattle.hippo_values.specs.Names.{is_name, lower_case}
 use Rattle.hippo_values.specs.declared.names.Name.{Name}
 use Rattle.hippo_values.specs.Texts.{Txt}
 use Rattle.hippo_values.specs.declared.values.Value.{Value}
@@ -20,7 +20,7 @@ use Rattle.hippo_model.specs.Terms.{Row, Place}
 
 -- a name in lower case
 abbrev pub is_folded_name : Name → Bool
-is_folded_name name = is_name name && bytes_eq (folded name) name
+is_folded_name name = is_name name && bytes_eq (lower_case name) name
 
 -- UTF-8 of at most so many bytes
 abbrev pub is_text : ℕ → Txt → Bool
@@ -50,7 +50,8 @@ abbrev pub places_are_keepable : List Place → Bool
 places_are_keepable places = has_count places && list_all is_place places
 
 abbrev pub columns_are_keepable : List Column → Bool
-columns_are_keepable columns = is_short columns && list_all (λ column. is_folded_name column.name) columns
+columns_are_keepable columns =
+    is_short columns && list_all (λ column. is_folded_name column.name) columns
 
 abbrev pub key_is_keepable : List Place → Bool
 key_is_keepable key = is_short key && list_all is_place key
@@ -76,7 +77,8 @@ question_is_keepable text = nat_le 1 (length text) && is_text line_limit text
 
 abbrev pub rule_is_keepable : Name → Name → Name → List Place → Bool
 rule_is_keepable purpose recipient table columns =
-    is_folded_name purpose && is_folded_name recipient && is_folded_name table && places_are_keepable columns
+    is_folded_name purpose && is_folded_name recipient && is_folded_name table
+    && places_are_keepable columns
 
 abbrev pub act_is_keepable : Act → Bool
 act_is_keepable (Create schema) = schema_is_keepable schema
@@ -91,12 +93,16 @@ act_is_keepable (Authorize user purpose recipient) =
 act_is_keepable (Deauthorize user purpose recipient) =
     is_folded_name user && is_folded_name purpose && is_folded_name recipient
 act_is_keepable (Allow purpose recipient table columns item days) =
-    rule_is_keepable purpose recipient table columns && item_is_keepable item && days_are_keepable days
-act_is_keepable (Revoke purpose recipient table columns) = rule_is_keepable purpose recipient table columns
+    rule_is_keepable purpose recipient table columns && item_is_keepable item
+    && days_are_keepable days
+act_is_keepable (Revoke purpose recipient table columns) =
+    rule_is_keepable purpose recipient table columns
 act_is_keepable (Choice subject item agreed) = is_signed_number subject && is_folded_name item
 act_is_keepable (Asked user purpose recipient text) =
-    is_folded_name user && is_folded_name purpose && is_folded_name recipient && question_is_keepable text
+    is_folded_name user && is_folded_name purpose && is_folded_name recipient
+    && question_is_keepable text
 
 -- whether an entry has a stored form
 abbrev pub is_keepable : Entry → Bool
-is_keepable entry = nat_lt entry.seq 18446744073709551616 && is_moment entry.moment && act_is_keepable entry.act
+is_keepable entry =
+    nat_lt entry.seq 18446744073709551616 && is_moment entry.moment && act_is_keepable entry.act

@@ -1,4 +1,5 @@
--- What a query with the policy's rules written into it answers, over unmasked rows and their births.
+-- What a query with the policy's rules written into it answers, over unmasked rows and their
+-- births.
 use Rattle.std.specs.Prelude.{ℕ, ℤ, int_le, Bool, true, false, not, ◌&&◌, List, map, filter, slice_get, Option, if◌then◌else◌}
 use Rattle.std.specs.List.{list_all}
 use Rattle.std.specs.Option.{option_map_or}
@@ -27,7 +28,8 @@ Choices = ℤ → Name → Option Bool
 -- the value in a column of a combination of rows
 abbrev pub raw_value : Combination → Ref → Value
 raw_value combination column =
-    option_map_or (λ kept. cell_at kept.row column.column) (slice_get combination column.table) NullValue
+    option_map_or (λ kept. cell_at kept.row column.column) (slice_get combination column.table)
+    NullValue
 
 -- whether the row of a column was born later than a second
 abbrev pub is_younger : Combination → Ref → ℤ → Bool
@@ -37,7 +39,8 @@ is_younger combination column after =
 -- whether the patient with a number agrees to an item, by the choices; nobody is no patient
 abbrev pub agrees_by : Choices → Option ℤ → Name → Bool → Bool
 agrees_by choices subject item opt_in =
-    option_map_or (λ number. agrees (if opt_in then OptIn else OptOut) (choices number item)) subject false
+    option_map_or (λ number. agrees (if opt_in then OptIn else OptOut) (choices number item))
+    subject false
 
 abbrev pub shown_if : Bool → Value → ℕ → Cell
 shown_if test value rule = if test then Shown value else Denied rule
@@ -46,10 +49,12 @@ shown_if test value rule = if test then Shown value else Denied rule
 abbrev pub masked_cell : Choices → Combination → Expr → Cell
 masked_cell choices rows (Keep column) = Shown (raw_value rows column)
 masked_cell choices rows (Null rule) = Denied rule
-masked_cell choices rows (Aged column rule after) = shown_if (is_younger rows column after) (raw_value rows column) rule
+masked_cell choices rows (Aged column rule after) =
+    shown_if (is_younger rows column after) (raw_value rows column) rule
 masked_cell choices rows (Case column subject item rule opt_in after) =
     let agreed = agrees_by choices (number_in (raw_value rows subject)) item opt_in in
-    shown_if (option_map_or (is_younger rows column) after true && agreed) (raw_value rows column) rule
+    shown_if (option_map_or (is_younger rows column) after true && agreed) (raw_value rows column)
+    rule
 masked_cell choices rows (Literal value) = Shown value
 
 abbrev pub is_shown_cell : Cell → Bool
@@ -58,11 +63,13 @@ is_shown_cell (Denied rule) = false
 
 -- whether each guard of a combination is shown
 abbrev pub is_guarded : Choices → Masked → Combination → Bool
-is_guarded choices query rows = list_all (λ guard. is_shown_cell (masked_cell choices rows guard.expr)) query.guards
+is_guarded choices query rows =
+    list_all (λ guard. is_shown_cell (masked_cell choices rows guard.expr)) query.guards
 
 -- whether the condition is true of a combination
 abbrev pub masked_passes : Choices → Masked → Combination → Bool
-masked_passes choices query rows = is_true (truth (λ expr. value_in (masked_cell choices rows expr)) query.cond)
+masked_passes choices query rows =
+    is_true (truth (λ expr. value_in (masked_cell choices rows expr)) query.cond)
 
 -- the items of a combination
 abbrev pub masked_items : Choices → Masked → Combination → ShownRow
@@ -72,4 +79,5 @@ masked_items choices query rows = map (masked_cell choices rows) query.items
 abbrev pub masked_answer : Choices → Masked → List (List BornRow) → List ShownRow
 masked_answer choices query tables =
     map (masked_items choices query)
-    (filter (λ rows. is_guarded choices query rows && masked_passes choices query rows) (product tables))
+    (filter (λ rows. is_guarded choices query rows && masked_passes choices query rows)
+    (product tables))

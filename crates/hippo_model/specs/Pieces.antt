@@ -11,12 +11,12 @@ abbrev pub contents : {A : Type 0} → List (Piece A) → List (List A)
 contents pieces = map (λ piece. piece.members.items) pieces
 
 -- what stands in the pieces, one behind the other
-abbrev pub joined : {A : Type 0} → List (List A) → List A
-joined contents = flat_map (λ members. members) contents
+abbrev pub all_members : {A : Type 0} → List (List A) → List A
+all_members contents = flat_map (λ members. members) contents
 
 -- how many members stand before a piece
 abbrev pub start_of : {A : Type 0} → List (List A) → ℕ → ℕ
-start_of contents index = length (joined (take index contents))
+start_of contents index = length (all_members (take index contents))
 
 -- how many there are up to the end of each piece
 abbrev pub ends_of : {A : Type 0} → ℕ → List (List A) → List ℕ
@@ -35,17 +35,17 @@ AreFull (members ∷ rest) = (0 < length members) × AreFull rest
 pub record IsWhole {A : Type 0} (pieces : List (Piece A)) (count : ℕ) : Type 0 where
   pub marked : IsMarked pieces
   pub full : AreFull (contents pieces)
-  pub counted : count ≡ length (joined (contents pieces))
+  pub counted : count ≡ length (all_members (contents pieces))
 
 -- a piece holds the member at a place, if there is one, and so many stand before it
 pub record IsReached {A : Type 0} (contents : List (List A)) (place index start : ℕ) : Type 0 where
   pub begins : start ≡ start_of contents index
   pub low : start ≤ place
-  pub reached : place < length (joined contents)
+  pub reached : place < length (all_members contents)
       → (index < length contents) × (place < start + length (slice_index_or contents index []))
 
 -- a piece is cut in two
-pub record IsCut {A : Type 0} (old lower upper : Piece A) : Type 0 where
+pub record IsCutInTwo {A : Type 0} (old lower upper : Piece A) : Type 0 where
   pub members : lower.members.items ++ upper.members.items ≡ old.members.items
   pub full : (0 < length lower.members.items) × (0 < length upper.members.items)
   pub ends : (lower.end + length upper.members.items ≡ old.end) × (upper.end ≡ old.end)

@@ -1,4 +1,5 @@
--- A table's rows as they are kept: in the order of their keys, each with the moment at which it was born.
+-- A table's rows as they are kept: in the order of their keys, each with the moment at which it was
+-- born.
 use Rattle.std.specs.Prelude.{◌≡◌, ◌≤◌, List, [], ◌∷◌, length, Option, None, Some, if◌then◌else◌, find, position, slice_get, unwrap_or}
 use Rattle.std.specs.Option.{IsSome}
 use Rattle.std.specs.List.{insert}
@@ -69,12 +70,12 @@ abbrev pub blank : BornRow
 blank = record { row = []; born = first_moment }
 
 -- the row at a place; a blank one where there is none
-abbrev pub row_at : List BornRow → Place → BornRow
-row_at rows place = unwrap_or (slice_get rows place) blank
+abbrev pub row_at_place : List BornRow → Place → BornRow
+row_at_place rows place = unwrap_or (slice_get rows place) blank
 
 -- the value in a column of the row at a place; null where there is none
-abbrev pub value_at : KeyedRows → Place → Place → Value
-value_at set column place = cell_at (row_at set.rows place).row column
+abbrev pub value_at_place : KeyedRows → Place → Place → Value
+value_at_place set column place = cell_at (row_at_place set.rows place).row column
 
 -- no row of a set has a row's key, and once it is put in, the row stands at a place
 pub record IsFree (set : KeyedRows) (row : Row) (place : Place) : Type 0 where
@@ -83,7 +84,8 @@ pub record IsFree (set : KeyedRows) (row : Row) (place : Place) : Type 0 where
   pub put : (born : Moment) → put_row set.key (record { row = row; born = born }) set.rows
       ≡ insert set.rows place (record { row = row; born = born })
   pub found : (born : Moment)
-      → find_row set.key (key_of set.key row) (put_row set.key (record { row = row; born = born }) set.rows)
+      → find_row set.key (key_of set.key row)
+      (put_row set.key (record { row = row; born = born }) set.rows)
       ≡ Some place
 
 -- what an insert comes to: nothing where a row has the key, else the row stands at a place

@@ -1,5 +1,5 @@
--- Which rows a table has (the backlog tables of Agrawal and others, Auditing Compliance with a Hippocratic Database,
--- VLDB 2004).
+-- Which rows a table has (the backlog tables of Agrawal and others, Auditing Compliance with a
+-- Hippocratic Database, VLDB 2004).
 use Rattle.std.specs.Prelude.{ℕ, Bool, true, false, ◌&&◌, List, [], ◌∷◌, map, filter_map, Option, Some, None, unwrap_or, option_map, option_and_then, slice_index_or, bytes_eq}
 use Rattle.std.specs.Bool.{then_some}
 use Rattle.std.specs.Option.{option_map_or}
@@ -33,7 +33,8 @@ key_named schema (Delete table key) = then_some (bytes_eq table schema.name) key
 key_named schema act = None
 
 abbrev pub names_key : Schema → Key → Act → Bool
-names_key schema key act = option_map_or (λ named. same_cells named key) (key_named schema act) false
+names_key schema key act =
+    option_map_or (λ named. same_cells named key) (key_named schema act) false
 
 -- the row that a change leaves: its own, or none where it deletes
 abbrev pub row_left : Act → Option Row
@@ -49,7 +50,8 @@ row_at schema history key =
 
 -- the number of the last change that names the key
 abbrev pub last_at : Schema → History → Key → Option ℕ
-last_at schema history key = last_word (λ entry. then_some (names_key schema key entry.act) entry.seq) history
+last_at schema history key =
+    last_word (λ entry. then_some (names_key schema key entry.act) entry.seq) history
 
 abbrev pub is_insert : Act → Bool
 is_insert (Insert table row) = true
@@ -64,13 +66,15 @@ born_at schema history key =
 -- the row with a key, and the moment at which it was born
 abbrev pub born_row_at : Schema → History → Key → Option BornRow
 born_row_at schema history key =
-    option_map (λ row. record { row = row; born = born_at schema history key }) (row_at schema history key)
+    option_map (λ row. record { row = row; born = born_at schema history key })
+    (row_at schema history key)
 
 -- a key put in its place among others, once
 abbrev pub insert_key : Key → List Key → List Key
 insert_key key [] = key ∷ []
 insert_key key (first ∷ rest) =
-    match_ordering (cells_cmp key first) (key ∷ first ∷ rest) (first ∷ rest) (first ∷ insert_key key rest)
+    match_ordering (cells_cmp key first) (key ∷ first ∷ rest) (first ∷ rest)
+    (first ∷ insert_key key rest)
 
 abbrev pub with_key : Option Key → List Key → List Key
 with_key None keys = keys

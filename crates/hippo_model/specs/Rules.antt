@@ -11,8 +11,8 @@ use Rattle.hippo_model.specs.declared.policy.Authorization.TheVariants.{Yes, No}
 use Rattle.hippo_model.specs.Terms.{History, Place}
 use Rattle.hippo_model.specs.Histories.{last_word}
 
--- what entry number n says of a cell: it allows it, with an item or without, and for so many days or without end; or it
--- revokes it
+-- what entry number n says of a cell: it allows it, with an item or without, and for so many days
+-- or without end; or it revokes it
 pub data Rule : Type 0 where
   allowed : ℕ → Option Name → Option ℕ → Rule
   revoked : ℕ → Rule
@@ -37,10 +37,12 @@ rule_in cell number (Revoke purpose recipient table columns) =
     then_some (is_named_by cell purpose recipient table columns) (revoked number)
 rule_in cell number act = None
 
--- the rule of a cell is the last ALLOW or REVOKE that names its purpose, recipient, table and column
+-- the rule of a cell is the last ALLOW or REVOKE that names its purpose, recipient, table and
+-- column
 abbrev pub rule_at : History → Name → Name → Name → Place → Option Rule
 rule_at history purpose recipient table column =
-    let cell : RuledCell = record { purpose = purpose; recipient = recipient; table = table; column = column } in
+    let cell : RuledCell =
+    record { purpose = purpose; recipient = recipient; table = table; column = column } in
     last_word (λ entry. rule_in cell entry.seq entry.act) history
 
 abbrev pub choice_in : ℤ → Name → Act → Option Bool
@@ -58,7 +60,9 @@ authorization_in user purpose recipient number (Deauthorize u p r) =
     then_some (bytes_eq u user && bytes_eq p purpose && bytes_eq r recipient) (No number)
 authorization_in user purpose recipient number act = None
 
--- whether a user may ask for a purpose and recipient: as the last AUTHORIZE or DEAUTHORIZE of the three says
+-- whether a user may ask for a purpose and recipient: as the last AUTHORIZE or DEAUTHORIZE of the
+-- three says
 abbrev pub authorized_at : History → Name → Name → Name → Authorization
 authorized_at history user purpose recipient =
-    unwrap_or (last_word (λ entry. authorization_in user purpose recipient entry.seq entry.act) history) (No 0)
+    unwrap_or (last_word (λ entry. authorization_in user purpose recipient entry.seq entry.act)
+    history) (No 0)

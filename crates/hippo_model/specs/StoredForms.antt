@@ -1,6 +1,7 @@
--- How an entry is kept: its number, moment, kind and table, and a body of bytes, in format 1, or in format 2 where a
--- rule has a number of days. Numbers are big-endian, and those below 0 in two's complement; a name is its length in one
--- byte and its bytes, a long text its length in four bytes and its bytes, a list its count in one byte and its members.
+-- How an entry is kept: its number, moment, kind and table, and a body of bytes, in format 1, or in
+-- format 2 where a rule has a number of days. Numbers are big-endian, and those below 0 in two's
+-- complement; a name is its length in one byte and its bytes, a long text its length in four bytes
+-- and its bytes, a list its count in one byte and its members.
 use Rattle.std.specs.Prelude.{ℕ, ◌+◌, ℤ, List, [], ◌∷◌, ◌++◌, flat_map, length, Option, Some, None}
 use Rattle.std.specs.Int.{w32, w64, to_be_bytes, cast_unsigned, from_bool}
 use Rattle.hippo_values.specs.declared.names.Name.{Name}
@@ -52,7 +53,8 @@ column_kind TextColumn = 2
 column_kind Date = 3
 
 abbrev pub column_bytes : Column → List ℕ
-column_bytes column = name_bytes column.name ++ column_kind column.kind ∷ from_bool column.not_null ∷ []
+column_bytes column =
+    name_bytes column.name ++ column_kind column.kind ∷ from_bool column.not_null ∷ []
 
 -- 0 where a table has no subject, and else the subject's place, counted from 1
 abbrev pub subject_byte : Option ℕ → ℕ
@@ -61,8 +63,8 @@ subject_byte (Some place) = place + 1
 
 abbrev pub schema_bytes : Schema → List ℕ
 schema_bytes schema =
-    name_bytes schema.name ++ list_bytes column_bytes schema.columns ++ list_bytes place_bytes schema.key
-    ++ subject_byte schema.subject ∷ []
+    name_bytes schema.name ++ list_bytes column_bytes schema.columns
+    ++ list_bytes place_bytes schema.key ++ subject_byte schema.subject ∷ []
 
 abbrev pub item_kind : ItemKind → ℕ
 item_kind OptIn = 1
@@ -105,14 +107,17 @@ act_bytes (Delete table key) = name_bytes table ++ list_bytes value_bytes key
 act_bytes (Purpose name) = name_bytes name
 act_bytes (Recipient name) = name_bytes name
 act_bytes (Item name kind) = name_bytes name ++ item_kind kind ∷ []
-act_bytes (Authorize user purpose recipient) = name_bytes user ++ name_bytes purpose ++ name_bytes recipient
-act_bytes (Deauthorize user purpose recipient) = name_bytes user ++ name_bytes purpose ++ name_bytes recipient
+act_bytes (Authorize user purpose recipient) =
+    name_bytes user ++ name_bytes purpose ++ name_bytes recipient
+act_bytes (Deauthorize user purpose recipient) =
+    name_bytes user ++ name_bytes purpose ++ name_bytes recipient
 act_bytes (Allow purpose recipient table columns item days) =
-    name_bytes purpose ++ name_bytes recipient ++ name_bytes table ++ list_bytes place_bytes columns ++ item_bytes item
-    ++ days_bytes days
+    name_bytes purpose ++ name_bytes recipient ++ name_bytes table ++ list_bytes place_bytes columns
+    ++ item_bytes item ++ days_bytes days
 act_bytes (Revoke purpose recipient table columns) =
     name_bytes purpose ++ name_bytes recipient ++ name_bytes table ++ list_bytes place_bytes columns
-act_bytes (Choice subject item agreed) = signed_bytes subject ++ name_bytes item ++ from_bool agreed ∷ []
+act_bytes (Choice subject item agreed) =
+    signed_bytes subject ++ name_bytes item ++ from_bool agreed ∷ []
 act_bytes (Asked user purpose recipient text) =
     name_bytes user ++ name_bytes purpose ++ name_bytes recipient ++ text_bytes text
 

@@ -6,11 +6,13 @@ use Rattle.hippo_model.specs.StoredForms.{stored}
 use Rattle.hippo_model.specs.Validity.{is_valid}
 
 -- the stored entries are those of this history, and it is valid
-pub record IsStoreOf (meaning : Meaning) (store : List StoredEntry) (history : History) : Type 0 where
+pub record IsStoreOf (meaning : Meaning) (store : List StoredEntry) (history : History)
+    : Type 0 where
   pub forms : map stored history ≡ store
   pub valid : is_valid meaning history ≡ true
 
--- the place of damage, counted from 1, is the first one up to which the stored entries are those of no valid history
+-- the place of damage, counted from 1, is the first one up to which the stored entries are those of
+-- no valid history
 pub record IsDamagedAt (meaning : Meaning) (store : List StoredEntry) (place : ℕ) : Type 0 where
   pub front : History
   pub before : IsStoreOf meaning (take (place - 1) store) front

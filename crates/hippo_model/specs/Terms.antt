@@ -1,5 +1,5 @@
--- The types that definitions speak of. A name, a text and a moment are those of the code, which are seen as bytes and
--- seconds.
+-- The types that definitions speak of. A name, a text and a moment are those of the code, which are
+-- seen as bytes and seconds.
 use Rattle.std.specs.Prelude.{ℕ, List, Option}
 use Rattle.hippo_values.specs.Texts.{Txt}
 use Rattle.hippo_values.specs.declared.values.Value.{Value}

@@ -57,7 +57,8 @@ key_column_fits column = column.not_null
 abbrev pub subject_column_fits : Column → Bool
 subject_column_fits column = column.not_null && is_integer column.kind
 
--- column names differ; the key's places differ and the key's columns are NOT NULL; the subject is a NOT NULL INTEGER
+-- column names differ; the key's places differ and the key's columns are NOT NULL; the subject is a
+-- NOT NULL INTEGER
 abbrev pub is_well_formed : Schema → Bool
 is_well_formed schema =
     all_differ bytes_eq (map (λ column. column.name) schema.columns) && all_differ nat_eq schema.key
@@ -84,7 +85,8 @@ has_subject schema = is_some schema.subject
 -- an item exists, and the table has a subject
 abbrev pub item_fits : History → Name → Option Name → Bool
 item_fits history table None = true
-item_fits history table (Some item) = is_some (item_at history item) && table_passes history has_subject table
+item_fits history table (Some item) =
+    is_some (item_at history item) && table_passes history has_subject table
 
 -- 1 to 36,500 days, a hundred years
 abbrev pub days_fit : Option ℕ → Bool
@@ -102,11 +104,13 @@ rule_fits history purpose recipient table columns =
 -- fewer than 64 tables are created, none of this name, and the schema is well formed
 abbrev pub create_fits : History → Schema → Bool
 create_fits history schema =
-    nat_lt (count_by (λ entry. creates_table entry.act) history) table_limit && is_none (schema_at history schema.name)
+    nat_lt (count_by (λ entry. creates_table entry.act) history) table_limit
+    && is_none (schema_at history schema.name)
     && is_well_formed schema
 
 abbrev pub is_table_version : History → Name → Act → Bool
-is_table_version history table act = table_passes history (λ schema. version_fits schema history act) table
+is_table_version history table act =
+    table_passes history (λ schema. version_fits schema history act) table
 
 -- whether an act may follow the entries so far
 abbrev pub is_acceptable : Meaning → History → Act → Bool
@@ -117,10 +121,13 @@ is_acceptable meaning history (Delete table key) = is_table_version history tabl
 is_acceptable meaning history (Purpose name) = not (is_purpose history name)
 is_acceptable meaning history (Recipient name) = not (is_recipient history name)
 is_acceptable meaning history (Item name kind) = is_none (item_at history name)
-is_acceptable meaning history (Authorize user purpose recipient) = pair_exists history purpose recipient
-is_acceptable meaning history (Deauthorize user purpose recipient) = pair_exists history purpose recipient
+is_acceptable meaning history (Authorize user purpose recipient) =
+    pair_exists history purpose recipient
+is_acceptable meaning history (Deauthorize user purpose recipient) =
+    pair_exists history purpose recipient
 is_acceptable meaning history (Allow purpose recipient table columns item days) =
-    rule_fits history purpose recipient table columns && item_fits history table item && days_fit days
+    rule_fits history purpose recipient table columns && item_fits history table item
+    && days_fit days
 is_acceptable meaning history (Revoke purpose recipient table columns) =
     rule_fits history purpose recipient table columns
 is_acceptable meaning history (Choice subject item agreed) = is_some (item_at history item)
@@ -132,8 +139,8 @@ abbrev pub keeps_order : History → Moment → Bool
 keeps_order history moment =
     option_map_or (λ last. int_le last moment) (last_word (λ entry. Some entry.moment) history) true
 
--- whether an entry may follow those so far: it can be kept, has the next number and no earlier moment, and its act is
--- acceptable
+-- whether an entry may follow those so far: it can be kept, has the next number and no earlier
+-- moment, and its act is acceptable
 abbrev pub may_follow : Meaning → History → Entry → Bool
 may_follow meaning history entry =
     is_keepable entry && entry.seq == length history + 1 && keeps_order history entry.moment

@@ -13,7 +13,8 @@ has_kind TextColumn (Text text) = true
 has_kind Date (Day day) = true
 has_kind kind value = false
 
--- what may stand in a column: its kind, with texts that keep the text rule, and NULL unless it is NOT NULL
+-- what may stand in a column: its kind, with texts that keep the text rule, and NULL unless it is
+-- NOT NULL
 abbrev pub fits : Column → Value → Bool
 fits column Null = not column.not_null
 fits column (Text text) = has_kind column.kind (Text text) && keeps_text_rule text

@@ -1,6 +1,7 @@
--- Whether a cell is shown, or which rule denies it (LeFevre and others, Limiting Disclosure in Hippocratic Databases,
--- VLDB 2004; that a rule may end some days after a row's birth is this project's own form of limited retention, which
--- Agrawal and others, Hippocratic Databases, VLDB 2002, name among the principles).
+-- Whether a cell is shown, or which rule denies it (LeFevre and others, Limiting Disclosure in
+-- Hippocratic Databases, VLDB 2004; that a rule may end some days after a row's birth is this
+-- project's own form of limited retention, which Agrawal and others, Hippocratic Databases, VLDB
+-- 2002, name among the principles).
 use Rattle.std.specs.Prelude.{ℕ, ◌*◌, ℤ, pos, ◌-ℤ◌, int_le, Bool, true, false, not, ◌||◌, Option, Some, None, if◌then◌else◌, unwrap_or, option_and_then}
 use Rattle.std.specs.Option.{option_map_or}
 use Rattle.hippo_values.specs.Moments.{day_seconds}
@@ -43,7 +44,8 @@ abbrev pub consents : History → Option ℤ → Option Name → Bool
 consents history subject None = true
 consents history None (Some item) = false
 consents history (Some subject) (Some item) =
-    option_map_or (λ kind. agrees kind (choice_at history subject item)) (item_at history item) false
+    option_map_or (λ kind. agrees kind (choice_at history subject item)) (item_at history item)
+    false
 
 -- so many days in seconds
 abbrev pub days_long : ℕ → ℤ

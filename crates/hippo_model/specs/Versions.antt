@@ -28,13 +28,15 @@ key_fits schema key = pointwise fits (filter_map (slice_get schema.columns) sche
 abbrev pub is_live : Schema → History → Key → Bool
 is_live schema history key = is_some (row_at schema history key)
 
--- whether a version of a table's rows may follow the entries so far: it inserts a key that is not live, or updates or
--- deletes one that is
+-- whether a version of a table's rows may follow the entries so far: it inserts a key that is not
+-- live, or updates or deletes one that is
 abbrev pub version_fits : Schema → History → Act → Bool
 version_fits schema history (Insert table row) =
-    bytes_eq table schema.name && row_fits schema row && not (is_live schema history (key_of schema.key row))
+    bytes_eq table schema.name && row_fits schema row
+    && not (is_live schema history (key_of schema.key row))
 version_fits schema history (Update table row) =
-    bytes_eq table schema.name && row_fits schema row && is_live schema history (key_of schema.key row)
+    bytes_eq table schema.name && row_fits schema row
+    && is_live schema history (key_of schema.key row)
 version_fits schema history (Delete table key) =
     bytes_eq table schema.name && key_fits schema key && is_live schema history key
 version_fits schema history act = false

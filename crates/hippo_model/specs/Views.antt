@@ -1,5 +1,6 @@
--- What a purpose and recipient see of a table: forbidden cells denied, rows with a forbidden key gone (table semantics
--- of LeFevre and others, Limiting Disclosure in Hippocratic Databases, VLDB 2004).
+-- What a purpose and recipient see of a table: forbidden cells denied, rows with a forbidden key
+-- gone (table semantics of LeFevre and others, Limiting Disclosure in Hippocratic Databases, VLDB
+-- 2004).
 use Rattle.std.specs.Prelude.{Bool, true, false, List, [], map, filter_map, Option}
 use Rattle.std.specs.Bool.{then_some}
 use Rattle.std.specs.List.{list_all, enumerate_from}
@@ -27,17 +28,20 @@ cell_by (Denied rule) value = DeniedCell rule
 
 -- a row's cells, each as its verdict says
 abbrev pub masked_row : (Place → Verdict) → Row → ShownRow
-masked_row verdicts row = map (λ (place, value). cell_by (verdicts place) value) (enumerate_from 0 row)
+masked_row verdicts row =
+    map (λ (place, value). cell_by (verdicts place) value) (enumerate_from 0 row)
 
 -- a row is in the view where each cell of its key is shown
 abbrev pub view_row : History → Context → Schema → BornRow → Option ShownRow
 view_row history context schema kept =
     let verdicts = verdict history context schema kept in
-    then_some (list_all (λ place. is_shown (verdicts place)) schema.key) (masked_row verdicts kept.row)
+    then_some (list_all (λ place. is_shown (verdicts place)) schema.key)
+    (masked_row verdicts kept.row)
 
 -- the view of a table, in the order of its rows
 abbrev pub view : History → Context → Schema → List ShownRow
-view history context schema = filter_map (view_row history context schema) (table_rows schema history)
+view history context schema =
+    filter_map (view_row history context schema) (table_rows schema history)
 
 -- the view of a table by its name; it is empty where the table is not created
 abbrev pub view_at : History → Context → Name → List ShownRow

@@ -8,7 +8,8 @@ use std::alloc::Global;
 /// The values of a row, one for each column, or those of its key, in the key's order.
 pub type Cells = Sequence<Value>;
 
-/// A value shown, or denied by the rule with this entry number (0 where no rule ever spoke of the cell).
+/// A value shown, or denied by the rule with this entry number (0 where no rule ever spoke of the
+/// cell).
 #[derive(Debug, Drop, PartialEq, Eq)]
 pub enum Cell {
     Shown(Value),

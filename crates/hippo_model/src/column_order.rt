@@ -8,9 +8,9 @@ ghost use Rattle.hippo_values.specs.declared.moments.Moment.{Moment};
 ghost use Rattle.hippo_model.specs.declared.born_row.BornRow.{BornRow};
 ghost use Rattle.hippo_model.specs.Terms.{Place};
 ghost use Rattle.hippo_model.specs.Rows.{cell_at, key_of};
-ghost use Rattle.hippo_model.specs.RowSets.{KeyedRows, with_row, without_row, find_row, value_at};
+ghost use Rattle.hippo_model.specs.RowSets.{KeyedRows, with_row, without_row, find_row, value_at_place};
 ghost use Rattle.hippo_model.specs.Ranges.{IsEdge, KeepsBound};
-ghost use Rattle.hippo_model.specs.ColumnOrders.{entry_of, AreEntriesOf, AreGathered, IsOrderOf, AreOrdersOf, AreReadyFor, IsReadyFor};
+ghost use Rattle.hippo_model.specs.ColumnOrders.{order_key, AreOrderKeysOf, AreGathered, IsOrderOf, AreOrdersOf, AreReadyFor, IsReadyFor};
 
 use crate::cells::Cells;
 use crate::keyed_set::KeyedSet;
@@ -19,8 +19,8 @@ use crate::schema::Places;
 use hippo_values::{Duplicate, Memory, Moment, Value};
 use std::alloc::Global;
 
-// An order of rows by a column. An entry is a row's value there, and the row's key behind it. There are none where
-// memory was short for them.
+// An order of rows by a column. An entry is a row's value there, and the row's key behind it. There
+// are none where memory was short for them.
 #[derive(Debug, Drop)]
 pub(crate) struct ColumnOrder {
     pub(crate) column: usize,
@@ -36,7 +36,7 @@ fn push_cell(alloc: Global, row: &[Value], column: usize, entry: &mut Cells) -> 
 }
 
 fn entry_of(alloc: Global, column: usize, key: &[usize], row: &[Value]) -> Result<Cells, Memory>
-    ensures { IfOk result (λ made. made ≡ entry_of column key.now row.now) }
+    ensures { IfOk result (λ made. made ≡ order_key column key.now row.now) }
 {
     let mut entry = Cells::with_capacity(alloc, key.len().saturating_add(1))?;
     push_cell(alloc, row, column, &mut entry)?;
@@ -56,7 +56,7 @@ fn enter(
     entries: &mut KeyedSet,
 ) -> Result<(), Memory>
     ensures { OnOk result (entries.new
-        ≡ with_row (record { row = entry_of column key.now row.now; born = born }) entries.old) }
+        ≡ with_row (record { row = order_key column key.now row.now; born = born }) entries.old) }
 {
     entries.put(entry_of(alloc, column, key, row)?, born)
 }
@@ -69,7 +69,8 @@ fn leave(
     row: &[Value],
     entries: &mut KeyedSet,
 ) -> Result<(), Memory>
-    ensures { OnOk result (entries.new ≡ without_row (entry_of column key.now row.now) entries.old) }
+    ensures { OnOk result (entries.new ≡ without_row (order_key column key.now row.now)
+        entries.old) }
 {
     let entry = entry_of(alloc, column, key, row)?;
     entries.take(&entry);
@@ -98,8 +99,9 @@ fn replace(
 ) -> Result<(), Memory>
     requires range { place < length set.now.rows }
     requires found { find_row set.now.key (key_of set.now.key row.now) set.now.rows ≡ Some place }
-    ensures { AreEntriesOf column set.now entries.old
-        → OnOk result (AreEntriesOf column (with_row (record { row = row.now; born = born }) set.now) entries.new) }
+    ensures { AreOrderKeysOf column set.now entries.old
+        → OnOk result (AreOrderKeysOf column
+        (with_row (record { row = row.now; born = born }) set.now) entries.new) }
 {
     let key = set.key().as_slice();
     let old = set.row(place).as_slice();
@@ -119,8 +121,9 @@ fn prepare(
     born: Moment,
     entries: &mut KeyedSet,
 ) -> Result<(), Memory>
-    ensures { AreEntriesOf column set.now entries.old
-        → OnOk result (AreReadyFor column (record { row = row.now; born = born }) set.now entries.new) }
+    ensures { AreOrderKeysOf column set.now entries.old
+        → OnOk result (AreReadyFor column (record { row = row.now; born = born }) set.now
+        entries.new) }
 {
     match set.find_like(row) {
         None => {
@@ -139,8 +142,8 @@ fn forget(
     key: &Cells,
     entries: &mut KeyedSet,
 ) -> Result<(), Memory>
-    ensures { AreEntriesOf column set.now entries.old
-        → OnOk result (AreEntriesOf column (without_row key.now set.now) entries.new) }
+    ensures { AreOrderKeysOf column set.now entries.old
+        → OnOk result (AreOrderKeysOf column (without_row key.now set.now) entries.new) }
 {
     match set.find(key) {
         None => Ok(()),
@@ -162,8 +165,9 @@ fn prepared(
     born: Moment,
     mut entries: KeyedSet,
 ) -> Option<KeyedSet>
-    ensures { AreEntriesOf column set.now entries
-        → IfSome result (λ made. AreReadyFor column (record { row = row.now; born = born }) set.now made) }
+    ensures { AreOrderKeysOf column set.now entries
+        → IfSome result (λ made. AreReadyFor column (record { row = row.now; born = born }) set.now
+        made) }
 {
     match prepare(alloc, column, set, row, born, &mut entries) {
         Ok(()) => Some(entries),
@@ -178,8 +182,8 @@ fn forgotten(
     key: &Cells,
     mut entries: KeyedSet,
 ) -> Option<KeyedSet>
-    ensures { AreEntriesOf column set.now entries
-        → IfSome result (λ made. AreEntriesOf column (without_row key.now set.now) made) }
+    ensures { AreOrderKeysOf column set.now entries
+        → IfSome result (λ made. AreOrderKeysOf column (without_row key.now set.now) made) }
 {
     match forget(alloc, column, set, key, &mut entries) {
         Ok(()) => Some(entries),
@@ -187,9 +191,11 @@ fn forgotten(
     }
 }
 
-// Makes an order ready for a row that is to be put into its set, or lets it go where memory is short.
+// Makes an order ready for a row that is to be put into its set, or lets it go where memory is
+// short.
 fn prepare_order(alloc: Global, set: &KeyedSet, row: &Cells, born: Moment, order: &mut ColumnOrder)
-    ensures { IsOrderOf set.now order.old → IsReadyFor (record { row = row.now; born = born }) set.now order.new }
+    ensures { IsOrderOf set.now order.old
+        → IsReadyFor (record { row = row.now; born = born }) set.now order.new }
 {
     order.entries = match order.entries.take() {
         None => None,
@@ -230,7 +236,8 @@ pub(crate) fn forget_in_orders(
     key: &Cells,
     orders: &mut [ColumnOrder],
 )
-    ensures { AreOrdersOf set.now orders.old → AreOrdersOf (without_row key.now set.now) orders.new }
+    ensures { AreOrdersOf set.now orders.old
+        → AreOrdersOf (without_row key.now set.now) orders.new }
 {
     for place in 0..orders.len() {
         forget_in_order(alloc, set, key, &mut orders[place]);
@@ -252,7 +259,7 @@ fn places_to(alloc: Global, last: usize) -> Result<Places, Memory>
 // Puts in the entries of all rows.
 fn fill(alloc: Global, column: usize, set: &KeyedSet, entries: &mut KeyedSet) -> Result<(), Memory>
     ensures { entries.old.key ≡ range_with_len 0 (suc (length set.now.key))
-        → OnOk result (AreEntriesOf column set.now entries.new) }
+        → OnOk result (AreOrderKeysOf column set.now entries.new) }
 {
     let key = set.key().as_slice();
     for place in 0..set.len() {
@@ -264,7 +271,7 @@ fn fill(alloc: Global, column: usize, set: &KeyedSet, entries: &mut KeyedSet) ->
 
 // The entries of a set's rows.
 pub(crate) fn entries_of(alloc: Global, column: usize, set: &KeyedSet) -> Result<KeyedSet, Memory>
-    ensures { IfOk result (λ entries. AreEntriesOf column set.now entries) }
+    ensures { IfOk result (λ entries. AreOrderKeysOf column set.now entries) }
 {
     let mut entries = KeyedSet::new(alloc, places_to(alloc, set.key().len())?);
     fill(alloc, column, set, &mut entries)?;
@@ -281,7 +288,8 @@ pub(crate) fn free_place(orders: &[ColumnOrder]) -> usize {
 
 // Adds an order, where memory allows.
 pub(crate) fn add_order(orders: &mut Vec<ColumnOrder>, column: usize, entries: KeyedSet)
-    ensures { (set : KeyedRows) → AreEntriesOf column set entries → AreOrdersOf set orders.old.items
+    ensures { (set : KeyedRows) → AreOrderKeysOf column set entries
+        → AreOrdersOf set orders.old.items
         → AreOrdersOf set orders.new.items }
 {
     let order = ColumnOrder {
@@ -299,7 +307,7 @@ pub(crate) fn add_order(orders: &mut Vec<ColumnOrder>, column: usize, entries: K
 // The entries of an order, where it is by a column.
 fn own_entries(order: &ColumnOrder, column: usize) -> Option<&KeyedSet>
     ensures { (set : KeyedRows) → IsOrderOf set order.now
-        → IfSome result (λ entries. AreEntriesOf column set entries.now) }
+        → IfSome result (λ entries. AreOrderKeysOf column set entries.now) }
 {
     if order.column == column {
         order.entries.as_ref()
@@ -311,7 +319,7 @@ fn own_entries(order: &ColumnOrder, column: usize) -> Option<&KeyedSet>
 // The entries of the order by a column, if it is kept.
 pub(crate) fn entries_by(orders: &[ColumnOrder], column: usize) -> Option<&KeyedSet>
     ensures { (set : KeyedRows) → AreOrdersOf set orders.now
-        → IfSome result (λ entries. AreEntriesOf column set entries.now) }
+        → IfSome result (λ entries. AreOrderKeysOf column set entries.now) }
 {
     for order in orders {
         if let Some(entries) = own_entries(order, column) {
@@ -325,7 +333,8 @@ pub(crate) fn entries_by(orders: &[ColumnOrder], column: usize) -> Option<&Keyed
 fn add_place(set: &KeyedSet, entry: &[Value], places: &mut Vec<usize>) -> Result<(), Memory>
     ensures range { All (λ place. place < length set.now.rows) places.old.items
         → OnOk result (All (λ place. place < length set.now.rows) places.new.items) }
-    ensures kept { OnOk result ((place : Place) → Contains places.old.items place → Contains places.new.items place) }
+    ensures kept { OnOk result ((place : Place) → Contains places.old.items place
+        → Contains places.new.items place) }
     ensures added { OnOk result ((cell : Value) → (kept : BornRow) → (place : Place)
         → slice_get set.now.rows place ≡ Some kept → entry.now ≡ cell ∷ key_of set.now.key kept.row
         → Contains places.new.items place) }
@@ -381,13 +390,14 @@ pub(crate) fn count_among(
     low: Option<Bound<'_>>,
     high: Option<Bound<'_>>,
 ) -> usize
-    requires { AreEntriesOf column set.now entries.now }
+    requires { AreOrderKeysOf column set.now entries.now }
 {
     let (start, end) = entries_within(entries, low, high);
     end.saturating_sub(start)
 }
 
-// The places of rows that are in the set, among them all whose value in a column is within two bounds.
+// The places of rows that are in the set, among them all whose value in a column is within two
+// bounds.
 pub(crate) fn places_among(
     alloc: Global,
     entries: &KeyedSet,
@@ -396,11 +406,13 @@ pub(crate) fn places_among(
     low: Option<Bound<'_>>,
     high: Option<Bound<'_>>,
 ) -> Result<Vec<usize>, Memory>
-    requires { AreEntriesOf column set.now entries.now }
-    ensures range { IfOk result (λ places. All (λ place. place < length set.now.rows) places.items) }
+    requires { AreOrderKeysOf column set.now entries.now }
+    ensures range { IfOk result (λ places. All
+        (λ place. place < length set.now.rows) places.items) }
     ensures all { IfOk result (λ places. (place : Place) → place < length set.now.rows
-        → KeepsBound false low.entry (value_at set.now column place)
-        → KeepsBound true high.entry (value_at set.now column place) → Contains places.items place) }
+        → KeepsBound false low.entry (value_at_place set.now column place)
+        → KeepsBound true high.entry (value_at_place set.now column place)
+        → Contains places.items place) }
 {
     let mut places = Vec::new(alloc);
     if set.is_empty() {

@@ -35,7 +35,8 @@ struct LentRow<'a> {
     born: Moment,
 }
 
-/// One row of each of a statement's tables, in the order of FROM, each with the moment at which it was born.
+/// One row of each of a statement's tables, in the order of FROM, each with the moment at which it
+/// was born.
 #[derive(Drop)]
 pub struct Combo<'a> {
     rows: Vec<LentRow<'a>>,
@@ -47,7 +48,8 @@ impl<'a> Model for Combo<'a> {
 
     ghost Value = { Combination };
 
-    ghost view = { λ combo. map (λ member. record { row = member.row.now; born = member.born }) combo.rows.items };
+    ghost view = { λ combo. map (λ member. record { row = member.row.now; born = member.born })
+        combo.rows.items };
 }
 
 impl<'a> Combo<'a> {
@@ -62,7 +64,8 @@ impl<'a> Combo<'a> {
 
     /// Adds the next table's row.
     pub fn push(&mut self, row: &'a Cells, born: Moment) -> Result<(), Memory>
-        ensures ok { OnOk result (self.new ≡ self.old ++ record { row = row.now; born = born } ∷ []) }
+        ensures ok { OnOk result (self.new
+            ≡ self.old ++ record { row = row.now; born = born } ∷ []) }
         ensures err { OnErr result (self.new ≡ self.old) }
     {
         match self.rows.push(LentRow { row, born }) {

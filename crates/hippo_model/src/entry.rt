@@ -55,7 +55,8 @@ pub enum Act {
         table: Name,
         columns: Places,
         item: Option<Name>,
-        /// For how many days from a row's birth its cells are shown; without end where there is no number.
+        /// For how many days from a row's birth its cells are shown; without end where there is no
+        /// number.
         days: Option<u32>,
     },
     Revoke {

@@ -92,7 +92,8 @@ fn search_piece(
     sought: &Sought<'_>,
 ) -> Result<usize, usize>
     ensures range { IsSearchInRange result (length piece.now.members.items) }
-    ensures place { IsBinarySearchResult (sought_order places.now sought.now) piece.now.members.items result }
+    ensures place { IsBinarySearchResult (sought_order places.now sought.now)
+        piece.now.members.items result }
 {
     piece
         .members
@@ -151,12 +152,14 @@ impl KeyedSet {
         }
     }
 
-    // Puts a row at its place in the order of keys, instead of a row with its key. The set is unchanged where memory
-    // is short, which it never is over a row with the key.
+    // Puts a row at its place in the order of keys, instead of a row with its key. The set is
+    // unchanged where memory is short, which it never is over a row with the key.
     pub(crate) fn put(&mut self, row: Cells, born: Moment) -> Result<(), Memory>
-        ensures ok { OnOk result (self.new ≡ with_row (record { row = row; born = born }) self.old) }
+        ensures ok { OnOk result (self.new
+            ≡ with_row (record { row = row; born = born }) self.old) }
         ensures err { OnErr result (self.new ≡ self.old) }
-        ensures replaces { IsSome (find_row self.old.key (key_of self.old.key row) self.old.rows) → IsOk result }
+        ensures replaces { IsSome (find_row self.old.key (key_of self.old.key row) self.old.rows)
+            → IsOk result }
     {
         let sought = Sought::Row(row.as_slice());
         match search(&self.rows, self.key.as_slice(), &sought) {
@@ -184,7 +187,8 @@ impl KeyedSet {
     // Puts a row where it comes to stand.
     pub(crate) fn insert_at(&mut self, place: usize, row: Cells, born: Moment) -> Result<(), Memory>
         requires { IsFree self.old row place }
-        ensures ok { OnOk result (self.new ≡ with_row (record { row = row; born = born }) self.old) }
+        ensures ok { OnOk result (self.new
+            ≡ with_row (record { row = row; born = born }) self.old) }
         ensures err { OnErr result (self.new ≡ self.old) }
     {
         self.rows.insert(place, BornRow { row, born })?;

@@ -5,12 +5,14 @@ ghost use Rattle.hippo_model.specs.declared.name_fault.NameFault.TheVariants as 
 use hippo_values::{Memory, Name, Txt};
 use std::alloc::{AllocError, AllocFailed};
 
-/// Why a statement that is in the grammar means nothing after the entries so far, with what its refusal names.
+/// Why a statement that is in the grammar means nothing after the entries so far, with what its
+/// refusal names.
 #[derive(Debug, Drop, PartialEq, Eq)]
 pub enum NameFault {
     /// The table that is not there.
     UnknownTable(Name),
-    /// The column that is in none of the tables where it may stand, as it is written, in lower case.
+    /// The column that is in none of the tables where it may stand, as it is written, in lower
+    /// case.
     UnknownColumn(Txt),
     /// The column, written without its table, that is in more than one of the statement's tables.
     AmbiguousColumn(Name),
@@ -24,7 +26,8 @@ pub enum NameFault {
     AlreadyThere(Name),
     /// The name that stands twice where each may stand once.
     RepeatedName(Name),
-    /// A literal is not of its column's kind, operands that are compared differ in kind, or a SUBJECT is not INTEGER.
+    /// A literal is not of its column's kind, operands that are compared differ in kind, or a
+    /// SUBJECT is not INTEGER.
     TypeMismatch,
     /// The NOT NULL column for which NULL stands.
     NullNotAllowed(Name),
@@ -44,7 +47,8 @@ pub enum NameFault {
     BadMoment,
     /// An audit's period ends before it begins.
     PeriodBack,
-    /// The column that is selected and does not stand in GROUP BY, or stands there and is not selected.
+    /// The column that is selected and does not stand in GROUP BY, or stands there and is not
+    /// selected.
     NotGrouped(Name),
     /// Want of memory.
     Memory,

@@ -92,7 +92,8 @@ fn changed_comparison<O, P: Drop, C: Change<O, P>>(
     right: &O,
     change: &C,
 ) -> Result<CondOf<P>, Memory>
-    ensures { IfOk result (λ made. made ≡ changed_operands (C.to change.now) (Compare op left.now right.now)) }
+    ensures { IfOk result (λ made. made ≡ changed_operands (C.to change.now)
+        (Compare op left.now right.now)) }
 {
     let left = change.change(alloc, left)?;
     let right = change.change(alloc, right)?;
@@ -106,7 +107,8 @@ fn changed_between<O, P: Drop, C: Change<O, P>>(
     high: &O,
     change: &C,
 ) -> Result<CondOf<P>, Memory>
-    ensures { IfOk result (λ made. made ≡ changed_operands (C.to change.now) (Between value.now low.now high.now)) }
+    ensures { IfOk result (λ made. made ≡ changed_operands (C.to change.now)
+        (Between value.now low.now high.now)) }
 {
     let value = change.change(alloc, value)?;
     let low = change.change(alloc, low)?;
@@ -134,7 +136,8 @@ fn changed_among<O, P: Drop, C: Change<O, P>>(
     list: &Sequence<O>,
     change: &C,
 ) -> Result<CondOf<P>, Memory>
-    ensures { IfOk result (λ made. made ≡ changed_operands (C.to change.now) (Among value.now list.now)) }
+    ensures { IfOk result (λ made. made ≡ changed_operands (C.to change.now)
+        (Among value.now list.now)) }
 {
     let value = change.change(alloc, value)?;
     let list = changed_list(alloc, list, change)?;

@@ -1,7 +1,7 @@
 //! A long list in pieces, so that an edit in its middle moves one piece alone.
 ghost use Rattle.std.specs.Prelude.{◌≡◌, ◌+◌, ◌^◌, ◌<◌, ◌≤◌, [], ◌∷◌, length, map, take, slice_get, slice_set, slice_index_or, Some, IsTrue, ◌↔◌, OnOk, OnErr, MatchOption};
 ghost use Rattle.std.specs.List.{insert, remove};
-ghost use Rattle.hippo_model.specs.Pieces.{contents, joined, start_of, IsMarked, AreFull, IsReached, IsCut};
+ghost use Rattle.hippo_model.specs.Pieces.{contents, all_members, start_of, IsMarked, AreFull, IsReached, IsCutInTwo};
 
 use hippo_values::Memory;
 use std::alloc::Global;
@@ -28,11 +28,11 @@ pub struct Pieces<T> {
 
 impl<T> Model for Pieces<T> {
     ghost use Rattle.std.specs.Prelude.{List};
-    ghost use Rattle.hippo_model.specs.Pieces.{contents, joined, IsWhole};
+    ghost use Rattle.hippo_model.specs.Pieces.{contents, all_members, IsWhole};
 
     ghost Value = { List T };
 
-    ghost view = { λ list. joined (contents list.pieces.items) };
+    ghost view = { λ list. all_members (contents list.pieces.items) };
 
     ghost invariant = { λ list. IsWhole list.pieces.items list.count };
 }
@@ -59,7 +59,7 @@ fn reaching<T>(pieces: &[Piece<T>], place: usize) -> (usize, usize)
 fn mark<T>(pieces: &mut [Piece<T>], first: usize, start: usize)
     requires front { IsMarked (take first pieces.old) }
     requires begins { start ≡ start_of (contents pieces.old) first }
-    requires fits { length (joined (contents pieces.old)) < 2 ^ 64 }
+    requires fits { length (all_members (contents pieces.old)) < 2 ^ 64 }
     ensures marked { IsMarked pieces.new }
     ensures kept { contents pieces.new ≡ contents pieces.old }
 {
@@ -86,7 +86,8 @@ fn begin<T: Drop>(pieces: &mut Vec<Piece<T>>, member: T) -> Result<(), Memory>
 // Cuts a piece that is too long in two, where memory allows; the upper half is handed out.
 fn cut<T>(piece: &mut Piece<T>) -> Option<Piece<T>>
     requires { length piece.old.members.items ≤ piece.old.end }
-    ensures { MatchOption result (piece.new ≡ piece.old) (λ upper. IsCut piece.old piece.new upper) }
+    ensures { MatchOption result (piece.new ≡ piece.old)
+        (λ upper. IsCutInTwo piece.old piece.new upper) }
 {
     let len = piece.members.len();
     if len <= PIECE_LIMIT {
@@ -105,7 +106,8 @@ fn split<T: Drop>(pieces: &mut Vec<Piece<T>>, index: usize)
     requires full { AreFull (contents pieces.old.items) }
     ensures marked { IsMarked pieces.new.items }
     ensures full { AreFull (contents pieces.new.items) }
-    ensures joined { joined (contents pieces.new.items) ≡ joined (contents pieces.old.items) }
+    ensures joined { all_members (contents pieces.new.items)
+        ≡ all_members (contents pieces.old.items) }
 {
     let Ok(()) = pieces.reserve(1) else {
         return;
@@ -128,9 +130,11 @@ fn put_in<T: Drop>(
     ensures len { length pieces.new.items ≡ length pieces.old.items }
     ensures front { take index pieces.new.items ≡ take index pieces.old.items }
     ensures full { AreFull (contents pieces.new.items) }
-    ensures ok { OnOk result (joined (contents pieces.new.items)
-        ≡ insert (joined (contents pieces.old.items)) (start_of (contents pieces.old.items) index + place) member) }
-    ensures ends { map (λ piece. piece.end) pieces.new.items ≡ map (λ piece. piece.end) pieces.old.items }
+    ensures ok { OnOk result (all_members (contents pieces.new.items)
+        ≡ insert (all_members (contents pieces.old.items))
+        (start_of (contents pieces.old.items) index + place) member) }
+    ensures ends { map (λ piece. piece.end) pieces.new.items
+        ≡ map (λ piece. piece.end) pieces.old.items }
     ensures err { OnErr result (contents pieces.new.items ≡ contents pieces.old.items) }
 {
     if let Err(_) = pieces[index].members.insert(place, member) {
@@ -146,8 +150,9 @@ fn take_out<T: Drop>(pieces: &mut Vec<Piece<T>>, index: usize, place: usize)
     requires full { AreFull (contents pieces.old.items) }
     ensures front { take index pieces.new.items ≡ take index pieces.old.items }
     ensures full { AreFull (contents pieces.new.items) }
-    ensures joined { joined (contents pieces.new.items)
-        ≡ remove (joined (contents pieces.old.items)) (start_of (contents pieces.old.items) index + place) }
+    ensures joined { all_members (contents pieces.new.items)
+        ≡ remove (all_members (contents pieces.old.items))
+        (start_of (contents pieces.old.items) index + place) }
 {
     let piece = &mut pieces[index];
     piece.members.remove(place);

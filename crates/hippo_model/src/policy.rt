@@ -12,7 +12,8 @@ pub enum RuleAt<'a> {
         rule: u64,
         days: Option<u32>,
     },
-    /// Allowed by this entry as the patient's choice on an item says, for so many days or without end.
+    /// Allowed by this entry as the patient's choice on an item says, for so many days or without
+    /// end.
     With {
         rule: u64,
         item: &'a Name,
@@ -48,7 +49,8 @@ pub enum Gate {
         rule: u64,
         after: i64,
     },
-    /// Shown as the patient's choice on an item says, and in no row that was not born later than `after`.
+    /// Shown as the patient's choice on an item says, and in no row that was not born later than
+    /// `after`.
     With {
         rule: u64,
         item: Name,

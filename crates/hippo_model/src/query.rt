@@ -50,8 +50,8 @@ pub enum Out {
 
 pub type Outs = Sequence<Out>;
 
-/// How a grouped query's rows are made: its first `keys` items are the GROUP BY columns, the others the arguments of
-/// MIN and MAX.
+/// How a grouped query's rows are made: its first `keys` items are the GROUP BY columns, the others
+/// the arguments of MIN and MAX.
 #[derive(Debug, Drop, PartialEq, Eq)]
 pub struct Shape {
     pub keys: usize,
@@ -90,7 +90,8 @@ pub enum Expr {
         rule: u64,
         after: i64,
     },
-    /// Shown as the patient's choice on an item says, and in no row that was not born later than `after`.
+    /// Shown as the patient's choice on an item says, and in no row that was not born later than
+    /// `after`.
     Case {
         column: Ref,
         subject: Ref,

@@ -1,9 +1,10 @@
-//! Rows between two ends in the order of their keys: the first values of the key are told, or its first one has bounds.
+//! Rows between two ends in the order of their keys: the first values of the key are told, or its
+//! first one has bounds.
 ghost use Rattle.std.specs.Prelude.{◌≡◌, ◌<◌, ◌≤◌, [], true, false, None, Some, IfOk, length, nat_lt, slice_get};
 ghost use Rattle.std.specs.List.{All, Contains};
 ghost use Rattle.hippo_model.specs.Terms.{Place};
 ghost use Rattle.hippo_model.specs.Rows.{key_of};
-ghost use Rattle.hippo_model.specs.RowSets.{value_at};
+ghost use Rattle.hippo_model.specs.RowSets.{value_at_place};
 ghost use Rattle.hippo_model.specs.Ranges.{front_cmp, is_low, is_past, stands_low, IsEdge, KeepsBound};
 
 use crate::keyed_set::{KeyedSet, cell_order};
@@ -20,7 +21,8 @@ pub struct Bound<'a> {
 }
 
 impl<'a> Bound<'a> {
-    /// Whether the values that are equal to it stand before the end that it makes, from above or from below.
+    /// Whether the values that are equal to it stand before the end that it makes, from above or
+    /// from below.
     pub fn is_past(&self, above: bool) -> bool
         ensures { result ≡ is_past above self.now.strict }
     {
@@ -58,8 +60,8 @@ fn stands_low(set: &KeyedSet, front: &[Value], past: bool, place: usize) -> bool
     )
 }
 
-// Where the rows end that stand before those whose key begins with these values; or these end, where they are passed
-// too. It is found by halves.
+// Where the rows end that stand before those whose key begins with these values; or these end,
+// where they are passed too. It is found by halves.
 pub(crate) fn split(set: &KeyedSet, front: &[Value], past: bool) -> usize
     ensures range { result ≤ length set.now.rows }
     ensures parted { (place : Place) → place < length set.now.rows
@@ -143,7 +145,8 @@ fn places_between(
     end: usize,
 ) -> Result<Vec<usize>, Memory>
     requires { end ≤ length set.now.rows }
-    ensures range { IfOk result (λ places. All (λ place. place < length set.now.rows) places.items) }
+    ensures range { IfOk result (λ places. All
+        (λ place. place < length set.now.rows) places.items) }
     ensures all { IfOk result (λ places. (place : Place) → start ≤ place → place < end
         → Contains places.items place) }
 {
@@ -163,10 +166,12 @@ pub(crate) fn own_places(
     high: Option<Bound<'_>>,
 ) -> Result<Vec<usize>, Memory>
     requires { slice_get set.now.key 0 ≡ Some column }
-    ensures range { IfOk result (λ places. All (λ place. place < length set.now.rows) places.items) }
+    ensures range { IfOk result (λ places. All
+        (λ place. place < length set.now.rows) places.items) }
     ensures all { IfOk result (λ places. (place : Place) → place < length set.now.rows
-        → KeepsBound false low.entry (value_at set.now column place)
-        → KeepsBound true high.entry (value_at set.now column place) → Contains places.items place) }
+        → KeepsBound false low.entry (value_at_place set.now column place)
+        → KeepsBound true high.entry (value_at_place set.now column place)
+        → Contains places.items place) }
 {
     let (start, end) = ends_within(set, column, low, high);
     let places = places_between(alloc, set, start, end)?;

@@ -4,7 +4,7 @@ ghost use Rattle.std.specs.List.{All, Contains};
 ghost use Rattle.hippo_model.specs.Terms.{Place};
 ghost use Rattle.hippo_model.specs.Rows.{key_of};
 ghost use Rattle.hippo_model.specs.Ranges.{stands_low, KeepsBound};
-ghost use Rattle.hippo_model.specs.RowSets.{IsAscending, key_in, Inserts, with_row, without_row, find_row, value_at};
+ghost use Rattle.hippo_model.specs.RowSets.{IsAscending, key_in, Inserts, with_row, without_row, find_row, value_at_place};
 
 use crate::born_row::BornRow;
 use crate::cells::Cells;
@@ -22,7 +22,8 @@ use std::marker::Model;
 // How many orders by a column a set keeps.
 const ORDER_LIMIT: usize = 8;
 
-// How many rows a set has at most of which no order is kept, since a walk over them takes little time.
+// How many rows a set has at most of which no order is kept, since a walk over them takes little
+// time.
 const FEW_ROWS: usize = 256;
 
 /// The rows of a table in the order of their keys, each with the moment at which it was born.
@@ -54,20 +55,23 @@ impl RowSet {
         }
     }
 
-    /// Puts a row at its place in the order of keys, instead of a row with its key. The set is unchanged where memory
-    /// is short, which it never is over a row with the key.
+    /// Puts a row at its place in the order of keys, instead of a row with its key. The set is
+    /// unchanged where memory is short, which it never is over a row with the key.
     pub fn put(&mut self, row: Cells, born: Moment) -> Result<(), Memory>
-        ensures ok { OnOk result (self.new ≡ with_row (record { row = row; born = born }) self.old) }
+        ensures ok { OnOk result (self.new
+            ≡ with_row (record { row = row; born = born }) self.old) }
         ensures err { OnErr result (self.new ≡ self.old) }
-        ensures replaces { IsSome (find_row self.old.key (key_of self.old.key row) self.old.rows) → IsOk result }
+        ensures replaces { IsSome (find_row self.old.key (key_of self.old.key row) self.old.rows)
+            → IsOk result }
     {
         let alloc = *self.orders.allocator();
         prepare_orders(alloc, &self.set, &row, born, self.orders.as_mut_slice());
         self.set.put(row, born)
     }
 
-    /// Puts a row at its place in the order of keys, where no row has its key, and answers the place; none where a row
-    /// has the key, and then nothing is done. The set is unchanged where memory is short. One search is made.
+    /// Puts a row at its place in the order of keys, where no row has its key, and answers the
+    /// place; none where a row has the key, and then nothing is done. The set is unchanged where
+    /// memory is short. One search is made.
     pub fn insert(&mut self, row: Cells, born: Moment) -> Result<Option<usize>, Memory>
         ensures ok { IfOk result (Inserts (record { row = row; born = born }) self.old self.new) }
         ensures err { OnErr result (self.new ≡ self.old) }
@@ -81,8 +85,8 @@ impl RowSet {
         Ok(Some(place))
     }
 
-    /// Puts a row in the place of the one that has its key, which is handed out; takes no memory. No search is made but
-    /// for orders by other columns.
+    /// Puts a row in the place of the one that has its key, which is handed out; takes no memory.
+    /// No search is made but for orders by other columns.
     pub fn replace(&mut self, place: usize, row: Cells, born: Moment) -> BornRow
         requires { find_row self.old.key (key_of self.old.key row) self.old.rows ≡ Some place }
         ensures set { self.new ≡ with_row (record { row = row; born = born }) self.old }
@@ -102,9 +106,9 @@ impl RowSet {
         self.set.take(key);
     }
 
-    /// Keeps, from now on, an order of the rows by a column, so that rows within bounds there are found by halves. Does
-    /// nothing where there is one, where there are eight, where the column is the key's first one, where there are 256
-    /// rows or fewer, or where memory is short.
+    /// Keeps, from now on, an order of the rows by a column, so that rows within bounds there are
+    /// found by halves. Does nothing where there is one, where there are eight, where the column is
+    /// the key's first one, where there are 256 rows or fewer, or where memory is short.
     pub fn order_by(&mut self, alloc: Global, column: usize)
         ensures { self.new ≡ self.old }
     {
@@ -123,7 +127,8 @@ impl RowSet {
             && !self.is_ordered_by(column)
     }
 
-    /// Whether rows are found by a column: it is the first of the key, or an order of the rows by it is kept.
+    /// Whether rows are found by a column: it is the first of the key, or an order of the rows by
+    /// it is kept.
     pub fn is_ordered_by(&self, column: usize) -> bool {
         self.set.begins_with(column) || entries_by(self.orders.as_slice(), column).is_some()
     }
@@ -144,8 +149,8 @@ impl RowSet {
         }
     }
 
-    /// The places of rows, each in the set, among them all whose value in a column is within two bounds; none where
-    /// rows are not found by the column.
+    /// The places of rows, each in the set, among them all whose value in a column is within two
+    /// bounds; none where rows are not found by the column.
     pub fn places_within(
         &self,
         alloc: Global,
@@ -155,9 +160,11 @@ impl RowSet {
     ) -> Result<Option<Vec<usize>>, Memory>
         ensures range { IfOk result (λ found. IfSome found (λ places.
             All (λ place. place < length self.now.rows) places.items)) }
-        ensures all { IfOk result (λ found. IfSome found (λ places. (place : Place) → place < length self.now.rows
-            → KeepsBound false low.entry (value_at self.now column place)
-            → KeepsBound true high.entry (value_at self.now column place) → Contains places.items place)) }
+        ensures all { IfOk result (λ found. IfSome found
+            (λ places. (place : Place) → place < length self.now.rows
+            → KeepsBound false low.entry (value_at_place self.now column place)
+            → KeepsBound true high.entry (value_at_place self.now column place)
+            → Contains places.items place)) }
     {
         if self.set.begins_with(column) {
             let places = own_places(alloc, &self.set, column, low, high)?;
@@ -172,8 +179,8 @@ impl RowSet {
         }
     }
 
-    /// How many rows stand before those whose key begins with these values; or how many do not stand behind them, where
-    /// they are passed too. It is found by halves.
+    /// How many rows stand before those whose key begins with these values; or how many do not
+    /// stand behind them, where they are passed too. It is found by halves.
     pub fn split(&self, front: &[Value], past: bool) -> usize
         ensures range { result ≤ length self.now.rows }
         ensures parted { (place : Place) → place < length self.now.rows

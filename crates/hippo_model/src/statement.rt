@@ -15,7 +15,8 @@ pub struct RawColumn {
 
 pub type RawColumns = Sequence<RawColumn>;
 
-/// What a condition compares, as it is written. The column is boxed, since conditions are moved often.
+/// What a condition compares, as it is written. The column is boxed, since conditions are moved
+/// often.
 #[derive(Debug, Drop, PartialEq, Eq)]
 pub enum RawOperand {
     Column(Boxed<RawColumn>),
@@ -107,7 +108,8 @@ pub enum Stmt {
         table: Name,
         columns: Names,
         item: Option<Name>,
-        /// For how many days from a row's birth its cells are shown; without end where none is written.
+        /// For how many days from a row's birth its cells are shown; without end where none is
+        /// written.
         days: Option<u32>,
     },
     Revoke {
@@ -162,7 +164,8 @@ pub enum Stmt {
     },
 }
 
-/// A change that is right by names and types; what it does may still wait for the rows that are there.
+/// A change that is right by names and types; what it does may still wait for the rows that are
+/// there.
 #[derive(Debug, Drop, PartialEq, Eq)]
 pub enum Wanted {
     Ready(Act),

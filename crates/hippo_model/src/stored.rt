@@ -2,7 +2,8 @@
 use hippo_values::{Bytes, Duplicate, Memory, Sequence, Txt};
 use std::alloc::Global;
 
-/// An entry of the history as it is kept: its body in bytes, and beside it what a keeper looks entries up by.
+/// An entry of the history as it is kept: its body in bytes, and beside it what a keeper looks
+/// entries up by.
 #[derive(Debug, Drop, PartialEq, Eq)]
 pub struct StoredEntry {
     pub seq: u64,

@@ -7,7 +7,8 @@ use hippo_values::Memory;
 /// Why a change does not fit the rows as they are.
 #[derive(Debug, Drop, PartialEq, Eq)]
 pub enum TableFault {
-    /// A row has the key of the one that is inserted; the number of the last entry that names the key.
+    /// A row has the key of the one that is inserted; the number of the last entry that names the
+    /// key.
     KeyThere(u64),
     /// No row has the key that is updated or deleted.
     KeyMissing,

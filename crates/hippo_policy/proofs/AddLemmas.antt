@@ -6,8 +6,8 @@ use Rattle.std.specs.Bool.{then_some}
 use Rattle.hippo_model.specs.declared.entry.Entry.{Entry}
 use Rattle.hippo_model.specs.Terms.{History}
 use Rattle.hippo_policy.specs.Books.{IsKept}
-use Rattle.hippo_policy.specs.Words.{Said, LastWords, words_of, with_word, without_word, numbered}
-use Rattle.hippo_policy.proofs.SaidLemmas.{numbered_from, with_said, no_earlier-numbered}
+use Rattle.hippo_policy.specs.Words.{Said, LastWords, kept_words, with_word, without_word, numbered_words}
+use Rattle.hippo_policy.proofs.SaidLemmas.{numbered_from, with_said, no_earlier-numbered_words}
 
 module _ {A : Type 0} (word : Entry → Option A) where
   with_said-append : (number : ℕ) (said : Option A) (words more : List (Said A)) → with_said word number said (words ++ more) ≡ with_said word number said words ++ more
@@ -20,41 +20,41 @@ module _ {A : Type 0} (word : Entry → Option A) where
       let e : number + length (first ∷ later) ≡ number + 1 + length later = omega arith in
       rw (e, numbered_from-append (number + 1) later entry) (with_said-append number (word first) (numbered_from word (number + 1) later) (with_said word (number + 1 + length later) (word entry) []))
 
-  numbered-append : (history : History) (entry : Entry) → numbered word (history ++ entry ∷ []) ≡ numbered word history ++ with_said word (1 + length history) (word entry) []
-  numbered-append history entry = numbered_from-append 1 history entry
+  numbered_words-append : (history : History) (entry : Entry) → numbered_words word (history ++ entry ∷ []) ≡ numbered_words word history ++ with_said word (1 + length history) (word entry) []
+  numbered_words-append history entry = numbered_from-append 1 history entry
 
   append-none : (words : List (Said A)) → words ++ [] ≡ words
   append-none [] = refl
   append-none (said ∷ later) = ap (λ (rest : List (Said A)). said ∷ rest) (append-none later)
 
-  pub numbered-silent : (history : History) (entry : Entry) → word entry ≡ None → numbered word (history ++ entry ∷ []) ≡ numbered word history
-  numbered-silent history entry silent = numbered-append history entry ∙ rw silent (append-none (numbered word history))
+  pub numbered_words-silent : (history : History) (entry : Entry) → word entry ≡ None → numbered_words word (history ++ entry ∷ []) ≡ numbered_words word history
+  numbered_words-silent history entry silent = numbered_words-append history entry ∙ rw silent (append-none (numbered_words word history))
 
-  pub numbered-spoken : (test : Bool) (said : Said A) (history : History) (entry : Entry) → word entry ≡ then_some test said.word → said.number ≡ length history + 1 → with_word test said (numbered word history) ≡ numbered word (history ++ entry ∷ [])
-  numbered-spoken false said history entry silent next = sym (numbered-silent history entry silent)
-  numbered-spoken true said history entry spoken next =
+  pub numbered_words-spoken : (test : Bool) (said : Said A) (history : History) (entry : Entry) → word entry ≡ then_some test said.word → said.number ≡ length history + 1 → with_word test said (numbered_words word history) ≡ numbered_words word (history ++ entry ∷ [])
+  numbered_words-spoken false said history entry silent next = sym (numbered_words-silent history entry silent)
+  numbered_words-spoken true said history entry spoken next =
       let e : 1 + length history ≡ said.number = omega (arith, next) in
-      ap (λ (said : Said A). numbered word history ++ said ∷ []) (no_earlier-numbered word history said next)
-      ∙ sym (numbered-append history entry ∙ rw (spoken, e) refl)
+      ap (λ (said : Said A). numbered_words word history ++ said ∷ []) (no_earlier-numbered_words word history said next)
+      ∙ sym (numbered_words-append history entry ∙ rw (spoken, e) refl)
 
   without-last : (words : List (Said A)) (said : Said A) → take (length (words ++ said ∷ []) - 1) (words ++ said ∷ []) ≡ words
   without-last words said =
       let e : length (words ++ said ∷ []) - 1 ≡ length words = rw (length-append words (said ∷ [])) (omega arith) in
       rw e (take-append_seam words (said ∷ []))
 
-  pub numbered-unspoken : (test : Bool) (said : A) (history : History) (entry : Entry) → word entry ≡ then_some test said → without_word test (numbered word (history ++ entry ∷ [])) ≡ numbered word history
-  numbered-unspoken false said history entry silent = numbered-silent history entry silent
-  numbered-unspoken true said history entry spoken = rw (numbered-append history entry, spoken) (without-last (numbered word history) (record { number = 1 + length history; word = said }))
+  pub numbered_words-unspoken : (test : Bool) (said : A) (history : History) (entry : Entry) → word entry ≡ then_some test said → without_word test (numbered_words word (history ++ entry ∷ [])) ≡ numbered_words word history
+  numbered_words-unspoken false said history entry silent = numbered_words-silent history entry silent
+  numbered_words-unspoken true said history entry spoken = rw (numbered_words-append history entry, spoken) (without-last (numbered_words word history) (record { number = 1 + length history; word = said }))
 
 module _ {K A : Type 0} (same : K → K → Bool) (word : K → Entry → Option A) (history : History) (entry : Entry) where
   -- where the entry says nothing of any key
   pub IsKept-silent : (kept : LastWords K A) → ((key : K) → word key entry ≡ None) → IsKept same kept word history → IsKept same kept word (history ++ entry ∷ [])
-  IsKept-silent kept silent is key = is key ∙ sym (numbered-silent (word key) history entry (silent key))
+  IsKept-silent kept silent is key = is key ∙ sym (numbered_words-silent (word key) history entry (silent key))
 
   -- where it speaks of the keys that pass a test
-  pub IsKept-spoken : (old new : LastWords K A) (test : K → Bool) (said : Said A) → ((key : K) → words_of same new key ≡ with_word (test key) said (words_of same old key)) → ((key : K) → word key entry ≡ then_some (test key) said.word) → said.number ≡ length history + 1 → IsKept same old word history → IsKept same new word (history ++ entry ∷ [])
-  IsKept-spoken old new test said added spoken next is key = added key ∙ rw (is key) (numbered-spoken (word key) (test key) said history entry (spoken key) next)
+  pub IsKept-spoken : (old new : LastWords K A) (test : K → Bool) (said : Said A) → ((key : K) → kept_words same new key ≡ with_word (test key) said (kept_words same old key)) → ((key : K) → word key entry ≡ then_some (test key) said.word) → said.number ≡ length history + 1 → IsKept same old word history → IsKept same new word (history ++ entry ∷ [])
+  IsKept-spoken old new test said added spoken next is key = added key ∙ rw (is key) (numbered_words-spoken (word key) (test key) said history entry (spoken key) next)
 
   -- and where what was said of them is taken back
-  pub IsKept-unspoken : (old new : LastWords K A) (test : K → Bool) (said : A) → ((key : K) → words_of same new key ≡ without_word (test key) (words_of same old key)) → ((key : K) → word key entry ≡ then_some (test key) said) → IsKept same old word (history ++ entry ∷ []) → IsKept same new word history
-  IsKept-unspoken old new test said taken spoken is key = taken key ∙ rw (is key) (numbered-unspoken (word key) (test key) said history entry (spoken key))
+  pub IsKept-unspoken : (old new : LastWords K A) (test : K → Bool) (said : A) → ((key : K) → kept_words same new key ≡ without_word (test key) (kept_words same old key)) → ((key : K) → word key entry ≡ then_some (test key) said) → IsKept same old word (history ++ entry ∷ []) → IsKept same new word history
+  IsKept-unspoken old new test said taken spoken is key = taken key ∙ rw (is key) (numbered_words-unspoken (word key) (test key) said history entry (spoken key))

@@ -19,22 +19,22 @@ use Rattle.hippo_policy.specs.declared.book.PolicyBook.{PolicyBook}
 use Rattle.hippo_policy.specs.declared.keys.CellKey.{CellKey}
 use Rattle.hippo_policy.specs.declared.keys.ChoiceKey.{ChoiceKey}
 use Rattle.hippo_policy.specs.declared.keys.UserKey.{UserKey}
-use Rattle.hippo_policy.specs.Keys.{same_cell, same_choice, same_user, same_name}
-use Rattle.hippo_policy.specs.Words.{LastWords, words_of, with_word}
-use Rattle.hippo_policy.specs.Books.{StandsFor, IsAsBefore, Adds, AddsUser, AddsRule, rule_word, choice_word, user_word, item_word, cell_keys, is_silent, cell_of}
+use Rattle.hippo_policy.specs.Keys.{same_cell_key, same_choice, same_user, same_name}
+use Rattle.hippo_policy.specs.Words.{LastWords, kept_words, with_word}
+use Rattle.hippo_policy.specs.Books.{BookStandsFor, BookIsAsBefore, BookAdds, AddsUser, AddsRule, rule_word, choice_word, user_word, item_word, cell_keys, leaves_book, cell_of}
 use Rattle.hippo_policy.proofs.AddLemmas.{IsKept-silent, IsKept-spoken}
 
 -- an act that is none of those that speak says nothing
-pub is_silent-rest : (act : Act) → ((item : Name) (kind : ItemKind) → ¬ (act ≡ Item item kind)) → ((user purpose recipient : Name) → ¬ (act ≡ Authorize user purpose recipient)) → ((user purpose recipient : Name) → ¬ (act ≡ Deauthorize user purpose recipient))
+pub leaves_book-rest : (act : Act) → ((item : Name) (kind : ItemKind) → ¬ (act ≡ Item item kind)) → ((user purpose recipient : Name) → ¬ (act ≡ Authorize user purpose recipient)) → ((user purpose recipient : Name) → ¬ (act ≡ Deauthorize user purpose recipient))
     → ((purpose recipient table : Name) (columns : List Place) (item : Option Name) (days : Option ℕ) → ¬ (act ≡ Allow purpose recipient table columns item days))
-    → ((purpose recipient table : Name) (columns : List Place) → ¬ (act ≡ Revoke purpose recipient table columns)) → ((subject : ℤ) (item : Name) (agreed : Bool) → ¬ (act ≡ Choice subject item agreed)) → is_silent act ≡ true
-is_silent-rest (Item item kind) i a d w r c = absurd (i item kind refl)
-is_silent-rest (Authorize user purpose recipient) i a d w r c = absurd (a user purpose recipient refl)
-is_silent-rest (Deauthorize user purpose recipient) i a d w r c = absurd (d user purpose recipient refl)
-is_silent-rest (Allow purpose recipient table columns item days) i a d w r c = absurd (w purpose recipient table columns item days refl)
-is_silent-rest (Revoke purpose recipient table columns) i a d w r c = absurd (r purpose recipient table columns refl)
-is_silent-rest (Choice subject item agreed) i a d w r c = absurd (c subject item agreed refl)
-is_silent-rest act i a d w r c = refl
+    → ((purpose recipient table : Name) (columns : List Place) → ¬ (act ≡ Revoke purpose recipient table columns)) → ((subject : ℤ) (item : Name) (agreed : Bool) → ¬ (act ≡ Choice subject item agreed)) → leaves_book act ≡ true
+leaves_book-rest (Item item kind) i a d w r c = absurd (i item kind refl)
+leaves_book-rest (Authorize user purpose recipient) i a d w r c = absurd (a user purpose recipient refl)
+leaves_book-rest (Deauthorize user purpose recipient) i a d w r c = absurd (d user purpose recipient refl)
+leaves_book-rest (Allow purpose recipient table columns item days) i a d w r c = absurd (w purpose recipient table columns item days refl)
+leaves_book-rest (Revoke purpose recipient table columns) i a d w r c = absurd (r purpose recipient table columns refl)
+leaves_book-rest (Choice subject item agreed) i a d w r c = absurd (c subject item agreed refl)
+leaves_book-rest act i a d w r c = refl
 
 pub and-assoc : (a b c : Bool) → (a && b && c) ≡ (a && (b && c))
 and-assoc false b c = refl
@@ -53,19 +53,19 @@ column_more true true false e rest = refl
 column_more true true true e rest = refl
 
 -- a rule names a cell where one of its keys is the cell's
-pub named : (purpose recipient table : Name) (other : CellKey) (columns : List Place) → list_any (λ key. same_cell key other) (cell_keys purpose recipient table columns) ≡ is_named_by (cell_of other) purpose recipient table columns
+pub named : (purpose recipient table : Name) (other : CellKey) (columns : List Place) → list_any (λ key. same_cell_key key other) (cell_keys purpose recipient table columns) ≡ is_named_by (cell_of other) purpose recipient table columns
 named purpose recipient table other [] = no_column (bytes_eq purpose other.table.purpose) (bytes_eq recipient other.table.recipient) (bytes_eq table other.table.table)
 named purpose recipient table other (column ∷ rest) =
     rw (named purpose recipient table other rest, nat_eq_equiv.symm column other.column)
     (column_more (bytes_eq purpose other.table.purpose) (bytes_eq recipient other.table.recipient) (bytes_eq table other.table.table) (nat_eq other.column column) (list_any (nat_eq other.column) rest))
 
 module _ (old : PolicyBook) (number : ℕ) where
-  pub Adds-choice : (choices : LastWords ChoiceKey Bool) (subject : ℤ) (item : Name) (agreed : Bool)
-      → ((other : ChoiceKey) → words_of same_choice choices other ≡ with_word (same_choice (record { subject = subject; item = item }) other) (record { number = number; word = agreed }) (words_of same_choice old.choices other))
-      → Adds old (record { rules = old.rules; choices = choices; users = old.users; items = old.items; last = OfChoice (record { subject = subject; item = item }) }) number (Choice subject item agreed)
-  Adds-choice choices subject item agreed added = record {
+  pub BookAdds-choice : (choices : LastWords ChoiceKey Bool) (subject : ℤ) (item : Name) (agreed : Bool)
+      → ((other : ChoiceKey) → kept_words same_choice choices other ≡ with_word (same_choice (record { subject = subject; item = item }) other) (record { number = number; word = agreed }) (kept_words same_choice old.choices other))
+      → BookAdds old (record { rules = old.rules; choices = choices; users = old.users; items = old.items; last = OfChoice (record { subject = subject; item = item }) }) number (Choice subject item agreed)
+  BookAdds-choice choices subject item agreed added = record {
     stands = λ history entry is seq next kept. record {
-      rules = IsKept-silent same_cell rule_word history entry old.rules (λ key. rw is refl) kept.rules;
+      rules = IsKept-silent same_cell_key rule_word history entry old.rules (λ key. rw is refl) kept.rules;
       choices = IsKept-spoken same_choice choice_word history entry old.choices choices (λ key. same_choice (record { subject = subject; item = item }) key) (record { number = number; word = agreed }) added (λ key. rw is refl) next kept.choices;
       users = IsKept-silent same_user user_word history entry old.users (λ key. rw is refl) kept.users;
       items = IsKept-silent same_name item_word history entry old.items (λ key. rw is refl) kept.items;
@@ -73,12 +73,12 @@ module _ (old : PolicyBook) (number : ℕ) where
     remembers = refl;
   }
 
-  pub Adds-item : (items : LastWords Name ItemKind) (item : Name) (kind : ItemKind)
-      → ((other : Name) → words_of same_name items other ≡ with_word (same_name item other) (record { number = number; word = kind }) (words_of same_name old.items other))
-      → Adds old (record { rules = old.rules; choices = old.choices; users = old.users; items = items; last = OfItem item }) number (Item item kind)
-  Adds-item items item kind added = record {
+  pub BookAdds-item : (items : LastWords Name ItemKind) (item : Name) (kind : ItemKind)
+      → ((other : Name) → kept_words same_name items other ≡ with_word (same_name item other) (record { number = number; word = kind }) (kept_words same_name old.items other))
+      → BookAdds old (record { rules = old.rules; choices = old.choices; users = old.users; items = items; last = OfItem item }) number (Item item kind)
+  BookAdds-item items item kind added = record {
     stands = λ history entry is seq next kept. record {
-      rules = IsKept-silent same_cell rule_word history entry old.rules (λ key. rw is refl) kept.rules;
+      rules = IsKept-silent same_cell_key rule_word history entry old.rules (λ key. rw is refl) kept.rules;
       choices = IsKept-silent same_choice choice_word history entry old.choices (λ key. rw is refl) kept.choices;
       users = IsKept-silent same_user user_word history entry old.users (λ key. rw is refl) kept.users;
       items = IsKept-spoken same_name item_word history entry old.items items (same_name item) (record { number = number; word = kind }) added (λ key. rw is refl) next kept.items;
@@ -87,10 +87,10 @@ module _ (old : PolicyBook) (number : ℕ) where
   }
 
   -- an entry that says nothing of what is kept
-  silent-kept : (last : Matter) (history : History) (entry : Entry) → ((key : CellKey) → rule_word key entry ≡ None) → ((key : ChoiceKey) → choice_word key entry ≡ None) → ((key : UserKey) → user_word key entry ≡ None) → ((item : Name) → item_word item entry ≡ None) → StandsFor old history
-      → StandsFor (record { rules = old.rules; choices = old.choices; users = old.users; items = old.items; last = last }) (history ++ entry ∷ [])
+  silent-kept : (last : Matter) (history : History) (entry : Entry) → ((key : CellKey) → rule_word key entry ≡ None) → ((key : ChoiceKey) → choice_word key entry ≡ None) → ((key : UserKey) → user_word key entry ≡ None) → ((item : Name) → item_word item entry ≡ None) → BookStandsFor old history
+      → BookStandsFor (record { rules = old.rules; choices = old.choices; users = old.users; items = old.items; last = last }) (history ++ entry ∷ [])
   silent-kept last history entry rules choices users items kept = record {
-    rules = IsKept-silent same_cell rule_word history entry old.rules rules kept.rules;
+    rules = IsKept-silent same_cell_key rule_word history entry old.rules rules kept.rules;
     choices = IsKept-silent same_choice choice_word history entry old.choices choices kept.choices;
     users = IsKept-silent same_user user_word history entry old.users users kept.users;
     items = IsKept-silent same_name item_word history entry old.items items kept.items;
@@ -99,39 +99,39 @@ module _ (old : PolicyBook) (number : ℕ) where
   abbrev passed_over : PolicyBook
   passed_over = record { rules = old.rules; choices = old.choices; users = old.users; items = old.items; last = Nothing }
 
-  pub Adds-silent : (act : Act) → is_silent act ≡ true → Adds old passed_over number act
-  Adds-silent (Create schema) silent = record { stands = λ history entry is seq next kept. silent-kept Nothing history entry (λ key. rw is refl) (λ key. rw is refl) (λ key. rw is refl) (λ item. rw is refl) kept; remembers = refl }
-  Adds-silent (Insert table row) silent = record { stands = λ history entry is seq next kept. silent-kept Nothing history entry (λ key. rw is refl) (λ key. rw is refl) (λ key. rw is refl) (λ item. rw is refl) kept; remembers = refl }
-  Adds-silent (Update table row) silent = record { stands = λ history entry is seq next kept. silent-kept Nothing history entry (λ key. rw is refl) (λ key. rw is refl) (λ key. rw is refl) (λ item. rw is refl) kept; remembers = refl }
-  Adds-silent (Delete table key) silent = record { stands = λ history entry is seq next kept. silent-kept Nothing history entry (λ key. rw is refl) (λ key. rw is refl) (λ key. rw is refl) (λ item. rw is refl) kept; remembers = refl }
-  Adds-silent (Purpose name) silent = record { stands = λ history entry is seq next kept. silent-kept Nothing history entry (λ key. rw is refl) (λ key. rw is refl) (λ key. rw is refl) (λ item. rw is refl) kept; remembers = refl }
-  Adds-silent (Recipient name) silent = record { stands = λ history entry is seq next kept. silent-kept Nothing history entry (λ key. rw is refl) (λ key. rw is refl) (λ key. rw is refl) (λ item. rw is refl) kept; remembers = refl }
-  Adds-silent (Asked user purpose recipient text) silent = record { stands = λ history entry is seq next kept. silent-kept Nothing history entry (λ key. rw is refl) (λ key. rw is refl) (λ key. rw is refl) (λ item. rw is refl) kept; remembers = refl }
-  Adds-silent (Item item kind) silent = absurd (false≢true silent)
-  Adds-silent (Authorize user purpose recipient) silent = absurd (false≢true silent)
-  Adds-silent (Deauthorize user purpose recipient) silent = absurd (false≢true silent)
-  Adds-silent (Allow purpose recipient table columns item days) silent = absurd (false≢true silent)
-  Adds-silent (Revoke purpose recipient table columns) silent = absurd (false≢true silent)
-  Adds-silent (Choice subject item agreed) silent = absurd (false≢true silent)
+  pub BookAdds-silent : (act : Act) → leaves_book act ≡ true → BookAdds old passed_over number act
+  BookAdds-silent (Create schema) silent = record { stands = λ history entry is seq next kept. silent-kept Nothing history entry (λ key. rw is refl) (λ key. rw is refl) (λ key. rw is refl) (λ item. rw is refl) kept; remembers = refl }
+  BookAdds-silent (Insert table row) silent = record { stands = λ history entry is seq next kept. silent-kept Nothing history entry (λ key. rw is refl) (λ key. rw is refl) (λ key. rw is refl) (λ item. rw is refl) kept; remembers = refl }
+  BookAdds-silent (Update table row) silent = record { stands = λ history entry is seq next kept. silent-kept Nothing history entry (λ key. rw is refl) (λ key. rw is refl) (λ key. rw is refl) (λ item. rw is refl) kept; remembers = refl }
+  BookAdds-silent (Delete table key) silent = record { stands = λ history entry is seq next kept. silent-kept Nothing history entry (λ key. rw is refl) (λ key. rw is refl) (λ key. rw is refl) (λ item. rw is refl) kept; remembers = refl }
+  BookAdds-silent (Purpose name) silent = record { stands = λ history entry is seq next kept. silent-kept Nothing history entry (λ key. rw is refl) (λ key. rw is refl) (λ key. rw is refl) (λ item. rw is refl) kept; remembers = refl }
+  BookAdds-silent (Recipient name) silent = record { stands = λ history entry is seq next kept. silent-kept Nothing history entry (λ key. rw is refl) (λ key. rw is refl) (λ key. rw is refl) (λ item. rw is refl) kept; remembers = refl }
+  BookAdds-silent (Asked user purpose recipient text) silent = record { stands = λ history entry is seq next kept. silent-kept Nothing history entry (λ key. rw is refl) (λ key. rw is refl) (λ key. rw is refl) (λ item. rw is refl) kept; remembers = refl }
+  BookAdds-silent (Item item kind) silent = absurd (false≢true silent)
+  BookAdds-silent (Authorize user purpose recipient) silent = absurd (false≢true silent)
+  BookAdds-silent (Deauthorize user purpose recipient) silent = absurd (false≢true silent)
+  BookAdds-silent (Allow purpose recipient table columns item days) silent = absurd (false≢true silent)
+  BookAdds-silent (Revoke purpose recipient table columns) silent = absurd (false≢true silent)
+  BookAdds-silent (Choice subject item agreed) silent = absurd (false≢true silent)
 
   -- a word more on a user
   user-kept : (users : LastWords UserKey Authorization) (last : Matter) (key : UserKey) (word : Authorization) (history : History) (entry : Entry)
-      → ((other : UserKey) → words_of same_user users other ≡ with_word (same_user key other) (record { number = number; word = word }) (words_of same_user old.users other))
-      → ((key : CellKey) → rule_word key entry ≡ None) → ((key : ChoiceKey) → choice_word key entry ≡ None) → ((other : UserKey) → user_word other entry ≡ then_some (same_user key other) word) → ((item : Name) → item_word item entry ≡ None) → number ≡ length history + 1 → StandsFor old history
-      → StandsFor (record { rules = old.rules; choices = old.choices; users = users; items = old.items; last = last }) (history ++ entry ∷ [])
+      → ((other : UserKey) → kept_words same_user users other ≡ with_word (same_user key other) (record { number = number; word = word }) (kept_words same_user old.users other))
+      → ((key : CellKey) → rule_word key entry ≡ None) → ((key : ChoiceKey) → choice_word key entry ≡ None) → ((other : UserKey) → user_word other entry ≡ then_some (same_user key other) word) → ((item : Name) → item_word item entry ≡ None) → number ≡ length history + 1 → BookStandsFor old history
+      → BookStandsFor (record { rules = old.rules; choices = old.choices; users = users; items = old.items; last = last }) (history ++ entry ∷ [])
   user-kept users last key word history entry added rules choices spoken items next kept = record {
-    rules = IsKept-silent same_cell rule_word history entry old.rules rules kept.rules;
+    rules = IsKept-silent same_cell_key rule_word history entry old.rules rules kept.rules;
     choices = IsKept-silent same_choice choice_word history entry old.choices choices kept.choices;
     users = IsKept-spoken same_user user_word history entry old.users users (same_user key) (record { number = number; word = word }) added spoken next kept.users;
     items = IsKept-silent same_name item_word history entry old.items items kept.items;
   }
 
   rule-kept : (rules : LastWords CellKey Rule) (last : Matter) (keys : List CellKey) (word : Rule) (history : History) (entry : Entry)
-      → ((other : CellKey) → words_of same_cell rules other ≡ with_word (list_any (λ key. same_cell key other) keys) (record { number = number; word = word }) (words_of same_cell old.rules other))
-      → ((other : CellKey) → rule_word other entry ≡ then_some (list_any (λ key. same_cell key other) keys) word) → ((key : ChoiceKey) → choice_word key entry ≡ None) → ((key : UserKey) → user_word key entry ≡ None) → ((item : Name) → item_word item entry ≡ None) → number ≡ length history + 1 → StandsFor old history
-      → StandsFor (record { rules = rules; choices = old.choices; users = old.users; items = old.items; last = last }) (history ++ entry ∷ [])
+      → ((other : CellKey) → kept_words same_cell_key rules other ≡ with_word (list_any (λ key. same_cell_key key other) keys) (record { number = number; word = word }) (kept_words same_cell_key old.rules other))
+      → ((other : CellKey) → rule_word other entry ≡ then_some (list_any (λ key. same_cell_key key other) keys) word) → ((key : ChoiceKey) → choice_word key entry ≡ None) → ((key : UserKey) → user_word key entry ≡ None) → ((item : Name) → item_word item entry ≡ None) → number ≡ length history + 1 → BookStandsFor old history
+      → BookStandsFor (record { rules = rules; choices = old.choices; users = old.users; items = old.items; last = last }) (history ++ entry ∷ [])
   rule-kept rules last keys word history entry added spoken choices users items next kept = record {
-    rules = IsKept-spoken same_cell rule_word history entry old.rules rules (λ other. list_any (λ key. same_cell key other) keys) (record { number = number; word = word }) added spoken next kept.rules;
+    rules = IsKept-spoken same_cell_key rule_word history entry old.rules rules (λ other. list_any (λ key. same_cell_key key other) keys) (record { number = number; word = word }) added spoken next kept.rules;
     choices = IsKept-silent same_choice choice_word history entry old.choices choices kept.choices;
     users = IsKept-silent same_user user_word history entry old.users users kept.users;
     items = IsKept-silent same_name item_word history entry old.items items kept.items;
@@ -140,27 +140,27 @@ module _ (old : PolicyBook) (number : ℕ) where
   abbrev user_key : Name → Name → Name → UserKey
   user_key user purpose recipient = record { user = user; purpose = purpose; recipient = recipient }
 
-  pub Adds-authorize : (new : PolicyBook) (user purpose recipient : Name) → AddsUser old new number (record { user = user; purpose = purpose; recipient = recipient }) Yes → Adds old new number (Authorize user purpose recipient)
-  Adds-authorize new user purpose recipient added = record {
-    stands = λ history entry is seq next kept. subst (λ book. StandsFor book (history ++ entry ∷ [])) (sym added.others) (user-kept new.users (User (user_key user purpose recipient)) (user_key user purpose recipient) Yes history entry added.users (λ key. rw is refl) (λ key. rw is refl) (λ other. rw (is, and-assoc (bytes_eq user other.user) (bytes_eq purpose other.purpose) (bytes_eq recipient other.recipient)) refl) (λ item. rw is refl) next kept);
+  pub BookAdds-authorize : (new : PolicyBook) (user purpose recipient : Name) → AddsUser old new number (record { user = user; purpose = purpose; recipient = recipient }) Yes → BookAdds old new number (Authorize user purpose recipient)
+  BookAdds-authorize new user purpose recipient added = record {
+    stands = λ history entry is seq next kept. subst (λ book. BookStandsFor book (history ++ entry ∷ [])) (sym added.others) (user-kept new.users (User (user_key user purpose recipient)) (user_key user purpose recipient) Yes history entry added.users (λ key. rw is refl) (λ key. rw is refl) (λ other. rw (is, and-assoc (bytes_eq user other.user) (bytes_eq purpose other.purpose) (bytes_eq recipient other.recipient)) refl) (λ item. rw is refl) next kept);
     remembers = ap (λ (book : PolicyBook). book.last) added.others;
   }
 
-  pub Adds-deauthorize : (new : PolicyBook) (user purpose recipient : Name) → AddsUser old new number (record { user = user; purpose = purpose; recipient = recipient }) (No number) → Adds old new number (Deauthorize user purpose recipient)
-  Adds-deauthorize new user purpose recipient added = record {
-    stands = λ history entry is seq next kept. subst (λ book. StandsFor book (history ++ entry ∷ [])) (sym added.others) (user-kept new.users (User (user_key user purpose recipient)) (user_key user purpose recipient) (No number) history entry added.users (λ key. rw is refl) (λ key. rw is refl) (λ other. rw (is, seq, and-assoc (bytes_eq user other.user) (bytes_eq purpose other.purpose) (bytes_eq recipient other.recipient)) refl) (λ item. rw is refl) next kept);
+  pub BookAdds-deauthorize : (new : PolicyBook) (user purpose recipient : Name) → AddsUser old new number (record { user = user; purpose = purpose; recipient = recipient }) (No number) → BookAdds old new number (Deauthorize user purpose recipient)
+  BookAdds-deauthorize new user purpose recipient added = record {
+    stands = λ history entry is seq next kept. subst (λ book. BookStandsFor book (history ++ entry ∷ [])) (sym added.others) (user-kept new.users (User (user_key user purpose recipient)) (user_key user purpose recipient) (No number) history entry added.users (λ key. rw is refl) (λ key. rw is refl) (λ other. rw (is, seq, and-assoc (bytes_eq user other.user) (bytes_eq purpose other.purpose) (bytes_eq recipient other.recipient)) refl) (λ item. rw is refl) next kept);
     remembers = ap (λ (book : PolicyBook). book.last) added.others;
   }
 
-  pub Adds-allow : (new : PolicyBook) (purpose recipient table : Name) (columns : List Place) (item : Option Name) (days : Option ℕ) → AddsRule old new number (cell_keys purpose recipient table columns) (allowed number item days) → Adds old new number (Allow purpose recipient table columns item days)
-  Adds-allow new purpose recipient table columns item days added = record {
-    stands = λ history entry is seq next kept. subst (λ book. StandsFor book (history ++ entry ∷ [])) (sym added.others) (rule-kept new.rules (Cells (cell_keys purpose recipient table columns)) (cell_keys purpose recipient table columns) (allowed number item days) history entry added.rules (λ other. rw (is, seq, named purpose recipient table other columns) refl) (λ key. rw is refl) (λ key. rw is refl) (λ item. rw is refl) next kept);
+  pub BookAdds-allow : (new : PolicyBook) (purpose recipient table : Name) (columns : List Place) (item : Option Name) (days : Option ℕ) → AddsRule old new number (cell_keys purpose recipient table columns) (allowed number item days) → BookAdds old new number (Allow purpose recipient table columns item days)
+  BookAdds-allow new purpose recipient table columns item days added = record {
+    stands = λ history entry is seq next kept. subst (λ book. BookStandsFor book (history ++ entry ∷ [])) (sym added.others) (rule-kept new.rules (Cells (cell_keys purpose recipient table columns)) (cell_keys purpose recipient table columns) (allowed number item days) history entry added.rules (λ other. rw (is, seq, named purpose recipient table other columns) refl) (λ key. rw is refl) (λ key. rw is refl) (λ item. rw is refl) next kept);
     remembers = ap (λ (book : PolicyBook). book.last) added.others;
   }
 
-  pub Adds-revoke : (new : PolicyBook) (purpose recipient table : Name) (columns : List Place) → AddsRule old new number (cell_keys purpose recipient table columns) (revoked number) → Adds old new number (Revoke purpose recipient table columns)
-  Adds-revoke new purpose recipient table columns added = record {
-    stands = λ history entry is seq next kept. subst (λ book. StandsFor book (history ++ entry ∷ [])) (sym added.others) (rule-kept new.rules (Cells (cell_keys purpose recipient table columns)) (cell_keys purpose recipient table columns) (revoked number) history entry added.rules (λ other. rw (is, seq, named purpose recipient table other columns) refl) (λ key. rw is refl) (λ key. rw is refl) (λ item. rw is refl) next kept);
+  pub BookAdds-revoke : (new : PolicyBook) (purpose recipient table : Name) (columns : List Place) → AddsRule old new number (cell_keys purpose recipient table columns) (revoked number) → BookAdds old new number (Revoke purpose recipient table columns)
+  BookAdds-revoke new purpose recipient table columns added = record {
+    stands = λ history entry is seq next kept. subst (λ book. BookStandsFor book (history ++ entry ∷ [])) (sym added.others) (rule-kept new.rules (Cells (cell_keys purpose recipient table columns)) (cell_keys purpose recipient table columns) (revoked number) history entry added.rules (λ other. rw (is, seq, named purpose recipient table other columns) refl) (λ key. rw is refl) (λ key. rw is refl) (λ item. rw is refl) next kept);
     remembers = ap (λ (book : PolicyBook). book.last) added.others;
   }
 
@@ -174,11 +174,11 @@ on_ok (Err fault) then holds = tt
 
 -- a book whose words on one kind are equal to those before
 module _ (old : PolicyBook) where
-  pub as_before-choices : (choices : LastWords ChoiceKey Bool) → ((other : ChoiceKey) → words_of same_choice choices other ≡ words_of same_choice old.choices other) → IsAsBefore old (record { rules = old.rules; choices = choices; users = old.users; items = old.items; last = old.last })
+  pub as_before-choices : (choices : LastWords ChoiceKey Bool) → ((other : ChoiceKey) → kept_words same_choice choices other ≡ kept_words same_choice old.choices other) → BookIsAsBefore old (record { rules = old.rules; choices = choices; users = old.users; items = old.items; last = old.last })
   as_before-choices choices same = record { stands = λ history kept. record { rules = kept.rules; choices = λ key. same key ∙ kept.choices key; users = kept.users; items = kept.items }; remembers = refl }
 
-  pub as_before-users : (users : LastWords UserKey Authorization) → ((other : UserKey) → words_of same_user users other ≡ words_of same_user old.users other) → IsAsBefore old (record { rules = old.rules; choices = old.choices; users = users; items = old.items; last = old.last })
+  pub as_before-users : (users : LastWords UserKey Authorization) → ((other : UserKey) → kept_words same_user users other ≡ kept_words same_user old.users other) → BookIsAsBefore old (record { rules = old.rules; choices = old.choices; users = users; items = old.items; last = old.last })
   as_before-users users same = record { stands = λ history kept. record { rules = kept.rules; choices = kept.choices; users = λ key. same key ∙ kept.users key; items = kept.items }; remembers = refl }
 
-  pub as_before-rules : (rules : LastWords CellKey Rule) → ((other : CellKey) → words_of same_cell rules other ≡ words_of same_cell old.rules other) → IsAsBefore old (record { rules = rules; choices = old.choices; users = old.users; items = old.items; last = old.last })
+  pub as_before-rules : (rules : LastWords CellKey Rule) → ((other : CellKey) → kept_words same_cell_key rules other ≡ kept_words same_cell_key old.rules other) → BookIsAsBefore old (record { rules = rules; choices = old.choices; users = old.users; items = old.items; last = old.last })
   as_before-rules rules same = record { stands = λ history kept. record { rules = λ key. same key ∙ kept.rules key; choices = kept.choices; users = kept.users; items = kept.items }; remembers = refl }

@@ -10,7 +10,7 @@ use Rattle.std.specs.Option.{option_or}
 use Rattle.hippo_model.specs.declared.entry.Entry.{Entry}
 use Rattle.hippo_model.specs.Terms.{History}
 use Rattle.hippo_model.specs.Histories.{last_word}
-use Rattle.hippo_policy.specs.Words.{Said, last_number, no_earlier, numbered, latest}
+use Rattle.hippo_policy.specs.Words.{Said, latest_number, no_earlier, numbered_words, latest}
 
 module _ {A : Type 0} where
   -- the last member
@@ -78,10 +78,10 @@ module _ {A : Type 0} (word : Entry → Option A) where
       ∙ ap (λ (n : ℕ). option_or (latest n (numbered_from (number + 1 + 1) later)) (word entry)) e
       ∙ ap (λ (said : Option A). option_or said (word entry)) (latest-from (number + 1) m later)
 
-  pub latest-numbered : (n : ℕ) (history : History) → latest n (numbered word history) ≡ last_word word (take n history)
-  latest-numbered n history =
+  pub latest-numbered_words : (n : ℕ) (history : History) → latest n (numbered_words word history) ≡ last_word word (take n history)
+  latest-numbered_words n history =
       let e : 0 + n ≡ n = omega arith in
-      ap (λ (m : ℕ). latest m (numbered word history)) (sym e) ∙ latest-from 0 n history
+      ap (λ (m : ℕ). latest m (numbered_words word history)) (sym e) ∙ latest-from 0 n history
 
   -- each number is below this one
   abbrev IsBelow : ℕ → List (Said A) → Type 0
@@ -92,24 +92,24 @@ module _ {A : Type 0} (word : Entry → Option A) where
   IsBelow-with number bound (Some said) later less below zero d short = less
   IsBelow-with number bound (Some said) later less below (suc k) d short = below k d (omega arith)
 
-  IsBelow-numbered : (number : ℕ) (history : History) → IsBelow (number + length history) (numbered_from number history)
-  IsBelow-numbered number [] k d short = absurd (omega arith)
-  IsBelow-numbered number (entry ∷ later) k d short =
-      let below : IsBelow (number + length (entry ∷ later)) (numbered_from (number + 1) later) = λ k d short. let less = IsBelow-numbered (number + 1) later k d short in omega arith in
+  IsBelow-numbered_words : (number : ℕ) (history : History) → IsBelow (number + length history) (numbered_from number history)
+  IsBelow-numbered_words number [] k d short = absurd (omega arith)
+  IsBelow-numbered_words number (entry ∷ later) k d short =
+      let below : IsBelow (number + length (entry ∷ later)) (numbered_from (number + 1) later) = λ k d short. let less = IsBelow-numbered_words (number + 1) later k d short in omega arith in
       IsBelow-with number (number + length (entry ∷ later)) (word entry) (numbered_from (number + 1) later) (omega arith) below k d short
 
-  last_number-below : (bound : ℕ) (words : List (Said A)) → IsBelow (bound + 1) words → last_number words ≤ bound
-  last_number-below bound [] below = omega arith
-  last_number-below bound (said ∷ later) below =
+  latest_number-below : (bound : ℕ) (words : List (Said A)) → IsBelow (bound + 1) words → latest_number words ≤ bound
+  latest_number-below bound [] below = omega arith
+  latest_number-below bound (said ∷ later) below =
       let less = below (length (said ∷ later) - 1) said (omega arith) in
       rw (slice_get-get_or (said ∷ later) (length (said ∷ later) - 1) said (omega arith)) (omega arith)
 
   -- what is said next in a history keeps its number
-  pub no_earlier-numbered : (history : History) (said : Said A) → said.number ≡ length history + 1 → no_earlier (numbered word history) said ≡ said
-  no_earlier-numbered history said next =
-      let below : IsBelow (length history + 1) (numbered word history) = λ k d short. let less = IsBelow-numbered 1 history k d short in omega arith in
-      let least = last_number-below (length history) (numbered word history) below in
-      let same : max said.number (last_number (numbered word history)) ≡ said.number = max-eq_left (omega arith) in
+  pub no_earlier-numbered_words : (history : History) (said : Said A) → said.number ≡ length history + 1 → no_earlier (numbered_words word history) said ≡ said
+  no_earlier-numbered_words history said next =
+      let below : IsBelow (length history + 1) (numbered_words word history) = λ k d short. let less = IsBelow-numbered_words 1 history k d short in omega arith in
+      let least = latest_number-below (length history) (numbered_words word history) below in
+      let same : max said.number (latest_number (numbered_words word history)) ≡ said.number = max-eq_left (omega arith) in
       ap (λ (number : ℕ). record { number = number; word = said.word }) same
 
 module _ {A : Type 0} where
@@ -120,7 +120,7 @@ module _ {A : Type 0} where
       (λ d some. rw (slice_get-get_or words (length words - 1) d (omega arith)) (le-max_right said.number (slice_index_or words (length words - 1) d).number))
 
   -- and so where it is added or not
-  pub rises-pushed : (added : Bool) (words items : List (Said A)) (said : Said A) (number : ℕ) → number ≡ max said.number (last_number words) → IsNonDecreasingBy (λ (s : Said A). s.number) words
+  pub rises-pushed : (added : Bool) (words items : List (Said A)) (said : Said A) (number : ℕ) → number ≡ max said.number (latest_number words) → IsNonDecreasingBy (λ (s : Said A). s.number) words
       → items ≡ (if added then words ++ record { number = number; word = said.word } ∷ [] else words) → IsNonDecreasingBy (λ (s : Said A). s.number) items
   rises-pushed true words items said number is rises pushed =
       let same : items ≡ words ++ no_earlier words said ∷ [] = pushed ∙ ap (λ (n : ℕ). words ++ record { number = n; word = said.word } ∷ []) is in

@@ -16,10 +16,10 @@ use Rattle.hippo_policy.specs.declared.book.PolicyBook.{PolicyBook}
 use Rattle.hippo_policy.specs.declared.keys.CellKey.{CellKey}
 use Rattle.hippo_policy.specs.declared.keys.ChoiceKey.{ChoiceKey}
 use Rattle.hippo_policy.specs.declared.keys.UserKey.{UserKey}
-use Rattle.hippo_policy.specs.Keys.{same_cell, same_choice, same_user, same_name}
-use Rattle.hippo_policy.specs.Words.{LastWords, words_of, without_word}
-use Rattle.hippo_policy.specs.Books.{StandsFor, IsKept, rule_word, choice_word, user_word, item_word, cell_keys, matter_of}
-use Rattle.hippo_policy.proofs.AddLemmas.{IsKept-unspoken, numbered-silent}
+use Rattle.hippo_policy.specs.Keys.{same_cell_key, same_choice, same_user, same_name}
+use Rattle.hippo_policy.specs.Words.{LastWords, kept_words, without_word}
+use Rattle.hippo_policy.specs.Books.{BookStandsFor, IsKept, rule_word, choice_word, user_word, item_word, cell_keys, matter_of}
+use Rattle.hippo_policy.proofs.AddLemmas.{IsKept-unspoken, numbered_words-silent}
 use Rattle.hippo_policy.proofs.BookLemmas.{and-assoc, named}
 
 -- what an entry says of the keys of each kind that pass a test
@@ -61,7 +61,7 @@ module _ (entry : Entry) where
       (No entry.seq, record { rules = λ other. rw is refl; agreed = λ other. rw is refl; asked = λ other. rw (is, same, and-assoc (bytes_eq user other.user) (bytes_eq purpose other.purpose) (bytes_eq recipient other.recipient)) refl; kinds = λ other. rw is refl })
   says-user key act is of = absurd cc
 
-  says-cells : (keys : List CellKey) (act : Act) → entry.act ≡ act → Cells keys ≡ matter_of act → (word : Rule) × Says entry (λ other. then_some (list_any (λ key. same_cell key other) keys) word) (λ other. None) (λ other. None) (λ other. None)
+  says-cells : (keys : List CellKey) (act : Act) → entry.act ≡ act → Cells keys ≡ matter_of act → (word : Rule) × Says entry (λ other. then_some (list_any (λ key. same_cell_key key other) keys) word) (λ other. None) (λ other. None) (λ other. None)
   says-cells keys (Allow purpose recipient table columns item days) is of =
       let same : keys ≡ cell_keys purpose recipient table columns = cc in
       (allowed entry.seq item days, record { rules = λ other. rw (is, same, named purpose recipient table other columns) refl; agreed = λ other. rw is refl; asked = λ other. rw is refl; kinds = λ other. rw is refl })
@@ -72,58 +72,58 @@ module _ (entry : Entry) where
 
 module _ {K A : Type 0} (same : K → K → Bool) (word : K → Entry → Option A) (history : History) (entry : Entry) where
   IsKept-before : (kept : LastWords K A) → ((key : K) → word key entry ≡ None) → IsKept same kept word (history ++ entry ∷ []) → IsKept same kept word history
-  IsKept-before kept silent is key = is key ∙ numbered-silent (word key) history entry (silent key)
+  IsKept-before kept silent is key = is key ∙ numbered_words-silent (word key) history entry (silent key)
 
-module _ (old : PolicyBook) (history : History) (entry : Entry) (kept : StandsFor old (history ++ entry ∷ [])) where
-  pub before-nothing : Nothing ≡ matter_of entry.act → StandsFor old history
+module _ (old : PolicyBook) (history : History) (entry : Entry) (kept : BookStandsFor old (history ++ entry ∷ [])) where
+  pub before-nothing : Nothing ≡ matter_of entry.act → BookStandsFor old history
   before-nothing of =
       let says = says-nothing entry entry.act refl of in
       record {
-        rules = IsKept-before same_cell rule_word history entry old.rules says.rules kept.rules;
+        rules = IsKept-before same_cell_key rule_word history entry old.rules says.rules kept.rules;
         choices = IsKept-before same_choice choice_word history entry old.choices says.agreed kept.choices;
         users = IsKept-before same_user user_word history entry old.users says.asked kept.users;
         items = IsKept-before same_name item_word history entry old.items says.kinds kept.items;
       }
 
-  pub before-cells : (keys : List CellKey) → Cells keys ≡ matter_of entry.act → (rules : LastWords CellKey Rule) → ((other : CellKey) → words_of same_cell rules other ≡ without_word (list_any (λ key. same_cell key other) keys) (words_of same_cell old.rules other))
-      → StandsFor (record { rules = rules; choices = old.choices; users = old.users; items = old.items; last = old.last }) history
+  pub before-cells : (keys : List CellKey) → Cells keys ≡ matter_of entry.act → (rules : LastWords CellKey Rule) → ((other : CellKey) → kept_words same_cell_key rules other ≡ without_word (list_any (λ key. same_cell_key key other) keys) (kept_words same_cell_key old.rules other))
+      → BookStandsFor (record { rules = rules; choices = old.choices; users = old.users; items = old.items; last = old.last }) history
   before-cells keys of rules taken =
       let said = says-cells entry keys entry.act refl of in
       record {
-        rules = IsKept-unspoken same_cell rule_word history entry old.rules rules (λ other. list_any (λ key. same_cell key other) keys) said.0 taken said.1.rules kept.rules;
+        rules = IsKept-unspoken same_cell_key rule_word history entry old.rules rules (λ other. list_any (λ key. same_cell_key key other) keys) said.0 taken said.1.rules kept.rules;
         choices = IsKept-before same_choice choice_word history entry old.choices said.1.agreed kept.choices;
         users = IsKept-before same_user user_word history entry old.users said.1.asked kept.users;
         items = IsKept-before same_name item_word history entry old.items said.1.kinds kept.items;
       }
 
-  pub before-choice : (key : ChoiceKey) → OfChoice key ≡ matter_of entry.act → (choices : LastWords ChoiceKey Bool) → ((other : ChoiceKey) → words_of same_choice choices other ≡ without_word (same_choice key other) (words_of same_choice old.choices other))
-      → StandsFor (record { rules = old.rules; choices = choices; users = old.users; items = old.items; last = old.last }) history
+  pub before-choice : (key : ChoiceKey) → OfChoice key ≡ matter_of entry.act → (choices : LastWords ChoiceKey Bool) → ((other : ChoiceKey) → kept_words same_choice choices other ≡ without_word (same_choice key other) (kept_words same_choice old.choices other))
+      → BookStandsFor (record { rules = old.rules; choices = choices; users = old.users; items = old.items; last = old.last }) history
   before-choice key of choices taken =
       let said = says-choice entry key entry.act refl of in
       record {
-        rules = IsKept-before same_cell rule_word history entry old.rules said.1.rules kept.rules;
+        rules = IsKept-before same_cell_key rule_word history entry old.rules said.1.rules kept.rules;
         choices = IsKept-unspoken same_choice choice_word history entry old.choices choices (same_choice key) said.0 taken said.1.agreed kept.choices;
         users = IsKept-before same_user user_word history entry old.users said.1.asked kept.users;
         items = IsKept-before same_name item_word history entry old.items said.1.kinds kept.items;
       }
 
-  pub before-user : (key : UserKey) → User key ≡ matter_of entry.act → (users : LastWords UserKey Authorization) → ((other : UserKey) → words_of same_user users other ≡ without_word (same_user key other) (words_of same_user old.users other))
-      → StandsFor (record { rules = old.rules; choices = old.choices; users = users; items = old.items; last = old.last }) history
+  pub before-user : (key : UserKey) → User key ≡ matter_of entry.act → (users : LastWords UserKey Authorization) → ((other : UserKey) → kept_words same_user users other ≡ without_word (same_user key other) (kept_words same_user old.users other))
+      → BookStandsFor (record { rules = old.rules; choices = old.choices; users = users; items = old.items; last = old.last }) history
   before-user key of users taken =
       let said = says-user entry key entry.act refl of in
       record {
-        rules = IsKept-before same_cell rule_word history entry old.rules said.1.rules kept.rules;
+        rules = IsKept-before same_cell_key rule_word history entry old.rules said.1.rules kept.rules;
         choices = IsKept-before same_choice choice_word history entry old.choices said.1.agreed kept.choices;
         users = IsKept-unspoken same_user user_word history entry old.users users (same_user key) said.0 taken said.1.asked kept.users;
         items = IsKept-before same_name item_word history entry old.items said.1.kinds kept.items;
       }
 
-  pub before-item : (key : Name) → OfItem key ≡ matter_of entry.act → (items : LastWords Name ItemKind) → ((other : Name) → words_of same_name items other ≡ without_word (same_name key other) (words_of same_name old.items other))
-      → StandsFor (record { rules = old.rules; choices = old.choices; users = old.users; items = items; last = old.last }) history
+  pub before-item : (key : Name) → OfItem key ≡ matter_of entry.act → (items : LastWords Name ItemKind) → ((other : Name) → kept_words same_name items other ≡ without_word (same_name key other) (kept_words same_name old.items other))
+      → BookStandsFor (record { rules = old.rules; choices = old.choices; users = old.users; items = items; last = old.last }) history
   before-item key of items taken =
       let said = says-item entry key entry.act refl of in
       record {
-        rules = IsKept-before same_cell rule_word history entry old.rules said.1.rules kept.rules;
+        rules = IsKept-before same_cell_key rule_word history entry old.rules said.1.rules kept.rules;
         choices = IsKept-before same_choice choice_word history entry old.choices said.1.agreed kept.choices;
         users = IsKept-before same_user user_word history entry old.users said.1.asked kept.users;
         items = IsKept-unspoken same_name item_word history entry old.items items (same_name key) said.0 taken said.1.kinds kept.items;

@@ -16,8 +16,8 @@ use Rattle.hippo_policy.specs.declared.book.PolicyBook.{PolicyBook}
 use Rattle.hippo_policy.specs.declared.keys.CellKey.{CellKey}
 use Rattle.hippo_policy.specs.declared.keys.ChoiceKey.{ChoiceKey}
 use Rattle.hippo_policy.specs.declared.keys.UserKey.{UserKey}
-use Rattle.hippo_policy.specs.Keys.{same_cell, same_choice, same_user, same_name}
-use Rattle.hippo_policy.specs.Words.{LastWords, words_of, with_word, numbered, latest}
+use Rattle.hippo_policy.specs.Keys.{same_cell_key, same_choice, same_user, same_name}
+use Rattle.hippo_policy.specs.Words.{LastWords, kept_words, with_word, numbered_words, latest}
 
 abbrev pub cell_of : CellKey → RuledCell
 cell_of key =
@@ -30,7 +30,8 @@ cell_of key =
 
 -- the rule of the cell that a key names
 abbrev pub rule_of : History → CellKey → Option Rule
-rule_of history key = rule_at history key.table.purpose key.table.recipient key.table.table key.column
+rule_of history key =
+    rule_at history key.table.purpose key.table.recipient key.table.table key.column
 
 -- what an entry says of a cell, of a patient's choice, of a user's authorization, of an item
 abbrev pub rule_word : CellKey → Entry → Option Rule
@@ -46,12 +47,14 @@ abbrev pub item_word : Name → Entry → Option ItemKind
 item_word item entry = item_created item entry.act
 
 -- at each key stands what the entries of a history say of it, with their numbers
-abbrev pub IsKept : {K A : Type 0} → (K → K → Bool) → LastWords K A → (K → Entry → Option A) → History → Type 0
-IsKept {K} same kept word history = (key : K) → words_of same kept key ≡ numbered (word key) history
+abbrev pub IsKept : {K A : Type 0} → (K → K → Bool) → LastWords K A → (K → Entry → Option A)
+    → History → Type 0
+IsKept {K} same kept word history =
+    (key : K) → kept_words same kept key ≡ numbered_words (word key) history
 
 -- a book that holds what a history says
-pub record StandsFor (book : PolicyBook) (history : History) : Type 0 where
-  pub rules : IsKept same_cell book.rules rule_word history
+pub record BookStandsFor (book : PolicyBook) (history : History) : Type 0 where
+  pub rules : IsKept same_cell_key book.rules rule_word history
   pub choices : IsKept same_choice book.choices choice_word history
   pub users : IsKept same_user book.users user_word history
   pub items : IsKept same_name book.items item_word history
@@ -59,12 +62,16 @@ pub record StandsFor (book : PolicyBook) (history : History) : Type 0 where
 abbrev pub cell_keys : Name → Name → Name → List Place → List CellKey
 cell_keys purpose recipient table columns =
     map
-    (λ column. record { table = record { purpose = purpose; recipient = recipient; table = table }; column = column })
+    (λ column. record {
+      table = record { purpose = purpose; recipient = recipient; table = table };
+      column = column;
+    })
     columns
 
 -- the keys of the cells that an act rules
 abbrev pub ruled_cells : Act → List CellKey
-ruled_cells (Allow purpose recipient table columns item days) = cell_keys purpose recipient table columns
+ruled_cells (Allow purpose recipient table columns item days) =
+    cell_keys purpose recipient table columns
 ruled_cells (Revoke purpose recipient table columns) = cell_keys purpose recipient table columns
 ruled_cells act = []
 
@@ -75,8 +82,10 @@ matter_of (Authorize user purpose recipient) =
     User (record { user = user; purpose = purpose; recipient = recipient })
 matter_of (Deauthorize user purpose recipient) =
     User (record { user = user; purpose = purpose; recipient = recipient })
-matter_of (Allow purpose recipient table columns item days) = Cells (cell_keys purpose recipient table columns)
-matter_of (Revoke purpose recipient table columns) = Cells (cell_keys purpose recipient table columns)
+matter_of (Allow purpose recipient table columns item days) =
+    Cells (cell_keys purpose recipient table columns)
+matter_of (Revoke purpose recipient table columns) =
+    Cells (cell_keys purpose recipient table columns)
 matter_of (Choice subject item agreed) = OfChoice (record { subject = subject; item = item })
 matter_of act = Nothing
 
@@ -85,41 +94,58 @@ is_nothing Nothing = true
 is_nothing matter = false
 
 -- whether an act says nothing that a book keeps
-abbrev pub is_silent : Act → Bool
-is_silent act = is_nothing (matter_of act)
+abbrev pub leaves_book : Act → Bool
+leaves_book act = is_nothing (matter_of act)
 
 -- a book knows what its last entry speaks of
-abbrev pub Remembers : PolicyBook → Act → Type 0
-Remembers book act = book.last ≡ matter_of act
+abbrev pub RemembersMatter : PolicyBook → Act → Type 0
+RemembersMatter book act = book.last ≡ matter_of act
 
--- a book has taken in an entry with this number and act: it stands for each history that it stood for, with the entry
--- behind, where that has the next number
-pub record Adds (old new : PolicyBook) (number : ℕ) (act : Act) : Type 0 where
-  pub stands : (history : History) (entry : Entry) → entry.act ≡ act → entry.seq ≡ number → number ≡ length history + 1
-      → StandsFor old history → StandsFor new (history ++ entry ∷ [])
-  pub remembers : Remembers new act
+-- a book has taken in an entry with this number and act: it stands for each history that it stood
+-- for, with the entry behind, where that has the next number
+pub record BookAdds (old new : PolicyBook) (number : ℕ) (act : Act) : Type 0 where
+  pub stands : (history : History) (entry : Entry) → entry.act ≡ act → entry.seq ≡ number
+      → number ≡ length history + 1
+      → BookStandsFor old history → BookStandsFor new (history ++ entry ∷ [])
+  pub remembers : RemembersMatter new act
 
 -- a book has one word more on a user
-pub record AddsUser (old new : PolicyBook) (number : ℕ) (key : UserKey) (word : Authorization) : Type 0 where
-  pub users : (other : UserKey) → words_of same_user new.users other
-      ≡ with_word (same_user key other) (record { number = number; word = word }) (words_of same_user old.users other)
+pub record AddsUser (old new : PolicyBook) (number : ℕ) (key : UserKey) (word : Authorization)
+    : Type 0 where
+  pub users : (other : UserKey) → kept_words same_user new.users other
+      ≡ with_word (same_user key other) (record { number = number; word = word })
+      (kept_words same_user old.users other)
   pub others : new
-      ≡ record { rules = old.rules; choices = old.choices; users = new.users; items = old.items; last = User key }
+      ≡ record {
+        rules = old.rules;
+        choices = old.choices;
+        users = new.users;
+        items = old.items;
+        last = User key;
+      }
 
 -- a book has one word more on some cells
-pub record AddsRule (old new : PolicyBook) (number : ℕ) (keys : List CellKey) (word : Rule) : Type 0 where
-  pub rules : (other : CellKey) → words_of same_cell new.rules other
-      ≡ with_word (list_any (λ key. same_cell key other) keys) (record { number = number; word = word })
-      (words_of same_cell old.rules other)
+pub record AddsRule (old new : PolicyBook) (number : ℕ) (keys : List CellKey) (word : Rule)
+    : Type 0 where
+  pub rules : (other : CellKey) → kept_words same_cell_key new.rules other
+      ≡ with_word (list_any (λ key. same_cell_key key other) keys)
+      (record { number = number; word = word })
+      (kept_words same_cell_key old.rules other)
   pub others : new
-      ≡ record { rules = new.rules; choices = old.choices; users = old.users; items = old.items; last = Cells keys }
+      ≡ record {
+        rules = new.rules;
+        choices = old.choices;
+        users = old.users;
+        items = old.items;
+        last = Cells keys;
+      }
 
 -- a book stands for what it stood for
-pub record IsAsBefore (old new : PolicyBook) : Type 0 where
-  pub stands : (history : History) → StandsFor old history → StandsFor new history
+pub record BookIsAsBefore (old new : PolicyBook) : Type 0 where
+  pub stands : (history : History) → BookStandsFor old history → BookStandsFor new history
   pub remembers : new.last ≡ old.last
 
 -- the choice of a patient on an item that a book keeps, up to an entry number
 abbrev pub choice_kept : PolicyBook → ℕ → ℤ → Name → Option Bool
 choice_kept book n subject item =
-    latest n (words_of same_choice book.choices (record { subject = subject; item = item }))
+    latest n (kept_words same_choice book.choices (record { subject = subject; item = item }))

@@ -7,7 +7,8 @@ use Rattle.hippo_model.specs.Rules.{choice_at}
 use Rattle.hippo_model.specs.Verdicts.{Context, verdict}
 use Rattle.hippo_policy.specs.Gates.{table_rules, rules_verdict}
 
--- the gate of a column stands for the verdict on the column's cell of every row, whenever it was born
+-- the gate of a column stands for the verdict on the column's cell of every row, whenever it was
+-- born
 abbrev pub GatesStandForVerdicts : Type 0
 GatesStandForVerdicts =
     (history : History) (context : Context) (schema : Schema) (kept : BornRow) (column : Place)

@@ -30,7 +30,8 @@ gate_of_age moment rule (Some days) = Aged rule (after moment days)
 
 abbrev pub gate_of_item : Moment → ℕ → Name → Option ℕ → Option ItemKind → Gate
 gate_of_item moment rule item days None = Never rule
-gate_of_item moment rule item days (Some kind) = With rule item (is_opt_in (Some kind)) (option_map (after moment) days)
+gate_of_item moment rule item days (Some kind) =
+    With rule item (is_opt_in (Some kind)) (option_map (after moment) days)
 
 abbrev pub gate_by : History → Moment → Option Rule → Gate
 gate_by history moment None = Never 0
@@ -42,7 +43,8 @@ gate_by history moment (Some (allowed rule (Some item) days)) =
 abbrev pub gates_at : History → Context → Schema → List Gate
 gates_at history context schema =
     map
-    (λ place. gate_by history context.moment (rule_at history context.purpose context.recipient schema.name place))
+    (λ place. gate_by history context.moment
+    (rule_at history context.purpose context.recipient schema.name place))
     (range_with_len 0 (length schema.columns))
 
 -- the gate of each column of a table, its key and its subject
@@ -54,13 +56,16 @@ table_rules history context schema =
 abbrev pub is_born_after : Moment → Option ℤ → Bool
 is_born_after born after = option_map_or (λ second. not (int_le born second)) after true
 
--- the verdict of a gate on a cell of a row that was born at a moment and is about a patient, by the choices
+-- the verdict of a gate on a cell of a row that was born at a moment and is about a patient, by the
+-- choices
 abbrev pub gate_verdict : Choices → Moment → Option ℤ → Gate → Verdict
 gate_verdict choices born subject Always = Shown
 gate_verdict choices born subject (Never rule) = Denied rule
-gate_verdict choices born subject (Aged rule second) = if is_born_after born (Some second) then Shown else Denied rule
+gate_verdict choices born subject (Aged rule second) =
+    if is_born_after born (Some second) then Shown else Denied rule
 gate_verdict choices born subject (With rule item opt_in second) =
-    if is_born_after born second && agrees_by choices subject item opt_in then Shown else Denied rule
+    if is_born_after born second && agrees_by choices subject item opt_in then Shown
+    else Denied rule
 
 -- the patient whom a row of a table with these rules is about
 abbrev pub subject_in : TableRules → Row → Option ℤ

@@ -35,9 +35,9 @@ is_opt_in (Some OptIn) = true
 is_opt_in (Some OptOut) = false
 
 -- what is answered of a rule's item, where it has one
-abbrev pub asks_opt_in : RuleAt → Option Bool
-asks_opt_in (With rule item opt_in days) = Some opt_in
-asks_opt_in rule = None
+abbrev pub opt_in_of : RuleAt → Option Bool
+opt_in_of (With rule item opt_in days) = Some opt_in
+opt_in_of rule = None
 
 abbrev pub opt_in_at : History → Option Rule → Option Bool
 opt_in_at history (Some (allowed rule (Some item) days)) = Some (is_opt_in (item_at history item))

@@ -10,9 +10,10 @@ pub use Rattle.hippo_policy.specs.declared.last_words.LastWords.{LastWords}
 pub use Rattle.hippo_policy.specs.declared.last_words.Said.{Said}
 
 -- what each entry that speaks of the matter says, with the entry's number
-abbrev pub numbered : {A : Type 0} → (Entry → Option A) → History → List (Said A)
-numbered word history =
-    filter_map (λ (number, entry). option_map (λ said. record { number = number; word = said }) (word entry))
+abbrev pub numbered_words : {A : Type 0} → (Entry → Option A) → History → List (Said A)
+numbered_words word history =
+    filter_map (λ (number, entry). option_map
+    (λ said. record { number = number; word = said }) (word entry))
     (enumerate_from 1 history)
 
 -- the last word up to a number
@@ -21,16 +22,17 @@ latest n [] = None
 latest n (said ∷ later) = option_or (latest n later) (then_some (nat_le said.number n) said.word)
 
 -- what is kept at a key
-abbrev pub words_of : {K A : Type 0} → (K → K → Bool) → LastWords K A → K → List (Said A)
-words_of same kept key = option_map_or (λ words. words.said.items) (get same kept.words key) []
+abbrev pub kept_words : {K A : Type 0} → (K → K → Bool) → LastWords K A → K → List (Said A)
+kept_words same kept key = option_map_or (λ words. words.said.items) (get same kept.words key) []
 
 -- the number of what was said last
-abbrev pub last_number : {A : Type 0} → List (Said A) → ℕ
-last_number words = option_map_or (λ said. said.number) (slice_get words (length words - 1)) 0
+abbrev pub latest_number : {A : Type 0} → List (Said A) → ℕ
+latest_number words = option_map_or (λ said. said.number) (slice_get words (length words - 1)) 0
 
--- what is said next counts as said no earlier; the entries of a history have rising numbers, and change nothing by this
+-- what is said next counts as said no earlier; the entries of a history have rising numbers, and
+-- change nothing by this
 abbrev pub no_earlier : {A : Type 0} → List (Said A) → Said A → Said A
-no_earlier words said = record { number = max said.number (last_number words); word = said.word }
+no_earlier words said = record { number = max said.number (latest_number words); word = said.word }
 
 -- one word more, where something is said
 abbrev pub with_word : {A : Type 0} → Bool → Said A → List (Said A) → List (Said A)

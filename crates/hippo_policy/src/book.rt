@@ -4,7 +4,7 @@ ghost use Rattle.hippo_model.specs.Terms.{History};
 ghost use Rattle.hippo_model.specs.declared.entry.Entry.{Entry as HistoryEntry};
 ghost use Rattle.hippo_model.specs.declared.entry.Act.{Act as HistoryAct};
 ghost use Rattle.hippo_model.specs.declared.entry.Act.TheVariants.{Item, Choice};
-ghost use Rattle.hippo_policy.specs.Books.{StandsFor, Remembers, Adds, AddsUser, AddsRule, IsAsBefore, cell_keys, ruled_cells, is_silent};
+ghost use Rattle.hippo_policy.specs.Books.{BookStandsFor, RemembersMatter, BookAdds, AddsUser, AddsRule, BookIsAsBefore, cell_keys, ruled_cells, leaves_book};
 ghost use Rattle.hippo_policy.specs.Rulings.{ruling_in};
 
 use crate::keys::{CellKey, ChoiceKey, KeyName, TableKey, UserKey};
@@ -42,7 +42,8 @@ fn cell_keys(
     table: &Name,
     columns: &[usize],
 ) -> Result<Sequence<CellKey<'static>>, Memory>
-    ensures { IfOk result (λ keys. keys ≡ cell_keys purpose.now recipient.now table.now columns.now) }
+    ensures { IfOk result (λ keys. keys ≡ cell_keys purpose.now recipient.now table.now
+        columns.now) }
 {
     let mut keys = Sequence::new(alloc);
     for column in columns {
@@ -80,7 +81,7 @@ fn ruled_cells(alloc: Global, act: &Act) -> Result<Sequence<CellKey<'static>>, M
 impl PolicyBook {
     /// The book of the empty history; takes no memory.
     pub fn new(alloc: Global) -> PolicyBook
-        ensures { StandsFor result [] }
+        ensures { BookStandsFor result [] }
     {
         PolicyBook {
             rules: LastWords::new(alloc),
@@ -111,8 +112,8 @@ impl PolicyBook {
         item: &Name,
         kind: ItemKind,
     ) -> Result<(), Memory>
-        ensures ok { OnOk result (Adds self.old self.new number (Item item.now kind)) }
-        ensures err { OnErr result (IsAsBefore self.old self.new) }
+        ensures ok { OnOk result (BookAdds self.old self.new number (Item item.now kind)) }
+        ensures err { OnErr result (BookIsAsBefore self.old self.new) }
     {
         let key = KeyName::owned(alloc, item)?;
         let last = KeyName::owned(alloc, item)?;
@@ -129,8 +130,9 @@ impl PolicyBook {
         item: &Name,
         yes: bool,
     ) -> Result<(), Memory>
-        ensures ok { OnOk result (Adds self.old self.new number (Choice subject.now item.now yes)) }
-        ensures err { OnErr result (IsAsBefore self.old self.new) }
+        ensures ok { OnOk result (BookAdds self.old self.new number
+            (Choice subject.now item.now yes)) }
+        ensures err { OnErr result (BookIsAsBefore self.old self.new) }
     {
         let key = ChoiceKey::owned(alloc, subject, item)?;
         let last = ChoiceKey::owned(alloc, subject, item)?;
@@ -150,7 +152,7 @@ impl PolicyBook {
     ) -> Result<(), Memory>
         ensures ok { OnOk result (AddsUser self.old self.new number
             (record { user = user.now; purpose = purpose.now; recipient = recipient.now }) word) }
-        ensures err { OnErr result (IsAsBefore self.old self.new) }
+        ensures err { OnErr result (BookIsAsBefore self.old self.new) }
     {
         let key = UserKey::owned(alloc, user, purpose, recipient)?;
         let last = UserKey::owned(alloc, user, purpose, recipient)?;
@@ -163,7 +165,7 @@ impl PolicyBook {
     fn add_rule(&mut self, alloc: Global, number: u64, act: &Act) -> Result<(), Memory>
         ensures ok { OnOk result
             (AddsRule self.old self.new number (ruled_cells act.now) (ruling_in number act.now)) }
-        ensures err { OnErr result (IsAsBefore self.old self.new) }
+        ensures err { OnErr result (BookIsAsBefore self.old self.new) }
     {
         let keys = ruled_cells(alloc, act)?;
         let ruling = Ruling::of(alloc, number, act)?;
@@ -175,17 +177,18 @@ impl PolicyBook {
 
     // An entry that says nothing of what the book keeps.
     fn pass_over(&mut self)
-        ensures { (number : ℕ) (act : HistoryAct) → is_silent act ≡ true → Adds self.old self.new number act }
+        ensures { (number : ℕ) (act : HistoryAct) → leaves_book act ≡ true
+            → BookAdds self.old self.new number act }
     {
         self.remember(Matter::Nothing);
     }
 
-    /// Takes in the entry that comes next: the book then stands for the history with the entry behind. It is unchanged
-    /// where memory is short, which it never is for a Delete.
+    /// Takes in the entry that comes next: the book then stands for the history with the entry
+    /// behind. It is unchanged where memory is short, which it never is for a Delete.
     pub fn add(&mut self, alloc: Global, entry: &Entry) -> Result<(), Memory>
-        ensures ok { OnOk result (Adds self.old self.new entry.now.seq entry.now.act) }
-        ensures err { OnErr result (IsAsBefore self.old self.new) }
-        ensures deletes { is_silent entry.now.act ≡ true → IsOk result }
+        ensures ok { OnOk result (BookAdds self.old self.new entry.now.seq entry.now.act) }
+        ensures err { OnErr result (BookIsAsBefore self.old self.new) }
+        ensures deletes { leaves_book entry.now.act ≡ true → IsOk result }
     {
         let seq = entry.seq;
         match &entry.act {
@@ -207,11 +210,12 @@ impl PolicyBook {
         }
     }
 
-    /// Takes back the entry that was added last: the book then stands for the history before it. Takes no memory. The
-    /// last call that changed the book must have added an entry; without this the book stands for no history.
+    /// Takes back the entry that was added last: the book then stands for the history before it.
+    /// Takes no memory. The last call that changed the book must have added an entry; without this
+    /// the book stands for no history.
     pub fn take_back(&mut self)
-        ensures { (history : History) (entry : HistoryEntry) → Remembers self.old entry.act
-            → StandsFor self.old (history ++ entry ∷ []) → StandsFor self.new history }
+        ensures { (history : History) (entry : HistoryEntry) → RemembersMatter self.old entry.act
+            → BookStandsFor self.old (history ++ entry ∷ []) → BookStandsFor self.new history }
     {
         match &self.last {
             Matter::Nothing => {}

@@ -1,7 +1,7 @@
 //! What decides whether the cells of tables are shown, at an entry number.
 ghost use Rattle.std.specs.Prelude.{◌≡◌, take, IfOk, Some, option_map, map};
 ghost use Rattle.hippo_model.specs.Terms.{History};
-ghost use Rattle.hippo_policy.specs.Books.{StandsFor, rule_of};
+ghost use Rattle.hippo_policy.specs.Books.{BookStandsFor, rule_of};
 ghost use Rattle.hippo_policy.specs.Gates.{after, gate_of_age, gate_of_item, gate_by, table_rules};
 ghost use Rattle.hippo_model.specs.Rules.{allowed};
 
@@ -42,8 +42,9 @@ impl PolicyBook {
         item: &Name,
         days: Option<u32>,
     ) -> Result<Gate, Memory>
-        ensures { IfOk result (λ gate. (history : History) → StandsFor self.now history
-            → gate ≡ gate_by (take n history) moment.now (Some (allowed rule (Some item.now) days))) }
+        ensures { IfOk result (λ gate. (history : History) → BookStandsFor self.now history
+            → gate ≡ gate_by (take n history) moment.now
+            (Some (allowed rule (Some item.now) days))) }
     {
         match self.item_at(n, item) {
             None => Ok(Gate::Never(rule)),
@@ -62,7 +63,7 @@ impl PolicyBook {
         moment: &Moment,
         ruling: &Ruling,
     ) -> Result<Gate, Memory>
-        ensures { IfOk result (λ gate. (history : History) → StandsFor self.now history
+        ensures { IfOk result (λ gate. (history : History) → BookStandsFor self.now history
             → gate ≡ gate_by (take n history) moment.now (Some ruling.now)) }
     {
         match ruling.as_rule_at() {
@@ -85,7 +86,7 @@ impl PolicyBook {
         moment: &Moment,
         cell: &CellKey<'a>,
     ) -> Result<Gate, Memory>
-        ensures { IfOk result (λ gate. (history : History) → StandsFor self.now history
+        ensures { IfOk result (λ gate. (history : History) → BookStandsFor self.now history
             → gate ≡ gate_by (take n history) moment.now (rule_of (take n history) cell.now)) }
     {
         match self.ruling_at(n, cell) {
@@ -130,9 +131,10 @@ impl PolicyBook {
         recipient: &'a Name,
         schema: &'a Schema,
     ) -> Result<TableRules, Memory>
-        ensures { IfOk result (λ rules. (history : History) → StandsFor self.now history
+        ensures { IfOk result (λ rules. (history : History) → BookStandsFor self.now history
             → rules ≡ table_rules (take n history)
-            (record { purpose = purpose.now; recipient = recipient.now; moment = moment.now }) schema.now) }
+            (record { purpose = purpose.now; recipient = recipient.now; moment = moment.now })
+            schema.now) }
     {
         let mut gates = Sequence::new(alloc);
         for place in 0..schema.columns.len() {
@@ -147,8 +149,8 @@ impl PolicyBook {
         })
     }
 
-    /// The rules of each table for a purpose and recipient at a moment, by the first `n` entries: a gate for each
-    /// column, the places of the key and of the subject.
+    /// The rules of each table for a purpose and recipient at a moment, by the first `n` entries: a
+    /// gate for each column, the places of the key and of the subject.
     pub fn rules_in_force(
         &self,
         alloc: Global,
@@ -158,9 +160,10 @@ impl PolicyBook {
         recipient: &Name,
         tables: &LentSchemas<'_>,
     ) -> Result<RulesInForce, Memory>
-        ensures { IfOk result (λ rules. (history : History) → StandsFor self.now history
+        ensures { IfOk result (λ rules. (history : History) → BookStandsFor self.now history
             → rules ≡ map (table_rules (take n history)
-            (record { purpose = purpose.now; recipient = recipient.now; moment = moment })) tables.now) }
+            (record { purpose = purpose.now; recipient = recipient.now; moment = moment }))
+            tables.now) }
     {
         let mut rules = Sequence::new(alloc);
         for place in 0..tables.len() {

@@ -122,7 +122,11 @@ pub struct UserKey<'a> {
 
 impl<'a> UserKey<'a> {
     pub fn lent(user: &'a Name, purpose: &'a Name, recipient: &'a Name) -> UserKey<'a>
-        ensures { result ≡ record { user = user.now; purpose = purpose.now; recipient = recipient.now } }
+        ensures { result ≡ record {
+          user = user.now;
+          purpose = purpose.now;
+          recipient = recipient.now;
+        } }
     {
         UserKey {
             user: KeyName::lent(user),
@@ -161,7 +165,11 @@ pub struct TableKey<'a> {
 
 impl<'a> TableKey<'a> {
     pub fn lent(purpose: &'a Name, recipient: &'a Name, table: &'a Name) -> TableKey<'a>
-        ensures { result ≡ record { purpose = purpose.now; recipient = recipient.now; table = table.now } }
+        ensures { result ≡ record {
+          purpose = purpose.now;
+          recipient = recipient.now;
+          table = table.now;
+        } }
     {
         TableKey {
             purpose: KeyName::lent(purpose),

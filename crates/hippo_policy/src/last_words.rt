@@ -1,11 +1,12 @@
-//! What was said of a matter, and when: what the entries of a history say, by the key of what they speak of.
+//! What was said of a matter, and when: what the entries of a history say, by the key of what they
+//! speak of.
 ghost use Rattle.std.specs.Prelude.{◌≡◌, ℕ, List, [], ◌∷◌, ◌++◌, ◌-◌, length, take, Option, option_copied, OnOk, OnErr, if◌then◌else◌};
 ghost use Rattle.std.specs.List.{list_any};
 ghost use Rattle.std.specs.List.Sorted.{IsNonDecreasingBy};
 ghost use Rattle.hippo_model.specs.Terms.{History};
 ghost use Rattle.hippo_model.specs.Histories.{last_word};
 ghost use Rattle.hippo_model.specs.declared.entry.Entry.{Entry};
-ghost use Rattle.hippo_policy.specs.Words.{Said, words_of, no_earlier, with_word, without_word, numbered, latest};
+ghost use Rattle.hippo_policy.specs.Words.{Said, kept_words, no_earlier, with_word, without_word, numbered_words, latest};
 
 use crate::sayings::Sayings;
 use hippo_values::{Duplicate, Memory};
@@ -22,7 +23,8 @@ pub struct Said<W> {
 
 // The last word up to entry number `n`, where the numbers rise.
 fn latest<W>(words: &[Said<W>], n: u64) -> Option<&W>
-    ensures { IsNonDecreasingBy (λ said. said.number) words.now → option_copied result ≡ latest n words.now }
+    ensures { IsNonDecreasingBy (λ said. said.number) words.now
+        → option_copied result ≡ latest n words.now }
 {
     let end = words.partition_point(|said| said.number <= n);
     match words[..end].last() {
@@ -40,7 +42,7 @@ pub struct LastWords<K: Eq + Hash, W> {
 impl<K: Eq + Hash + Drop, W: Drop> LastWords<K, W> {
     /// Nothing said; takes no memory.
     pub fn new(alloc: Global) -> LastWords<K, W>
-        ensures { (key : K) → words_of K.eq result key ≡ [] }
+        ensures { (key : K) → kept_words K.eq result key ≡ [] }
     {
         LastWords {
             words: HashMap::new(alloc),
@@ -50,9 +52,9 @@ impl<K: Eq + Hash + Drop, W: Drop> LastWords<K, W> {
     /// What was said last of a key up to entry number `n`.
     pub fn at(&self, n: u64, key: &K) -> Option<&W>
         ensures history { (word : Entry → Option W) (history : History)
-            → words_of K.eq self.now key.now ≡ numbered word history
+            → kept_words K.eq self.now key.now ≡ numbered_words word history
             → option_copied result ≡ last_word word (take n history) }
-        ensures latest { option_copied result ≡ latest n (words_of K.eq self.now key.now) }
+        ensures latest { option_copied result ≡ latest n (kept_words K.eq self.now key.now) }
     {
         match self.words.get(key) {
             None => None,
@@ -62,9 +64,10 @@ impl<K: Eq + Hash + Drop, W: Drop> LastWords<K, W> {
 
     /// Adds what an entry says of a key.
     pub fn push(&mut self, alloc: Global, key: K, said: Said<W>) -> Result<(), Memory>
-        ensures ok { OnOk result ((other : K) → words_of K.eq self.new other
-            ≡ with_word (K.eq key other) said (words_of K.eq self.old other)) }
-        ensures err { OnErr result ((other : K) → words_of K.eq self.new other ≡ words_of K.eq self.old other) }
+        ensures ok { OnOk result ((other : K) → kept_words K.eq self.new other
+            ≡ with_word (K.eq key other) said (kept_words K.eq self.old other)) }
+        ensures err { OnErr result ((other : K)
+            → kept_words K.eq self.new other ≡ kept_words K.eq self.old other) }
     {
         match self.words.get_mut(&key) {
             Some(words) => {
@@ -76,9 +79,11 @@ impl<K: Eq + Hash + Drop, W: Drop> LastWords<K, W> {
     }
 
     fn begin(&mut self, alloc: Global, key: K, said: Said<W>) -> Result<(), Memory>
-        ensures ok { OnOk result ((other : K) → words_of K.eq self.new other
-            ≡ (if K.eq key other then no_earlier [] said ∷ [] else words_of K.eq self.old other)) }
-        ensures err { OnErr result ((other : K) → words_of K.eq self.new other ≡ words_of K.eq self.old other) }
+        ensures ok { OnOk result ((other : K) → kept_words K.eq self.new other
+            ≡ (if K.eq key other then no_earlier [] said ∷ []
+            else kept_words K.eq self.old other)) }
+        ensures err { OnErr result ((other : K)
+            → kept_words K.eq self.new other ≡ kept_words K.eq self.old other) }
     {
         let mut words = Sayings::new(alloc);
         words.push(said)?;
@@ -88,8 +93,8 @@ impl<K: Eq + Hash + Drop, W: Drop> LastWords<K, W> {
 
     /// Takes back what was said last of a key.
     pub fn pop(&mut self, key: &K)
-        ensures { (other : K) → words_of K.eq self.new other
-            ≡ without_word (K.eq key.now other) (words_of K.eq self.old other) }
+        ensures { (other : K) → kept_words K.eq self.new other
+            ≡ without_word (K.eq key.now other) (kept_words K.eq self.old other) }
     {
         if let Some(words) = self.words.get_mut(key) {
             words.pop();
@@ -99,10 +104,11 @@ impl<K: Eq + Hash + Drop, W: Drop> LastWords<K, W> {
 
 impl<K: Eq + Hash + Duplicate + Drop, W: Duplicate + Drop> LastWords<K, W> {
     fn push_copy(&mut self, alloc: Global, key: &K, number: u64, word: &W) -> Result<(), Memory>
-        ensures ok { OnOk result ((other : K) → words_of K.eq self.new other
+        ensures ok { OnOk result ((other : K) → kept_words K.eq self.new other
             ≡ with_word (K.eq key.now other) (record { number = number; word = word.now })
-            (words_of K.eq self.old other)) }
-        ensures err { OnErr result ((other : K) → words_of K.eq self.new other ≡ words_of K.eq self.old other) }
+            (kept_words K.eq self.old other)) }
+        ensures err { OnErr result ((other : K)
+            → kept_words K.eq self.new other ≡ kept_words K.eq self.old other) }
     {
         let key = key.copy(alloc)?;
         let word = word.copy(alloc)?;
@@ -111,8 +117,9 @@ impl<K: Eq + Hash + Duplicate + Drop, W: Duplicate + Drop> LastWords<K, W> {
 
     /// Takes back what was said last of each of these keys.
     pub fn pop_all(&mut self, keys: &[K])
-        ensures { (other : K) → words_of K.eq self.new other
-            ≡ without_word (list_any (λ key. K.eq key other) keys.now) (words_of K.eq self.old other) }
+        ensures { (other : K) → kept_words K.eq self.new other
+            ≡ without_word (list_any (λ key. K.eq key other) keys.now)
+            (kept_words K.eq self.old other) }
     {
         for place in 0..keys.len() {
             if !keys[..place].contains(&keys[place]) {
@@ -129,10 +136,12 @@ impl<K: Eq + Hash + Duplicate + Drop, W: Duplicate + Drop> LastWords<K, W> {
         number: u64,
         word: &W,
     ) -> Result<(), Memory>
-        ensures ok { OnOk result ((other : K) → words_of K.eq self.new other
-            ≡ with_word (list_any (λ key. K.eq key other) keys.now) (record { number = number; word = word.now })
-            (words_of K.eq self.old other)) }
-        ensures err { OnErr result ((other : K) → words_of K.eq self.new other ≡ words_of K.eq self.old other) }
+        ensures ok { OnOk result ((other : K) → kept_words K.eq self.new other
+            ≡ with_word (list_any (λ key. K.eq key other) keys.now)
+            (record { number = number; word = word.now })
+            (kept_words K.eq self.old other)) }
+        ensures err { OnErr result ((other : K)
+            → kept_words K.eq self.new other ≡ kept_words K.eq self.old other) }
     {
         for place in 0..keys.len() {
             if !keys[..place].contains(&keys[place]) {

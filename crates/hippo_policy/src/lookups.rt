@@ -3,8 +3,8 @@ ghost use Rattle.std.specs.Prelude.{◌≡◌, ℕ, take, option_copied, option_
 ghost use Rattle.hippo_model.specs.Terms.{History};
 ghost use Rattle.hippo_model.specs.Histories.{item_at};
 ghost use Rattle.hippo_model.specs.Rules.{rule_at, choice_at, authorized_at};
-ghost use Rattle.hippo_policy.specs.Books.{StandsFor, rule_of, choice_kept};
-ghost use Rattle.hippo_policy.specs.Rulings.{ruling_of, asks_opt_in, opt_in_at, is_opt_in};
+ghost use Rattle.hippo_policy.specs.Books.{BookStandsFor, rule_of, choice_kept};
+ghost use Rattle.hippo_policy.specs.Rulings.{ruling_of, opt_in_of, opt_in_at, is_opt_in};
 
 use crate::book::PolicyBook;
 use crate::keys::{CellKey, ChoiceKey, KeyName, UserKey};
@@ -14,7 +14,7 @@ use hippo_values::Name;
 
 impl PolicyBook {
     pub(crate) fn ruling_at<'a>(&'a self, n: u64, cell: &CellKey<'a>) -> Option<&'a Ruling>
-        ensures { (history : History) → StandsFor self.now history
+        ensures { (history : History) → BookStandsFor self.now history
             → option_copied result ≡ rule_of (take n history) cell.now }
     {
         self.rules.at(n, cell)
@@ -22,13 +22,14 @@ impl PolicyBook {
 
     /// How silence on an item is read, as of the first `n` entries; none where no entry creates it.
     pub fn item_at(&self, n: u64, item: &Name) -> Option<ItemKind>
-        ensures { (history : History) → StandsFor self.now history → result ≡ item_at (take n history) item.now }
+        ensures { (history : History) → BookStandsFor self.now history
+            → result ≡ item_at (take n history) item.now }
     {
         self.items.at(n, &KeyName::lent(item)).copied()
     }
 
     pub(crate) fn choice_of(&self, n: u64, subject: &i64, item: &Name) -> Option<bool>
-        ensures history { (history : History) → StandsFor self.now history
+        ensures history { (history : History) → BookStandsFor self.now history
             → result ≡ choice_at (take n history) subject.now item.now }
         ensures kept { result ≡ choice_kept self.now n subject.now item.now }
     {
@@ -37,14 +38,14 @@ impl PolicyBook {
 
     /// The last choice of a patient on an item, among the first `n` entries.
     pub fn choice_at(&self, n: u64, subject: i64, item: &Name) -> Option<bool>
-        ensures { (history : History) → StandsFor self.now history
+        ensures { (history : History) → BookStandsFor self.now history
             → result ≡ choice_at (take n history) subject item.now }
     {
         self.choice_of(n, &subject, item)
     }
 
-    /// Whether a user may ask for a purpose and recipient, as the last entry among the first `n` says that speaks of
-    /// them.
+    /// Whether a user may ask for a purpose and recipient, as the last entry among the first `n`
+    /// says that speaks of them.
     pub fn authorized_at(
         &self,
         n: u64,
@@ -52,7 +53,7 @@ impl PolicyBook {
         purpose: &Name,
         recipient: &Name,
     ) -> Authorization
-        ensures { (history : History) → StandsFor self.now history
+        ensures { (history : History) → BookStandsFor self.now history
             → result ≡ authorized_at (take n history) user.now purpose.now recipient.now }
     {
         let key = UserKey::lent(user, purpose, recipient);
@@ -62,7 +63,8 @@ impl PolicyBook {
             .unwrap_or(Authorization::No(0))
     }
 
-    /// The last rule among the first `n` entries that names a column of a table for a purpose and recipient.
+    /// The last rule among the first `n` entries that names a column of a table for a purpose and
+    /// recipient.
     pub fn rule_at<'a>(
         &'a self,
         n: u64,
@@ -71,11 +73,13 @@ impl PolicyBook {
         table: &'a Name,
         column: usize,
     ) -> RuleAt<'a>
-        ensures rule { (history : History) → StandsFor self.now history
-            → ruling_of result ≡ rule_at (take n history) purpose.now recipient.now table.now column }
-        ensures silence { (history : History) → StandsFor self.now history
-            → asks_opt_in result
-            ≡ opt_in_at (take n history) (rule_at (take n history) purpose.now recipient.now table.now column) }
+        ensures rule { (history : History) → BookStandsFor self.now history
+            → ruling_of result ≡ rule_at (take n history) purpose.now recipient.now table.now
+            column }
+        ensures silence { (history : History) → BookStandsFor self.now history
+            → opt_in_of result
+            ≡ opt_in_at (take n history)
+            (rule_at (take n history) purpose.now recipient.now table.now column) }
     {
         let cell = CellKey::lent(purpose, recipient, table, column);
         match self.ruling_at(n, &cell) {
@@ -86,8 +90,8 @@ impl PolicyBook {
 
     fn answered<'a>(&'a self, n: u64, ruling: &'a Ruling) -> RuleAt<'a>
         ensures rule { ruling_of result ≡ Some ruling.now }
-        ensures silence { (history : History) → StandsFor self.now history
-            → asks_opt_in result ≡ opt_in_at (take n history) (Some ruling.now) }
+        ensures silence { (history : History) → BookStandsFor self.now history
+            → opt_in_of result ≡ opt_in_at (take n history) (Some ruling.now) }
     {
         match ruling.as_rule_at() {
             RuleAt::With {
@@ -107,7 +111,7 @@ impl PolicyBook {
 
     // Whether an item needs a YES; one that no entry creates does.
     fn is_opt_in(&self, n: u64, item: &Name) -> bool
-        ensures { (history : History) → StandsFor self.now history
+        ensures { (history : History) → BookStandsFor self.now history
             → result ≡ is_opt_in (item_at (take n history) item.now) }
     {
         !matches!(self.item_at(n, item), Some(ItemKind::OptOut))

@@ -14,7 +14,7 @@ pub struct Sayings<W> {
 }
 
 impl<W: Drop> Sayings<W> {
-    ghost use Rattle.hippo_policy.specs.Words.{last_number, no_earlier};
+    ghost use Rattle.hippo_policy.specs.Words.{latest_number, no_earlier};
 
     /// Nothing said; takes no memory.
     pub fn new(alloc: Global) -> Sayings<W>
@@ -34,7 +34,7 @@ impl<W: Drop> Sayings<W> {
     }
 
     fn last_number(&self) -> u64
-        ensures { result ≡ last_number self.now.said.items }
+        ensures { result ≡ latest_number self.now.said.items }
     {
         match self.said.last() {
             None => 0,

@@ -2,7 +2,7 @@
 ghost use Rattle.std.specs.Prelude.{◌≡◌, take, option_copied, Some, ◌-ℤ◌, pos, ◌*◌};
 ghost use Rattle.hippo_model.specs.Terms.{History};
 ghost use Rattle.hippo_model.specs.Verdicts.{subject_of, consents, days_long, has_ended, verdict, verdict_by};
-ghost use Rattle.hippo_policy.specs.Books.{StandsFor};
+ghost use Rattle.hippo_policy.specs.Books.{BookStandsFor};
 
 use crate::book::PolicyBook;
 use crate::keys::CellKey;
@@ -36,7 +36,7 @@ fn has_ended(moment: &Moment, born: &Moment, days: Option<u32>) -> bool
 impl PolicyBook {
     // Whether a patient agrees to an item.
     fn agrees(&self, n: u64, subject: &i64, item: &Name) -> bool
-        ensures { (history : History) → StandsFor self.now history
+        ensures { (history : History) → BookStandsFor self.now history
             → result ≡ consents (take n history) (Some subject.now) (Some item.now) }
     {
         let choice = self.choice_of(n, subject, item);
@@ -48,7 +48,7 @@ impl PolicyBook {
     }
 
     fn consents(&self, n: u64, subject: Option<&i64>, item: &Name) -> bool
-        ensures { (history : History) → StandsFor self.now history
+        ensures { (history : History) → BookStandsFor self.now history
             → result ≡ consents (take n history) (option_copied subject.entry) (Some item.now) }
     {
         match subject {
@@ -66,9 +66,10 @@ impl PolicyBook {
         subject: Option<&i64>,
         ruling: &Ruling,
     ) -> Verdict
-        ensures { (history : History) → StandsFor self.now history
+        ensures { (history : History) → BookStandsFor self.now history
             → result
-            ≡ verdict_by (take n history) (moment.now -ℤ born.now) (option_copied subject.entry) (Some ruling.now) }
+            ≡ verdict_by (take n history) (moment.now -ℤ born.now) (option_copied subject.entry)
+            (Some ruling.now) }
     {
         match ruling.as_rule_at() {
             RuleAt::Unnamed => Verdict::Denied(0),
@@ -95,9 +96,9 @@ impl PolicyBook {
         }
     }
 
-    /// Whether the cell in a row's column is shown for a purpose and recipient at a moment, by the first `n` entries,
-    /// or the number of the rule that denies it, 0 where no rule names it. A row's age counts from the moment at which
-    /// it was born, the last INSERT of its key.
+    /// Whether the cell in a row's column is shown for a purpose and recipient at a moment, by the
+    /// first `n` entries, or the number of the rule that denies it, 0 where no rule names it. A
+    /// row's age counts from the moment at which it was born, the last INSERT of its key.
     pub fn verdict<'a>(
         &'a self,
         n: u64,
@@ -109,7 +110,7 @@ impl PolicyBook {
         born: Moment,
         column: usize,
     ) -> Verdict
-        ensures { (history : History) → StandsFor self.now history
+        ensures { (history : History) → BookStandsFor self.now history
             → result ≡ verdict (take n history)
             (record { purpose = purpose.now; recipient = recipient.now; moment = moment })
             schema.now (record { row = row.now; born = born }) column }

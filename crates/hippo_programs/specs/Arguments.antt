@@ -14,7 +14,8 @@ use Rattle.hippo_report.specs.declared.format.Format.TheVariants as formats
 use Rattle.hippo_programs.specs.declared.arguments.Argument.{Argument}
 use Rattle.hippo_programs.specs.declared.arguments.Argument.TheVariants.{Word, Text, Needed, Number, Flag}
 
--- an argument: a word that must be there, a text behind its name, one that must be there, a number, a name alone
+-- an argument: a word that must be there, a text behind its name, one that must be there, a number,
+-- a name alone
 abbrev pub word : Txt → Rule
 word name = record (new_rule name) { required = true }
 
@@ -49,13 +50,15 @@ abbrev pub is_taken : App → List Txt → Bool
 is_taken command words = is_empty (fault_of command words)
 
 -- what it finds in words: nothing exactly where it does not take them
-abbrev pub Finds : App → List Txt → Option ArgMatches → Type 0
-Finds command words found = MatchOption found (fault_of command words ≢ [])
-    (λ matches. (fault_of command words ≡ []) × (rows_of (found_of matches) ≡ matches_of command words))
+abbrev pub FindsMatches : App → List Txt → Option ArgMatches → Type 0
+FindsMatches command words found = MatchOption found (fault_of command words ≢ [])
+    (λ matches. (fault_of command words ≡ [])
+    × (rows_of (found_of matches) ≡ matches_of command words))
 
 -- the number that is written, or another one where nothing is
 abbrev pub number_or : ℕ → Option Txt → ℕ
-number_or otherwise written = option_map_or (λ text. digits_value 10 (without_leading_plus text)) written otherwise
+number_or otherwise written =
+    option_map_or (λ text. digits_value 10 (without_leading_plus text)) written otherwise
 
 -- the format with a name; text where none is written
 abbrev pub format_named : Txt → Option Format

@@ -64,7 +64,8 @@ pub(crate) fn command_of<'a>(
     name: &'a str,
     arguments: &[Argument<'a>],
 ) -> Result<Command<'a>, Memory>
-    ensures { IfOk result (λ command. app_of command ≡ command_with name.now (map rule_by arguments.now)) }
+    ensures { IfOk result (λ command. app_of command
+        ≡ command_with name.now (map rule_by arguments.now)) }
 {
     let mut command = no_arguments(alloc, name);
     for argument in arguments {

@@ -3,7 +3,7 @@ ghost use Rattle.std.specs.Prelude.{◌≡◌, ◌≢◌, None, true, map, optio
 ghost use Rattle.std.specs.Str.Parse.{digits_value, without_leading_plus};
 ghost use Rattle.clap.specs.Words.{app_of, rows_of, found_of, first_of, kind_of, is_simple_and_free};
 ghost use Rattle.clap.specs.declared.error.kind.ErrorKind.TheVariants.{OutOfMemory};
-ghost use Rattle.hippo_programs.specs.Arguments.{rule_by, command_with, Finds, number_or, format_named, format_in};
+ghost use Rattle.hippo_programs.specs.Arguments.{rule_by, command_with, FindsMatches, number_or, format_named, format_in};
 
 use crate::arguments::{Argument, command_of};
 use clap::error::ErrorKind;
@@ -39,7 +39,7 @@ fn found_by<'w>(
     words: &'w [&'w str],
 ) -> Result<Option<ArgMatches<'w>>, Memory>
     requires simple { is_simple_and_free (app_of command) ≡ true }
-    ensures { IfOk result (Finds (app_of command.entry) (map (λ word. word.now) words.now)) }
+    ensures { IfOk result (FindsMatches (app_of command.entry) (map (λ word. word.now) words.now)) }
 {
     match command.try_get_matches_from(words) {
         Ok(matches) => Ok(Some(matches)),
@@ -47,24 +47,27 @@ fn found_by<'w>(
     }
 }
 
-/// What a program's command, with its name and its arguments, finds in words: nothing exactly where it does not take
-/// them. Or want of memory.
+/// What a program's command, with its name and its arguments, finds in words: nothing exactly where
+/// it does not take them. Or want of memory.
 pub fn matches_in<'w>(
     alloc: Global,
     name: &'w str,
     arguments: &[Argument<'w>],
     words: &'w [&'w str],
 ) -> Result<Option<ArgMatches<'w>>, Memory>
-    requires simple { is_simple_and_free (command_with name.now (map rule_by arguments.now)) ≡ true }
+    requires simple { is_simple_and_free (command_with name.now (map rule_by arguments.now))
+        ≡ true }
     ensures { IfOk result
-        (Finds (command_with name.now (map rule_by arguments.now)) (map (λ word. word.now) words.now)) }
+        (FindsMatches (command_with name.now (map rule_by arguments.now))
+        (map (λ word. word.now) words.now)) }
 {
     found_by(command_of(alloc, name, arguments)?, words)
 }
 
 /// What is written behind a name.
 pub fn text_of<'w>(matches: &ArgMatches<'w>, name: &str) -> Option<&'w str>
-    ensures { option_map (λ text. text.now) result ≡ first_of name.now (rows_of (found_of matches.now)) }
+    ensures { option_map (λ text. text.now) result
+        ≡ first_of name.now (rows_of (found_of matches.now)) }
 {
     matches.get_str(name)
 }
@@ -101,7 +104,8 @@ fn format_named(name: &str) -> Option<Format>
     }
 }
 
-/// The format that is written behind `format`: text where none is, and nothing where it is none of the three.
+/// The format that is written behind `format`: text where none is, and nothing where it is none of
+/// the three.
 pub fn format_of(matches: &ArgMatches<'_>) -> Option<Format>
     ensures { result ≡ format_in (rows_of (found_of matches.now)) }
 {

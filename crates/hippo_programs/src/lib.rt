@@ -1,4 +1,5 @@
-//! What programs have in common: the arguments of a command line, and the lines that a program writes of its own.
+//! What programs have in common: the arguments of a command line, and the lines that a program
+//! writes of its own.
 #![tactic(auto)]
 
 mod arguments;

@@ -9,7 +9,8 @@ use itoa::Buffer;
 
 /// Writes words, a number and a line feed, or a front of them where the sink fails.
 pub fn write_numbered<K: Sink>(sink: &mut K, words: &str, number: u64) -> Result<(), Failed>
-    ensures ok { OnOk result (Appends (K.written sink.old) (K.written sink.new) (numbered_line words.now number)) }
+    ensures ok { OnOk result (Appends (K.written sink.old) (K.written sink.new)
+        (numbered_line words.now number)) }
     ensures failed { OnErr result
         (AppendsFront (K.written sink.old) (K.written sink.new) (numbered_line words.now number)) }
     ensures cause { OnErr result (HasRisen (K.faults sink.old) (K.faults sink.new)) }

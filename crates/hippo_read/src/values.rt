@@ -127,7 +127,8 @@ fn of_values(alloc: Global, rule: &str, text: &str) -> Result<String, AllocError
     }
 }
 
-/// What a text is by the rule of this name: a name, a day, a moment, values, their comparisons, or truths.
+/// What a text is by the rule of this name: a name, a day, a moment, values, their comparisons, or
+/// truths.
 pub fn shown_value(alloc: Global, rule: &str, text: &str) -> Result<String, AllocError> {
     match rule {
         "name" => name(alloc, text),

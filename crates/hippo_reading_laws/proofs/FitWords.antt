@@ -11,19 +11,19 @@ use Rattle.hippo_lexer.specs.declared.kinds.TokenKind.{TokenKind}
 use Rattle.hippo_lexer.specs.declared.kinds.Token.{Token}
 use Rattle.hippo_lexer.specs.declared.faults.SyntaxFault.{SyntaxFault}
 use Rattle.hippo_lexer.specs.declared.faults.SyntaxFault.TheVariants.{TooDeep}
-use Rattle.hippo_lexer.specs.Words.{opens, closes, negates, is_unsupported, count_of, is_steep, support_of, words_check}
+use Rattle.hippo_lexer.specs.Words.{is_left_paren, is_right_paren, negates, is_unsupported, token_count, is_steep, support_of, words_check}
 use Rattle.hippo_lexer.proofs.RangeLemmas.{list_any-range_true, list_any-range_false}
 use Rattle.hippo_lexer.proofs.WordLemmas.{or_false}
 use Rattle.hippo_spj_reader.specs.Front.{Kinds, kinds}
 
 -- parentheses and NOT are at most 64 deep, and no word is refused
 pub record AreFit (said : Kinds) : Type 0 where
-  pub level : (n : ℕ) → n ≤ length said → count_by opens (take n said) ≤ count_by closes (take n said) + 64
+  pub level : (n : ℕ) → n ≤ length said → count_by is_left_paren (take n said) ≤ count_by is_right_paren (take n said) + 64
   pub few : count_by negates said ≤ 64
   pub supported : list_any is_unsupported said ≡ false
 
 -- Tests of tokens are tests of what they say.
-count-kinds : (test : TokenKind → Bool) (tokens : List Token) → count_of test tokens ≡ count_by test (kinds tokens)
+count-kinds : (test : TokenKind → Bool) (tokens : List Token) → token_count test tokens ≡ count_by test (kinds tokens)
 count-kinds test [] = refl
 count-kinds test (token ∷ tokens) =
     sum_by-cons (λ (t : Token). cond (test t.kind) 1 0) token tokens
@@ -33,7 +33,7 @@ any-kinds : (test : TokenKind → Bool) (tokens : List Token) → list_any (λ (
 any-kinds test [] = refl
 any-kinds test (token ∷ tokens) = ap (λ b. test token.kind || b) (any-kinds test tokens)
 
-front-kinds : (test : TokenKind → Bool) (n : ℕ) (tokens : List Token) → count_of test (take n tokens) ≡ count_by test (take n (kinds tokens))
+front-kinds : (test : TokenKind → Bool) (n : ℕ) (tokens : List Token) → token_count test (take n tokens) ≡ count_by test (take n (kinds tokens))
 front-kinds test n tokens = count-kinds test (take n tokens) ∙ ap (count_by test) (sym (take-map (λ (token : Token). token.kind) n tokens))
 
 -- No place is found where none passes.
@@ -79,12 +79,12 @@ none_steep tokens n small none = elim (cases_Bool (is_steep (take n tokens))) [
 pub fit-words : (tokens : List Token) → words_check tokens ≡ Ok tt → AreFit (kinds tokens)
 unfolding words_check
 fit-words tokens words =
-    let parts = passed_parts (list_any (λ n. is_steep (take n tokens)) (range_with_len 0 (length tokens + 1))) (nat_lt 64 (count_of negates tokens)) (position (λ token. is_unsupported token.kind) tokens) words in
+    let parts = passed_parts (list_any (λ n. is_steep (take n tokens)) (range_with_len 0 (length tokens + 1))) (nat_lt 64 (token_count negates tokens)) (position (λ token. is_unsupported token.kind) tokens) words in
     record {
       level = λ n small.
           let within : n < length tokens + 1 = (let size : length (kinds tokens) ≡ length tokens = length-map tokens (λ (token : Token). token.kind) in omega arith) in
           let level = ltb-false _ _ (none_steep tokens n within parts.0) in
-          rw (front-kinds opens n tokens, front-kinds closes n tokens) at level;
+          rw (front-kinds is_left_paren n tokens, front-kinds is_right_paren n tokens) at level;
       few = rw (count-kinds negates tokens) at (ltb-false _ _ parts.1);
       supported = sym (any-kinds is_unsupported tokens) ∙ none-position (λ (token : Token). is_unsupported token.kind) tokens parts.2;
     }
@@ -94,8 +94,8 @@ unfolding words_check
 words-fit tokens fit =
     let size : length (kinds tokens) ≡ length tokens = length-map tokens (λ (token : Token). token.kind) in
     let level : list_any (λ n. is_steep (take n tokens)) (range_with_len 0 (length tokens + 1)) ≡ false =
-    list_any-range_false (λ n. is_steep (take n tokens)) 0 (length tokens + 1) (λ n small. rw zero-add (le-ltb _ _ (rw (front-kinds opens n tokens, front-kinds closes n tokens) (fit.level n (omega arith))))) in
-    let few : nat_lt 64 (count_of negates tokens) ≡ false = le-ltb _ _ (rw (count-kinds negates tokens) fit.few) in
+    list_any-range_false (λ n. is_steep (take n tokens)) 0 (length tokens + 1) (λ n small. rw zero-add (le-ltb _ _ (rw (front-kinds is_left_paren n tokens, front-kinds is_right_paren n tokens) (fit.level n (omega arith))))) in
+    let few : nat_lt 64 (token_count negates tokens) ≡ false = le-ltb _ _ (rw (count-kinds negates tokens) fit.few) in
     let supported : position (λ (token : Token). is_unsupported token.kind) tokens ≡ None = position-none (λ (token : Token). is_unsupported token.kind) tokens (any-kinds is_unsupported tokens ∙ fit.supported) in
     rw (level, few, supported) refl
 
@@ -106,14 +106,14 @@ take-behind (kind ∷ skipped) others n =
     let more : suc (length skipped) + n ≡ suc (length skipped + n) = omega arith in
     rw more (ap (λ (k : Kinds). kind ∷ k) (take-behind skipped others n))
 
-pub fit-part : (skipped front rest : Kinds) → count_by closes skipped ≡ 0 → AreFit (skipped ++ (front ++ rest)) → AreFit front
+pub fit-part : (skipped front rest : Kinds) → count_by is_right_paren skipped ≡ 0 → AreFit (skipped ++ (front ++ rest)) → AreFit front
 fit-part skipped front rest closed fit = record {
   level = λ n small.
       let whole : length (skipped ++ (front ++ rest)) ≡ length skipped + (length front + length rest) = simp length-append refl in
       let part : take (length skipped + n) (skipped ++ (front ++ rest)) ≡ skipped ++ take n front =
       take-behind skipped (front ++ rest) n ∙ ap (λ (k : Kinds). skipped ++ k) (take-append-le n front rest small) in
       let level = rw part at (fit.level (length skipped + n) (omega arith)) in
-      omega (arith, level, sum_by-append (λ (k : TokenKind). cond (opens k) 1 0) skipped (take n front), sum_by-append (λ (k : TokenKind). cond (closes k) 1 0) skipped (take n front), closed);
+      omega (arith, level, sum_by-append (λ (k : TokenKind). cond (is_left_paren k) 1 0) skipped (take n front), sum_by-append (λ (k : TokenKind). cond (is_right_paren k) 1 0) skipped (take n front), closed);
   few = omega (arith, fit.few, sum_by-append (λ (k : TokenKind). cond (negates k) 1 0) skipped (front ++ rest), sum_by-append (λ (k : TokenKind). cond (negates k) 1 0) front rest);
   supported =
       (let behind = or_false (list_any is_unsupported skipped) (list_any is_unsupported (front ++ rest)) (sym (list_any-append is_unsupported skipped (front ++ rest)) ∙ fit.supported) in

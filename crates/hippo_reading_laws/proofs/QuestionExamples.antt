@@ -18,19 +18,19 @@ use Rattle.hippo_lexer.specs.Spelling.{sign_table, sign_of}
 use Rattle.hippo_lexer.specs.Cutting.{number_of, number_first, closing, quoted_first, date_first, word_first, sign_first, token_first, tokens_from, outcome_of}
 use Rattle.hippo_lexer.specs.Words.{words_check}
 use Rattle.hippo_spj_reader.specs.ConditionFinder.{leading_comparison, leading_test, leading_condition}
-use Rattle.hippo_spj_reader.specs.SelectFinder.{leading_item, leading_member, leading_members, leading_joined, leading_sources, leading_where, leading_scope, leading_draft_of, leading_draft, ungrouped, leading_select}
+use Rattle.hippo_spj_reader.specs.SelectFinder.{leading_item, leading_member, leading_members, leading_joined, leading_sources, leading_where, leading_scope, leading_draft_of, leading_draft, ungrouped_select, leading_select}
 use Rattle.hippo_stmt_reader.specs.StatementFinder.{placed_select_of, open_of, extract_of, select_of, statement_of}
 use Rattle.hippo_typing.specs.Meanings.{select_in}
-use Rattle.hippo_reading_laws.specs.QuestionLaws.{question_of}
+use Rattle.hippo_reading_laws.specs.QuestionLaws.{select_place}
 
 -- what a text asks
 abbrev asked_in : Result (List Token) LexFault → Option (RawSelect × ℕ × ℕ)
-asked_in (Ok tokens) = option_and_then question_of (statement_of tokens)
+asked_in (Ok tokens) = option_and_then select_place (statement_of tokens)
 asked_in (Err fault) = None
 
 -- what is unfolded to read a text
 unfoldable reading : ⊤
-unfolding keywords unsupported_words sign_table sign_of number_of number_first closing quoted_first date_first word_first sign_first token_first tokens_from outcome_of words_check leading_comparison leading_test leading_condition leading_item leading_member leading_members leading_joined leading_sources leading_where leading_scope leading_draft_of leading_draft ungrouped leading_select placed_select_of open_of extract_of select_of statement_of word_of
+unfolding keywords unsupported_words sign_table sign_of number_of number_first closing quoted_first date_first word_first sign_first token_first tokens_from outcome_of words_check leading_comparison leading_test leading_condition leading_item leading_member leading_members leading_joined leading_sources leading_where leading_scope leading_draft_of leading_draft ungrouped_select leading_select placed_select_of open_of extract_of select_of statement_of word_of
 reading = tt
 
 abbrev name : RawItem

@@ -10,19 +10,19 @@ use Rattle.hippo_model.specs.declared.statement.Stmt.{Stmt}
 use Rattle.hippo_lexer.specs.declared.kinds.Token.{Token}
 use Rattle.hippo_lexer.specs.Cutting.{tokens_from, outcome_of}
 use Rattle.hippo_lexer.specs.Grammar.{IsCut, IsOutcome, IsSpan}
-use Rattle.hippo_lexer.specs.Words.{closes, words_check}
+use Rattle.hippo_lexer.specs.Words.{is_right_paren, words_check}
 use Rattle.hippo_lexer.proofs.OutcomeLemmas.{outcome-one}
 use Rattle.hippo_lexer.proofs.RunLemmas.{cut-is}
 use Rattle.hippo_lexer.proofs.SpanLemmas.{spans-of}
 use Rattle.hippo_spj_reader.specs.Front.{Kinds, kinds}
 use Rattle.hippo_spj_reader.specs.SelectGrammar.{IsSelect}
-use Rattle.hippo_stmt_reader.specs.StatementGrammar.{IsConsole, create_table, create_purpose, create_recipient, create_opt_in, create_opt_out, authorize, deauthorize, allow, revoke, choice_yes, choice_no, insert, update, delete, explain, audit, begin_audit, watch, IsPlacedSelect, placed, IsStatement, console, open_select, extract_select}
+use Rattle.hippo_stmt_reader.specs.StatementGrammar.{IsConsole, create_table, create_purpose, create_recipient, create_opt_in, create_opt_out, authorize, deauthorize, allow, revoke, choice_yes, choice_no, insert, update, delete, console_explain, console_audit, console_begin_audit, console_watch, IsPlacedSelect, placed, IsStatement, console, open_select, extract_select}
 use Rattle.hippo_stmt_reader.specs.StatementGrammar as statements
 use Rattle.hippo_stmt_reader.proofs.StatementTheorem as statement_theorem
 use Rattle.hippo_catalog.specs.Catalogs.{KnownNames}
 use Rattle.hippo_typing.specs.Meanings.{IsSelectText, select_in, query_in, meaning_in}
 use Rattle.hippo_typing.proofs.MeaningTheorem.{found-IsSelectText}
-use Rattle.hippo_reading_laws.specs.QuestionLaws.{question_of, ReadsByItself, QuestionsReadByThemselves, FoundQuestionsReadByThemselves}
+use Rattle.hippo_reading_laws.specs.QuestionLaws.{select_place, ReadsByItself, QuestionsReadByThemselves, FoundQuestionsReadByThemselves}
 use Rattle.hippo_reading_laws.proofs.TextParts.{end_from, front_of, end_of, moved}
 use Rattle.hippo_reading_laws.proofs.FitWords.{AreFit, fit-words, words-fit, fit-part}
 use Rattle.hippo_reading_laws.proofs.SelectFronts.{takes-select}
@@ -69,7 +69,7 @@ alone part rest select reading =
     rw (append-nil taken.front, same) at again
 
 module _ (text : Txt) (skipped : List Token) (first : Token) (part rest : List Token) (cut : IsOutcome text (Ok (skipped ++ first ∷ (part ++ rest)))) where
-  part_words : words_check (skipped ++ first ∷ (part ++ rest)) ≡ Ok tt → count_by closes (kinds skipped) ≡ 0 → AreFit (kinds (first ∷ part))
+  part_words : words_check (skipped ++ first ∷ (part ++ rest)) ≡ Ok tt → count_by is_right_paren (kinds skipped) ≡ 0 → AreFit (kinds (first ∷ part))
   part_words words closed =
       let whole : kinds (skipped ++ first ∷ (part ++ rest)) ≡ kinds skipped ++ (kinds (first ∷ part) ++ kinds rest) =
       map-append (λ (token : Token). token.kind) skipped (first ∷ (part ++ rest)) ∙ ap (λ (k : Kinds). kinds skipped ++ k) (map-append (λ (token : Token). token.kind) (first ∷ part) rest) in
@@ -88,7 +88,7 @@ module _ (text : Txt) (skipped : List Token) (first : Token) (part rest : List T
       let last_span : IsSpan text last = subst (IsSpan text) last_at (All-get_or (IsSpan text) tokens (length skipped + n) last (omega arith) spans) in
       (first_span.from, last_span.to)
 
-  pub part_reads : (last : Token) (select : RawSelect) → words_check (skipped ++ first ∷ (part ++ rest)) ≡ Ok tt → count_by closes (kinds skipped) ≡ 0 →
+  pub part_reads : (last : Token) (select : RawSelect) → words_check (skipped ++ first ∷ (part ++ rest)) ≡ Ok tt → count_by is_right_paren (kinds skipped) ≡ 0 →
       slice_get (first ∷ part) (length (first ∷ part) - 1) ≡ Some last → IsSelect (kinds (first ∷ (part ++ rest))) select (kinds rest) → HasPart text select first.start last.end
   part_reads last select words closed last_is reading =
       let behind = end_of 0 text (Ok (skipped ++ first ∷ (part ++ rest))) skipped first (part ++ rest) cut refl in
@@ -112,7 +112,7 @@ module _ (text : Txt) (skipped : List Token) (first : Token) (part rest : List T
         reading = subst (λ (k : Kinds). IsSelect k select []) (sym again.2) whole;
       }
 
-placed_reads : (text : Txt) (skipped tokens : List Token) (select : RawSelect) (start end : ℕ) → IsOutcome text (Ok (skipped ++ tokens)) → words_check (skipped ++ tokens) ≡ Ok tt → count_by closes (kinds skipped) ≡ 0 →
+placed_reads : (text : Txt) (skipped tokens : List Token) (select : RawSelect) (start end : ℕ) → IsOutcome text (Ok (skipped ++ tokens)) → words_check (skipped ++ tokens) ≡ Ok tt → count_by is_right_paren (kinds skipped) ≡ 0 →
     IsPlacedSelect tokens select start end → HasPart text select start end
 placed_reads text skipped tokens select _ _ cut words closed (placed {first = first} {last = last} [] rest is_whole reading is_end first_is last_is) = absurd (none-some first first_is)
 placed_reads text skipped tokens select _ _ cut words closed (placed {first = first} {last = last} (one ∷ part) rest is_whole reading is_end first_is last_is) =
@@ -123,7 +123,7 @@ placed_reads text skipped tokens select _ _ cut words closed (placed {first = fi
     subst (λ (t : Token). HasPart text select t.start last.end) same (part_reads text skipped one part rest cut_there last select words_there closed last_is reading_there)
 
 -- a statement of the console asks nothing
-console-none : (tokens : Kinds) (s : Stmt) (rest : Kinds) → IsConsole tokens s rest → question_of s ≡ None
+console-none : (tokens : Kinds) (s : Stmt) (rest : Kinds) → IsConsole tokens s rest → select_place s ≡ None
 console-none _ _ rest (create_table _ _ _) = refl
 console-none _ _ rest create_purpose = refl
 console-none _ _ rest create_recipient = refl
@@ -138,15 +138,15 @@ console-none _ _ rest choice_no = refl
 console-none _ _ rest (insert _) = refl
 console-none _ s rest (update _ _ is) = rw is refl
 console-none _ s rest (delete _ is) = rw is refl
-console-none _ _ rest explain = refl
-console-none _ _ rest (audit _) = refl
-console-none _ _ rest (begin_audit _) = refl
-console-none _ _ rest (watch _) = refl
+console-none _ _ rest console_explain = refl
+console-none _ _ rest (console_audit _) = refl
+console-none _ _ rest (console_begin_audit _) = refl
+console-none _ _ rest (console_watch _) = refl
 
 asked : (text : Txt) (select one : RawSelect) (start end from to : ℕ) → ◌≡◌ {A = Option (RawSelect × ℕ × ℕ)} (Some (one, from, to)) (Some (select, start, end)) → HasPart text one from to → HasPart text select start end
 asked text select one start end from to e part = subst (λ (q : RawSelect × ℕ × ℕ). HasPart text q.0 q.1 q.2) (same_Some (one, from, to) (select, start, end) e) part
 
-statement_reads : (text : Txt) (tokens : List Token) (s : Stmt) (select : RawSelect) (start end : ℕ) → IsOutcome text (Ok tokens) → words_check tokens ≡ Ok tt → IsStatement tokens s → question_of s ≡ Some (select, start, end) → HasPart text select start end
+statement_reads : (text : Txt) (tokens : List Token) (s : Stmt) (select : RawSelect) (start end : ℕ) → IsOutcome text (Ok tokens) → words_check tokens ≡ Ok tt → IsStatement tokens s → select_place s ≡ Some (select, start, end) → HasPart text select start end
 statement_reads text tokens s select start end cut words (console {rest = rest} is_console is_end) asks = absurd (none-some _ (sym (console-none (kinds tokens) s rest is_console) ∙ asks))
 statement_reads text tokens _ select start end cut words (statements.select {select = one} {start = from} {end = to} is_placed) asks =
     asked text select one start end from to asks (placed_reads text [] tokens one from to cut words refl is_placed)

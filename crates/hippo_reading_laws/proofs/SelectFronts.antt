@@ -12,10 +12,10 @@ use Rattle.hippo_lexer.specs.declared.kinds.Symbol.TheVariants.{Comma, Dot, Left
 use Rattle.hippo_lexer.specs.declared.kinds.TokenKind.{TokenKind}
 use Rattle.hippo_lexer.specs.declared.kinds.TokenKind.TheVariants.{Word, Keyword, Number, Quoted, Day, Symbol}
 use Rattle.hippo_spj_reader.specs.ConditionGrammar as conditions
-use Rattle.hippo_spj_reader.specs.ConditionGrammar.{RawCond, IsColumn, bare, qualified, IsLiteral, number, quoted, day, null, IsOperand, column, literal, IsCondition, disjunction, AreDisjuncts, last_disjunct, more_disjuncts, IsConjunction, conjunction, AreConjuncts, last_conjunct, more_conjuncts, IsNegation, negated, IsPrimary, parentheses, comparison, between, not_between, among, not_among, missing, present}
+use Rattle.hippo_spj_reader.specs.ConditionGrammar.{RawCond, IsColumn, bare, qualified, IsLiteral, number, quoted_literal, day, null, IsOperand, column, literal, IsCondition, disjunction, AreDisjuncts, last_disjunct, more_disjuncts, IsConjunction, conjunction, AreConjuncts, last_conjunct, more_conjuncts, IsNegation, negated, IsPrimary, parentheses, comparison, between, not_between, among, not_among, missing, present}
 use Rattle.hippo_spj_reader.specs.Front.{Kinds}
 use Rattle.hippo_spj_reader.specs.ListGrammar.{IsListOf, last_part, more_parts}
-use Rattle.hippo_spj_reader.specs.SelectGrammar.{IsItem, one_column, all_of_table, AreItems, star, listed, AreJoined, no_more, comma, join, inner_join, IsWhere, no_where, condition, IsScope, scope, IsOut, column_out, minimum, maximum, IsSelect, plain, distinct, grouped}
+use Rattle.hippo_spj_reader.specs.SelectGrammar.{IsItem, one_column, all_of_table, AreItems, star, listed_items, AreJoined, no_more, comma_table, join, inner_join, IsWhere, no_where, condition, IsScope, scope, IsOut, column_out, minimum, maximum, IsSelect, plain_select, distinct, grouped_select}
 
 -- the part takes a front of the tokens, whatever follows
 pub record TakesFront (IsPart : Kinds → Kinds → Type 0) (tokens rest : Kinds) : Type 0 where
@@ -70,7 +70,7 @@ takes-column (qualified {table = t} {column = c}) = alone (Word t ∷ Symbol Dot
 
 takes-literal : {tokens rest : Kinds} {v : Value} → IsLiteral tokens v rest → Takes IsLiteral v tokens rest
 takes-literal (number {n = n}) = alone (Number n ∷ []) (λ other. number)
-takes-literal (quoted {text = text}) = alone (Quoted text ∷ []) (λ other. quoted)
+takes-literal (quoted_literal {text = text}) = alone (Quoted text ∷ []) (λ other. quoted_literal)
 takes-literal (day {d = d}) = alone (Day d ∷ []) (λ other. day)
 takes-literal null = alone (Keyword KNull ∷ []) (λ other. null)
 
@@ -128,7 +128,7 @@ takes-item (all_of_table {table = t}) = alone (Word t ∷ Symbol Dot ∷ Symbol 
 
 takes-items : {tokens rest : Kinds} {items : List RawItem} → AreItems tokens items rest → Takes AreItems items tokens rest
 takes-items star = alone (Symbol Star ∷ []) (λ other. star)
-takes-items (listed ds) = around [] [] (takes-list IsItem (Symbol Comma) (λ _ _ _ d. takes-item d) ds) (λ tokens other ds. listed ds)
+takes-items (listed_items ds) = around [] [] (takes-list IsItem (Symbol Comma) (λ _ _ _ d. takes-item d) ds) (λ tokens other ds. listed_items ds)
 
 takes-out : {tokens rest : Kinds} {o : RawOut} → IsOut tokens o rest → Takes IsOut o tokens rest
 takes-out (column_out c) = around [] [] (takes-column c) (λ tokens other c. column_out c)
@@ -137,7 +137,7 @@ takes-out (maximum c) = around (Keyword KMax ∷ Symbol LeftParen ∷ []) (Symbo
 
 takes-joined : {tokens rest : Kinds} {tables : List _} {conditions : List RawCond} → AreJoined tokens tables conditions rest → TakesFront (λ some other. AreJoined some tables conditions other) tokens rest
 takes-joined no_more = alone [] (λ other. no_more)
-takes-joined (comma {table = t} d) = around (Symbol Comma ∷ Word t ∷ []) [] (takes-joined d) (λ tokens other d. comma d)
+takes-joined (comma_table {table = t} d) = around (Symbol Comma ∷ Word t ∷ []) [] (takes-joined d) (λ tokens other d. comma_table d)
 takes-joined (join {table = t} d ds) =
     around (Keyword KJoin ∷ Word t ∷ Keyword KOn ∷ []) [] (followed [] (takes-condition d) (takes-joined ds)) (λ tokens other on. join on.1 on.2)
 takes-joined (inner_join {table = t} d ds) =
@@ -153,12 +153,12 @@ takes-scope (scope {table = t} are_joined is_where is_whole) =
 
 -- a select takes a front of the tokens, and stays that select whatever follows
 pub takes-select : {tokens rest : Kinds} {s : RawSelect} → IsSelect tokens s rest → Takes IsSelect s tokens rest
-takes-select (plain are_items is_scope) =
-    around (Keyword KSelect ∷ []) [] (followed [] (takes-items are_items) (takes-scope is_scope)) (λ tokens other parts. plain parts.1 parts.2)
+takes-select (plain_select are_items is_scope) =
+    around (Keyword KSelect ∷ []) [] (followed [] (takes-items are_items) (takes-scope is_scope)) (λ tokens other parts. plain_select parts.1 parts.2)
 takes-select (distinct are_items is_scope) =
     around (Keyword KSelect ∷ Keyword KDistinct ∷ []) [] (followed [] (takes-items are_items) (takes-scope is_scope)) (λ tokens other parts. distinct parts.1 parts.2)
-takes-select (grouped are_outs is_scope are_columns) =
+takes-select (grouped_select are_outs is_scope are_columns) =
     around (Keyword KSelect ∷ []) []
     (followed [] (takes-list IsOut (Symbol Comma) (λ _ _ _ d. takes-out d) are_outs)
     (followed (Keyword KGroup ∷ Word (codes "by") ∷ []) (takes-scope is_scope) (takes-columns are_columns)))
-    (λ tokens other parts. grouped parts.1 parts.2.1 parts.2.2)
+    (λ tokens other parts. grouped_select parts.1 parts.2.1 parts.2.2)

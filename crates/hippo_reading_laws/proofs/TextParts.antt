@@ -7,9 +7,9 @@ use Rattle.hippo_lexer.specs.declared.kinds.TokenKind.{TokenKind}
 use Rattle.hippo_lexer.specs.declared.kinds.Token.{Token}
 use Rattle.hippo_lexer.specs.declared.faults.LexFault.{LexFault}
 use Rattle.hippo_lexer.specs.declared.faults.LexFault.TheVariants as faults
-use Rattle.hippo_lexer.specs.Spelling.{is_blank, begins_with, doubled}
+use Rattle.hippo_lexer.specs.Spelling.{is_blank, begins_with, doubled_quotes}
 use Rattle.hippo_lexer.specs.Cutting.{token_first}
-use Rattle.hippo_lexer.specs.Grammar.{IsToken, a_keyword, a_refused_word, a_name, a_number, a_quoted_text, a_day, a_sign, unclosed, IsWholeWord, IsQuotedBehind, OpensDay, IsLongestSign, IsCut, at_end, at_blank, at_token, at_fault, with_first, quoted}
+use Rattle.hippo_lexer.specs.Grammar.{IsToken, a_keyword, a_refused_word, a_name, a_number, a_quoted_text, a_day, a_sign, unclosed, IsWholeWord, IsQuotedBehind, OpensDay, IsLongestSign, IsCut, at_end, at_blank, at_token, at_fault, with_first_token, quoted_text}
 use Rattle.hippo_lexer.proofs.EdgeLemmas.{BeginsPlain, token_begins}
 use Rattle.hippo_lexer.proofs.QuotedLemmas.{quoted_or_open}
 use Rattle.hippo_lexer.proofs.TokenLemmas.{token-is, fault-is}
@@ -88,20 +88,20 @@ quote_opens place bytes outcome tokens blanks more (at_fault _ _ fault h) ok gap
 -- the word DATE has no quoted text behind it where less stands there
 alone-less : (place : ℕ) (tokens : List Token) (front behind : List ℕ) → IsCut place (front ++ behind) (Ok tokens) → ((blanks text more : List ℕ) → ¬ (IsQuotedBehind (front ++ behind) blanks text more)) → (blanks text more : List ℕ) → ¬ (IsQuotedBehind front blanks text more)
 alone-less place tokens front behind is_cut alone = λ blanks text more there.
-    let rest : List ℕ = doubled text ++ 39 ∷ [] ++ more ++ behind in
-    let parts : front ++ behind ≡ blanks ++ 39 ∷ rest = ap (λ (b : List ℕ). b ++ behind) there.parts ∙ append_assoc blanks (quoted text ++ more) behind in
+    let rest : List ℕ = doubled_quotes text ++ 39 ∷ [] ++ more ++ behind in
+    let parts : front ++ behind ≡ blanks ++ 39 ∷ rest = ap (λ (b : List ℕ). b ++ behind) there.parts ∙ append_assoc blanks (quoted_text text ++ more) behind in
     let opens = quote_opens place (front ++ behind) (Ok tokens) tokens blanks rest is_cut refl there.gap parts in
     alone blanks opens.0 opens.1 opens.2
 
 -- A token stays a token where less stands behind it, which has tokens.
-day_less : (word behind blanks text front rest : List ℕ) → OpensDay word behind blanks text (front ++ rest) → OpensDay word (blanks ++ (quoted text ++ front)) blanks text front
+day_less : (word behind blanks text front rest : List ℕ) → OpensDay word behind blanks text (front ++ rest) → OpensDay word (blanks ++ (quoted_text text ++ front)) blanks text front
 day_less word behind blanks text front rest opens =
     let quotation = opens.quotation in
-    let parts : behind ≡ (blanks ++ (quoted text ++ front)) ++ rest =
-    quotation.parts ∙ sym (append_assoc blanks (quoted text ++ front) rest ∙ ap (λ (b : List ℕ). blanks ++ b) (append_assoc (quoted text) front rest)) in
-    let whole : IsWholeWord word ((blanks ++ (quoted text ++ front)) ++ rest) = rw (← parts) opens.whole in
+    let parts : behind ≡ (blanks ++ (quoted_text text ++ front)) ++ rest =
+    quotation.parts ∙ sym (append_assoc blanks (quoted_text text ++ front) rest ∙ ap (λ (b : List ℕ). blanks ++ b) (append_assoc (quoted_text text) front rest)) in
+    let whole : IsWholeWord word ((blanks ++ (quoted_text text ++ front)) ++ rest) = rw (← parts) opens.whole in
     record {
-      whole = whole-less word (blanks ++ (quoted text ++ front)) rest whole;
+      whole = whole-less word (blanks ++ (quoted_text text ++ front)) rest whole;
       date = opens.date;
       quotation = record { gap = quotation.gap; parts = refl; ends = begins-less _ front rest quotation.ends };
     }
@@ -115,7 +115,7 @@ token-less place tokens text behind front rest kind (a_number _ _ number h fits 
 token-less place tokens text behind front rest kind (a_quoted_text _ said _ spelled ends) parts is_cut = a_quoted_text text said front spelled (begins-less _ front rest (rw (← parts) ends))
 token-less place tokens text behind front rest kind (a_day _ word after blanks said _ day opens is_day spelled) parts is_cut =
     let opens_there : OpensDay word after blanks said (front ++ rest) = rw (← parts) opens in
-    a_day text word (blanks ++ (quoted said ++ front)) blanks said front day (day_less word after blanks said front rest opens_there) is_day spelled
+    a_day text word (blanks ++ (quoted_text said ++ front)) blanks said front day (day_less word after blanks said front rest opens_there) is_day spelled
 token-less place tokens text behind front rest kind (a_sign _ _ sign h longest) parts is_cut = a_sign text front sign h (longest-less text front rest (rw (← parts) longest))
 
 -- where the last of some tokens ends, from a place on
@@ -143,7 +143,7 @@ pub record HasEnd (place : ℕ) (bytes : List ℕ) (first : Token) (tokens : Lis
 abbrev Later : Token → Outcome → List Token → Type 0
 Later token later tokens = (others : List Token) × (later ≡ Ok others) × (tokens ≡ token ∷ others)
 
-later_tokens : (token : Token) (later : Outcome) (tokens : List Token) → with_first token later ≡ Ok tokens → Later token later tokens
+later_tokens : (token : Token) (later : Outcome) (tokens : List Token) → with_first_token token later ≡ Ok tokens → Later token later tokens
 later_tokens token (Ok others) tokens e = (others, refl, cc)
 later_tokens token (Err fault) tokens e = absurd cc
 

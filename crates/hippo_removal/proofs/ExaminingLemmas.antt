@@ -18,10 +18,10 @@ use Rattle.hippo_laws.proofs.ValidFronts.{entry_has_its_number}
 use Rattle.hippo_keeper.specs.Answering.{has_failed}
 use Rattle.hippo_keeper.specs.Keeping.{KeeperState, IsReady}
 use Rattle.hippo_typing.specs.Meanings.{meaning}
-use Rattle.hippo_backlog.specs.Calls.{as_call}
+use Rattle.hippo_backlog.specs.Calls.{reading_as_call}
 use Rattle.hippo_backlog.specs.declared.faults.ReadFault.{ReadFault}
 use Rattle.hippo_backlog.specs.declared.faults.ReadFault.TheVariants.{Damaged, Memory}
-use Rattle.hippo_backlog.proofs.CallLemmas.{same_Err, as_call-fault}
+use Rattle.hippo_backlog.proofs.CallLemmas.{same_Err, reading_as_call-fault}
 use Rattle.hippo_keeper.proofs.CallLemmas.{KeepsSame-here, IsAfterCall-none, IsAfterCall-as}
 use Rattle.hippo_keeper.proofs.Results.{err_of}
 use Rattle.hippo_audit_job.specs.declared.past.Past.{Past}
@@ -38,9 +38,9 @@ Shared = Result (Option (List SharedRow)) ReadFault
 abbrev found : Option (List SharedRow) → Shared
 found shared = Ok shared
 
-only_memory : (result : Shared) → IfErr result (λ fault. fault ≡ Memory) → has_failed (as_call result) ≡ false
+only_memory : (result : Shared) → IfErr result (λ fault. fault ≡ Memory) → has_failed (reading_as_call result) ≡ false
 only_memory (Ok shared) memory = refl
-only_memory (Err fault) memory = ap (λ (f : ReadFault). has_failed (as_call (err_of (Option (List SharedRow)) f))) memory
+only_memory (Err fault) memory = ap (λ (f : ReadFault). has_failed (reading_as_call (err_of (Option (List SharedRow)) f))) memory
 
 undamaged : (result : Shared) → IfErr result (λ fault. fault ≡ Memory) → (place : ℕ) → result ≢ Err (Damaged place)
 undamaged (Ok shared) memory place is = cc
@@ -61,7 +61,7 @@ module _ (past : Past) (audit : Audit) (entry : Entry) (query : Query) (old new 
   pub examines_nothing : IsReady true before → (entry.seq ≡ 0) ⊎ (past.count < entry.seq) → Examines removal_terms past audit entry query (Ok None) old new before before s0 s0
   examines_nothing ready none = record {
     moves = record {
-      is_after = IsAfterCall-none (as_call (found None)) before refl ready;
+      is_after = IsAfterCall-none (reading_as_call (found None)) before refl ready;
       stays = λ tells. KeepsSame-here before;
       is_sound = tt;
       limit = omega arith;
@@ -79,12 +79,12 @@ module _ (past : Past) (audit : Audit) (entry : Entry) (query : Query) (old new 
     within : (history : History) → IsPastOf past history → number ≤ length history
     within history its = let count = its.count in omega (arith, next, last, count)
 
-    examines : (result : Shared) → has_failed (as_call result) ≡ has_failed (as_call one) → ((place : ℕ) → result ≡ Err (Damaged place) → one ≡ Err (Damaged place))
+    examines : (result : Shared) → has_failed (reading_as_call result) ≡ has_failed (reading_as_call one) → ((place : ℕ) → result ≡ Err (Damaged place) → one ≡ Err (Damaged place))
         → (after.tells → (history : History) → map stored history ≡ before.kept → IsPastOf past history → IsAuditOf history audit → FindsServing history audit entry query result)
         → Examines removal_terms past audit entry query result old new before after s0 s1
     examines result same whole finds = record {
       moves = record {
-        is_after = IsAfterCall-as true false (as_call one) (as_call result) before after same reads.is_after;
+        is_after = IsAfterCall-as true false (reading_as_call one) (reading_as_call result) before after same reads.is_after;
         stays = reads.stays;
         is_sound = tt;
         limit = omega arith;
@@ -102,7 +102,7 @@ module _ (past : Past) (audit : Audit) (entry : Entry) (query : Query) (old new 
     pub examines_fault : (fault : ReadFault) (result : Shared) → result ≡ Err fault → one ≡ Err fault → Examines removal_terms past audit entry query result old new before after s0 s1
     examines_fault fault result is one_is =
         examines result
-        (ap (λ r. has_failed (as_call r)) is ∙ ap has_failed (as_call-fault (Option (List SharedRow)) BothRows fault) ∙ sym (ap (λ r. has_failed (as_call r)) one_is))
+        (ap (λ r. has_failed (reading_as_call r)) is ∙ ap has_failed (reading_as_call-fault (Option (List SharedRow)) BothRows fault) ∙ sym (ap (λ r. has_failed (reading_as_call r)) one_is))
         (λ place e. one_is ∙ ap (err_of BothRows) (same_Err {A = Option (List SharedRow)} fault (Damaged place) (sym is ∙ e)))
         (λ tells history kept its audit_is. subst (FindsServing history audit entry query) (sym is) (λ user purpose recipient text asked means. tt))
 
@@ -132,7 +132,7 @@ module _ (past : Past) (audit : Audit) (entry : Entry) (query : Query) (old new 
         → (let context : Context = record { purpose = purpose; recipient = recipient; moment = entry.moment } in shared ≡ first_serving (take number history) context query audit))
         → Examines removal_terms past audit entry query result old new before after s0 s1
     examines_shared both is names result memory shares =
-        examines result (only_memory result memory ∙ sym (ap (λ r. has_failed (as_call r)) is)) (λ place e. absurd (undamaged result memory place e)) (finds_by both is names result shares)
+        examines result (only_memory result memory ∙ sym (ap (λ r. has_failed (reading_as_call r)) is)) (λ place e. absurd (undamaged result memory place e)) (finds_by both is names result shares)
 
 pub new_is : (removal : Removal) → IsNew removal_terms removal
 new_is removal = record {

@@ -12,7 +12,7 @@ use Rattle.hippo_model.specs.declared.query.Form.TheVariants.{Plain}
 use Rattle.hippo_model.specs.declared.query.Masked.{Masked}
 use Rattle.hippo_model.specs.Answers.{product}
 use Rattle.hippo_model.specs.Bags.{same_bag}
-use Rattle.hippo_model.specs.Forms.{formed}
+use Rattle.hippo_model.specs.Forms.{rows_by_form}
 use Rattle.hippo_model.specs.Masking.{Choices, is_guarded, masked_passes, masked_items}
 use Rattle.hippo_model.specs.RowSets.{KeyedRows}
 use Rattle.hippo_model.specs.Terms.{Combination, ShownRow}
@@ -20,8 +20,8 @@ use Rattle.hippo_eval.specs.Answering.{masked_rows}
 use Rattle.hippo_eval.specs.Walks.{rows_of}
 use Rattle.hippo_eval.proofs.FoundLemmas.{masked_rows-push, masked_rows-same}
 use Rattle.hippo_shared.specs.Needs.{needs_by}
-use Rattle.hippo_shared.specs.Sharing.{has_tuple, audit_has}
-use Rattle.hippo_shared.proofs.SideLemmas.{passes-unmasked}
+use Rattle.hippo_shared.specs.Sharing.{has_tuple_in, audit_has}
+use Rattle.hippo_shared.proofs.SideLemmas.{passes-unmasked_operand}
 use Rattle.hippo_examining.proofs.PlainTheorem.{plain-needs}
 use Rattle.hippo_removal.specs.Removing.{is_out, rows_left, answer_left, unmasked_query}
 
@@ -56,7 +56,7 @@ pub needs_is : (choices : Choices) (query : Masked) (form : Form) (sets : List K
     → left ≡ answer_left choices query form sets (Some tuple) → whole ≡ answer_left choices query form sets None → (same : Bool) → same ≡ same_bag left whole → not same ≡ needs_by choices query form sets tuple
 needs_is choices query form sets tuple left whole left_is whole_is same is =
     ap not is ∙ (λ i. not (same_bag (left_is i) (whole_is i)))
-    ∙ ap (λ (all : List Combination). not (same_bag (answer_left choices query form sets (Some tuple)) (formed form (masked_rows choices query all)))) (all_stay (product (rows_of sets)))
+    ∙ ap (λ (all : List Combination). not (same_bag (answer_left choices query form sets (Some tuple)) (rows_by_form form (masked_rows choices query all)))) (all_stay (product (rows_of sets)))
 
 -- one combination more that may be what is looked for
 pub any_more : (test : Combination → Bool) (before : List Combination) (combo : Combination) (so_far found : Bool) → so_far ≡ list_any test before → so_far ≡ false → found ≡ test combo → found ≡ list_any test (before ++ combo ∷ [])
@@ -81,4 +81,4 @@ module _ (choices : Choices) (audit : Audit) (sets : List KeyedRows) (tuple : Li
   pub audit_needs_by : needs_by choices (unmasked_query audit) Plain sets tuple ≡ audit_has audit sets tuple
   audit_needs_by =
       plain-needs choices (unmasked_query audit) sets tuple
-      ∙ (λ i. list_any (λ (rows : Combination). has_tuple audit.tables sets tuple rows && (and_true (masked_passes choices (unmasked_query audit) rows) ∙ passes-unmasked choices audit.cond rows) i) (product (rows_of sets)))
+      ∙ (λ i. list_any (λ (rows : Combination). has_tuple_in audit.tables sets tuple rows && (and_true (masked_passes choices (unmasked_query audit) rows) ∙ passes-unmasked_operand choices audit.cond rows) i) (product (rows_of sets)))

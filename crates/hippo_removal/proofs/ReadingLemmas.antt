@@ -17,16 +17,16 @@ use Rattle.hippo_typing.specs.Meanings.{meaning}
 use Rattle.hippo_typing.proofs.CatalogTheorem.{valid_names}
 use Rattle.hippo_rewrite.proofs.FittingRows.{schema_named}
 use Rattle.hippo_backlog.specs.Backlogs.{Snapshots}
-use Rattle.hippo_backlog.specs.Calls.{as_call}
+use Rattle.hippo_backlog.specs.Calls.{reading_as_call}
 use Rattle.hippo_backlog.specs.declared.faults.ReadFault.{ReadFault}
 use Rattle.hippo_backlog.specs.declared.faults.ReadFault.TheVariants.{Keeper, Damaged, Memory}
-use Rattle.hippo_backlog.proofs.CallLemmas.{same_Err, as_call-fault}
+use Rattle.hippo_backlog.proofs.CallLemmas.{same_Err, reading_as_call-fault}
 use Rattle.hippo_keeper.proofs.CallLemmas.{KeepsSame-here, KeepsSame-then, IsAfterCall-none, IsAfterCall-as, IsAfterCall-then}
 use Rattle.hippo_keeper.proofs.Results.{err_of, well}
 use Rattle.hippo_audit_job.specs.declared.past.Past.{Past}
 use Rattle.hippo_audit_job.specs.Examining.{IsPastOf}
 use Rattle.hippo_removal.specs.declared.snapshots.BothRows.{BothRows}
-use Rattle.hippo_removal.specs.Removals.{rows_then, AreAdded, IsPushed, Reads, ReadsBoth}
+use Rattle.hippo_removal.specs.Removals.{rows_then, AreAdded, IsPushed, ReadsRows, ReadsBoth}
 
 abbrev ok_of : KeyedRows → Result KeyedRows ReadFault
 ok_of set = Ok set
@@ -34,9 +34,9 @@ ok_of set = Ok set
 abbrev Done : Type 0
 Done = Result (Unit {0}) ReadFault
 
-pushed_well : (set : KeyedRows) (result : Done) (old new : List KeyedRows) → IsPushed set result old new → has_failed (as_call result) ≡ false
+pushed_well : (set : KeyedRows) (result : Done) (old new : List KeyedRows) → IsPushed set result old new → has_failed (reading_as_call result) ≡ false
 pushed_well set (Ok tt) old new is = refl
-pushed_well set (Err fault) old new is = ap (λ (f : ReadFault). has_failed (as_call (err_of (Unit {0}) f))) is
+pushed_well set (Err fault) old new is = ap (λ (f : ReadFault). has_failed (reading_as_call (err_of (Unit {0}) f))) is
 
 pushed_one : (set : KeyedRows) (result : Done) (old new : List KeyedRows) → IsPushed set result old new → OnOk result (length new ≡ length old + 1)
 pushed_one set (Ok tt) old new is = ap length is ∙ length-append old (set ∷ [])
@@ -69,9 +69,9 @@ module _ (past : Past) (number : ℕ) (table : Name) where
 
   -- a table that is not known has no rows
   pub read_none : (result : Done) (old new : List KeyedRows) (keeper : KeeperState) → IsReady true keeper → table_of past.catalog.now.names table ≡ None → IsPushed no_set result old new
-      → Reads past number (table ∷ []) result old new keeper keeper
+      → ReadsRows past number (table ∷ []) result old new keeper keeper
   read_none result old new keeper ready none pushed = record {
-    is_after = IsAfterCall-none (as_call result) keeper (pushed_well no_set result old new pushed) ready;
+    is_after = IsAfterCall-none (reading_as_call result) keeper (pushed_well no_set result old new pushed) ready;
     stays = λ tells. KeepsSame-here keeper;
     many = pushed_one no_set result old new pushed;
     told = λ tells history kept its within. pushed_rows no_set (rows_then number history (table ∷ [])) (rows_one history None (found_by history its None none)) result old new pushed;
@@ -84,9 +84,9 @@ module _ (past : Past) (number : ℕ) (table : Name) where
         ap (schema_at history) (schema_named history table schema found) ∙ found
 
     -- a snapshot is added
-    pub read_some : (set : KeyedRows) → Snapshots schema number (Ok set) before after s0 s1 → (result : Done) (old new : List KeyedRows) → IsPushed set result old new → Reads past number (table ∷ []) result old new before after
+    pub read_some : (set : KeyedRows) → Snapshots schema number (Ok set) before after s0 s1 → (result : Done) (old new : List KeyedRows) → IsPushed set result old new → ReadsRows past number (table ∷ []) result old new before after
     read_some set shot result old new pushed = record {
-      is_after = IsAfterCall-as true false (as_call (ok_of set)) (as_call result) before after (pushed_well set result old new pushed) shot.is_after;
+      is_after = IsAfterCall-as true false (reading_as_call (ok_of set)) (reading_as_call result) before after (pushed_well set result old new pushed) shot.is_after;
       stays = shot.stays;
       many = pushed_one set result old new pushed;
       told = λ tells history kept its within.
@@ -95,9 +95,9 @@ module _ (past : Past) (number : ℕ) (table : Name) where
     }
 
     -- a snapshot that fails
-    pub read_fault : (fault : ReadFault) (old : List KeyedRows) → Snapshots schema number (err_of KeyedRows fault) before after s0 s1 → Reads past number (table ∷ []) (Err fault) old old before after
+    pub read_fault : (fault : ReadFault) (old : List KeyedRows) → Snapshots schema number (err_of KeyedRows fault) before after s0 s1 → ReadsRows past number (table ∷ []) (Err fault) old old before after
     read_fault fault old shot = record {
-      is_after = IsAfterCall-as true false (as_call (err_of KeyedRows fault)) (as_call (err_of (Unit {0}) fault)) before after (ap has_failed (as_call-fault (Unit {0}) KeyedRows fault)) shot.is_after;
+      is_after = IsAfterCall-as true false (reading_as_call (err_of KeyedRows fault)) (reading_as_call (err_of (Unit {0}) fault)) before after (ap has_failed (reading_as_call-fault (Unit {0}) KeyedRows fault)) shot.is_after;
       stays = shot.stays;
       many = tt;
       told = λ tells history kept its within.
@@ -107,24 +107,24 @@ module _ (past : Past) (number : ℕ) (table : Name) where
 
 -- ---- tables one after the other
 module _ (past : Past) (number : ℕ) where
-  pub reads_none : (rows : List KeyedRows) (keeper : KeeperState) → IsReady true keeper → Reads past number [] (well ReadFault) rows rows keeper keeper
+  pub reads_none : (rows : List KeyedRows) (keeper : KeeperState) → IsReady true keeper → ReadsRows past number [] (well ReadFault) rows rows keeper keeper
   reads_none rows keeper ready = record {
-    is_after = IsAfterCall-none (as_call (well ReadFault)) keeper refl ready;
+    is_after = IsAfterCall-none (reading_as_call (well ReadFault)) keeper refl ready;
     stays = λ tells. KeepsSame-here keeper;
     many = omega arith;
     told = λ tells history kept its within. sym (append-nil rows);
   }
 
-  module _ (front back : List Name) (old mid new : List KeyedRows) (before middle after : KeeperState) (one : Reads past number front (well ReadFault) old mid before middle) where
-    tells_too : (result : Done) → Reads past number back result mid new middle after → after.tells → middle.tells
+  module _ (front back : List Name) (old mid new : List KeyedRows) (before middle after : KeeperState) (one : ReadsRows past number front (well ReadFault) old mid before middle) where
+    tells_too : (result : Done) → ReadsRows past number back result mid new middle after → after.tells → middle.tells
     tells_too result other tells = other.is_after.told tells
 
-    pub reads_then : Reads past number back (well ReadFault) mid new middle after → Reads past number (front ++ back) (well ReadFault) old new before after
+    pub reads_then : ReadsRows past number back (well ReadFault) mid new middle after → ReadsRows past number (front ++ back) (well ReadFault) old new before after
     reads_then other =
         let first = one.many in
         let second = other.many in
         record {
-          is_after = IsAfterCall-then false (as_call (well ReadFault)) (as_call (well ReadFault)) before middle after refl one.is_after other.is_after;
+          is_after = IsAfterCall-then false (reading_as_call (well ReadFault)) (reading_as_call (well ReadFault)) before middle after refl one.is_after other.is_after;
           stays = λ tells. KeepsSame-then before middle after (one.stays (tells_too (well ReadFault) other tells)) (other.stays tells);
           many = omega (arith, first, second, length-append front back);
           told = λ tells history kept its within.
@@ -135,9 +135,9 @@ module _ (past : Past) (number : ℕ) where
               ∙ ap (λ (rows : List KeyedRows). old ++ rows) (sym (map-append _ front back));
         }
 
-    pub reads_fault : (fault : ReadFault) (whole : List Name) → Reads past number back (Err fault) mid new middle after → Reads past number whole (Err fault) old new before after
+    pub reads_fault : (fault : ReadFault) (whole : List Name) → ReadsRows past number back (Err fault) mid new middle after → ReadsRows past number whole (Err fault) old new before after
     reads_fault fault whole other = record {
-      is_after = IsAfterCall-then false (as_call (well ReadFault)) (as_call (err_of (Unit {0}) fault)) before middle after refl one.is_after other.is_after;
+      is_after = IsAfterCall-then false (reading_as_call (well ReadFault)) (reading_as_call (err_of (Unit {0}) fault)) before middle after refl one.is_after other.is_after;
       stays = λ tells. KeepsSame-then before middle after (one.stays (tells_too (Err fault) other tells)) (other.stays tells);
       many = tt;
       told = λ tells history kept its within.
@@ -159,9 +159,9 @@ module _ (past : Past) (number : ℕ) (query : Query) (audit : Audit) where
 
   -- one of them is not read
   pub both_fault : (names : List Name) (fault : ReadFault) (old new : List KeyedRows) (before after : KeeperState) (result : Result BothRows ReadFault) → result ≡ Err fault
-      → Reads past number names (Err fault) old new before after → ReadsBoth past number query audit result before after
+      → ReadsRows past number names (Err fault) old new before after → ReadsBoth past number query audit result before after
   both_fault names fault old new before after result is reads = subst (λ (r : Result BothRows ReadFault). ReadsBoth past number query audit r before after) (sym is) (record {
-    is_after = IsAfterCall-as true false (as_call (err_of (Unit {0}) fault)) (as_call (err_of BothRows fault)) before after (ap has_failed (as_call-fault BothRows (Unit {0}) fault)) reads.is_after;
+    is_after = IsAfterCall-as true false (reading_as_call (err_of (Unit {0}) fault)) (reading_as_call (err_of BothRows fault)) before after (ap has_failed (reading_as_call-fault BothRows (Unit {0}) fault)) reads.is_after;
     stays = reads.stays;
     many = tt;
     told = λ tells history kept its within. tt;
@@ -169,12 +169,12 @@ module _ (past : Past) (number : ℕ) (query : Query) (audit : Audit) where
   })
 
   pub both_read : (query_rows audit_rows : List KeyedRows) (both : BothRows) → both.query ≡ query_rows → both.audit ≡ audit_rows → (before middle after : KeeperState)
-      → Reads past number query.tables (well ReadFault) [] query_rows before middle → Reads past number audit.tables (well ReadFault) [] audit_rows middle after
+      → ReadsRows past number query.tables (well ReadFault) [] query_rows before middle → ReadsRows past number audit.tables (well ReadFault) [] audit_rows middle after
       → ReadsBoth past number query audit (Ok both) before after
   both_read query_rows audit_rows both query_is audit_is before middle after one other =
       let long = other.many in
       record {
-        is_after = IsAfterCall-then false (as_call (well ReadFault)) (as_call (well ReadFault)) before middle after refl one.is_after other.is_after;
+        is_after = IsAfterCall-then false (reading_as_call (well ReadFault)) (reading_as_call (well ReadFault)) before middle after refl one.is_after other.is_after;
         stays = λ tells. KeepsSame-then before middle after (one.stays (other.is_after.told tells)) (other.stays tells);
         many = let same = ap length audit_is in omega (arith, same, long);
         told = λ tells history kept its within. record {
@@ -186,13 +186,13 @@ module _ (past : Past) (number : ℕ) (query : Query) (audit : Audit) where
 
   -- the query's were, and the audit's are not
   pub both_fault_then : (fault : ReadFault) (query_rows old new : List KeyedRows) (before middle after : KeeperState) (result : Result BothRows ReadFault) → result ≡ Err fault
-      → Reads past number query.tables (well ReadFault) [] query_rows before middle → Reads past number audit.tables (Err fault) old new middle after
+      → ReadsRows past number query.tables (well ReadFault) [] query_rows before middle → ReadsRows past number audit.tables (Err fault) old new middle after
       → ReadsBoth past number query audit result before after
   both_fault_then fault query_rows old new before middle after result is one other =
       both_fault audit.tables fault [] new before after result is
       (reads_fault past number query.tables audit.tables [] query_rows new before middle after one fault audit.tables (any_old fault other))
     where
-      any_old : (fault : ReadFault) → Reads past number audit.tables (Err fault) old new middle after → Reads past number audit.tables (Err fault) query_rows new middle after
+      any_old : (fault : ReadFault) → ReadsRows past number audit.tables (Err fault) old new middle after → ReadsRows past number audit.tables (Err fault) query_rows new middle after
       any_old fault reads = record {
         is_after = reads.is_after;
         stays = reads.stays;

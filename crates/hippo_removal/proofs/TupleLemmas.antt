@@ -20,7 +20,7 @@ use Rattle.hippo_eval.specs.Walks.{rows_of}
 use Rattle.hippo_eval.proofs.WalkLemmas.{drop_at}
 use Rattle.hippo_join.proofs.ProductLemmas.{map-map, map-flat_map}
 use Rattle.hippo_shared.specs.Needs.{needs_by, first_needed}
-use Rattle.hippo_shared.specs.Sharing.{common_tables, place_in, rows_named, virtual_tuples, query_has}
+use Rattle.hippo_shared.specs.Sharing.{common_tables, place_in, rows_named, virtual_tuples_in, query_has}
 use Rattle.hippo_shared.proofs.CommonLemmas.{common-in-audit}
 use Rattle.hippo_shared.proofs.TupleLemmas.{AllStandIn, set_at}
 use Rattle.hippo_removal.specs.Removing.{tuple_of, unmasked_query, is_shared}
@@ -39,7 +39,7 @@ module _ (names : List Name) (sets : List KeyedRows) where
   flat_map_same f g same (x ∷ xs) = λ i. same x i ++ flat_map_same f g same xs i
 
   -- virtual tuples are those of the combinations of the common tables' rows
-  pub tuples_of : (common : List Name) → map (tuple_of common (map (rows_named names sets) common)) (product (rows_of (map (rows_named names sets) common))) ≡ virtual_tuples names sets common
+  pub tuples_of : (common : List Name) → map (tuple_of common (map (rows_named names sets) common)) (product (rows_of (map (rows_named names sets) common))) ≡ virtual_tuples_in names sets common
   tuples_of [] = refl
   tuples_of (table ∷ common) =
       let set = rows_named names sets table in
@@ -47,7 +47,7 @@ module _ (names : List Name) (sets : List KeyedRows) where
       let later = product (rows_of others) in
       let by_key : BornRow → SharedRow = λ kept. record { table = table; key = key_in set.key kept } in
       let whole = tuple_of (table ∷ common) (set ∷ others) in
-      let after : SharedRow → List (List SharedRow) = λ shared. map (λ more. shared ∷ more) (virtual_tuples names sets common) in
+      let after : SharedRow → List (List SharedRow) = λ shared. map (λ more. shared ∷ more) (virtual_tuples_in names sets common) in
       map-flat_map whole (λ kept. map (λ more. kept ∷ more) later) set.rows
       ∙ flat_map_same (λ kept. map whole (map (λ more. kept ∷ more) later)) (λ kept. after (by_key kept))
       (λ kept. map-map whole (λ more. kept ∷ more) later
@@ -128,4 +128,4 @@ module _ (choices : Choices) (query : Masked) (form : Form) (audit : Audit) (see
       ∙ sets_found audit.tables audit_sets long these (common-in-audit query.tables audit.tables) in
       (λ i. find (is_shared choices query form (unmasked_is i) seen query_sets audit_sets) (map (tuple_of (common_is i) (sets_named i)) (product (rows_of (sets_named i)))))
       ∙ ap (find (is_shared choices query form (unmasked_query audit) seen query_sets audit_sets)) (tuples_of audit.tables audit_sets these)
-      ∙ (λ i. find (λ (tuple : List SharedRow). needs_by choices query form query_sets tuple && query_has choices query seen query_sets tuple && audit_needs_by choices audit audit_sets tuple i) (virtual_tuples audit.tables audit_sets these))
+      ∙ (λ i. find (λ (tuple : List SharedRow). needs_by choices query form query_sets tuple && query_has choices query seen query_sets tuple && audit_needs_by choices audit audit_sets tuple i) (virtual_tuples_in audit.tables audit_sets these))

@@ -13,7 +13,7 @@ use Rattle.hippo_model.specs.Terms.{History}
 use Rattle.hippo_keeper.specs.Keeping.{KeeperState, IsAfterCall, KeepsSame}
 use Rattle.hippo_backlog.specs.declared.faults.ReadFault.{ReadFault}
 use Rattle.hippo_backlog.specs.declared.faults.ReadFault.TheVariants.{Keeper, Damaged, Memory}
-use Rattle.hippo_backlog.specs.Calls.{as_call}
+use Rattle.hippo_backlog.specs.Calls.{reading_as_call}
 use Rattle.hippo_audit_job.specs.declared.past.Past.{Past}
 use Rattle.hippo_audit_job.specs.Examining.{IsPastOf, IsAuditOf, Examination}
 use Rattle.hippo_removal.specs.declared.removal.Removal.{Removal}
@@ -26,54 +26,65 @@ have_rows sets = list_all (λ set. nat_lt 0 (length set.rows)) sets
 -- the rows of tables after the first entries of a history, in which they may be created later
 abbrev pub rows_then : ℕ → History → List Name → List KeyedRows
 rows_then number history tables =
-    map (λ table. option_map_or (λ schema. kept_at schema (take number history)) (schema_at history table)
+    map (λ table. option_map_or (λ schema. kept_at schema (take number history))
+    (schema_at history table)
     (record { key = []; rows = [] })) tables
 
 -- rows are added, or they are not for another reason than damage
-abbrev pub AreAdded : List KeyedRows → Result (Unit {0}) ReadFault → List KeyedRows → List KeyedRows → Type 0
+abbrev pub AreAdded : List KeyedRows → Result (Unit {0}) ReadFault → List KeyedRows → List KeyedRows
+    → Type 0
 AreAdded rows (Ok tt) old new = new ≡ old ++ rows
 AreAdded rows (Err Keeper) old new = Unit {0}
 AreAdded rows (Err (Damaged number)) old new = ⊥
 AreAdded rows (Err Memory) old new = Unit {0}
 
 -- a set of rows is added, or memory was short
-abbrev pub IsPushed : KeyedRows → Result (Unit {0}) ReadFault → List KeyedRows → List KeyedRows → Type 0
+abbrev pub IsPushed : KeyedRows → Result (Unit {0}) ReadFault → List KeyedRows → List KeyedRows
+    → Type 0
 IsPushed set (Ok tt) old new = new ≡ old ++ set ∷ []
 IsPushed set (Err fault) old new = fault ≡ Memory
 
--- the rows of tables are read, as they were after the first entries of a history that the keeper tells
-pub record Reads (past : Past) (number : ℕ) (tables : List Name) (result : Result (Unit {0}) ReadFault)
+-- the rows of tables are read, as they were after the first entries of a history that the keeper
+-- tells
+pub record ReadsRows (past : Past) (number : ℕ) (tables : List Name)
+    (result : Result (Unit {0}) ReadFault)
     (old new : List KeyedRows) (before after : KeeperState) : Type 0 where
-  pub is_after : IsAfterCall true false (as_call result) before after
+  pub is_after : IsAfterCall true false (reading_as_call result) before after
   pub stays : after.tells → KeepsSame before after
   pub many : OnOk result (length new ≡ length old + length tables)
-  pub told : after.tells → (history : History) → map stored history ≡ before.kept → IsPastOf past history
+  pub told : after.tells → (history : History) → map stored history ≡ before.kept
+      → IsPastOf past history
       → number ≤ length history → AreAdded (rows_then number history tables) result old new
 
 -- the rows of both sides are those of a history
-pub record AreBoth (number : ℕ) (history : History) (query : Query) (audit : Audit) (both : BothRows) : Type 0 where
+pub record AreBoth (number : ℕ) (history : History) (query : Query) (audit : Audit)
+    (both : BothRows) : Type 0 where
   pub query_rows : both.query ≡ rows_then number history query.tables
   pub audit_rows : both.audit ≡ rows_then number history audit.tables
 
 -- the rows of a query's and of an audit's tables are read
-pub record ReadsBoth (past : Past) (number : ℕ) (query : Query) (audit : Audit) (result : Result BothRows ReadFault)
+pub record ReadsBoth (past : Past) (number : ℕ) (query : Query) (audit : Audit)
+    (result : Result BothRows ReadFault)
     (before after : KeeperState) : Type 0 where
-  pub is_after : IsAfterCall true false (as_call result) before after
+  pub is_after : IsAfterCall true false (reading_as_call result) before after
   pub stays : after.tells → KeepsSame before after
   pub many : IfOk result (λ both. length both.audit ≡ length audit.tables)
-  pub told : after.tells → (history : History) → map stored history ≡ before.kept → IsPastOf past history
+  pub told : after.tells → (history : History) → map stored history ≡ before.kept
+      → IsPastOf past history
       → number ≤ length history → IfOk result (AreBoth number history query audit)
-  pub undamaged : after.tells → (history : History) → map stored history ≡ before.kept → IsPastOf past history
+  pub undamaged : after.tells → (history : History) → map stored history ≡ before.kept
+      → IsPastOf past history
       → number ≤ length history → (place : ℕ) → result ≢ Err (Damaged place)
 
--- rows are those of a query's and of an audit's tables after the first entries of a history, when the query's were
--- created
+-- rows are those of a query's and of an audit's tables after the first entries of a history, when
+-- the query's were created
 pub record AreThen (past : Past) (number : ℕ) (history : History) (query : Query) (audit : Audit)
     (query_rows audit_rows : List KeyedRows) : Type 0 where
   pub past_is : IsPastOf past history
   pub audit_is : IsAuditOf history audit
   pub names : names_all query audit ≡ true
-  pub created : AllByRecursion (λ table. is_some (schema_at (take number history) table) ≡ true) query.tables
+  pub created : AllByRecursion (λ table. is_some (schema_at (take number history) table) ≡ true)
+      query.tables
   pub query_rows_are : query_rows ≡ rows_then number history query.tables
   pub audit_rows_are : audit_rows ≡ rows_then number history audit.tables
 

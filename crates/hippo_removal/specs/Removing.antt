@@ -1,5 +1,5 @@
--- What is left of a query's answer when the combinations that have a virtual tuple are taken out; and the virtual tuple
--- of some rows.
+-- What is left of a query's answer when the combinations that have a virtual tuple are taken out;
+-- and the virtual tuple of some rows.
 use Rattle.std.specs.Prelude.{Bool, false, not, ◌&&◌, List, [], ◌∷◌, filter, map, Option, None, Some}
 use Rattle.hippo_values.specs.declared.names.Name.{Name}
 use Rattle.hippo_model.specs.declared.audit.Audit.{Audit}
@@ -11,7 +11,7 @@ use Rattle.hippo_model.specs.declared.query.Masked.{Masked}
 use Rattle.hippo_model.specs.declared.query.Expr.{Expr}
 use Rattle.hippo_model.specs.Terms.{Combination, ShownRow}
 use Rattle.hippo_model.specs.Answers.{product}
-use Rattle.hippo_model.specs.Forms.{formed}
+use Rattle.hippo_model.specs.Forms.{rows_by_form}
 use Rattle.hippo_model.specs.Masking.{Choices, is_guarded, masked_passes}
 use Rattle.hippo_model.specs.RowSets.{KeyedRows, key_in}
 use Rattle.hippo_eval.specs.Answering.{masked_rows}
@@ -19,22 +19,25 @@ use Rattle.hippo_eval.specs.Unmasked.{unmasked_condition}
 use Rattle.hippo_eval.specs.Walks.{rows_of}
 use Rattle.hippo_join.specs.Existence.{are_shown}
 use Rattle.hippo_shared.specs.Needs.{needs_by}
-use Rattle.hippo_shared.specs.Sharing.{has_tuple, query_has}
+use Rattle.hippo_shared.specs.Sharing.{has_tuple_in, query_has}
 
 -- whether a combination is taken out: where it has the tuple, if there is one to be taken out
 abbrev pub is_out : List Name → List KeyedRows → Option (List SharedRow) → Combination → Bool
 is_out tables sets None rows = false
-is_out tables sets (Some tuple) rows = has_tuple tables sets tuple rows
+is_out tables sets (Some tuple) rows = has_tuple_in tables sets tuple rows
 
 -- the rows that a query makes of the combinations that are left of some
 abbrev pub rows_left :
     Choices → Masked → List KeyedRows → Option (List SharedRow) → List Combination → List ShownRow
 rows_left choices query sets out combinations =
-    masked_rows choices query (filter (λ rows. not (is_out query.tables sets out rows)) combinations)
+    masked_rows choices query (filter (λ rows. not (is_out query.tables sets out rows))
+    combinations)
 
 -- what a query answers of what is left of the product
-abbrev pub answer_left : Choices → Masked → Form → List KeyedRows → Option (List SharedRow) → List ShownRow
-answer_left choices query form sets out = formed form (rows_left choices query sets out (product (rows_of sets)))
+abbrev pub answer_left : Choices → Masked → Form → List KeyedRows → Option (List SharedRow)
+    → List ShownRow
+answer_left choices query form sets out =
+    rows_by_form form (rows_left choices query sets out (product (rows_of sets)))
 
 -- an audit expression as a query over unmasked rows
 abbrev pub unmasked_query : Audit → Masked
@@ -45,14 +48,19 @@ unmasked_query audit = record {
   cond = unmasked_condition audit.cond;
 }
 
--- whether a combination has a tuple, makes a row of a query's answer, and shows all that is to be seen
-abbrev pub is_seen_in : Choices → Masked → List Expr → List KeyedRows → List SharedRow → Combination → Bool
+-- whether a combination has a tuple, makes a row of a query's answer, and shows all that is to be
+-- seen
+abbrev pub is_seen_in : Choices → Masked → List Expr → List KeyedRows → List SharedRow → Combination
+    → Bool
 is_seen_in choices query seen sets tuple rows =
-    has_tuple query.tables sets tuple rows
-    && (is_guarded choices query rows && masked_passes choices query rows && are_shown choices seen rows)
+    has_tuple_in query.tables sets tuple rows
+    && (is_guarded choices query rows && masked_passes choices query rows
+    && are_shown choices seen rows)
 
--- whether a query and an audit need a tuple, judged by taking it out of both, and all that is to be seen is shown
-abbrev pub is_shared : Choices → Masked → Form → Masked → List Expr → List KeyedRows → List KeyedRows → List SharedRow → Bool
+-- whether a query and an audit need a tuple, judged by taking it out of both, and all that is to be
+-- seen is shown
+abbrev pub is_shared : Choices → Masked → Form → Masked → List Expr → List KeyedRows
+    → List KeyedRows → List SharedRow → Bool
 is_shared choices query form audit seen query_sets audit_sets tuple =
     needs_by choices query form query_sets tuple && query_has choices query seen query_sets tuple
     && needs_by choices audit Plain audit_sets tuple

@@ -52,7 +52,8 @@ fn stands_as_often(row: &[Cell], left: &[CellRow], right: &[CellRow]) -> bool
 
 // Whether each of some rows stands in both answers as often.
 fn are_balanced(rows: &[CellRow], left: &[CellRow], right: &[CellRow]) -> bool
-    ensures { result ≡ list_all (λ row. occurrences row left.now == occurrences row right.now) rows.now }
+    ensures { result ≡ list_all (λ row. occurrences row left.now == occurrences row right.now)
+        rows.now }
 {
     for row in rows {
         if !stands_as_often(row.as_slice(), left, right) {

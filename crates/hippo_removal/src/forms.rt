@@ -1,7 +1,7 @@
 //! The rows of an answer by its form, as the definitions make them.
 ghost use Rattle.std.specs.Prelude.{◌≡◌, ◌∷◌, not, filter, IfOk};
 ghost use Rattle.hippo_model.specs.Bags.{same_row};
-ghost use Rattle.hippo_model.specs.Forms.{different, formed};
+ghost use Rattle.hippo_model.specs.Forms.{different_rows, rows_by_form};
 
 use crate::bags::same_row;
 use crate::groups::grouped;
@@ -11,7 +11,8 @@ use std::alloc::Global;
 
 // A row, and behind it those of others that are not equal to it.
 fn in_front(alloc: Global, first: &CellRow, others: &Answer) -> Result<Answer, Memory>
-    ensures { IfOk result (λ rows. rows ≡ first.now ∷ filter (λ row. not (same_row first.now row)) others.now) }
+    ensures { IfOk result (λ rows. rows ≡ first.now
+        ∷ filter (λ row. not (same_row first.now row)) others.now) }
 {
     let mut rows = Sequence::new(alloc);
     rows.push(first.copy(alloc)?)?;
@@ -25,7 +26,7 @@ fn in_front(alloc: Global, first: &CellRow, others: &Answer) -> Result<Answer, M
 
 /// The different rows, each at its first place.
 pub(crate) fn different(alloc: Global, rows: &[CellRow]) -> Result<Answer, Memory>
-    ensures { IfOk result (λ kept. kept ≡ different rows.now) }
+    ensures { IfOk result (λ kept. kept ≡ different_rows rows.now) }
 {
     let mut kept = Sequence::new(alloc);
     for index in 0..rows.len() {
@@ -36,7 +37,7 @@ pub(crate) fn different(alloc: Global, rows: &[CellRow]) -> Result<Answer, Memor
 
 /// The rows of an answer by its form.
 pub(crate) fn formed(alloc: Global, form: &Form, rows: Answer) -> Result<Answer, Memory>
-    ensures { IfOk result (λ kept. kept ≡ formed form.now rows) }
+    ensures { IfOk result (λ kept. kept ≡ rows_by_form form.now rows) }
 {
     match form {
         Form::Plain => Ok(rows),

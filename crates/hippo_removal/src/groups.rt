@@ -3,7 +3,7 @@ ghost use Rattle.std.specs.Prelude.{◌≡◌, filter, map, slice_index_or, take
 ghost use Rattle.hippo_model.specs.declared.cells.Cell.TheVariants.{Shown as ShownCell, Denied as DeniedCell};
 ghost use Rattle.hippo_model.specs.Bags.{same_row};
 ghost use Rattle.hippo_model.specs.Forms.{value_in, lesser, greater, least_value, greatest_value, members, values_in};
-ghost use Rattle.hippo_model.specs.Forms.{group_cell, grouped};
+ghost use Rattle.hippo_model.specs.Forms.{group_cell, grouped_rows};
 
 use crate::bags::same_row;
 use crate::forms::different;
@@ -69,7 +69,8 @@ fn value_in(alloc: Global, cell: &Cell) -> Result<Value, Memory>
 }
 
 fn value_at(alloc: Global, row: &[Cell], place: usize) -> Result<Value, Memory>
-    ensures { IfOk result (λ value. value ≡ value_in (slice_index_or row.now place (DeniedCell 0))) }
+    ensures { IfOk result (λ value. value
+        ≡ value_in (slice_index_or row.now place (DeniedCell 0))) }
 {
     match row.get(place) {
         Some(cell) => value_in(alloc, cell),
@@ -177,7 +178,8 @@ fn group_row(alloc: Global, shape: &Shape, rows: &Answer, key: &CellRow) -> Resu
 // A row for the group of each key.
 fn group_rows(alloc: Global, shape: &Shape, rows: &Answer, keys: &Answer) -> Result<Answer, Memory>
     ensures { IfOk result (λ groups. groups
-        ≡ map (λ key. map (group_cell key (members rows.now key shape.now.keys)) shape.now.outs) keys.now) }
+        ≡ map (λ key. map (group_cell key (members rows.now key shape.now.keys)) shape.now.outs)
+        keys.now) }
 {
     let mut groups = Sequence::new(alloc);
     for key in keys.as_slice() {
@@ -188,7 +190,7 @@ fn group_rows(alloc: Global, shape: &Shape, rows: &Answer, keys: &Answer) -> Res
 
 /// One row for each different list of the first cells, at the place of its first.
 pub(crate) fn grouped(alloc: Global, shape: &Shape, rows: &Answer) -> Result<Answer, Memory>
-    ensures { IfOk result (λ groups. groups ≡ grouped shape.now rows.now) }
+    ensures { IfOk result (λ groups. groups ≡ grouped_rows shape.now rows.now) }
 {
     let fronts = fronts(alloc, rows, shape.keys)?;
     let keys = different(alloc, fronts.as_slice())?;

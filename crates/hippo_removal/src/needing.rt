@@ -1,4 +1,5 @@
-//! Whether a query needs a virtual tuple: its answer, and its answer without the combinations that have the tuple.
+//! Whether a query needs a virtual tuple: its answer, and its answer without the combinations that
+//! have the tuple.
 ghost use Rattle.std.specs.Prelude.{◌≡◌, option_copied, IfOk};
 ghost use Rattle.hippo_shared.specs.Needs.{needs_by};
 ghost use Rattle.hippo_removal.specs.Removing.{is_out, answer_left};
@@ -19,7 +20,8 @@ fn is_out(
     out: Option<&SharedTuple>,
     rows: &Combo<'_>,
 ) -> Result<bool, Memory>
-    ensures { IfOk result (λ is. is ≡ is_out tables.now sets.now (option_copied out.entry) rows.now) }
+    ensures { IfOk result (λ is. is ≡ is_out tables.now sets.now (option_copied out.entry)
+        rows.now) }
 {
     match out {
         None => Ok(false),
@@ -43,7 +45,8 @@ impl<'a, C: ChoiceView> Visitor for Left<'a, C> {
     type State = Answer;
 
     ghost Keeps = { λ left combinations rows. rows
-        ≡ rows_left (C.choices left.choices.now) left.query.now left.sets.now (option_copied left.out) combinations };
+        ≡ rows_left (C.choices left.choices.now) left.query.now left.sets.now
+        (option_copied left.out) combinations };
 
     fn visit(
         &self,
@@ -71,7 +74,8 @@ fn answer_left<C: ChoiceView>(
     choices: &C,
 ) -> Result<Answer, Memory>
     ensures { IfOk result (λ rows. rows
-        ≡ answer_left (C.choices choices.now) query.now form.now sets.now (option_copied out.entry)) }
+        ≡ answer_left (C.choices choices.now) query.now form.now sets.now
+        (option_copied out.entry)) }
 {
     let left = Left {
         query: &*query,
@@ -93,7 +97,8 @@ pub(crate) fn needs<C: ChoiceView>(
     tuple: &SharedTuple,
     choices: &C,
 ) -> Result<bool, Memory>
-    ensures { IfOk result (λ needs. needs ≡ needs_by (C.choices choices.now) query.now form.now sets.now tuple.now) }
+    ensures { IfOk result (λ needs. needs
+        ≡ needs_by (C.choices choices.now) query.now form.now sets.now tuple.now) }
 {
     let left = answer_left(alloc, query, form, sets, Some(tuple), choices)?;
     let whole = answer_left(alloc, query, form, sets, None, choices)?;

@@ -21,9 +21,10 @@ use hippo_values::{Memory, Moment, Name};
 use std::alloc::Global;
 use std::sync::ledger::Ledger;
 
-/// Examines logged questions over snapshots of the tables that each needs, by taking each virtual tuple in turn out of
-/// both products and answering again. It holds nothing between questions, reads each version again for each, and walks
-/// whole products: it is there to be believed, and for tests that compare.
+/// Examines logged questions over snapshots of the tables that each needs, by taking each virtual
+/// tuple in turn out of both products and answering again. It holds nothing between questions,
+/// reads each version again for each, and walks whole products: it is there to be believed, and for
+/// tests that compare.
 #[derive(Debug, Drop)]
 pub struct Removal;
 
@@ -61,7 +62,8 @@ fn shared_at(
     requires many { length both.now.audit ≡ length audit.now.tables }
     ensures { IfOk result (λ shared. (history : History)
         → AreThen past.now number history query.now audit.now both.now.query both.now.audit
-        → let context : Context = record { purpose = purpose.now; recipient = recipient.now; moment = moment } in
+        → let context : Context = record
+        { purpose = purpose.now; recipient = recipient.now; moment = moment } in
         shared ≡ first_serving (take number history) context query.now audit.now) }
 {
     if !have_rows(&both.audit) {
@@ -84,8 +86,8 @@ fn shared_at(
     )
 }
 
-// The first virtual tuple that serves, of a question with this meaning and an audit, over rows that are those before
-// the entry.
+// The first virtual tuple that serves, of a question with this meaning and an audit, over rows that
+// are those before the entry.
 fn shared_over(
     alloc: Global,
     past: &Past<'_>,
@@ -99,8 +101,10 @@ fn shared_over(
     ensures memory { IfErr result (λ fault. fault ≡ NoMemory) }
     ensures serves { IfOk result (λ shared. (history : History)
         → AreThen past.now number history query.now audit.now both.now.query both.now.audit
-        → (user purpose recipient : NameValue) (text : TextValue) → entry.now.act ≡ Asked user purpose recipient text
-        → let context : Context = record { purpose = purpose; recipient = recipient; moment = entry.now.moment } in
+        → (user purpose recipient : NameValue) (text : TextValue)
+        → entry.now.act ≡ Asked user purpose recipient text
+        → let context : Context = record
+        { purpose = purpose; recipient = recipient; moment = entry.now.moment } in
         shared ≡ first_serving (take number history) context query.now audit.now) }
 {
     let Act::Asked {

@@ -43,7 +43,8 @@ impl<'a, C: ChoiceView> Seeker<'a, C> {
 
     // Whether this is such a combination.
     fn is_it(&self, alloc: Global, combo: &Combo<'_>) -> Result<bool, Memory>
-        ensures { IfOk result (λ is. is ≡ is_seen_in (C.choices self.now.choices.now) self.now.query.now
+        ensures { IfOk result (λ is. is ≡ is_seen_in (C.choices self.now.choices.now)
+            self.now.query.now
             self.now.seen.now self.now.sets.now self.now.tuple.now combo.now) }
     {
         if !has_tuple(alloc, &self.query.tables, self.sets, self.tuple, combo)? {
@@ -63,7 +64,8 @@ impl<'a, C: ChoiceView> Visitor for Seeker<'a, C> {
 
     type State = bool;
 
-    ghost Keeps = { λ seeker combinations found. found ≡ list_any (is_seen_in (C.choices seeker.choices.now)
+    ghost Keeps = { λ seeker combinations found. found
+        ≡ list_any (is_seen_in (C.choices seeker.choices.now)
         seeker.query.now seeker.seen.now seeker.sets.now seeker.tuple.now) combinations };
 
     fn visit(&self, alloc: Global, state: &mut bool, combo: &Combo<'_>) -> Result<Onward, Memory> {
@@ -75,7 +77,8 @@ impl<'a, C: ChoiceView> Visitor for Seeker<'a, C> {
     }
 }
 
-/// Whether some combination that makes a row of a query's answer has a tuple and shows what is to be seen.
+/// Whether some combination that makes a row of a query's answer has a tuple and shows what is to
+/// be seen.
 pub(crate) fn has_seen<C: ChoiceView>(
     alloc: Global,
     query: &Masked,
@@ -84,7 +87,8 @@ pub(crate) fn has_seen<C: ChoiceView>(
     tuple: &SharedTuple,
     choices: &C,
 ) -> Result<bool, Memory>
-    ensures { IfOk result (λ has. has ≡ query_has (C.choices choices.now) query.now seen.now sets.now tuple.now) }
+    ensures { IfOk result (λ has. has ≡ query_has (C.choices choices.now) query.now seen.now
+        sets.now tuple.now) }
 {
     let seeker = Seeker {
         query: &*query,

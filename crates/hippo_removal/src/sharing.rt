@@ -138,7 +138,8 @@ impl<'a, C: ChoiceView> Sides<'a, C> {
 
     // Whether both need a tuple, and what is to be seen was shown.
     fn is_shared(&self, alloc: Global, tuple: &SharedTuple) -> Result<bool, Memory>
-        ensures { IfOk result (λ is. is ≡ is_shared (C.choices self.now.choices.now) self.now.query.now
+        ensures { IfOk result (λ is. is ≡ is_shared (C.choices self.now.choices.now)
+            self.now.query.now
             self.now.form.now self.now.audit.now self.now.seen.now self.now.query_sets.now
             self.now.audit_sets.now tuple.now) }
     {
@@ -180,7 +181,8 @@ impl<'a, C: ChoiceView> Visitor for Sides<'a, C> {
     type State = Option<SharedTuple>;
 
     ghost Keeps = { λ sides combinations found. found
-        ≡ find (is_shared (C.choices sides.choices.now) sides.query.now sides.form.now sides.audit.now
+        ≡ find (is_shared (C.choices sides.choices.now) sides.query.now sides.form.now
+        sides.audit.now
         sides.seen.now sides.query_sets.now sides.audit_sets.now)
         (map (tuple_of sides.common.now sides.common_sets.now) combinations) };
 
@@ -210,7 +212,8 @@ fn first_needed<C: ChoiceView>(
     audited: &Audited<'_, C>,
 ) -> Result<Option<SharedTuple>, Memory>
     requires audit_sets { length audited.now.audit_sets.now ≡ length audited.now.audit.now.tables }
-    ensures { IfOk result (λ shared. shared ≡ first_needed (C.choices audited.now.choices.now) query.now form.now
+    ensures { IfOk result (λ shared. shared
+        ≡ first_needed (C.choices audited.now.choices.now) query.now form.now
         audited.now.audit.now seen.now audited.now.query_sets.now audited.now.audit_sets.now) }
 {
     let tables = audited.audit.tables.as_slice();
@@ -233,8 +236,9 @@ fn first_needed<C: ChoiceView>(
     Ok(found)
 }
 
-/// The first virtual tuple (a row of each table in both FROM lists, by its key; in the audit's order) that serves, in
-/// each history that rules, rows and choices are those of; none exactly where none serves.
+/// The first virtual tuple (a row of each table in both FROM lists, by its key; in the audit's
+/// order) that serves, in each history that rules, rows and choices are those of; none exactly
+/// where none serves.
 pub(crate) fn first_serving<C: ChoiceView>(
     alloc: Global,
     query: &Query,
@@ -245,7 +249,8 @@ pub(crate) fn first_serving<C: ChoiceView>(
     choices: &C,
 ) -> Result<Option<SharedTuple>, Memory>
     requires audit_sets { length audit_sets.now ≡ length audit.now.tables }
-    ensures { IfOk result (λ shared. ServesFirst query.now audit.now rules.now query_sets.now audit_sets.now
+    ensures { IfOk result (λ shared. ServesFirst query.now audit.now rules.now query_sets.now
+        audit_sets.now
         (C.choices choices.now) shared) }
 {
     needed_serves_first();

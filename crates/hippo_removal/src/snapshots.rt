@@ -2,7 +2,7 @@
 ghost use Rattle.std.specs.Prelude.{◌≡◌, ◌∷◌, [], true, filter_map, IfOk};
 ghost use Rattle.hippo_keeper.specs.Keeping.{IsReady};
 ghost use Rattle.hippo_catalog.specs.Catalogs.{table_of};
-ghost use Rattle.hippo_removal.specs.Removals.{IsPushed, Reads, ReadsBoth};
+ghost use Rattle.hippo_removal.specs.Removals.{IsPushed, ReadsRows, ReadsBoth};
 
 use hippo_audit_job::Past;
 use hippo_backlog::{ReadFault, snapshot};
@@ -44,7 +44,8 @@ fn read_named<P: Keeper, L: Ledger>(
     steps: &mut Steps<L>,
 ) -> Result<(), ReadFault>
     requires ready { IsReady true (P.state keeper.old) }
-    ensures reads { Reads past.now number (name.now ∷ []) result rows.old rows.new (P.state keeper.old)
+    ensures reads { ReadsRows past.now number (name.now ∷ []) result rows.old rows.new
+        (P.state keeper.old)
         (P.state keeper.new) }
 {
     match past.catalog.table(name) {
@@ -67,7 +68,9 @@ fn read_rows<P: Keeper, L: Ledger>(
     steps: &mut Steps<L>,
 ) -> Result<(), ReadFault>
     requires ready { IsReady true (P.state keeper.old) }
-    ensures reads { Reads past.now number names.now result rows.old rows.new (P.state keeper.old) (P.state keeper.new) }
+    ensures reads { ReadsRows past.now number names.now result rows.old rows.new
+        (P.state keeper.old)
+        (P.state keeper.new) }
 {
     for name in names {
         match read_named(keeper, alloc, past, name, number, rows, steps) {
@@ -89,7 +92,8 @@ pub(crate) fn read_both<P: Keeper, L: Ledger>(
     steps: &mut Steps<L>,
 ) -> Result<BothRows, ReadFault>
     requires ready { IsReady true (P.state keeper.old) }
-    ensures reads { ReadsBoth past.now number query.now audit.now result (P.state keeper.old) (P.state keeper.new) }
+    ensures reads { ReadsBoth past.now number query.now audit.now result (P.state keeper.old)
+        (P.state keeper.new) }
 {
     let mut both = BothRows {
         query: Sequence::new(alloc),

@@ -5,7 +5,7 @@ ghost use Rattle.hippo_model.specs.Rows.{cell_at};
 ghost use Rattle.hippo_model.specs.RowSets.{key_in};
 ghost use Rattle.hippo_eval.specs.LentCells.{or_null};
 ghost use Rattle.hippo_join.specs.Places.{blank};
-ghost use Rattle.hippo_shared.specs.Sharing.{rows_named, key_at, has_tuple, common_tables};
+ghost use Rattle.hippo_shared.specs.Sharing.{rows_named, shared_key_in, has_tuple_in, common_tables};
 ghost use Rattle.hippo_removal.specs.Removing.{tuple_of};
 
 use hippo_model::{Cells, Combo, Names, Sets, SharedRow, SharedTuple};
@@ -24,9 +24,11 @@ fn key_columns<'a>(sets: &Sets<'a>, place: usize) -> &'a [usize]
     }
 }
 
-// The value in a column of a combination's row of a table; none, for null, where there is no such row or column.
+// The value in a column of a combination's row of a table; none, for null, where there is no such
+// row or column.
 fn value_at<'a>(rows: &Combo<'a>, place: usize, column: usize) -> Option<&'a Value>
-    ensures { or_null (option_copied result) ≡ cell_at (slice_index_or rows.now place blank).row column }
+    ensures { or_null (option_copied result)
+        ≡ cell_at (slice_index_or rows.now place blank).row column }
 {
     if place < rows.len() {
         rows.row(place).as_slice().get(column)
@@ -61,7 +63,7 @@ fn has_row(
     rows: &Combo<'_>,
 ) -> Result<bool, Memory>
     ensures { IfOk result (λ has. has
-        ≡ same_cells (key_at tables.now sets.now rows.now row.now.table) row.now.key) }
+        ≡ same_cells (shared_key_in tables.now sets.now rows.now row.now.table) row.now.key) }
 {
     let place = place_in(tables.as_slice(), &row.table);
     let key = key_of(alloc, key_columns(sets, place), rows, place)?;
@@ -76,7 +78,7 @@ pub(crate) fn has_tuple(
     tuple: &SharedTuple,
     rows: &Combo<'_>,
 ) -> Result<bool, Memory>
-    ensures { IfOk result (λ has. has ≡ has_tuple tables.now sets.now tuple.now rows.now) }
+    ensures { IfOk result (λ has. has ≡ has_tuple_in tables.now sets.now tuple.now rows.now) }
 {
     for row in tuple.as_slice() {
         if !has_row(alloc, tables, sets, row, rows)? {

@@ -18,8 +18,8 @@ use Rattle.hippo_replay.specs.declared.faults.LoadFault.{LoadFault}
 use Rattle.hippo_replay.specs.declared.faults.LoadFault.TheVariants.{Keeper, Damaged, Memory}
 use Rattle.hippo_replay.specs.declared.state.State.{State}
 use Rattle.hippo_replay.specs.Standing.{StandsFor}
-use Rattle.hippo_replay.specs.Loading.{as_call, judges, KeepsFound, IsLoaded, Loads}
-use Rattle.hippo_replay.specs.Reading.{fault_of, ReadsAll}
+use Rattle.hippo_replay.specs.Loading.{load_as_call, judges, KeepsFound, IsLoaded, Loads}
+use Rattle.hippo_replay.specs.Reading.{load_fault, ReadsAllKept}
 use Rattle.hippo_replay.proofs.KeeperLemmas.{KeepsFound-after}
 use Rattle.hippo_keeper.proofs.CallLemmas.{IsAfterCall-then}
 use Rattle.hippo_replay.proofs.ReadingLemmas.{versions-append, same_Err}
@@ -33,7 +33,7 @@ call_by result started closed before after call is =
 
 module _ (name : List ℕ) (before after : KeeperState) (steps : ℕ) where
   -- the keeper could not be started
-  pub Loads-unstarted : (fault : KeeperFault) → Starts name (err_of (Unit {0}) fault) before after → Loads name (Err (fault_of fault)) before after steps steps
+  pub Loads-unstarted : (fault : KeeperFault) → Starts name (err_of (Unit {0}) fault) before after → Loads name (Err (load_fault fault)) before after steps steps
   Loads-unstarted fault starts = record {
     call = by_fault fault starts.call;
     started = λ judged. absurd (unjudged fault judged);
@@ -43,23 +43,23 @@ module _ (name : List ℕ) (before after : KeeperState) (steps : ℕ) where
     steps = λ tells. omega arith;
   }
     where
-      by_fault : (fault : KeeperFault) → IsAfterCall false (wants_memory (err_of (Unit {0}) fault)) (err_of (Unit {0}) fault) before after → IsAfterCall after.started (not after.started && wants_memory (as_call (err_of State (fault_of fault)))) (as_call (err_of State (fault_of fault))) before after
+      by_fault : (fault : KeeperFault) → IsAfterCall false (wants_memory (err_of (Unit {0}) fault)) (err_of (Unit {0}) fault) before after → IsAfterCall after.started (not after.started && wants_memory (load_as_call (err_of State (load_fault fault)))) (load_as_call (err_of State (load_fault fault))) before after
       by_fault keeper_faults.Failed call = call_by (Err keeper_faults.Failed) false false before after call refl
       by_fault keeper_faults.Memory call = call_by (Err keeper_faults.Memory) false true before after call refl
 
-      unjudged : (fault : KeeperFault) → judges (err_of State (fault_of fault)) ≡ true → ⊥
+      unjudged : (fault : KeeperFault) → judges (err_of State (load_fault fault)) ≡ true → ⊥
       unjudged keeper_faults.Failed e = false≢true e
       unjudged keeper_faults.Memory e = false≢true e
 
-      undamaged : (fault : KeeperFault) (place : ℕ) → err_of State (fault_of fault) ≡ Err (Damaged place) → ⊥
+      undamaged : (fault : KeeperFault) (place : ℕ) → err_of State (load_fault fault) ≡ Err (Damaged place) → ⊥
       undamaged keeper_faults.Failed place e = cc
       undamaged keeper_faults.Memory place e = cc
 
 module _ (name : List ℕ) (before mid after : KeeperState) (steps_before steps_after : ℕ) (state : State) (starts : Starts name (well KeeperFault) before mid) where
-  found_after : (all : Result (Unit {0}) LoadFault) → ReadsAll all mid after state steps_before steps_after → after.tells → KeepsFound (before.finds name) after
+  found_after : (all : Result (Unit {0}) LoadFault) → ReadsAllKept all mid after state steps_before steps_after → after.tells → KeepsFound (before.finds name) after
   found_after all reads tells = KeepsFound-after (before.finds name) mid after (starts.ok (reads.call.told tells)) (reads.stays tells)
 
-  steps_within : (all : Result (Unit {0}) LoadFault) → ReadsAll all mid after state steps_before steps_after → after.tells → steps_after ≤ steps_before + stored_versions after.kept
+  steps_within : (all : Result (Unit {0}) LoadFault) → ReadsAllKept all mid after state steps_before steps_after → after.tells → steps_after ≤ steps_before + stored_versions after.kept
   steps_within all reads tells =
       let front = reads.told tells in
       let kept : stored_versions after.kept ≡ stored_versions reads.read + stored_versions front.0 = ap stored_versions ((reads.stays tells).same ∙ front.1) ∙ versions-append reads.read front.0 in
@@ -67,7 +67,7 @@ module _ (name : List ℕ) (before mid after : KeeperState) (steps_before steps_
       omega arith
 
   -- the state of what is kept
-  is_loaded : ReadsAll (Ok tt) mid after state steps_before steps_after → IsLoaded state after steps_before steps_after
+  is_loaded : ReadsAllKept (Ok tt) mid after state steps_before steps_after → IsLoaded state after steps_before steps_after
   is_loaded reads =
       let loaded = reads.loaded in
       let kept : after.tells → map stored loaded.history ≡ after.kept = λ tells. loaded.forms ∙ sym (reads.whole tells) ∙ sym (reads.stays tells).same in
@@ -80,7 +80,7 @@ module _ (name : List ℕ) (before mid after : KeeperState) (steps_before steps_
       }
 
   -- what comes of reading all
-  pub Loads-started : (all : Result (Unit {0}) LoadFault) → ReadsAll all mid after state steps_before steps_after → Loads name (result_and all (Ok state)) before after steps_before steps_after
+  pub Loads-started : (all : Result (Unit {0}) LoadFault) → ReadsAllKept all mid after state steps_before steps_after → Loads name (result_and all (Ok state)) before after steps_before steps_after
   Loads-started (Ok done) reads = record {
     call = call_by (Ok tt) true false before after (IsAfterCall-then false (well KeeperFault) (well KeeperFault) before mid after refl starts.call reads.call) refl;
     started = λ judged. reads.call.started_is;
@@ -98,12 +98,12 @@ module _ (name : List ℕ) (before mid after : KeeperState) (steps_before steps_
     steps = steps_within (Err fault) reads;
   }
     where
-      by_fault : (fault : LoadFault) → IsAfterCall true false (as_call (err_of (Unit {0}) fault)) mid after → IsAfterCall after.started (not after.started && wants_memory (as_call (err_of State fault))) (as_call (err_of State fault)) before after
+      by_fault : (fault : LoadFault) → IsAfterCall true false (load_as_call (err_of (Unit {0}) fault)) mid after → IsAfterCall after.started (not after.started && wants_memory (load_as_call (err_of State fault))) (load_as_call (err_of State fault)) before after
       by_fault Keeper call = call_by (Err keeper_faults.Failed) true false before after (IsAfterCall-then false (well KeeperFault) (err_of (Unit {0}) keeper_faults.Failed) before mid after refl starts.call call) refl
       by_fault (Damaged place) call = call_by (Ok tt) true false before after (IsAfterCall-then false (well KeeperFault) (well KeeperFault) before mid after refl starts.call call) refl
       by_fault Memory call = call_by (Err keeper_faults.Memory) true false before after (IsAfterCall-then false (well KeeperFault) (err_of (Unit {0}) keeper_faults.Memory) before mid after refl starts.call call) refl
 
-judged_well : {A : Type 0} (result : Result A LoadFault) → judges result ≡ true → (has_failed (as_call result) ≡ false) × (wants_memory (as_call result) ≡ false)
+judged_well : {A : Type 0} (result : Result A LoadFault) → judges result ≡ true → (has_failed (load_as_call result) ≡ false) × (wants_memory (load_as_call result) ≡ false)
 judged_well (Ok value) judged = (refl, refl)
 judged_well (Err Keeper) judged = absurd (false≢true judged)
 judged_well (Err (Damaged place)) judged = (refl, refl)

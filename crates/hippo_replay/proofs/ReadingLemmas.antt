@@ -10,15 +10,15 @@ use Rattle.hippo_keeper.specs.declared.faults.KeeperFault.{KeeperFault}
 use Rattle.hippo_keeper.specs.declared.faults.KeeperFault.TheVariants as keeper_faults
 use Rattle.hippo_keeper.specs.Answering.{has_failed}
 use Rattle.hippo_keeper.specs.Keeping.{Store, RisesAbove, last_number, next_number as next_kept, KeeperState, IsReady, IsAfterCall, KeepsSame}
-use Rattle.hippo_keeper.specs.Selecting.{is_any, is_stored_version, stored_versions, handed_over, Reads}
+use Rattle.hippo_keeper.specs.Selecting.{is_any, is_stored_version, stored_versions, handed_over, ReadsEntries}
 use Rattle.hippo_typing.specs.Meanings.{meaning}
 use Rattle.hippo_replay.specs.declared.faults.LoadFault.{LoadFault}
 use Rattle.hippo_replay.specs.declared.faults.LoadFault.TheVariants.{Keeper, Damaged, Memory}
 use Rattle.hippo_replay.specs.declared.state.State.{State}
 use Rattle.hippo_replay.specs.Standing.{StandsFor, IsSound}
 use Rattle.hippo_replay.specs.TakingIn.{HasLoaded, TakesIn}
-use Rattle.hippo_replay.specs.Loading.{as_call}
-use Rattle.hippo_replay.specs.Reading.{fault_of, IsUpTo, ReadsOn, IsReading, ReadsAll}
+use Rattle.hippo_replay.specs.Loading.{load_as_call}
+use Rattle.hippo_replay.specs.Reading.{load_fault, IsUpTo, ReadsPiece, IsReading, ReadsAllKept}
 use Rattle.hippo_replay.proofs.TakingInLemmas.{loaded_count}
 use Rattle.hippo_replay.proofs.KeeperLemmas.{next_kept-stored, handed_over-behind, nothing_taken}
 use Rattle.hippo_keeper.proofs.CallLemmas.{KeepsSame-here, KeepsSame-then, KeepsSame-Stays, IsAfterCall-then, IsAfterCall-as, IsAfterCall-none}
@@ -28,11 +28,11 @@ pub versions-append : (first second : Store) → stored_versions (first ++ secon
 versions-append first second = sum_by-append (λ kept. cond (is_stored_version kept) 1 0) first second
 
 -- no keeper's fault is none of its calls' failures
-as_call-unfailed : {A : Type 0} (result : Result A LoadFault) → result ≢ Err Keeper → has_failed (as_call result) ≡ false
-as_call-unfailed (Ok value) other = refl
-as_call-unfailed (Err Keeper) other = absurd (other refl)
-as_call-unfailed (Err (Damaged place)) other = refl
-as_call-unfailed (Err Memory) other = refl
+load_as_call-unfailed : {A : Type 0} (result : Result A LoadFault) → result ≢ Err Keeper → has_failed (load_as_call result) ≡ false
+load_as_call-unfailed (Ok value) other = refl
+load_as_call-unfailed (Err Keeper) other = absurd (other refl)
+load_as_call-unfailed (Err (Damaged place)) other = refl
+load_as_call-unfailed (Err Memory) other = refl
 
 same_Ok : {A B : Type 0} (x y : A) → ok_of B x ≡ Ok y → x ≡ y
 same_Ok x y e = cc
@@ -60,9 +60,9 @@ some_there [] some = absurd (some refl)
 some_there (entry ∷ piece) some = omega arith
 
 module _ (max : ℕ) (before after : KeeperState) (old new : State) (steps_old steps_new : ℕ) (piece : Store)
-    (reads : Reads is_any old.count max (Ok piece) before after) (steps : steps_new ≡ steps_old + stored_versions piece) where
-  read_call : {B : Type 0} (answer : Result B LoadFault) → answer ≢ Err Keeper → IsAfterCall true false (as_call answer) before after
-  read_call answer other = IsAfterCall-as true false (Ok piece) (as_call answer) before after (as_call-unfailed answer other) reads.call
+    (reads : ReadsEntries is_any old.count max (Ok piece) before after) (steps : steps_new ≡ steps_old + stored_versions piece) where
+  read_call : {B : Type 0} (answer : Result B LoadFault) → answer ≢ Err Keeper → IsAfterCall true false (load_as_call answer) before after
+  read_call answer other = IsAfterCall-as true false (Ok piece) (load_as_call answer) before after (load_as_call-unfailed answer other) reads.call
 
   read_told : after.tells → (store rest : Store) → IsUpTo old before store rest → piece ≡ take max rest
   read_told tells store rest upto =
@@ -78,7 +78,7 @@ module _ (max : ℕ) (before after : KeeperState) (old new : State) (steps_old s
       subst (λ (kept : Store). IsDamagedAt meaning kept place) (sym whole) (taken.damaged place (ap Err is) store (drop max rest) upto.loaded)
 
   -- a piece was taken in
-  reads_on-ok : (any : Bool) → 0 < max → old.count < 2 ^ 64 → IsSound old → (any ≡ false → piece ≡ []) → (any ≡ true → ¬ (piece ≡ [])) → TakesIn piece (well LoadFault) old new → ReadsOn (Ok any) before after old new steps_old steps_new
+  reads_on-ok : (any : Bool) → 0 < max → old.count < 2 ^ 64 → IsSound old → (any ≡ false → piece ≡ []) → (any ≡ true → ¬ (piece ≡ [])) → TakesIn piece (well LoadFault) old new → ReadsPiece (Ok any) before after old new steps_old steps_new
   reads_on-ok any some room sound none more taken = record {
     call = read_call (Ok any) (λ e. absurd cc);
     stays = λ tells. KeepsSame-Stays before after (reads.stays tells);
@@ -96,7 +96,7 @@ module _ (max : ℕ) (before after : KeeperState) (old new : State) (steps_old s
   }
 
   -- or its damage was found, or memory was short
-  reads_on-err : (fault : LoadFault) → TakesIn piece (err_of (Unit {0}) fault) old new → ReadsOn (Err fault) before after old new steps_old steps_new
+  reads_on-err : (fault : LoadFault) → TakesIn piece (err_of (Unit {0}) fault) old new → ReadsPiece (Err fault) before after old new steps_old steps_new
   reads_on-err fault taken = record {
     call = read_call {B = Bool} (Err fault) (λ e. taken.unfailed (ap Err (same_Err fault Keeper e)));
     stays = λ tells. KeepsSame-Stays before after (reads.stays tells);
@@ -111,7 +111,7 @@ module _ (max : ℕ) (before after : KeeperState) (old new : State) (steps_old s
   }
 
   -- what comes of a piece that was read
-  pub reads_on : (any : Bool) → 0 < max → old.count < 2 ^ 64 → IsSound old → (any ≡ false → piece ≡ []) → (any ≡ true → ¬ (piece ≡ [])) → (all : Result (Unit {0}) LoadFault) → TakesIn piece all old new → ReadsOn (result_and all (Ok any)) before after old new steps_old steps_new
+  pub reads_on : (any : Bool) → 0 < max → old.count < 2 ^ 64 → IsSound old → (any ≡ false → piece ≡ []) → (any ≡ true → ¬ (piece ≡ [])) → (all : Result (Unit {0}) LoadFault) → TakesIn piece all old new → ReadsPiece (result_and all (Ok any)) before after old new steps_old steps_new
   reads_on any some room sound none more (Ok done) taken = reads_on-ok any some room sound none more taken
   reads_on any some room sound none more (Err fault) taken = reads_on-err fault taken
 
@@ -129,7 +129,7 @@ some_by true piece is e = absurd cc
 some_by false piece is e = λ none. false≢true (is.1 none)
 
 -- a read that failed
-pub reads_on-fault : (max : ℕ) (before after : KeeperState) (old : State) (steps_old steps_new : ℕ) (fault : KeeperFault) → Reads is_any old.count max (Err fault) before after → steps_new ≡ steps_old + 0 → ReadsOn (Err (fault_of fault)) before after old old steps_old steps_new
+pub reads_on-fault : (max : ℕ) (before after : KeeperState) (old : State) (steps_old steps_new : ℕ) (fault : KeeperFault) → ReadsEntries is_any old.count max (Err fault) before after → steps_new ≡ steps_old + 0 → ReadsPiece (Err (load_fault fault)) before after old old steps_old steps_new
 reads_on-fault max before after old steps_old steps_new fault reads steps = record {
   call = by_fault before after fault reads.call;
   stays = λ tells. KeepsSame-Stays before after (reads.stays tells);
@@ -143,11 +143,11 @@ reads_on-fault max before after old steps_old steps_new fault reads steps = reco
   damaged = λ place is. absurd (undamaged fault place is);
 }
   where
-    by_fault : (before after : KeeperState) (fault : KeeperFault) → IsAfterCall true false (err_of Store fault) before after → IsAfterCall true false (as_call (err_of Bool (fault_of fault))) before after
+    by_fault : (before after : KeeperState) (fault : KeeperFault) → IsAfterCall true false (err_of Store fault) before after → IsAfterCall true false (load_as_call (err_of Bool (load_fault fault))) before after
     by_fault before after keeper_faults.Failed call = IsAfterCall-as true false (err_of Store keeper_faults.Failed) (err_of (Unit {0}) keeper_faults.Failed) before after refl call
     by_fault before after keeper_faults.Memory call = IsAfterCall-as true false (err_of Store keeper_faults.Memory) (err_of (Unit {0}) keeper_faults.Memory) before after refl call
 
-    undamaged : (fault : KeeperFault) (place : ℕ) → err_of Bool (fault_of fault) ≡ Err (Damaged place) → ⊥
+    undamaged : (fault : KeeperFault) (place : ℕ) → err_of Bool (load_fault fault) ≡ Err (Damaged place) → ⊥
     undamaged keeper_faults.Failed place e = cc
     undamaged keeper_faults.Memory place e = cc
 
@@ -172,9 +172,9 @@ module _ (before now after : KeeperState) (old new : State) (steps_first steps_o
     whole = (so_far.stays tells).same ∙ whole;
   }
 
-  module _ (result : Result Bool LoadFault) (reads : ReadsOn result now after old new steps_old steps_new) where
-    call_then : IsAfterCall true false (as_call result) before after
-    call_then = IsAfterCall-then false (well KeeperFault) (as_call result) before now after refl so_far.call reads.call
+  module _ (result : Result Bool LoadFault) (reads : ReadsPiece result now after old new steps_old steps_new) where
+    call_then : IsAfterCall true false (load_as_call result) before after
+    call_then = IsAfterCall-then false (well KeeperFault) (load_as_call result) before now after refl so_far.call reads.call
 
     stays_then : after.tells → KeepsSame before after
     stays_then tells = KeepsSame-then before now after (so_far.stays (reads.call.told tells)) (reads.stays tells)
@@ -195,7 +195,7 @@ module _ (before now after : KeeperState) (old new : State) (steps_first steps_o
     pub IsReading-on : result ≡ Ok true → IsSound new → IsReading before after new steps_first steps_new
     IsReading-on is sound =
         record {
-          call = subst (λ (r : Result Bool LoadFault). IsAfterCall true false (as_call r) before after) is call_then;
+          call = subst (λ (r : Result Bool LoadFault). IsAfterCall true false (load_as_call r) before after) is call_then;
           stays = stays_then;
           sound = sound;
           read = so_far.read ++ reads.piece;
@@ -205,10 +205,10 @@ module _ (before now after : KeeperState) (old new : State) (steps_first steps_o
         }
 
     -- all is read
-    pub ReadsAll-end : result ≡ Ok false → ReadsAll (Ok tt) before after new steps_first steps_new
-    ReadsAll-end is =
+    pub ReadsAllKept-end : result ≡ Ok false → ReadsAllKept (Ok tt) before after new steps_first steps_new
+    ReadsAllKept-end is =
         record {
-          call = subst (λ (r : Result Bool LoadFault). IsAfterCall true false (as_call r) before after) is call_then;
+          call = subst (λ (r : Result Bool LoadFault). IsAfterCall true false (load_as_call r) before after) is call_then;
           stays = stays_then;
           read = so_far.read ++ reads.piece;
           steps = steps_then;
@@ -222,10 +222,10 @@ module _ (before now after : KeeperState) (old new : State) (steps_first steps_o
         }
 
     -- or something is wrong
-    pub ReadsAll-fault : (fault : LoadFault) → result ≡ Err fault → ReadsAll (Err fault) before after new steps_first steps_new
-    ReadsAll-fault fault is =
+    pub ReadsAllKept-fault : (fault : LoadFault) → result ≡ Err fault → ReadsAllKept (Err fault) before after new steps_first steps_new
+    ReadsAllKept-fault fault is =
         record {
-          call = same_call fault (subst (λ (r : Result Bool LoadFault). IsAfterCall true false (as_call r) before after) is call_then);
+          call = same_call fault (subst (λ (r : Result Bool LoadFault). IsAfterCall true false (load_as_call r) before after) is call_then);
           stays = stays_then;
           read = so_far.read ++ reads.piece;
           steps = steps_then;
@@ -238,7 +238,7 @@ module _ (before now after : KeeperState) (old new : State) (steps_first steps_o
               subst (λ (kept : Store). IsDamagedAt meaning kept place) (so_far.stays (reads.call.told tells)).same there;
         }
       where
-        same_call : (fault : LoadFault) → IsAfterCall true false (as_call (err_of Bool fault)) before after → IsAfterCall true false (as_call (err_of (Unit {0}) fault)) before after
+        same_call : (fault : LoadFault) → IsAfterCall true false (load_as_call (err_of Bool fault)) before after → IsAfterCall true false (load_as_call (err_of (Unit {0}) fault)) before after
         same_call Keeper call = call
         same_call (Damaged place) call = call
         same_call Memory call = call

@@ -17,12 +17,12 @@ use Rattle.hippo_tables.specs.Standing.{is_delete}
 use Rattle.hippo_keeper.specs.declared.faults.KeeperFault.{KeeperFault}
 use Rattle.hippo_keeper.specs.declared.faults.KeeperFault.TheVariants.{Failed, Memory}
 use Rattle.hippo_keeper.specs.Answering.{has_failed, wants_memory}
-use Rattle.hippo_keeper.specs.Keeping.{Store, next_number as next_kept, KeeperState, IsReady, Appends}
+use Rattle.hippo_keeper.specs.Keeping.{Store, next_number as next_kept, KeeperState, IsReady, AppendsEntry}
 use Rattle.hippo_typing.specs.Meanings.{meaning}
 use Rattle.hippo_replay.specs.declared.state.State.{State}
 use Rattle.hippo_replay.specs.Standing.{StandsFor, IsSound, MayFollow, IsNext, takes_no_memory, Remembers}
 use Rattle.hippo_replay.specs.TakingIn.{HasLoaded}
-use Rattle.hippo_replay.specs.Recording.{Keeps, Records}
+use Rattle.hippo_replay.specs.Recording.{KeepsEntry, Records}
 use Rattle.hippo_replay.proofs.KeeperLemmas.{next_kept-stored}
 use Rattle.hippo_keeper.proofs.CallLemmas.{KeepsSame-here, KeepsSame-Stays, IsAfterCall-as, IsAfterCall-none}
 use Rattle.hippo_keeper.proofs.Results.{err_of, well}
@@ -56,9 +56,9 @@ module _ (entry : Entry) where
   IsNext-sound state sound follows = record { history = sound.history; stands = sound.stands; follows = follows sound.history sound.stands }
 
   -- it was handed to the keeper
-  pub Keeps-Appends : (kept : StoredEntry) (result : Result (Unit {0}) KeeperFault) (state : State) (before after : KeeperState) → kept ≡ stored entry → Appends kept result before after → MayFollow state entry → Keeps entry result state before after
-  Keeps-Appends kept result state before after form appended follows =
-      let appends : Appends (stored entry) result before after = subst (λ (k : StoredEntry). Appends k result before after) form appended in
+  pub KeepsEntry-AppendsEntry : (kept : StoredEntry) (result : Result (Unit {0}) KeeperFault) (state : State) (before after : KeeperState) → kept ≡ stored entry → AppendsEntry kept result before after → MayFollow state entry → KeepsEntry entry result state before after
+  KeepsEntry-AppendsEntry kept result state before after form appended follows =
+      let appends : AppendsEntry (stored entry) result before after = subst (λ (k : StoredEntry). AppendsEntry k result before after) form appended in
       record {
         call = appends.call;
         follows = λ answered. follows;
@@ -68,8 +68,8 @@ module _ (entry : Entry) where
       }
 
   -- it was not, since memory was short
-  pub Keeps-short : (state : State) (keeper : KeeperState) → IsReady true keeper → Keeps entry short state keeper keeper
-  Keeps-short state keeper ready = record {
+  pub KeepsEntry-short : (state : State) (keeper : KeeperState) → IsReady true keeper → KeepsEntry entry short state keeper keeper
+  KeepsEntry-short state keeper ready = record {
     call = IsAfterCall-as true false (well KeeperFault) short keeper keeper refl (IsAfterCall-none (well KeeperFault) keeper refl ready);
     follows = λ answered. absurd (false≢true (sym answered));
     kept = tt;
@@ -78,7 +78,7 @@ module _ (entry : Entry) where
   }
 
   -- it was kept, and then taken in
-  pub Records-added : (old new : State) (before after : KeeperState) → Keeps entry (well KeeperFault) old before after → ((history : History) → StandsFor old history → may_follow meaning history entry ≡ true → StandsFor new (history ++ entry ∷ [])) → Records entry (well KeeperFault) old new before after
+  pub Records-added : (old new : State) (before after : KeeperState) → KeepsEntry entry (well KeeperFault) old before after → ((history : History) → StandsFor old history → may_follow meaning history entry ≡ true → StandsFor new (history ++ entry ∷ [])) → Records entry (well KeeperFault) old new before after
   Records-added old new before after keeps added = record {
     keeps = keeps;
     ok = λ history stands. added history stands (keeps.follows refl history stands);
@@ -86,15 +86,15 @@ module _ (entry : Entry) where
   }
 
   -- it was not kept, and is not taken in
-  pub Records-unkept : (fault : KeeperFault) (state : State) (before after : KeeperState) → Keeps entry (err_of (Unit {0}) fault) state before after → Records entry (err_of (Unit {0}) fault) state state before after
+  pub Records-unkept : (fault : KeeperFault) (state : State) (before after : KeeperState) → KeepsEntry entry (err_of (Unit {0}) fault) state before after → Records entry (err_of (Unit {0}) fault) state state before after
   Records-unkept fault state before after keeps = record { keeps = keeps; ok = tt; memory = λ memory history stands. stands }
 
   -- it was not taken in
   pub Records-short : (old new : State) (keeper : KeeperState) → IsReady true keeper → ((history : History) → StandsFor old history → StandsFor new history) → Records entry short old new keeper keeper
-  Records-short old new keeper ready same = record { keeps = Keeps-short old keeper ready; ok = tt; memory = λ memory. same }
+  Records-short old new keeper ready same = record { keeps = KeepsEntry-short old keeper ready; ok = tt; memory = λ memory. same }
 
   -- it was taken in, and then kept or taken back
-  pub Records-kept : (result : Result (Unit {0}) KeeperFault) (old mid new : State) (before after : KeeperState) → Keeps entry result old before after → ((history : History) → StandsFor old history → Remembers mid history entry) → OnOk result (new ≡ mid) → (wants_memory result ≡ true → (history : History) → Remembers mid history entry → StandsFor new history) → Records entry result old new before after
+  pub Records-kept : (result : Result (Unit {0}) KeeperFault) (old mid new : State) (before after : KeeperState) → KeepsEntry entry result old before after → ((history : History) → StandsFor old history → Remembers mid history entry) → OnOk result (new ≡ mid) → (wants_memory result ≡ true → (history : History) → Remembers mid history entry → StandsFor new history) → Records entry result old new before after
   Records-kept result old mid new before after keeps remembers kept back = record {
     keeps = keeps;
     ok = on_ok_weaker result (λ same history stands. subst (λ (state : State). StandsFor state (history ++ entry ∷ [])) (sym same) (remembers history stands).stands) kept;

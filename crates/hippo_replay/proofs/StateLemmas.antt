@@ -13,12 +13,12 @@ use Rattle.hippo_model.specs.Validity.{keeps_order, is_acceptable, may_follow, i
 use Rattle.hippo_model.proofs.LastWords.{last_word-append}
 use Rattle.hippo_laws.proofs.ValidFronts.{is_valid-append, next_number}
 use Rattle.hippo_catalog.specs.Catalogs.{KnownNames, known_at, known_after, creates_anew}
-use Rattle.hippo_catalog.specs.NewestNames.{Remembers as RemembersNames, creates_nothing}
+use Rattle.hippo_catalog.specs.NewestNames.{RemembersNames, creates_nothing}
 use Rattle.hippo_policy.specs.declared.book.PolicyBook.{PolicyBook}
-use Rattle.hippo_policy.specs.Books.{StandsFor as BookStandsFor, Remembers as RemembersMatter, Adds as BookAdds, is_silent}
+use Rattle.hippo_policy.specs.Books.{BookStandsFor, RemembersMatter, BookAdds, leaves_book}
 use Rattle.hippo_tables.specs.declared.tables.Tables.{Tables}
-use Rattle.hippo_tables.specs.Standing.{is_delete, is_silent as leaves_tables, StandsFor as TablesStandFor, IsAsBefore as TablesAreAsBefore}
-use Rattle.hippo_tables.proofs.NextLemmas.{IsNext-valid}
+use Rattle.hippo_tables.specs.Standing.{is_delete, leaves_tables, TablesStandFor, TablesAreAsBefore}
+use Rattle.hippo_tables.proofs.NextLemmas.{IsNextAct-valid}
 use Rattle.hippo_typing.specs.Meanings.{meaning}
 use Rattle.hippo_typing.proofs.CatalogTheorem.{names_grow, entries_create_anew}
 use Rattle.hippo_replay.specs.declared.state.State.{State}
@@ -45,7 +45,7 @@ module _ (history : History) (entry : Entry) (may : may_follow meaning history e
         valid = rw (is_valid-append meaning history entry, stands.valid) may;
         names = adds.names ∙ ap (λ (known : KnownNames). known_after known entry.act) stands.names ∙ sym (names_grow history entry);
         book = adds.book.stands history entry refl refl number stands.book;
-        tables = adds.tables.stands history (IsNext-valid meaning history entry.act stands.valid acceptable) stands.tables;
+        tables = adds.tables.stands history (IsNextAct-valid meaning history entry.act stands.valid acceptable) stands.tables;
         count = omega (arith, count, number, length-append history (entry ∷ []));
         last = last ∙ sym (latest_moment-append history entry);
       }
@@ -56,7 +56,7 @@ module _ (history : History) (entry : Entry) (may : may_follow meaning history e
     stands = StandsFor-append old new stands adds count last;
     names = adds.newest;
     matter = adds.book.remembers;
-    rows = adds.tables.remembers kept history (IsNext-valid meaning history entry.act stands.valid acceptable) stands.tables;
+    rows = adds.tables.remembers kept history (IsNextAct-valid meaning history entry.act stands.valid acceptable) stands.tables;
     moment = earlier ∙ stands.last;
   }
 
@@ -77,10 +77,10 @@ creates_nothing-room (Delete table key) is = refl
 creates_nothing-room (Asked user purpose recipient text) is = refl
 creates_nothing-room act is = absurd (false≢true is)
 
-pub is_silent-room : (act : Act) → takes_no_memory act ≡ true → is_silent act ≡ true
-is_silent-room (Delete table key) is = refl
-is_silent-room (Asked user purpose recipient text) is = refl
-is_silent-room act is = absurd (false≢true is)
+pub leaves_book-room : (act : Act) → takes_no_memory act ≡ true → leaves_book act ≡ true
+leaves_book-room (Delete table key) is = refl
+leaves_book-room (Asked user purpose recipient text) is = refl
+leaves_book-room act is = absurd (false≢true is)
 
 pub leaves_tables-room : (act : Act) → takes_no_memory act ≡ true → is_delete act ≡ false → leaves_tables act ≡ true
 leaves_tables-room (Delete table key) is other = absurd (false≢true (sym other))

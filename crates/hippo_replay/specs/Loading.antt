@@ -16,11 +16,11 @@ use Rattle.hippo_replay.specs.declared.state.State.{State}
 use Rattle.hippo_replay.specs.Standing.{StandsFor}
 
 -- a load as one call of its keeper
-abbrev pub as_call : {A : Type 0} → Result A LoadFault → Result (Unit {0}) KeeperFault
-as_call (Ok value) = Ok tt
-as_call (Err Keeper) = Err keeper_faults.Failed
-as_call (Err (Damaged place)) = Ok tt
-as_call (Err Memory) = Err keeper_faults.Memory
+abbrev pub load_as_call : {A : Type 0} → Result A LoadFault → Result (Unit {0}) KeeperFault
+load_as_call (Ok value) = Ok tt
+load_as_call (Err Keeper) = Err keeper_faults.Failed
+load_as_call (Err (Damaged place)) = Ok tt
+load_as_call (Err Memory) = Err keeper_faults.Memory
 
 -- whether a load says of the kept list what it is: the entries of a history, or damaged
 abbrev pub judges : {A : Type 0} → Result A LoadFault → Bool
@@ -36,24 +36,28 @@ pub record KeepsFound (finds : Survivors) (keeper : KeeperState) : Type 0 where
   pub alone : (store : Store) → keeper.survives store → store ≡ keeper.kept
   pub survives_stop : ∥ keeper.survives keeper.kept ∥₁
 
--- a state stands for a valid history: the only one whose stored forms are kept, where the keeper tells what it keeps.
--- There was one step for each version in it
-pub record IsLoaded (state : State) (keeper : KeeperState) (steps_before steps_after : ℕ) : Type 0 where
+-- a state stands for a valid history: the only one whose stored forms are kept, where the keeper
+-- tells what it keeps. There was one step for each version in it
+pub record IsLoaded (state : State) (keeper : KeeperState) (steps_before steps_after : ℕ)
+    : Type 0 where
   pub history : History
   pub stands : StandsFor state history
   pub told : keeper.tells → map stored history ≡ keeper.kept
-  pub only : keeper.tells → (other : History) → IsStoreOf meaning keeper.kept other → other ≡ history
+  pub only : keeper.tells → (other : History) → IsStoreOf meaning keeper.kept other
+      → other ≡ history
   pub steps : steps_after ≡ steps_before + versions history
 
 -- what a load over a store with a name does
 pub record Loads (name : List ℕ) (result : Result State LoadFault) (before after : KeeperState)
     (steps_before steps_after : ℕ) : Type 0 where
   -- only want of memory at the start closes the keeper, and only a keeper's fault leaves it spent
-  pub call : IsAfterCall after.started (not after.started && wants_memory (as_call result)) (as_call result)
+  pub call : IsAfterCall after.started (not after.started && wants_memory (load_as_call result))
+      (load_as_call result)
       before after
   pub started : judges result ≡ true → after.started ≡ true
   -- whatever is answered, a keeper that was started keeps what it found
   pub found : after.started ≡ true → after.tells → KeepsFound (before.finds name) after
   pub ok : IfOk result (λ state. IsLoaded state after steps_before steps_after)
-  pub damaged : (place : ℕ) → result ≡ Err (Damaged place) → after.tells → IsDamagedAt meaning after.kept place
+  pub damaged : (place : ℕ) → result ≡ Err (Damaged place) → after.tells
+      → IsDamagedAt meaning after.kept place
   pub steps : after.tells → steps_after ≤ steps_before + stored_versions after.kept

@@ -8,7 +8,10 @@ use Rattle.hippo_model.specs.Validity.{pair_exists}
 -- whether the pair that a grant or a rule names is there
 abbrev pub named_pair_exists : History → Act → Bool
 named_pair_exists history (Authorize user purpose recipient) = pair_exists history purpose recipient
-named_pair_exists history (Deauthorize user purpose recipient) = pair_exists history purpose recipient
-named_pair_exists history (Allow purpose recipient table columns item days) = pair_exists history purpose recipient
-named_pair_exists history (Revoke purpose recipient table columns) = pair_exists history purpose recipient
+named_pair_exists history (Deauthorize user purpose recipient) =
+    pair_exists history purpose recipient
+named_pair_exists history (Allow purpose recipient table columns item days) =
+    pair_exists history purpose recipient
+named_pair_exists history (Revoke purpose recipient table columns) =
+    pair_exists history purpose recipient
 named_pair_exists history act = true

@@ -11,12 +11,12 @@ use Rattle.hippo_replay.specs.declared.faults.LoadFault.TheVariants.{Keeper, Dam
 use Rattle.hippo_replay.specs.declared.state.State.{State}
 use Rattle.hippo_replay.specs.Standing.{IsSound}
 use Rattle.hippo_replay.specs.TakingIn.{HasLoaded}
-use Rattle.hippo_replay.specs.Loading.{as_call}
+use Rattle.hippo_replay.specs.Loading.{load_as_call}
 
 -- a keeper's fault, as that of a load
-abbrev pub fault_of : KeeperFault → LoadFault
-fault_of keeper_faults.Failed = Keeper
-fault_of keeper_faults.Memory = Memory
+abbrev pub load_fault : KeeperFault → LoadFault
+load_fault keeper_faults.Failed = Keeper
+load_fault keeper_faults.Memory = Memory
 
 -- what is kept is what was loaded, and the rest
 pub record IsUpTo (state : State) (keeper : KeeperState) (store rest : Store) : Type 0 where
@@ -25,23 +25,26 @@ pub record IsUpTo (state : State) (keeper : KeeperState) (store rest : Store) : 
   pub whole : keeper.kept ≡ store ++ rest
 
 -- a piece is read, which is the front of the rest, and taken in
-pub record ReadsOn (result : Result Bool LoadFault) (before after : KeeperState) (old new : State)
+pub record ReadsPiece (result : Result Bool LoadFault) (before after : KeeperState)
+    (old new : State)
     (steps_old steps_new : ℕ) : Type 0 where
-  pub call : IsAfterCall true false (as_call result) before after
+  pub call : IsAfterCall true false (load_as_call result) before after
   pub stays : after.tells → KeepsSame before after
   pub piece : Store
   pub steps : steps_new ≡ steps_old + stored_versions piece
   pub told : after.tells → (store rest : Store) → IsUpTo old before store rest
       → ((behind : Store) × (rest ≡ piece ++ behind))
   pub taken : OnOk result ((store : Store) → HasLoaded old store → HasLoaded new (store ++ piece))
-  pub ended : result ≡ Ok false → after.tells → (store rest : Store) → IsUpTo old before store rest → rest ≡ []
+  pub ended : result ≡ Ok false → after.tells → (store rest : Store) → IsUpTo old before store rest
+      → rest ≡ []
   pub nothing : result ≡ Ok false → piece ≡ []
   pub goes_on : result ≡ Ok true → (old.count < new.count) × (old.count < 2 ^ 64)
   pub damaged : (place : ℕ) → result ≡ Err (Damaged place) → after.tells → (store rest : Store)
       → IsUpTo old before store rest → IsDamagedAt meaning before.kept place
 
 -- a front of what is kept is read and taken in
-pub record IsReading (before now : KeeperState) (state : State) (steps_old steps_now : ℕ) : Type 0 where
+pub record IsReading (before now : KeeperState) (state : State) (steps_old steps_now : ℕ)
+    : Type 0 where
   pub call : IsAfterCall {A = Unit {0}} true false (Ok tt) before now
   pub stays : now.tells → KeepsSame before now
   pub sound : IsSound state
@@ -51,13 +54,15 @@ pub record IsReading (before now : KeeperState) (state : State) (steps_old steps
   pub told : now.tells → ((behind : Store) × (before.kept ≡ read ++ behind))
 
 -- all that is kept is read and taken in, or a front of it
-pub record ReadsAll (result : Result (Unit {0}) LoadFault) (before after : KeeperState) (state : State)
+pub record ReadsAllKept (result : Result (Unit {0}) LoadFault) (before after : KeeperState)
+    (state : State)
     (steps_old steps_new : ℕ) : Type 0 where
-  pub call : IsAfterCall true false (as_call result) before after
+  pub call : IsAfterCall true false (load_as_call result) before after
   pub stays : after.tells → KeepsSame before after
   pub read : Store
   pub steps : steps_new ≡ steps_old + stored_versions read
   pub told : after.tells → ((behind : Store) × (before.kept ≡ read ++ behind))
   pub loaded : OnOk result (HasLoaded state read)
   pub whole : OnOk result (after.tells → before.kept ≡ read)
-  pub damaged : (place : ℕ) → result ≡ Err (Damaged place) → after.tells → IsDamagedAt meaning before.kept place
+  pub damaged : (place : ℕ) → result ≡ Err (Damaged place) → after.tells
+      → IsDamagedAt meaning before.kept place

@@ -11,16 +11,16 @@ use Rattle.hippo_typing.specs.Meanings.{meaning}
 use Rattle.hippo_replay.specs.declared.state.State.{State}
 use Rattle.hippo_replay.specs.Standing.{StandsFor}
 
--- a keeper keeps these entries behind those that it kept, and a stop leaves just that; where there are none, it keeps
--- the same
+-- a keeper keeps these entries behind those that it kept, and a stop leaves just that; where there
+-- are none, it keeps the same
 abbrev pub HasKept : History → KeeperState → KeeperState → Type 0
 HasKept [] before after = KeepsSame before after
 HasKept (entry ∷ entries) before after =
     (after.kept ≡ before.kept ++ map stored (entry ∷ entries)) × OnlySurvives after
 
--- an entry is kept behind the others; or memory was short, and it is not; or the keeper failed. It is handed to the
--- keeper only where it may follow
-pub record Keeps {A : Type 0} (entry : Entry) (result : Result A KeeperFault) (state : State)
+-- an entry is kept behind the others; or memory was short, and it is not; or the keeper failed. It
+-- is handed to the keeper only where it may follow
+pub record KeepsEntry {A : Type 0} (entry : Entry) (result : Result A KeeperFault) (state : State)
     (before after : KeeperState) : Type 0 where
   pub call : IsAfterCall true false result before after
   pub follows : wants_memory result ≡ false → (history : History) → StandsFor state history
@@ -29,9 +29,12 @@ pub record Keeps {A : Type 0} (entry : Entry) (result : Result A KeeperFault) (s
   pub failed : has_failed result ≡ true → after.tells → MayHaveOneMore (stored entry) before after
   pub same : wants_memory result ≡ true → after.tells → KeepsSame before after
 
--- an entry is kept, and the state stands for the history with it behind; or for what it did, where memory was short
+-- an entry is kept, and the state stands for the history with it behind; or for what it did, where
+-- memory was short
 pub record Records {A : Type 0} (entry : Entry) (result : Result A KeeperFault) (old new : State)
     (before after : KeeperState) : Type 0 where
-  pub keeps : Keeps entry result old before after
-  pub ok : OnOk result ((history : History) → StandsFor old history → StandsFor new (history ++ entry ∷ []))
-  pub memory : wants_memory result ≡ true → (history : History) → StandsFor old history → StandsFor new history
+  pub keeps : KeepsEntry entry result old before after
+  pub ok : OnOk result ((history : History) → StandsFor old history
+      → StandsFor new (history ++ entry ∷ []))
+  pub memory : wants_memory result ≡ true → (history : History) → StandsFor old history
+      → StandsFor new history

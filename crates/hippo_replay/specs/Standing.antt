@@ -9,9 +9,9 @@ use Rattle.hippo_model.specs.Terms.{History}
 use Rattle.hippo_model.specs.Histories.{last_word}
 use Rattle.hippo_model.specs.Validity.{may_follow, is_valid}
 use Rattle.hippo_catalog.specs.Catalogs.{known_at, known_after}
-use Rattle.hippo_catalog.specs.NewestNames.{Remembers as RemembersNames}
-use Rattle.hippo_policy.specs.Books.{StandsFor as BookStandsFor, Remembers as RemembersMatter, Adds as BookAdds}
-use Rattle.hippo_tables.specs.Standing.{StandsFor as TablesStandFor, Remembers as RemembersRows, Adds as TablesAdd}
+use Rattle.hippo_catalog.specs.NewestNames.{RemembersNames}
+use Rattle.hippo_policy.specs.Books.{BookStandsFor, RemembersMatter, BookAdds}
+use Rattle.hippo_tables.specs.Standing.{TablesStandFor, RemembersTables as RemembersRows, TablesAdd}
 use Rattle.hippo_typing.specs.Meanings.{meaning}
 use Rattle.hippo_replay.specs.declared.state.State.{State}
 
@@ -19,8 +19,8 @@ use Rattle.hippo_replay.specs.declared.state.State.{State}
 abbrev pub latest_moment : History → Moment
 latest_moment history = unwrap_or (last_word (λ entry. Some entry.moment) history) first_moment
 
--- the history is valid, and the state holds what it says: its names, rules, rows, the number of its entries, and the
--- moment of the last one
+-- the history is valid, and the state holds what it says: its names, rules, rows, the number of its
+-- entries, and the moment of the last one
 pub record StandsFor (state : State) (history : History) : Type 0 where
   pub valid : is_valid meaning history ≡ true
   pub names : state.catalog.names ≡ known_at history
@@ -36,7 +36,8 @@ pub record IsSound (state : State) : Type 0 where
 
 -- an entry may follow each history for which the state stands
 abbrev pub MayFollow : State → Entry → Type 0
-MayFollow state entry = (history : History) → StandsFor state history → may_follow meaning history entry ≡ true
+MayFollow state entry =
+    (history : History) → StandsFor state history → may_follow meaning history entry ≡ true
 
 -- a moment is not before that of the last entry
 abbrev pub IsTimely : State → Moment → Type 0

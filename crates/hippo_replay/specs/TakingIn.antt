@@ -18,17 +18,22 @@ pub record HasLoaded (state : State) (store : Store) : Type 0 where
   pub forms : map stored history ≡ store
   pub stands : StandsFor state history
 
--- stored entries are taken in behind those so far; or, whatever comes behind them, all together are damaged at a place
-pub record TakesIn {A : Type 0} (piece : Store) (result : Result A LoadFault) (old new : State) : Type 0 where
+-- stored entries are taken in behind those so far; or, whatever comes behind them, all together are
+-- damaged at a place
+pub record TakesIn {A : Type 0} (piece : Store) (result : Result A LoadFault) (old new : State)
+    : Type 0 where
   pub ok : OnOk result ((store : Store) → HasLoaded old store → HasLoaded new (store ++ piece))
-  pub damaged : (place : ℕ) → result ≡ Err (Damaged place) → (store rest : Store) → HasLoaded old store
+  pub damaged : (place : ℕ) → result ≡ Err (Damaged place) → (store rest : Store)
+      → HasLoaded old store
       → IsDamagedAt meaning (store ++ (piece ++ rest)) place
   pub unfailed : result ≢ Err Keeper
 
 -- an entry is taken in behind those so far; or it may not follow them
-pub record Follows {A : Type 0} (entry : Entry) (result : Result A LoadFault) (old new : State) : Type 0 where
+pub record Follows {A : Type 0} (entry : Entry) (result : Result A LoadFault) (old new : State)
+    : Type 0 where
   pub ok : OnOk result ((history : History) → StandsFor old history
       → (may_follow meaning history entry ≡ true) × StandsFor new (history ++ entry ∷ []))
-  pub damaged : (place : ℕ) → result ≡ Err (Damaged place) → (history : History) → StandsFor old history
+  pub damaged : (place : ℕ) → result ≡ Err (Damaged place) → (history : History)
+      → StandsFor old history
       → (may_follow meaning history entry ≡ false) × (place ≡ length history + 1)
   pub unfailed : result ≢ Err Keeper

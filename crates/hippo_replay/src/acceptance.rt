@@ -41,19 +41,22 @@ fn may_make(catalog: &Catalog, name: &Name) -> bool
 
 impl State {
     fn has_purpose(&self, purpose: &Name) -> bool
-        ensures { (history : History) → StandsFor self.now history → result ≡ is_purpose history purpose.now }
+        ensures { (history : History) → StandsFor self.now history
+            → result ≡ is_purpose history purpose.now }
     {
         self.catalog.has_purpose(purpose)
     }
 
     fn has_recipient(&self, recipient: &Name) -> bool
-        ensures { (history : History) → StandsFor self.now history → result ≡ is_recipient history recipient.now }
+        ensures { (history : History) → StandsFor self.now history
+            → result ≡ is_recipient history recipient.now }
     {
         self.catalog.has_recipient(recipient)
     }
 
     fn has_item(&self, item: &Name) -> bool
-        ensures { (history : History) → StandsFor self.now history → result ≡ is_some (item_at history item.now) }
+        ensures { (history : History) → StandsFor self.now history
+            → result ≡ is_some (item_at history item.now) }
     {
         self.catalog.item(item).is_some()
     }
@@ -66,7 +69,8 @@ impl State {
     }
 
     fn may_create(&self, schema: &Schema) -> bool
-        ensures { (history : History) → StandsFor self.now history → result ≡ create_fits history schema.now }
+        ensures { (history : History) → StandsFor self.now history
+            → result ≡ create_fits history schema.now }
     {
         may_make(&self.catalog, &schema.name) && is_well_formed(schema)
     }
@@ -74,7 +78,8 @@ impl State {
     // Whether a table has a row with the same key as this one.
     fn is_live_like(&self, table: &Name, row: &Cells) -> bool
         ensures { (history : History) (schema : TableSchema) → StandsFor self.now history
-            → schema_at history table.now ≡ Some schema → result ≡ is_live schema history (key_of schema.key row.now) }
+            → schema_at history table.now ≡ Some schema
+            → result ≡ is_live schema history (key_of schema.key row.now) }
     {
         match self.tables.rows(table) {
             None => false,
@@ -174,7 +179,8 @@ impl State {
     // Whether a rule's pair, table and columns are there.
     fn may_rule(&self, rule: &Act, table: &Name, columns: &Places) -> bool
         ensures { (history : History) → StandsFor self.now history → result
-            ≡ (named_pair_exists history rule.now && table_passes history (has_columns columns.now) table.now) }
+            ≡ (named_pair_exists history rule.now
+            && table_passes history (has_columns columns.now) table.now) }
     {
         self.has_named_pair(rule) && self.has_columns(table, columns)
     }
@@ -216,7 +222,8 @@ impl State {
         recipient: &Name,
         text: &Txt,
     ) -> Result<bool, Memory>
-        ensures { (history : History) → StandsFor self.now history → IfOk result (λ accepted. accepted
+        ensures { (history : History) → StandsFor self.now history
+            → IfOk result (λ accepted. accepted
             ≡ is_acceptable meaning history (Asked user.now purpose.now recipient.now text.now)) }
     {
         if !self.is_authorized(user, purpose, recipient) {
@@ -264,20 +271,23 @@ impl State {
 
     // Whether this is the number of the next entry.
     fn is_next_number(&self, number: u64) -> bool
-        ensures { (history : History) → StandsFor self.now history → result ≡ (number == length history + 1) }
+        ensures { (history : History) → StandsFor self.now history
+            → result ≡ (number == length history + 1) }
     {
         number > self.count && number - self.count == 1
     }
 
     // Whether a moment is no earlier than that of the last entry.
     fn keeps_order(&self, moment: &Moment) -> bool
-        ensures { (history : History) → StandsFor self.now history → result ≡ keeps_order history moment.now }
+        ensures { (history : History) → StandsFor self.now history
+            → result ≡ keeps_order history moment.now }
     {
         self.last.seconds() <= moment.seconds()
     }
 
-    /// Whether an entry that can be kept may come next: its number is the next one, its moment no earlier than that of
-    /// the last entry, and its act acceptable. The only error is want of memory.
+    /// Whether an entry that can be kept may come next: its number is the next one, its moment no
+    /// earlier than that of the last entry, and its act acceptable. The only error is want of
+    /// memory.
     pub fn accepts(&self, alloc: Global, entry: &Entry) -> Result<bool, Memory>
         requires keepable { is_keepable entry.now ≡ true }
         ensures { (history : History) → StandsFor self.now history

@@ -7,7 +7,8 @@ pub enum LoadFault {
     /// The keeper failed.
     #[error("the keeper failed")]
     Keeper,
-    /// The place, counted from 1, of the first entry up to which the kept entries are those of no valid history.
+    /// The place, counted from 1, of the first entry up to which the kept entries are those of no
+    /// valid history.
     #[error("the kept history is damaged")]
     Damaged(u64),
     /// The allocator refused.

@@ -3,7 +3,7 @@ ghost use Rattle.std.specs.Prelude.{◌≡◌, true, false, [], IfOk};
 ghost use Rattle.hippo_keeper.specs.Keeping.{RisesAbove, IsReady};
 ghost use Rattle.hippo_replay.specs.Standing.{StandsFor, IsSound};
 ghost use Rattle.hippo_replay.specs.Loading.{Loads};
-ghost use Rattle.hippo_replay.specs.Reading.{fault_of, ReadsOn, ReadsAll};
+ghost use Rattle.hippo_replay.specs.Reading.{load_fault, ReadsPiece, ReadsAllKept};
 
 use crate::faults::LoadFault;
 use crate::state::State;
@@ -15,7 +15,7 @@ use std::sync::ledger::Ledger;
 const PIECE: u64 = 1000;
 
 fn fault_of(fault: KeeperFault) -> LoadFault
-    ensures { result ≡ fault_of fault }
+    ensures { result ≡ load_fault fault }
 {
     match fault {
         KeeperFault::Failed => LoadFault::Keeper,
@@ -32,7 +32,8 @@ fn read_on<P: Keeper, L: Ledger>(
 ) -> Result<bool, LoadFault>
     requires ready { IsReady true (P.state keeper.old) }
     requires sound { IsSound state.old }
-    ensures reads { ReadsOn result (P.state keeper.old) (P.state keeper.new) state.old state.new steps.old steps.new }
+    ensures reads { ReadsPiece result (P.state keeper.old)
+        (P.state keeper.new) state.old state.new steps.old steps.new }
     ensures sound { IfOk result (λ any. IsSound state.new) }
 {
     match keeper.read_all(alloc, state.count, PIECE, steps) {
@@ -56,7 +57,8 @@ fn read_all<P: Keeper, L: Ledger>(
     requires ready { IsReady true (P.state keeper.old) }
     requires order { (P.state keeper.old).tells → RisesAbove 0 (P.state keeper.old).kept }
     requires empty { StandsFor state.old [] }
-    ensures reads { ReadsAll result (P.state keeper.old) (P.state keeper.new) state.new steps.old steps.new }
+    ensures reads { ReadsAllKept result (P.state keeper.old) (P.state keeper.new) state.new
+        steps.old steps.new }
 {
     loop {
         match read_on(keeper, alloc, state, steps) {
@@ -67,14 +69,15 @@ fn read_all<P: Keeper, L: Ledger>(
     }
 }
 
-/// Starts a keeper, which must be neither started nor spent nor closed, and loads the history that it keeps under this
-/// name.
+/// Starts a keeper, which must be neither started nor spent nor closed, and loads the history that
+/// it keeps under this name.
 ///
-/// Ok gives the state of a valid history, which is the kept one where the keeper tells what it keeps, and the keeper is
-/// then started. `Damaged` gives the place, counted from 1, of the first entry up to which the kept entries are those
-/// of no valid history. `Keeper` comes only where the keeper's count of faults rose; it is then spent. Whatever the
-/// answer, the kept entries stay as they were found. A load that answers Ok takes as many steps as there are versions
-/// in the history.
+/// Ok gives the state of a valid history, which is the kept one where the keeper tells what it
+/// keeps, and the keeper is then started. `Damaged` gives the place, counted from 1, of the first
+/// entry up to which the kept entries are those of no valid history. `Keeper` comes only where the
+/// keeper's count of faults rose; it is then spent. Whatever the answer, the kept entries stay as
+/// they were found. A load that answers Ok takes as many steps as there are versions in the
+/// history.
 ///
 /// ```text
 /// nothing is kept                                          Ok: the state of the empty history
@@ -88,7 +91,8 @@ pub fn load<P: Keeper, L: Ledger>(
     steps: &mut Steps<L>,
 ) -> Result<State, LoadFault>
     requires ready { IsReady false (P.state keeper.old) }
-    ensures loads { Loads name.now result (P.state keeper.old) (P.state keeper.new) steps.old steps.new }
+    ensures loads { Loads name.now result (P.state keeper.old) (P.state keeper.new) steps.old
+        steps.new }
 {
     match keeper.start(alloc, name) {
         Ok(()) => {

@@ -10,7 +10,7 @@ ghost use Rattle.hippo_typing.specs.Meanings.{meaning};
 ghost use Rattle.hippo_replay.specs.declared.state.State.{State as StateOf};
 ghost use Rattle.hippo_replay.specs.Standing.{StandsFor, IsSound, MayFollow, IsNext, takes_no_memory, Remembers};
 ghost use Rattle.hippo_replay.specs.TakingIn.{HasLoaded};
-ghost use Rattle.hippo_replay.specs.Recording.{Keeps, Records};
+ghost use Rattle.hippo_replay.specs.Recording.{KeepsEntry, Records};
 
 use crate::state::State;
 use hippo_entry::encode;
@@ -35,9 +35,10 @@ fn append<P: Keeper>(alloc: Global, keeper: &mut P, entry: &Entry) -> Result<(),
     requires keepable { is_keepable entry.now ≡ true }
     requires ready { IsReady true (P.state keeper.old) }
     requires number { entry.now.seq < 2 ^ 63 }
-    requires next { (P.state keeper.old).tells → entry.now.seq ≡ next_number (P.state keeper.old).kept }
+    requires next { (P.state keeper.old).tells
+        → entry.now.seq ≡ next_number (P.state keeper.old).kept }
     ensures keeps { (state : StateOf) → MayFollow state entry.now
-        → Keeps entry.now result state (P.state keeper.old) (P.state keeper.new) }
+        → KeepsEntry entry.now result state (P.state keeper.old) (P.state keeper.new) }
 {
     match encode(alloc, entry) {
         Ok(kept) => {
@@ -50,8 +51,9 @@ fn append<P: Keeper>(alloc: Global, keeper: &mut P, entry: &Entry) -> Result<(),
 }
 
 impl State {
-    /// Keeps an entry behind the others, which may come next: nothing of it is tested. `Memory` is want of memory: the
-    /// keeper then keeps what it kept. `Failed` comes only where the keeper failed: the entry is then kept or not.
+    /// Keeps an entry behind the others, which may come next: nothing of it is tested. `Memory` is
+    /// want of memory: the keeper then keeps what it kept. `Failed` comes only where the keeper
+    /// failed: the entry is then kept or not.
     pub fn keep<P: Keeper>(
         &self,
         alloc: Global,
@@ -63,7 +65,8 @@ impl State {
         requires ready { IsReady true (P.state keeper.old) }
         requires told { (P.state keeper.old).tells → HasLoaded self.now (P.state keeper.old).kept }
         requires number { entry.now.seq < 2 ^ 63 }
-        ensures keeps { Keeps entry.now result self.now (P.state keeper.old) (P.state keeper.new) }
+        ensures keeps { KeepsEntry entry.now result self.now (P.state keeper.old)
+            (P.state keeper.new) }
     {
         append(alloc, keeper, entry)
     }
@@ -72,7 +75,8 @@ impl State {
     fn add_at_once(&mut self, alloc: Global, entry: &Entry)
         requires next { IsNext self.old entry.now }
         requires room { takes_no_memory entry.now.act ≡ true }
-        ensures stands { (history : History) → StandsFor self.old history → may_follow meaning history entry.now ≡ true
+        ensures stands { (history : History) → StandsFor self.old history
+            → may_follow meaning history entry.now ≡ true
             → StandsFor self.new (history ++ entry.now ∷ []) }
     {
         self.add(alloc, entry).unwrap();
@@ -91,7 +95,8 @@ impl State {
         requires told { (P.state keeper.old).tells → HasLoaded self.old (P.state keeper.old).kept }
         requires number { entry.now.seq < 2 ^ 63 }
         requires room { takes_no_memory entry.now.act ≡ true }
-        ensures records { Records entry.now result self.old self.new (P.state keeper.old) (P.state keeper.new) }
+        ensures records { Records entry.now result self.old self.new (P.state keeper.old)
+            (P.state keeper.new) }
     {
         match self.keep(alloc, keeper, entry) {
             Ok(()) => {
@@ -112,11 +117,13 @@ impl State {
         requires keepable { is_keepable entry.now ≡ true }
         requires ready { IsReady true (P.state keeper.old) }
         requires number { entry.now.seq < 2 ^ 63 }
-        requires next { (P.state keeper.old).tells → entry.now.seq ≡ next_number (P.state keeper.old).kept }
+        requires next { (P.state keeper.old).tells
+            → entry.now.seq ≡ next_number (P.state keeper.old).kept }
         ensures keeps { (state : StateOf) → MayFollow state entry.now
-            → Keeps entry.now result state (P.state keeper.old) (P.state keeper.new) }
+            → KeepsEntry entry.now result state (P.state keeper.old) (P.state keeper.new) }
         ensures ok { OnOk result (self.new ≡ self.old) }
-        ensures memory { wants_memory result ≡ true → (history : History) → Remembers self.old history entry.now
+        ensures memory { wants_memory result ≡ true → (history : History)
+            → Remembers self.old history entry.now
             → StandsFor self.new history }
     {
         match append(alloc, keeper, entry) {
@@ -142,7 +149,8 @@ impl State {
         requires told { (P.state keeper.old).tells → HasLoaded self.old (P.state keeper.old).kept }
         requires number { entry.now.seq < 2 ^ 63 }
         requires remembered { is_delete entry.now.act ≡ false }
-        ensures records { Records entry.now result self.old self.new (P.state keeper.old) (P.state keeper.new) }
+        ensures records { Records entry.now result self.old self.new (P.state keeper.old)
+            (P.state keeper.new) }
     {
         match self.add(alloc, entry) {
             Ok(()) => self.keep_last(alloc, keeper, entry),
@@ -150,9 +158,9 @@ impl State {
         }
     }
 
-    /// Takes in the entry that comes next and keeps it: nothing of it is tested. `Memory` is want of memory: state and
-    /// keeper then say what they said. After `Failed`, which comes only where the keeper failed, the entry is kept or
-    /// not, and the state is of no use.
+    /// Takes in the entry that comes next and keeps it: nothing of it is tested. `Memory` is want
+    /// of memory: state and keeper then say what they said. After `Failed`, which comes only where
+    /// the keeper failed, the entry is kept or not, and the state is of no use.
     pub fn record<P: Keeper>(
         &mut self,
         alloc: Global,
@@ -164,7 +172,8 @@ impl State {
         requires ready { IsReady true (P.state keeper.old) }
         requires told { (P.state keeper.old).tells → HasLoaded self.old (P.state keeper.old).kept }
         requires number { entry.now.seq < 2 ^ 63 }
-        ensures records { Records entry.now result self.old self.new (P.state keeper.old) (P.state keeper.new) }
+        ensures records { Records entry.now result self.old self.new (P.state keeper.old)
+            (P.state keeper.new) }
         ensures sound { has_failed result ≡ false → IsSound self.new }
     {
         if takes_no_memory(&entry.act) {

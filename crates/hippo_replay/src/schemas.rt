@@ -78,7 +78,8 @@ fn subject_column_fits(schema: &Schema, place: usize) -> bool
 }
 
 fn subject_fits(schema: &Schema) -> bool
-    ensures { result ≡ option_map_or (column_passes subject_column_fits schema.now) schema.now.subject true }
+    ensures { result ≡ option_map_or (column_passes subject_column_fits schema.now)
+        schema.now.subject true }
 {
     match schema.subject {
         None => true,

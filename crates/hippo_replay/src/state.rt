@@ -4,8 +4,8 @@ ghost use Rattle.hippo_values.specs.Moments.{first_moment};
 ghost use Rattle.hippo_model.specs.Terms.{History};
 ghost use Rattle.hippo_model.specs.declared.entry.Entry.{Entry as HistoryEntry};
 ghost use Rattle.hippo_model.specs.Validity.{may_follow};
-ghost use Rattle.hippo_policy.specs.Books.{StandsFor as BookStandsFor, Adds as BookAdds};
-ghost use Rattle.hippo_tables.specs.Standing.{is_delete, Adds as TablesAdd, IsAsBefore as TablesAreAsBefore};
+ghost use Rattle.hippo_policy.specs.Books.{BookStandsFor, BookAdds};
+ghost use Rattle.hippo_tables.specs.Standing.{is_delete, TablesAdd, TablesAreAsBefore};
 ghost use Rattle.hippo_typing.specs.Meanings.{meaning};
 ghost use Rattle.hippo_replay.specs.Standing.{StandsFor, IsNext, takes_no_memory, PartsAdd, Remembers};
 
@@ -79,12 +79,14 @@ impl State {
         }
     }
 
-    /// Has the tables of a query keep, from now on, orders of their rows by the columns that it compares with `=`, so
-    /// that it finds rows by halves; the state stays what it is.
+    /// Has the tables of a query keep, from now on, orders of their rows by the columns that it
+    /// compares with `=`, so that it finds rows by halves; the state stays what it is.
     pub fn order_for(&mut self, alloc: Global, query: &Query)
-        ensures stands { (history : History) → StandsFor self.old history → StandsFor self.new history }
+        ensures stands { (history : History) → StandsFor self.old history
+            → StandsFor self.new history }
         ensures tables { TablesAreAsBefore self.old.tables self.new.tables }
-        ensures remembers { (history : History) (entry : HistoryEntry) → Remembers self.old history entry
+        ensures remembers { (history : History) (entry : HistoryEntry)
+            → Remembers self.old history entry
             → Remembers self.new history entry }
     {
         self.tables.order_for(alloc, query);
@@ -109,12 +111,14 @@ impl State {
         }
     }
 
-    /// Takes in the entry that comes next: the state then stands for the history with the entry behind. It stands for
-    /// what it stood for where memory is short, which it never is for a Delete or a question.
+    /// Takes in the entry that comes next: the state then stands for the history with the entry
+    /// behind. It stands for what it stood for where memory is short, which it never is for a
+    /// Delete or a question.
     pub fn add(&mut self, alloc: Global, entry: &Entry) -> Result<(), Memory>
         requires next { IsNext self.old entry.now }
         ensures stands { OnOk result ((history : History) → StandsFor self.old history
-            → may_follow meaning history entry.now ≡ true → StandsFor self.new (history ++ entry.now ∷ [])) }
+            → may_follow meaning history entry.now ≡ true
+            → StandsFor self.new (history ++ entry.now ∷ [])) }
         ensures remembers { OnOk result (is_delete entry.now.act ≡ false
             → (history : History) → StandsFor self.old history
             → may_follow meaning history entry.now ≡ true → Remembers self.new history entry.now) }
@@ -130,8 +134,8 @@ impl State {
         Ok(())
     }
 
-    /// Takes back the entry that was added last, which must be no Delete: the state then stands for the history before
-    /// it. Takes no memory.
+    /// Takes back the entry that was added last, which must be no Delete: the state then stands for
+    /// the history before it. Takes no memory.
     pub fn take_back(&mut self)
         ensures { (history : History) (entry : HistoryEntry) → Remembers self.old history entry
             → StandsFor self.new history }

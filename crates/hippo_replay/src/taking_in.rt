@@ -14,7 +14,8 @@ use hippo_values::Memory;
 use std::alloc::Global;
 
 impl State {
-    // The place of the damage, where the next entry, whose number is above that of the last one, may not follow.
+    // The place of the damage, where the next entry, whose number is above that of the last one,
+    // may not follow.
     fn damage(&self, _number: u64) -> LoadFault
         requires room { self.now.count < _number }
         ensures { result ≡ Damaged (self.now.count + 1) }

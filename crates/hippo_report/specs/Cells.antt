@@ -10,9 +10,10 @@ use Rattle.hippo_model.specs.declared.cells.Cell.TheVariants.{Shown, Denied}
 use Rattle.hippo_model.specs.Terms.{ShownRow, Key}
 
 -- the text of each member, with a separator between them
-abbrev pub joined : {A : Type 0} → (A → Txt) → Txt → List A → Txt
-joined text separator [] = []
-joined text separator (first ∷ rest) = text first ++ flat_map (λ member. separator ++ text member) rest
+abbrev pub separated_text : {A : Type 0} → (A → Txt) → Txt → List A → Txt
+separated_text text separator [] = []
+separated_text text separator (first ∷ rest) =
+    text first ++ flat_map (λ member. separator ++ text member) rest
 
 -- a cell as it is printed; one that is denied names its rule
 abbrev pub cell_text : Cell → Txt
@@ -24,7 +25,7 @@ comma = codes ", "
 
 -- a row of a table by its key: the table's name, and the key's values between parentheses
 abbrev pub keyed_text : Name → Key → Txt
-keyed_text table key = table ++ (codes "(" ++ (joined value_text comma key ++ codes ")"))
+keyed_text table key = table ++ (codes "(" ++ (separated_text value_text comma key ++ codes ")"))
 
 -- a row that an audit and a query share
 abbrev pub shared_text : SharedRow → Txt
@@ -36,7 +37,8 @@ tuple_text tuple = flat_map (λ shared. codes " " ++ shared_text shared) tuple
 
 -- one row of an answer
 abbrev pub answer_line : ℕ → ShownRow → Txt
-answer_line session row = decimal session ++ (codes " row " ++ (joined cell_text comma row ++ codes "\n"))
+answer_line session row =
+    decimal session ++ (codes " row " ++ (separated_text cell_text comma row ++ codes "\n"))
 
 -- one cell that was denied
 abbrev pub denied_line : Name → Key → Name → ℕ → Txt

@@ -106,7 +106,8 @@ refusal_detail _ = None
 -- what is said to somebody by a title, and what it names
 unfoldable pub said_of : Txt → Txt → Option Txt → Txt
 said_of who title None = who ++ (codes " no " ++ (title ++ codes "\n"))
-said_of who title (Some detail) = who ++ (codes " no " ++ (title ++ (codes " " ++ (detail ++ codes "\n"))))
+said_of who title (Some detail) =
+    who ++ (codes " no " ++ (title ++ (codes " " ++ (detail ++ codes "\n"))))
 
 -- the reply to a line that is not carried out
 abbrev pub refusal_line : Speaker → Refusal → Txt

@@ -1,4 +1,5 @@
-//! The text of replies: rows, denied cells, what was done, and refusals; and the parts that other lines are made of.
+//! The text of replies: rows, denied cells, what was done, and refusals; and the parts that other
+//! lines are made of.
 #![tactic(auto)]
 
 mod format;

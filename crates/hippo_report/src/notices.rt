@@ -7,8 +7,9 @@ use crate::speaker::Speaker;
 use hippo_values::{Memory, RoomyTxt};
 use itoa::Buffer;
 
-/// Adds the reply to a line that was carried out: `N ok`, where N is the session's number, 0 for the console, and `-`
-/// where the line is nobody's. The text is unchanged where memory is short, which it never is within the room.
+/// Adds the reply to a line that was carried out: `N ok`, where N is the session's number, 0 for
+/// the console, and `-` where the line is nobody's. The text is unchanged where memory is short,
+/// which it never is within the room.
 pub fn done_line<const ROOM: usize>(who: Speaker, out: &mut RoomyTxt<ROOM>) -> Result<(), Memory>
     ensures ok { OnOk result (out.new ≡ out.old ++ done_line who) }
     ensures err { OnErr result (out.new ≡ out.old) }
@@ -21,8 +22,8 @@ pub fn done_line<const ROOM: usize>(who: Speaker, out: &mut RoomyTxt<ROOM>) -> R
     }
 }
 
-/// Adds a word and a number, to a session or to the console: `N WORD NUMBER`. The text is unchanged where memory is
-/// short, which it never is within the room.
+/// Adds a word and a number, to a session or to the console: `N WORD NUMBER`. The text is unchanged
+/// where memory is short, which it never is within the room.
 pub fn number_line<const ROOM: usize>(
     session: u8,
     word: &str,
@@ -31,7 +32,8 @@ pub fn number_line<const ROOM: usize>(
 ) -> Result<(), Memory>
     ensures ok { OnOk result (out.new ≡ out.old ++ number_line session word.now number) }
     ensures err { OnErr result (out.new ≡ out.old) }
-    ensures room { length out.old + length (number_line session word.now number) ≤ ROOM → IsOk result }
+    ensures room { length out.old + length (number_line session word.now number) ≤ ROOM
+        → IsOk result }
 {
     append_pieces(
         &[

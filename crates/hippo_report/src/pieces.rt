@@ -8,7 +8,8 @@ use hippo_values::{Memory, RoomyTxt};
 fn append_each<const ROOM: usize>(pieces: &[&str], out: &mut RoomyTxt<ROOM>) -> Result<(), Memory>
     ensures ok { OnOk result (out.new ≡ out.old ++ concat (map (λ piece. piece.now) pieces.now)) }
     ensures err { OnErr result (KeepsFront out.old out.new) }
-    ensures room { length out.old + length (concat (map (λ piece. piece.now) pieces.now)) ≤ ROOM → IsOk result }
+    ensures room { length out.old + length (concat (map (λ piece. piece.now) pieces.now)) ≤ ROOM
+        → IsOk result }
 {
     for piece in pieces {
         out.append(piece)?;
@@ -16,14 +17,16 @@ fn append_each<const ROOM: usize>(pieces: &[&str], out: &mut RoomyTxt<ROOM>) -> 
     Ok(())
 }
 
-/// Adds the pieces one after the other. The text is unchanged where memory is short, which it never is within the room.
+/// Adds the pieces one after the other. The text is unchanged where memory is short, which it never
+/// is within the room.
 pub fn append_pieces<const ROOM: usize>(
     pieces: &[&str],
     out: &mut RoomyTxt<ROOM>,
 ) -> Result<(), Memory>
     ensures ok { OnOk result (out.new ≡ out.old ++ concat (map (λ piece. piece.now) pieces.now)) }
     ensures err { OnErr result (out.new ≡ out.old) }
-    ensures room { length out.old + length (concat (map (λ piece. piece.now) pieces.now)) ≤ ROOM → IsOk result }
+    ensures room { length out.old + length (concat (map (λ piece. piece.now) pieces.now)) ≤ ROOM
+        → IsOk result }
 {
     let length = out.as_str().len();
     let printed = append_each(pieces, out);

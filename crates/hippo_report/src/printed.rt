@@ -1,7 +1,7 @@
 //! What a reply prints of values, cells and shared rows.
 ghost use Rattle.std.specs.Prelude.{◌≡◌, ◌++◌, ◌∷◌, [], flat_map, decimal, codes, OnOk, OnErr};
 ghost use Rattle.hippo_values.specs.Printing.{value_text, KeepsFront};
-ghost use Rattle.hippo_report.specs.Cells.{joined, cell_text, keyed_text, shared_text};
+ghost use Rattle.hippo_report.specs.Cells.{separated_text, cell_text, keyed_text, shared_text};
 
 use hippo_model::{Cell, Cells, SharedRow};
 use hippo_values::{Memory, Name, RoomyTxt, Value, print_value};
@@ -29,7 +29,8 @@ impl<const ROOM: usize> Printed<ROOM> for Value {
 }
 
 fn append_denied<const ROOM: usize>(rule: u64, out: &mut RoomyTxt<ROOM>) -> Result<(), Memory>
-    ensures ok { OnOk result (out.new ≡ out.old ++ (codes "DENIED(" ++ (decimal rule ++ codes ")"))) }
+    ensures ok { OnOk result (out.new ≡ out.old
+        ++ (codes "DENIED(" ++ (decimal rule ++ codes ")"))) }
     ensures err { OnErr result (KeepsFront out.old out.new) }
 {
     out.append("DENIED(")?;
@@ -70,7 +71,8 @@ pub fn append_later<const ROOM: usize, T: Printed<ROOM>>(
     rest: &[T],
     out: &mut RoomyTxt<ROOM>,
 ) -> Result<(), Memory>
-    ensures ok { OnOk result (out.new ≡ out.old ++ flat_map (λ member. separator.now ++ T.text member) rest.now) }
+    ensures ok { OnOk result (out.new ≡ out.old
+        ++ flat_map (λ member. separator.now ++ T.text member) rest.now) }
     ensures err { OnErr result (KeepsFront out.old out.new) }
 {
     for member in rest {
@@ -86,7 +88,8 @@ pub fn append_joined<const ROOM: usize, T: Printed<ROOM>>(
     members: &[T],
     out: &mut RoomyTxt<ROOM>,
 ) -> Result<(), Memory>
-    ensures ok { OnOk result (out.new ≡ out.old ++ joined T.text separator.now members.now) }
+    ensures ok { OnOk result (out.new ≡ out.old
+        ++ separated_text T.text separator.now members.now) }
     ensures err { OnErr result (KeepsFront out.old out.new) }
 {
     if members.is_empty() {

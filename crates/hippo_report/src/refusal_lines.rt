@@ -162,7 +162,8 @@ fn append_naming<const ROOM: usize>(
 ) -> Result<(), Memory>
     ensures ok { OnOk result (out.new ≡ out.old ++ said_of who.now title.now (Some detail.now)) }
     ensures err { OnErr result (out.new ≡ out.old) }
-    ensures room { length out.old + length (said_of who.now title.now (Some detail.now)) ≤ ROOM → IsOk result }
+    ensures room { length out.old + length (said_of who.now title.now (Some detail.now)) ≤ ROOM
+        → IsOk result }
 {
     append_pieces(&[who, " no ", title, " ", detail, "\n"], out)
 }
@@ -173,9 +174,11 @@ fn append_moment<const ROOM: usize>(
     moment: &Moment,
     out: &mut RoomyTxt<ROOM>,
 ) -> Result<(), Memory>
-    ensures ok { OnOk result (out.new ≡ out.old ++ said_of who.now title.now (Some (moment_text moment.now))) }
+    ensures ok { OnOk result (out.new ≡ out.old
+        ++ said_of who.now title.now (Some (moment_text moment.now))) }
     ensures err { OnErr result (out.new ≡ out.old) }
-    ensures room { length out.old + length (said_of who.now title.now (Some (moment_text moment.now))) ≤ ROOM
+    ensures room { length out.old + length
+        (said_of who.now title.now (Some (moment_text moment.now))) ≤ ROOM
         → IsOk result }
 {
     match str::from_utf8(&moment_text(*moment)) {
@@ -190,9 +193,11 @@ fn append_said<const ROOM: usize>(
     detail: &Detail<'_>,
     out: &mut RoomyTxt<ROOM>,
 ) -> Result<(), Memory>
-    ensures ok { OnOk result (out.new ≡ out.old ++ said_of who.now title.now (detail_text detail.now)) }
+    ensures ok { OnOk result (out.new ≡ out.old
+        ++ said_of who.now title.now (detail_text detail.now)) }
     ensures err { OnErr result (out.new ≡ out.old) }
-    ensures room { length out.old + length (said_of who.now title.now (detail_text detail.now)) ≤ ROOM → IsOk result }
+    ensures room { length out.old + length (said_of who.now title.now (detail_text detail.now))
+        ≤ ROOM → IsOk result }
 {
     match detail {
         Detail::Nothing => append_plain(who, title, out),
@@ -209,7 +214,8 @@ fn append_refusal<const ROOM: usize>(
     out: &mut RoomyTxt<ROOM>,
 ) -> Result<(), Memory>
     ensures ok { OnOk result
-        (out.new ≡ out.old ++ said_of who.now (refusal_title refusal.now) (refusal_detail refusal.now)) }
+        (out.new ≡ out.old ++ said_of who.now (refusal_title refusal.now)
+        (refusal_detail refusal.now)) }
     ensures err { OnErr result (out.new ≡ out.old) }
     ensures room { length out.old
         + length (said_of who.now (refusal_title refusal.now) (refusal_detail refusal.now)) ≤ ROOM
@@ -218,9 +224,9 @@ fn append_refusal<const ROOM: usize>(
     append_said(who, refusal_title(refusal), &refusal_detail(refusal), out)
 }
 
-/// Adds the reply to a line that is not carried out: `N no CODE NAME`, with what the refusal names behind it; N is the
-/// session's number, 0 for the console, and `-` where the line is nobody's. The text is unchanged where memory is
-/// short, which it never is within the room.
+/// Adds the reply to a line that is not carried out: `N no CODE NAME`, with what the refusal names
+/// behind it; N is the session's number, 0 for the console, and `-` where the line is nobody's. The
+/// text is unchanged where memory is short, which it never is within the room.
 pub fn refusal_line<const ROOM: usize>(
     who: Speaker,
     refusal: &Refusal,

@@ -29,8 +29,9 @@ impl<'a, const ROOM: usize> Printed<ROOM> for AnswerRow<'a> {
     }
 }
 
-/// Adds one row of an answer to a session: `N row CELLS`, where a value is printed as in SQL and a denied cell as
-/// `DENIED(e)` with the number of its rule. The text is unchanged where memory is short.
+/// Adds one row of an answer to a session: `N row CELLS`, where a value is printed as in SQL and a
+/// denied cell as `DENIED(e)` with the number of its rule. The text is unchanged where memory is
+/// short.
 pub fn answer_line<const ROOM: usize>(
     session: u8,
     row: &CellRow,
@@ -74,7 +75,8 @@ impl<'a, const ROOM: usize> Printed<ROOM> for AnswerRows<'a> {
     }
 }
 
-/// Adds rows of an answer to a session, each as `answer_line` does. The text is unchanged where memory is short.
+/// Adds rows of an answer to a session, each as `answer_line` does. The text is unchanged where
+/// memory is short.
 pub fn answer_lines<const ROOM: usize>(
     session: u8,
     rows: &[CellRow],
@@ -116,7 +118,8 @@ impl<'a, const ROOM: usize> Printed<ROOM> for DeniedCell<'a> {
     }
 }
 
-/// Adds one cell that was denied: `0 denied TABLE(KEY) COLUMN RULE`. The text is unchanged where memory is short.
+/// Adds one cell that was denied: `0 denied TABLE(KEY) COLUMN RULE`. The text is unchanged where
+/// memory is short.
 pub fn denied_line<const ROOM: usize>(
     table: &Name,
     key: &Cells,

@@ -20,7 +20,7 @@ use Rattle.hippo_model.specs.declared.schema.Column.{Column}
 use Rattle.hippo_model.specs.declared.schema.Schema.{Schema}
 use Rattle.hippo_model.specs.Terms.{History, Meaning, Row, Key, Place}
 use Rattle.hippo_model.specs.Values.{fits}
-use Rattle.hippo_model.specs.Histories.{created, schema_at}
+use Rattle.hippo_model.specs.Histories.{schema_created, schema_at}
 use Rattle.hippo_model.specs.Rows.{key_of, born_at, table_rows}
 use Rattle.hippo_model.specs.RowSets.{KeyedRows, key_in, put_row, take_row}
 use Rattle.hippo_model.specs.StoredForms.{table_changed}
@@ -115,7 +115,7 @@ module _ (schema : Schema) where
 
     module _ (meaning : Meaning) (entry : Entry) (known : KnownBy (schema_at history schema.name) schema (table_rows schema history)) where
       abbrev Known : Act → List BornRow → Type 0
-      Known act rows = KnownBy (option_or (created schema.name act) (schema_at history schema.name)) schema rows
+      Known act rows = KnownBy (option_or (schema_created schema.name act) (schema_at history schema.name)) schema rows
 
       unchanged : (act : Act) → entry.act ≡ act → is_version act ≡ false → Known act (table_rows schema history) → Known act (table_rows schema (history ++ entry ∷ []))
       unchanged act is none so_far =
@@ -166,14 +166,14 @@ known_after : (meaning : Meaning) (history : History) (entry : Entry) → is_val
 known_after meaning history entry valid known may schema =
     let acceptable = (and_parts (is_keepable entry && entry.seq == length history + 1 && keeps_order history entry.moment) (is_acceptable meaning history entry.act) may).1 in
     subst (λ (found : Option Schema). KnownBy found schema (table_rows schema (history ++ entry ∷ [])))
-    (sym (last_word-append (λ (entry : Entry). created schema.name entry.act) history entry))
+    (sym (last_word-append (λ (entry : Entry). schema_created schema.name entry.act) history entry))
     (by_act schema history meaning entry (known schema) entry.act refl acceptable)
 
 all_known : (meaning : Meaning) (history : History) → is_valid meaning history ≡ true → AllKnown history
 all_known meaning = holds_of_each_valid meaning AllKnown (known_after meaning) (λ schema. refl)
 
 -- a table that is created has its name
-created_named : (table : Name) (schema : Schema) (act : Act) → created table act ≡ Some schema → schema.name ≡ table
+created_named : (table : Name) (schema : Schema) (act : Act) → schema_created table act ≡ Some schema → schema.name ≡ table
 created_named table schema (Create made) =
     elim (bytes_eq made.name table) as (λ named. bytes_eq made.name table ≡ named → then_some named made ≡ Some schema → schema.name ≡ table) [
       | true ↦ λ same is. let made_is : made ≡ schema = cc in ap (λ (schema : Schema). schema.name) (sym made_is) ∙ (bytes_eq-Decides made.name table).0 same
@@ -184,7 +184,7 @@ created_named table schema act = λ is. absurd cc
 pub schema_named : (history : History) (table : Name) (schema : Schema) → schema_at history table ≡ Some schema → schema.name ≡ table
 schema_named [] table schema = λ is. absurd cc
 schema_named (entry ∷ later) table schema =
-    elim (schema_at later table) as (λ found. schema_at later table ≡ found → option_or found (created table entry.act) ≡ Some schema → schema.name ≡ table) [
+    elim (schema_at later table) as (λ found. schema_at later table ≡ found → option_or found (schema_created table entry.act) ≡ Some schema → schema.name ≡ table) [
       | None ↦ λ e is. created_named table schema entry.act is
       | Some made ↦ λ e is. schema_named later table schema (e ∙ is)
     ] refl

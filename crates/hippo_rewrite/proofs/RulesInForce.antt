@@ -27,12 +27,12 @@ use Rattle.hippo_model.specs.Masking.{masked_cell}
 use Rattle.hippo_model.specs.Validity.{is_valid}
 use Rattle.hippo_policy.specs.Gates.{gate_in, gate_by, table_rules, rules_verdict}
 use Rattle.hippo_policy.proofs.VerdictLemmas.{rules_verdict-table_rules}
-use Rattle.hippo_rewrite.specs.MaskedRows.{row_by, rows_by, row_fits, rows_fit}
+use Rattle.hippo_rewrite.specs.MaskedRows.{row_by, rows_by, row_fits_gates, rows_fit}
 use Rattle.hippo_rewrite.specs.Rewriting.{column_expr, masked_column}
 use Rattle.hippo_rewrite.specs.RewritingLaws.{rules_at, tables_at, rewritten_answer, HasTables}
 use Rattle.hippo_rewrite.proofs.FittingRows.{is_wide, is_within, fits_schema}
 use Rattle.hippo_rewrite.proofs.MaskedCells.{by_gate}
-use Rattle.hippo_rewrite.proofs.MaskedAnswers.{masked_answer-rewritten}
+use Rattle.hippo_rewrite.proofs.MaskedAnswers.{masked_answer-rewritten_query}
 
 module _ (here there : Place → Verdict) (size : ℕ) (same : (place : Place) → place < size → here place ≡ there place) where
   same_cells : (first : Place) (row : Row) → first + length row ≡ size
@@ -85,8 +85,8 @@ module _ (history : History) (context : Context) where
       λ i. cons_option (row_by-view_row schema kept keyed both.0 i) (rows_by-view schema rows keyed both.1 i)
 
   -- each row has a value for each gate
-  row_fits-is_wide : (schema : Schema) (rows : List BornRow) → list_all (row_fits (table_rules history context schema)) rows ≡ list_all (is_wide schema) rows
-  row_fits-is_wide schema rows =
+  row_fits_gates-is_wide : (schema : Schema) (rows : List BornRow) → list_all (row_fits_gates (table_rules history context schema)) rows ≡ list_all (is_wide schema) rows
+  row_fits_gates-is_wide schema rows =
       let gate : Place → Gate = λ place. gate_by history context.moment (rule_at history context.purpose context.recipient schema.name place) in
       ap (λ (size : ℕ). list_all (λ kept. length kept.row == size) rows) (length-map-range_with_len gate 0 (length schema.columns))
 
@@ -95,7 +95,7 @@ module _ (history : History) (context : Context) where
     rules_fit =
         table_by_table history (λ tables schemas. rows_fit (rules_at history context schemas) (tables_at history schemas) ≡ true) refl (λ table schema tables schemas first later.
         let fit = fits_schema meaning history valid table schema first in
-        and_from _ _ (row_fits-is_wide schema (table_rows schema history) ∙ fit.0) later)
+        and_from _ _ (row_fits_gates-is_wide schema (table_rows schema history) ∙ fit.0) later)
 
     views_are : (tables : List Name) (schemas : List Schema) → map (schema_at history) tables ≡ map Some schemas
         → rows_by (choice_at history) (rules_at history context schemas) (tables_at history schemas) ≡ map (view_at history context) tables
@@ -115,7 +115,7 @@ rows_fit-rules_at meaning history context query schemas has = rules_fit history 
 pub rewritten_answer-raw : (meaning : Meaning) (history : History) (context : Context) (query : Query) (schemas : List Schema) → HasTables meaning history query schemas
     → rewritten_answer history context schemas query ≡ answer_of query.items query.cond (seen_combinations history context query)
 rewritten_answer-raw meaning history context query schemas has =
-    masked_answer-rewritten (choice_at history) (rules_at history context schemas) query (tables_at history schemas) (rows_fit-rules_at meaning history context query schemas has)
+    masked_answer-rewritten_query (choice_at history) (rules_at history context schemas) query (tables_at history schemas) (rows_fit-rules_at meaning history context query schemas has)
     ∙ ap (λ (views : List (List ShownRow)). answer_of query.items query.cond (product views)) (views_are history context meaning has.valid query.tables schemas has.schemas_are)
 
 -- what stands for a column is its cell as the verdict shows it

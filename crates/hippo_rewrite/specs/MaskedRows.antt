@@ -13,19 +13,22 @@ use Rattle.hippo_policy.specs.Gates.{rules_verdict}
 abbrev pub row_by : Choices → TableRules → BornRow → Option ShownRow
 row_by choices table kept =
     let verdicts = rules_verdict choices table kept in
-    then_some (list_all (λ place. is_shown (verdicts place)) table.key) (masked_row verdicts kept.row)
+    then_some (list_all (λ place. is_shown (verdicts place)) table.key)
+    (masked_row verdicts kept.row)
 
 -- the rows of each table as they are masked
 abbrev pub rows_by : Choices → List TableRules → List (List BornRow) → List (List ShownRow)
-rows_by choices (table ∷ rules) (rows ∷ tables) = filter_map (row_by choices table) rows ∷ rows_by choices rules tables
+rows_by choices (table ∷ rules) (rows ∷ tables) =
+    filter_map (row_by choices table) rows ∷ rows_by choices rules tables
 rows_by choices rules tables = []
 
 -- a row has a value for each gate of its table
-abbrev pub row_fits : TableRules → BornRow → Bool
-row_fits table kept = length kept.row == length table.gates
+abbrev pub row_fits_gates : TableRules → BornRow → Bool
+row_fits_gates table kept = length kept.row == length table.gates
 
 -- there is a list of rows for each table, and each row fits
 abbrev pub rows_fit : List TableRules → List (List BornRow) → Bool
 rows_fit [] [] = true
-rows_fit (table ∷ rules) (rows ∷ tables) = list_all (row_fits table) rows && rows_fit rules tables
+rows_fit (table ∷ rules) (rows ∷ tables) =
+    list_all (row_fits_gates table) rows && rows_fit rules tables
 rows_fit rules tables = false

@@ -31,7 +31,8 @@ column_expr table column = expr_by table.subject column (gate_in table column.co
 
 -- what stands for a column of a query's tables; of no table, it is never shown
 abbrev pub masked_column : List TableRules → Ref → Expr
-masked_column rules column = option_map_or (λ table. column_expr table column) (slice_get rules column.table) (Null 0)
+masked_column rules column =
+    option_map_or (λ table. column_expr table column) (slice_get rules column.table) (Null 0)
 
 abbrev pub masked_operand : List TableRules → Operand → Expr
 masked_operand rules (Column column) = masked_column rules column
@@ -51,8 +52,8 @@ guards_from place [] = []
 guards_from place (table ∷ rules) = table_guards place table ++ guards_from (place + 1) rules
 
 -- the query with the rules written into it: each column as its gate says, and each key cell guarded
-abbrev pub rewritten : List TableRules → Query → Masked
-rewritten rules query = record {
+abbrev pub rewritten_query : List TableRules → Query → Masked
+rewritten_query rules query = record {
   items = map (masked_column rules) query.items;
   tables = query.tables;
   guards = guards_from 0 rules;

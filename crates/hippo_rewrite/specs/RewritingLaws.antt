@@ -11,21 +11,21 @@ use Rattle.hippo_model.specs.Rows.{cell_at, table_rows}
 use Rattle.hippo_model.specs.Rules.{choice_at}
 use Rattle.hippo_model.specs.Verdicts.{Context, verdict}
 use Rattle.hippo_model.specs.Views.{cell_by}
-use Rattle.hippo_model.specs.Forms.{formed}
+use Rattle.hippo_model.specs.Forms.{rows_by_form}
 use Rattle.hippo_model.specs.Answers.{product, answer_of, seen_combinations, answer}
 use Rattle.hippo_model.specs.Masking.{Choices, masked_cell, masked_answer}
 use Rattle.hippo_model.specs.Validity.{is_valid}
 use Rattle.hippo_policy.specs.Gates.{table_rules}
 use Rattle.hippo_rewrite.specs.MaskedRows.{rows_by, rows_fit}
-use Rattle.hippo_rewrite.specs.Rewriting.{masked_column, rewritten}
+use Rattle.hippo_rewrite.specs.Rewriting.{masked_column, rewritten_query}
 
--- what the rewritten query answers over rows, their births and choices is the raw answer of the query over the rows as
--- they are masked
+-- what the rewritten query answers over rows, their births and choices is the raw answer of the
+-- query over the rows as they are masked
 abbrev pub RewritingMasks : Type 0
 RewritingMasks =
     (rules : List TableRules) (query : Query) (choices : Choices) (tables : List (List BornRow))
     → rows_fit rules tables ≡ true
-    → masked_answer choices (rewritten rules query) tables
+    → masked_answer choices (rewritten_query rules query) tables
     ≡ answer_of query.items query.cond (product (rows_by choices rules tables))
 
 -- the rules in force of tables, and their rows, after some entries
@@ -38,34 +38,41 @@ tables_at history schemas = map (λ schema. table_rows schema history) schemas
 -- what a query answers after some entries that is rewritten by the rules in force
 abbrev pub rewritten_answer : History → Context → List Schema → Query → List ShownRow
 rewritten_answer history context schemas query =
-    masked_answer (choice_at history) (rewritten (rules_at history context schemas) query) (tables_at history schemas)
+    masked_answer (choice_at history) (rewritten_query (rules_at history context schemas) query)
+    (tables_at history schemas)
 
 -- these are the schemas of a query's tables in a valid history
-pub record HasTables (meaning : Meaning) (history : History) (query : Query) (schemas : List Schema) : Type 0 where
+pub record HasTables (meaning : Meaning) (history : History) (query : Query) (schemas : List Schema)
+    : Type 0 where
   pub valid : is_valid meaning history ≡ true
   pub schemas_are : map (schema_at history) query.tables ≡ map Some schemas
 
 -- rows in a valid history fit the rules in force
 abbrev pub RowsFitRules : Type 0
 RowsFitRules =
-    (meaning : Meaning) (history : History) (context : Context) (query : Query) (schemas : List Schema)
+    (meaning : Meaning) (history : History) (context : Context) (query : Query)
+    (schemas : List Schema)
     → HasTables meaning history query schemas
     → rows_fit (rules_at history context schemas) (tables_at history schemas) ≡ true
 
--- what the query answers that is rewritten by the rules in force is its raw answer over the views, and by the query's
--- form its answer
+-- what the query answers that is rewritten by the rules in force is its raw answer over the views,
+-- and by the query's form its answer
 abbrev pub RewritingAnswers : Type 0
 RewritingAnswers =
-    (meaning : Meaning) (history : History) (context : Context) (query : Query) (schemas : List Schema)
+    (meaning : Meaning) (history : History) (context : Context) (query : Query)
+    (schemas : List Schema)
     → HasTables meaning history query schemas
     → (rewritten_answer history context schemas query
     ≡ answer_of query.items query.cond (seen_combinations history context query))
-    × (formed query.form (rewritten_answer history context schemas query) ≡ answer history context query)
+    × (rows_by_form query.form (rewritten_answer history context schemas query)
+    ≡ answer history context query)
 
--- what stands for a column under the rules in force is, in a combination of rows, its cell as the verdict shows it
+-- what stands for a column under the rules in force is, in a combination of rows, its cell as the
+-- verdict shows it
 abbrev pub ColumnsShowVerdicts : Type 0
 ColumnsShowVerdicts =
-    (history : History) (context : Context) (schemas : List Schema) (rows : Combination) (column : Ref)
+    (history : History) (context : Context) (schemas : List Schema) (rows : Combination)
+    (column : Ref)
     (schema : Schema) (kept : BornRow) → slice_get schemas column.table ≡ Some schema
     → slice_get rows column.table ≡ Some kept → column.column < length schema.columns
     → masked_cell (choice_at history) rows (masked_column (rules_at history context schemas) column)

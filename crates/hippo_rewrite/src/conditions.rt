@@ -30,7 +30,8 @@ pub fn masked_condition(
     condition: &CondOf<Operand>,
     rules: &RulesInForce,
 ) -> Result<CondOf<Expr>, Memory>
-    ensures { IfOk result (λ made. made ≡ changed_operands (masked_operand rules.now) condition.now) }
+    ensures { IfOk result (λ made. made ≡ changed_operands (masked_operand rules.now)
+        condition.now) }
 {
     changed_condition(alloc, condition, &Masking { rules })
 }

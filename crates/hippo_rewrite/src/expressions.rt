@@ -18,7 +18,8 @@ fn by_choice(
     opt_in: bool,
     after: &Option<i64>,
 ) -> Result<Expr, Memory>
-    ensures { IfOk result (λ made. made ≡ expr_by subject column (With rule item.now opt_in after.now)) }
+    ensures { IfOk result (λ made. made ≡ expr_by subject column
+        (With rule item.now opt_in after.now)) }
 {
     match subject {
         None => Ok(Expr::Null(rule)),
@@ -99,8 +100,9 @@ pub fn masked_operand(
     }
 }
 
-/// For each column reference, what stands for it where a query is rewritten: the column itself, NULL with the rule that
-/// denies it, or the column as its row's age and the patient's choice show it. A reference to no column is never shown.
+/// For each column reference, what stands for it where a query is rewritten: the column itself,
+/// NULL with the rule that denies it, or the column as its row's age and the patient's choice show
+/// it. A reference to no column is never shown.
 pub fn mask_columns(alloc: Global, columns: &Refs, rules: &RulesInForce) -> Result<Exprs, Memory>
     ensures { IfOk result (λ exprs. exprs ≡ map (masked_column rules.now) columns.now) }
 {

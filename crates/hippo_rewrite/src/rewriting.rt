@@ -1,6 +1,6 @@
 //! A query with the rules in force written into it.
 ghost use Rattle.std.specs.Prelude.{◌≡◌, IfOk};
-ghost use Rattle.hippo_rewrite.specs.Rewriting.{rewritten};
+ghost use Rattle.hippo_rewrite.specs.Rewriting.{rewritten_query};
 
 use crate::conditions::masked_condition;
 use crate::expressions::mask_columns;
@@ -9,13 +9,15 @@ use hippo_model::{Masked, Query, RulesInForce};
 use hippo_values::{Duplicate, Memory};
 use std::alloc::Global;
 
-/// The query over unmasked rows that answers, for every row, age and choice, what the query answers over the rows as
-/// the rules mask them (the query rewriting of LeFevre and others, Limiting Disclosure in Hippocratic Databases, VLDB
-/// 2004, with table semantics). The rules are those of the query's tables, in the order of FROM. Each column becomes
-/// itself, NULL with the rule that denies it, or what its row's age and the patient's choice show; each column of a key
-/// adds a guard, so that a row with a denied key counts nowhere. The form of the query is left to who groups its rows.
+/// The query over unmasked rows that answers, for every row, age and choice, what the query answers
+/// over the rows as the rules mask them (the query rewriting of LeFevre and others, Limiting
+/// Disclosure in Hippocratic Databases, VLDB 2004, with table semantics). The rules are those of
+/// the query's tables, in the order of FROM. Each column becomes itself, NULL with the rule that
+/// denies it, or what its row's age and the patient's choice show; each column of a key adds a
+/// guard, so that a row with a denied key counts nowhere. The form of the query is left to who
+/// groups its rows.
 pub fn rewrite(alloc: Global, query: &Query, rules: &RulesInForce) -> Result<Masked, Memory>
-    ensures { IfOk result (λ masked. masked ≡ rewritten rules.now query.now) }
+    ensures { IfOk result (λ masked. masked ≡ rewritten_query rules.now query.now) }
 {
     let items = mask_columns(alloc, &query.items, rules)?;
     let tables = query.tables.copy(alloc)?;

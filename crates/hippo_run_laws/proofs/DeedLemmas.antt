@@ -17,7 +17,7 @@ use Rattle.hippo_values.specs.declared.names.Name.{Name}
 use Rattle.hippo_catalog.specs.Catalogs.{known_at}
 use Rattle.hippo_catalog.specs.ChangesRefused.{change_refused}
 use Rattle.hippo_catalog.specs.ChangesWanted.{wanted_by}
-use Rattle.hippo_tables.specs.Finished.{finished}
+use Rattle.hippo_tables.specs.Finished.{finished_act}
 use Rattle.hippo_report.specs.declared.refusal.Refusal.{Refusal}
 use Rattle.hippo_report.specs.declared.refusal.Refusal.TheVariants.{BadSyntax, NoCursor, NoJob, NoWatch, JobLimit, WatchLimit, NoSuchQuery, MomentBack}
 use Rattle.hippo_world.specs.declared.cursors.Cursor.{Cursor as HeldCursor}
@@ -25,7 +25,7 @@ use Rattle.hippo_world.specs.declared.sessions.Session.{Session}
 use Rattle.hippo_audit_job.specs.Jobs.{OpenAudit}
 use Rattle.hippo_world.specs.Worlds.{World, at_number, free_number}
 use Rattle.hippo_lines.specs.Forms.{logs_in, logs_out, fetches, closes, steps, drops, unwatches, loads}
-use Rattle.hippo_commands.specs.Commands.{Command, nothing, wrong, ask, state}
+use Rattle.hippo_commands.specs.Commands.{Command, nothing, wrong, make_request, make_statement}
 use Rattle.hippo_commands.specs.Commands as commands
 use Rattle.hippo_judging.specs.declared.asking.Delivery.{Delivery}
 use Rattle.hippo_judging.specs.declared.asking.Delivery.TheVariants as delivered
@@ -33,8 +33,8 @@ use Rattle.hippo_judging.specs.declared.asking.Handing.{Handing}
 use Rattle.hippo_judging.specs.declared.asking.Handing.TheVariants.{Rows, Records, Cursor}
 use Rattle.hippo_judging.specs.Deeds.{Deed, Question}
 use Rattle.hippo_judging.specs.Deeds as deeds
-use Rattle.hippo_judging.specs.Checks.{Checked, ◌>>=◌, refused_if, by_console, open_session, may_log_in, meant, act_made, has_room, question_at}
-use Rattle.hippo_judging.specs.Judging.{judged, judged_login, judged_fetch, judged_close, judged_step, judged_drop, judged_unwatch, judged_wanted, judged_change, insert_of, judged_load, text_between, question_in, delivery_for, deed_for, judged_question, audit_in, judged_begin, judged_watch}
+use Rattle.hippo_judging.specs.Checks.{Checked, ◌>>=◌, refused_if, by_console, open_session, may_log_in, unless_refused, act_made, has_room, question_at}
+use Rattle.hippo_judging.specs.Judging.{judged, judged_login, judged_fetch, judged_close, judged_step, judged_drop, judged_unwatch, judged_wanted, judged_change, loaded_insert, judged_load, text_between, question_in, delivery_for, deed_for, judged_question, audit_in, judged_begin, judged_watch}
 
 -- a job that is stepped stands at its number, and what begins gets a free one
 abbrev pub IsFounded : World → Checked Deed → Type 0
@@ -55,7 +55,7 @@ module _ (history : History) (world : World) where
 
   made : (wanted : Wanted) → IsFounded world (judged_wanted history world wanted)
   made wanted =
-      check {A = Act} (act_made (finished history wanted)) (λ act. has_room history world >>= λ room. Ok (deeds.change act))
+      check {A = Act} (act_made (finished_act history wanted)) (λ act. has_room history world >>= λ room. Ok (deeds.change act))
       (λ act. check {A = Unit {0}} (has_room history world) (λ room. Ok (deeds.change act)) (λ room. tt))
 
   named : (wanted : Option Wanted) → IsFounded world (ok_or wanted BadSyntax >>= λ one. judged_wanted history world one)
@@ -66,13 +66,13 @@ module _ (history : History) (world : World) where
       let refusals : List NameFault = change_refused (known_at history) statement in
       let wanted : Option Wanted = wanted_by (known_at history) statement in
       check {A = Unit {0}} (by_console number)
-      (λ console. meant refusals wanted >>= λ found. ok_or found BadSyntax >>= λ one. judged_wanted history world one)
-      (λ console. check {A = Option Wanted} (meant refusals wanted) (λ found. ok_or found BadSyntax >>= λ one. judged_wanted history world one) named)
+      (λ console. unless_refused refusals wanted >>= λ found. ok_or found BadSyntax >>= λ one. judged_wanted history world one)
+      (λ console. check {A = Option Wanted} (unless_refused refusals wanted) (λ found. ok_or found BadSyntax >>= λ one. judged_wanted history world one) named)
 
   load : (number : ℕ) (table : Name) (text : Txt) → IsFounded world (judged_load history world number table text)
   load number table text =
-      check {A = Unit {0}} (by_console number) (λ console. insert_of (known_at history) table text >>= λ insert. judged_change history world number insert)
-      (λ console. check {A = Stmt} (insert_of (known_at history) table text) (λ insert. judged_change history world number insert)
+      check {A = Unit {0}} (by_console number) (λ console. loaded_insert (known_at history) table text >>= λ insert. judged_change history world number insert)
+      (λ console. check {A = Stmt} (loaded_insert (known_at history) table text) (λ insert. judged_change history world number insert)
       (λ insert. change number insert))
 
   handing : (session : Session) (question : Question) (delivery : Delivery) → IsFounded world (Ok (deed_for session question delivery))
@@ -143,19 +143,19 @@ module _ (history : History) (world : World) where
   founded (wrong who refusal) = tt
   founded (commands.set_clock moment) =
       check {A = Unit {0}} (refused_if (int_lt moment world.clock) (MomentBack world.clock)) (λ later. Ok (deeds.set_clock moment)) (λ later. tt)
-  founded (ask number (logs_in user purpose recipient)) = login number user (record { purpose = purpose; recipient = recipient })
-  founded (ask number logs_out) = check {A = Session} (open_session world number) (λ session. Ok (deeds.log_out number)) (λ session. tt)
-  founded (ask number (fetches cursor count)) = fetch number cursor count
-  founded (ask number (closes cursor)) = close number cursor
-  founded (ask number (steps job count)) = step number job count
-  founded (ask number (drops job)) = drop number job
-  founded (ask number (unwatches watch)) = unwatch number watch
-  founded (ask number (loads table text)) = load number table text
-  founded (state number (stmt.Select written start end) text) = question Rows number written (text_between text start end)
-  founded (state number (stmt.Ask written start end) text) = question Cursor number written (text_between text start end)
-  founded (state number (stmt.Extract written start end) text) = question Records number written (text_between text start end)
-  founded (state number (stmt.Explain question) text) = explain number (question_at history question) (NoSuchQuery question)
-  founded (state number (stmt.Audit written) text) = check {A = Audit} (audit_in history number written) (λ audit. Ok (deeds.audit audit)) (λ audit. tt)
-  founded (state number (stmt.BeginAudit written) text) = begin number written
-  founded (state number (stmt.Watch written) text) = watch number written
-  founded (state number statement text) = change number statement
+  founded (make_request number (logs_in user purpose recipient)) = login number user (record { purpose = purpose; recipient = recipient })
+  founded (make_request number logs_out) = check {A = Session} (open_session world number) (λ session. Ok (deeds.log_out number)) (λ session. tt)
+  founded (make_request number (fetches cursor count)) = fetch number cursor count
+  founded (make_request number (closes cursor)) = close number cursor
+  founded (make_request number (steps job count)) = step number job count
+  founded (make_request number (drops job)) = drop number job
+  founded (make_request number (unwatches watch)) = unwatch number watch
+  founded (make_request number (loads table text)) = load number table text
+  founded (make_statement number (stmt.Select written start end) text) = question Rows number written (text_between text start end)
+  founded (make_statement number (stmt.Ask written start end) text) = question Cursor number written (text_between text start end)
+  founded (make_statement number (stmt.Extract written start end) text) = question Records number written (text_between text start end)
+  founded (make_statement number (stmt.Explain question) text) = explain number (question_at history question) (NoSuchQuery question)
+  founded (make_statement number (stmt.Audit written) text) = check {A = Audit} (audit_in history number written) (λ audit. Ok (deeds.audit audit)) (λ audit. tt)
+  founded (make_statement number (stmt.BeginAudit written) text) = begin number written
+  founded (make_statement number (stmt.Watch written) text) = watch number written
+  founded (make_statement number statement text) = change number statement

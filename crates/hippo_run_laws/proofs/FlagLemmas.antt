@@ -9,7 +9,7 @@ use Rattle.hippo_model.specs.declared.entry.Entry.{Entry}
 use Rattle.hippo_model.specs.Terms.{History, Meaning}
 use Rattle.hippo_model.specs.Histories.{before_entry}
 use Rattle.hippo_model.specs.Validity.{is_valid}
-use Rattle.hippo_model.specs.Audits.{shared, shared_in, flag_by, flag_of, flags_between}
+use Rattle.hippo_model.specs.Audits.{shared_tuple, shared_in, flag_by, flag_of, flags_between}
 use Rattle.hippo_laws.proofs.ValidFronts.{before-append}
 
 -- the first of the entries from a place on stands at that place
@@ -54,7 +54,7 @@ before_next history later entry number =
     ap (λ (n : ℕ). take n (history ++ later)) before ∙ take-append_seam history later
 
 -- what an audit shares with an entry is the same in any longer history
-pub shared_there : (meaning : Meaning) (history later : History) (audit : Audit) (entry : Entry) → entry.seq ≡ length history + 1 → shared meaning (history ++ later) audit entry ≡ shared meaning history audit entry
+pub shared_there : (meaning : Meaning) (history later : History) (audit : Audit) (entry : Entry) → entry.seq ≡ length history + 1 → shared_tuple meaning (history ++ later) audit entry ≡ shared_tuple meaning history audit entry
 shared_there meaning history later audit entry number =
     let all : before_entry entry history ≡ history = sym (ap (before_entry entry) (append-nil history)) ∙ before_next history [] entry number in
     ap (λ (h : History). shared_in meaning h audit entry.moment entry.act) (before_next history later entry number ∙ sym all)

@@ -22,10 +22,10 @@ use Rattle.hippo_judging.specs.Deeds.{Deed}
 use Rattle.hippo_judging.specs.Deeds as deeds
 use Rattle.hippo_judging.specs.Checks.{Checked}
 use Rattle.hippo_judging.specs.Judging.{judged}
-use Rattle.hippo_engine.specs.Effects.{Effect, done, carried_out, row_limit, question_rows, only_reply, flag_lines, step_flags, looked_upto, with_job, new_job, IsShort, IsEffect}
+use Rattle.hippo_engine.specs.Effects.{Effect, deed_effect, judgement_effect, row_limit, question_rows, only_reply, flag_lines, step_flags, job_up_to, with_job, new_open_audit, IsShort, IsEffect}
 use Rattle.hippo_engine.specs.Runs.{IsRun, world_after}
-use Rattle.hippo_run_laws.specs.Lines.{OfEachLine, NoneAsks}
-use Rattle.hippo_run_laws.specs.Jobs.{Portion, no_portion, JudgedWrites, Writes, flags_in, last_end, IsWhole}
+use Rattle.hippo_run_laws.specs.Lines.{OfEachLine, NoneJudged}
+use Rattle.hippo_run_laws.specs.Jobs.{Portion, no_portion, JudgedWrites, WritesPortion, flags_in, last_end, HaveAllFlags}
 use Rattle.hippo_run_laws.specs.RunLaws.{AnyCut, StepsReplyAsOneAudit}
 use Rattle.hippo_run_laws.proofs.DeedLemmas.{IsFounded, founded}
 use Rattle.hippo_run_laws.proofs.PlaceLemmas.{elsewhere, there, free_there, not_free}
@@ -66,7 +66,7 @@ module _ (start : History) (valid : is_valid meaning start ≡ true) (audit : Au
     length_is : job.length ≡ length start
     within : job.place ≤ length start
     flags : flags_in portions ++ job.waiting ≡ flags_between meaning start audit 0 job.place
-    whole : (count : ℕ) → last_end portions ≡ Some count → IsWhole start audit portions count
+    whole : (count : ℕ) → last_end portions ≡ Some count → HaveAllFlags start audit portions count
 
   -- the job stands in the world, and the history has grown from the one at its beginning
   record Goes (portions : List Portion) (history : History) (world : World) : Type 0 where
@@ -146,7 +146,7 @@ module _ (start : History) (valid : is_valid meaning start ≡ true) (audit : Au
 
   ended : (portions : List Portion) (history later : History) (job : OpenAudit) (upto : ℕ) → history ≡ start ++ later → IsOn portions job → upto ≤ job.length
       → flags_in (portions ++ step_portion history job upto ∷ []) ≡ flags_between meaning start audit 0 upto
-      → (count : ℕ) → (step_portion history job upto).ended ≡ Some count → IsWhole start audit (portions ++ step_portion history job upto ∷ []) count
+      → (count : ℕ) → (step_portion history job upto).ended ≡ Some count → HaveAllFlags start audit (portions ++ step_portion history job upto ∷ []) count
   ended portions history later job upto longer on high written count is =
       let last = ended_at (nat_lt upto job.length) (length (flags_between meaning history job.audit 0 job.length)) count is in
       let whole : upto ≡ length start = reached upto job.length (length start) last.0 high on.length_is in
@@ -158,7 +158,7 @@ module _ (start : History) (valid : is_valid meaning start ≡ true) (audit : Au
       }
 
   stepped : (portions : List Portion) (history later : History) (job : OpenAudit) (upto : ℕ) → history ≡ start ++ later → IsOn portions job
-      → job.place ≤ upto → upto ≤ job.length → IsOn (portions ++ step_portion history job upto ∷ []) (looked_upto job upto [])
+      → job.place ≤ upto → upto ≤ job.length → IsOn (portions ++ step_portion history job upto ∷ []) (job_up_to job upto [])
   stepped portions history later job upto longer on low high =
       let one : Portion = step_portion history job upto in
       let within : upto ≤ length start = subst (λ (n : ℕ). upto ≤ n) on.length_is high in
@@ -173,7 +173,7 @@ module _ (start : History) (valid : is_valid meaning start ≡ true) (audit : Au
       }
 
   waits : (portions : List Portion) (history later : History) (job : OpenAudit) (upto : ℕ) → history ≡ start ++ later → IsOn portions job
-      → job.place ≤ upto → upto ≤ job.length → IsOn (portions ++ no_portion ∷ []) (looked_upto job upto (step_flags history job upto))
+      → job.place ≤ upto → upto ≤ job.length → IsOn (portions ++ no_portion ∷ []) (job_up_to job upto (step_flags history job upto))
   waits portions history later job upto longer on low high =
       let within : upto ≤ length start = subst (λ (n : ℕ). upto ≤ n) on.length_is high in
       record {
@@ -192,13 +192,13 @@ module _ (start : History) (valid : is_valid meaning start ≡ true) (audit : Au
       subst (IsOn portions) same on
 
   step_done : (portions : List Portion) (history : History) (world : World) (command : Command) → Goes portions history world → (at : ℕ) (job : OpenAudit) (count : ℕ)
-      → at_number world.jobs at ≡ Some job → ((at ≡ number) ⊎ (at ≢ number)) → After portions history world command (Ok (deeds.step_job at job count)) (done history world (deeds.step_job at job count))
+      → at_number world.jobs at ≡ Some job → ((at ≡ number) ⊎ (at ≢ number)) → After portions history world command (Ok (deeds.step_job at job count)) (deed_effect history world (deeds.step_job at job count))
   step_done portions history world command goes at job count held (inr differ) =
-      (no_portion, inr (differ, refl), rests portions history world (done history world (deeds.step_job at job count)) goes (elsewhere world.jobs at number _ differ))
+      (no_portion, inr (differ, refl), rests portions history world (deed_effect history world (deeds.step_job at job count)) goes (elsewhere world.jobs at number _ differ))
   step_done portions history world command goes at job count held (inl same) =
       let upto : ℕ = step_end job count in
       let on : IsOn portions job = stands_so portions goes.job job (at_number world.jobs number) goes.stands (ap (at_number world.jobs) (sym same) ∙ held) goes.is_on in
-      let after : OpenAudit = looked_upto job upto [] in
+      let after : OpenAudit = job_up_to job upto [] in
       let low : job.place ≤ job.length = subst (λ (n : ℕ). job.place ≤ n) (sym on.length_is) on.within in (
         step_portion history job upto,
         inl (same, inl (ap (λ (line : Txt). flag_lines world (step_flags history job upto) ++ line) (last_line (nat_lt upto job.length) upto _))),
@@ -214,15 +214,15 @@ module _ (start : History) (valid : is_valid meaning start ≡ true) (audit : Au
   step_short : (portions : List Portion) (history : History) (world : World) (command : Command) → Goes portions history world → (at : ℕ) (job : OpenAudit) (count upto : ℕ)
       → at_number world.jobs at ≡ Some job → job.place ≤ upto → upto ≤ step_end job count → ((at ≡ number) ⊎ (at ≢ number))
       → After portions history world command (Ok (deeds.step_job at job count))
-      (only_reply (with_job world at (Some (looked_upto job upto (step_flags history job upto)))) (refusal_line (who_commands command) Memory))
+      (only_reply (with_job world at (Some (job_up_to job upto (step_flags history job upto)))) (refusal_line (who_commands command) Memory))
   step_short portions history world command goes at job count upto held low high (inr differ) = (
     no_portion,
     inr (differ, refl),
-    rests portions history world (only_reply (with_job world at (Some (looked_upto job upto (step_flags history job upto)))) (refusal_line (who_commands command) Memory)) goes (elsewhere world.jobs at number _ differ),
+    rests portions history world (only_reply (with_job world at (Some (job_up_to job upto (step_flags history job upto)))) (refusal_line (who_commands command) Memory)) goes (elsewhere world.jobs at number _ differ),
   )
   step_short portions history world command goes at job count upto held low high (inl same) =
       let on : IsOn portions job = stands_so portions goes.job job (at_number world.jobs number) goes.stands (ap (at_number world.jobs) (sym same) ∙ held) goes.is_on in
-      let after : OpenAudit = looked_upto job upto (step_flags history job upto) in (
+      let after : OpenAudit = job_up_to job upto (step_flags history job upto) in (
         no_portion,
         inl (same, inr (refl, refl)),
         record {
@@ -235,25 +235,25 @@ module _ (start : History) (valid : is_valid meaning start ≡ true) (audit : Au
       )
 
   carried : (portions : List Portion) (history : History) (world : World) (command : Command) → Goes portions history world → (judgement : Checked Deed)
-      → IsFounded world judgement → (judgement ≢ Ok (deeds.drop_job number)) → After portions history world command judgement (carried_out history world (who_commands command) judgement)
+      → IsFounded world judgement → (judgement ≢ Ok (deeds.drop_job number)) → After portions history world command judgement (judgement_effect history world (who_commands command) judgement)
   carried portions history world command goes (Err refusal) fits kept =
       (no_portion, refl, still portions history world (only_reply world (refusal_line (who_commands command) refusal)) goes refl)
   carried portions history world command goes (Ok (deeds.step_job at job count)) fits kept =
       step_done portions history world command goes at job count fits (same_or_not at number)
   carried portions history world command goes (Ok (deeds.drop_job at)) fits kept =
-      (no_portion, refl, rests portions history world (done history world (deeds.drop_job at)) goes (elsewhere world.jobs at number None (λ same. kept (ap (λ (n : ℕ). Ok (deeds.drop_job n)) same))))
+      (no_portion, refl, rests portions history world (deed_effect history world (deeds.drop_job at)) goes (elsewhere world.jobs at number None (λ same. kept (ap (λ (n : ℕ). Ok (deeds.drop_job n)) same))))
   carried portions history world command goes (Ok (deeds.begin_audit at audit)) fits kept =
-      (no_portion, refl, rests portions history world (done history world (deeds.begin_audit at audit)) goes (elsewhere world.jobs at number _ (not_free world.jobs at number goes.job fits goes.stands)))
+      (no_portion, refl, rests portions history world (deed_effect history world (deeds.begin_audit at audit)) goes (elsewhere world.jobs at number _ (not_free world.jobs at number goes.job fits goes.stands)))
   carried portions history world command goes (Ok (deeds.open_cursor session at question)) fits kept =
-      (no_portion, refl, still portions history world (done history world (deeds.open_cursor session at question)) goes (either_jobs (nat_lt row_limit (length (question_rows history world question))) world _ refl))
-  carried portions history world command goes (Ok deed) fits kept = (no_portion, refl, still portions history world (done history world deed) goes refl)
+      (no_portion, refl, still portions history world (deed_effect history world (deeds.open_cursor session at question)) goes (either_jobs (nat_lt row_limit (length (question_rows history world question))) world _ refl))
+  carried portions history world command goes (Ok deed) fits kept = (no_portion, refl, still portions history world (deed_effect history world deed) goes refl)
 
   short : (portions : List Portion) (history : History) (world : World) (command : Command) → Goes portions history world → (judgement : Checked Deed) → IsFounded world judgement
       → (effect : Effect) → IsShort history world (refusal_line (who_commands command) Memory) judgement effect → After portions history world command judgement effect
   short portions history world command goes (Ok (deeds.step_job at job count)) fits effect is =
       subst (After portions history world command (Ok (deeds.step_job at job count))) (sym is.is)
       (step_short portions history world command goes at job count is.upto fits is.from is.to (same_or_not at number))
-  short portions history world command goes (Ok (deeds.answer question)) fits effect is = (no_portion, refl, still portions history world effect goes (ap (λ (w : World). w.jobs) is.same))
+  short portions history world command goes (Ok (deeds.answer_question question)) fits effect is = (no_portion, refl, still portions history world effect goes (ap (λ (w : World). w.jobs) is.same))
   short portions history world command goes (Ok (deeds.open_cursor session at question)) fits effect is = (no_portion, refl, still portions history world effect goes (ap (λ (w : World). w.jobs) is.same))
   short portions history world command goes (Ok (deeds.extract question)) fits effect is = (no_portion, refl, still portions history world effect goes (ap (λ (w : World). w.jobs) is.same))
   short portions history world command goes judgement fits effect is = (no_portion, refl, still portions history world effect goes (ap (λ (e : Effect). e.world.jobs) is))
@@ -269,8 +269,8 @@ module _ (start : History) (valid : is_valid meaning start ≡ true) (audit : Au
 
   -- line by line
   all_lines : (portions : List Portion) (history : History) (world : World) (lines : List LineText) (effects : List Effect) → Goes portions history world
-      → IsRun history world lines effects → NoneAsks (deeds.drop_job number) history world lines effects
-      → ((more : List Portion) × OfEachLine (Writes number) history world lines effects more × (end : History) × Goes (portions ++ more) end (world_after world effects))
+      → IsRun history world lines effects → NoneJudged (deeds.drop_job number) history world lines effects
+      → ((more : List Portion) × OfEachLine (WritesPortion number) history world lines effects more × (end : History) × Goes (portions ++ more) end (world_after world effects))
   all_lines portions history world [] [] goes run kept = ([], tt, history, subst (λ (p : List Portion). Goes p history world) (sym (append-nil portions)) goes)
   all_lines portions history world [] (effect ∷ effects) goes run kept = absurd run
   all_lines portions history world (line ∷ lines) [] goes run kept = absurd run
@@ -285,12 +285,12 @@ module _ (start : History) (valid : is_valid meaning start ≡ true) (audit : Au
 
 -- a job at its beginning
 begins : (history : History) (valid : is_valid meaning history ≡ true) (audit : Audit) (number : ℕ) (world : World) → free_number world.jobs ≡ Some number
-    → Goes history valid audit number [] (history ++ []) (with_job world number (Some (new_job history audit)))
+    → Goes history valid audit number [] (history ++ []) (with_job world number (Some (new_open_audit history audit)))
 begins history valid audit number world free = record {
   later = [];
   longer = refl;
-  job = new_job history audit;
-  stands = free_there world.jobs number (Some (new_job history audit)) free;
+  job = new_open_audit history audit;
+  stands = free_there world.jobs number (Some (new_open_audit history audit)) free;
   is_on = record {
     audit_is = refl;
     length_is = refl;

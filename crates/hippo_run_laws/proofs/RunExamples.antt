@@ -21,7 +21,7 @@ use Rattle.hippo_watch.specs.AlarmLines.{alarm_text}
 use Rattle.hippo_world.specs.Worlds.{World}
 use Rattle.hippo_lines.specs.Words.{words_of}
 use Rattle.hippo_lines.specs.Forms.{steps}
-use Rattle.hippo_commands.specs.Commands.{Command, wrong, ask, command_of}
+use Rattle.hippo_commands.specs.Commands.{Command, wrong, make_request, command_of}
 use Rattle.std.specs.List.{cons_option}
 use Rattle.hippo_values.specs.Texts.{Txt}
 use Rattle.hippo_values.specs.Words.{word_of}
@@ -36,16 +36,16 @@ use Rattle.hippo_catalog.proofs.ComparedOperands.{comparisons_of}
 use Rattle.hippo_lexer.specs.Spelling.{sign_table, sign_of}
 use Rattle.hippo_lexer.specs.Cutting.{number_of, number_first, closing, quoted_first, date_first, word_first, sign_first, token_first, tokens_from, outcome_of}
 use Rattle.hippo_lexer.specs.Words.{words_check}
-use Rattle.hippo_spj_reader.specs.SelectFinder.{leading_item, leading_member, leading_members, leading_joined, leading_sources, leading_where, leading_scope, leading_draft_of, leading_draft, ungrouped, leading_select}
+use Rattle.hippo_spj_reader.specs.SelectFinder.{leading_item, leading_member, leading_members, leading_joined, leading_sources, leading_where, leading_scope, leading_draft_of, leading_draft, ungrouped_select, leading_select}
 use Rattle.hippo_stmt_reader.specs.StatementFinder.{placed_select_of, open_of, extract_of, select_of, statement_of}
 use Rattle.hippo_typing.specs.Meanings.{meaning, meaning_in}
 use Rattle.std.specs.Option.{option_map_or}
 use Rattle.hippo_judging.specs.Deeds as deeds
-use Rattle.hippo_engine.specs.Effects.{Effect, effect_of, done, alarms, only_reply, with_job, with_watch, new_job, looked_upto}
+use Rattle.hippo_engine.specs.Effects.{Effect, effect_of, deed_effect, alarms, only_reply, with_job, with_watch, new_open_audit, job_up_to}
 use Rattle.hippo_engine.specs.Runs.{IsRun}
 use Rattle.hippo_engine.proofs.ExampleLines.{patient, treatment, nurse, entry, nurses_pair, clinic, world_within, question, all_rows, asked_for}
 use Rattle.hippo_run_laws.specs.Lines.{OfEachLine}
-use Rattle.hippo_run_laws.specs.Jobs.{Portion, no_portion, portion_reply, StepWrites, JudgedWrites, Writes, flags_in, last_end}
+use Rattle.hippo_run_laws.specs.Jobs.{Portion, no_portion, portion_reply, StepWrites, JudgedWrites, WritesPortion, flags_in, last_end}
 use Rattle.hippo_run_laws.specs.Watches.{alarm_of, alarm_texts, JudgedHeard, IsHeard}
 
 -- AUDIT name OF patient, in the year 2024
@@ -75,22 +75,22 @@ ninth = record eighth { seq = 9 }
 
 -- a job over the seven entries of the morning, and one in which a flag waits
 abbrev job : OpenAudit
-job = new_job clinic names_of_patients
+job = new_open_audit clinic names_of_patients
 
 abbrev one_waits : OpenAudit
-one_waits = looked_upto job 2 (eighth ∷ [])
+one_waits = job_up_to job 2 (eighth ∷ [])
 
 abbrev world : World
 world = with_job (world_within 4000000) 1 (Some job)
 
 abbrev three_numbers : Command
-three_numbers = ask 0 (steps 1 3)
+three_numbers = make_request 0 (steps 1 3)
 
 -- a step writes what waits, and up to which number it has looked
 abbrev eighth_written : Portion
 eighth_written = record { flags = eighth ∷ []; ended = None }
 
-what_waits_is_written : StepWrites world three_numbers one_waits 3 (done clinic world (deeds.step_job 1 one_waits 3)) eighth_written
+what_waits_is_written : StepWrites world three_numbers one_waits 3 (deed_effect clinic world (deeds.step_job 1 one_waits 3)) eighth_written
 what_waits_is_written = inl refl
 
 a_flag_and_how_far_it_is :
@@ -99,7 +99,7 @@ a_flag_and_how_far_it_is = refl
 
 -- the last step says how many flags there are: nobody asked anything in the morning
 the_last_step_says_end :
-    StepWrites world (ask 0 (steps 1 9)) job 9 (done clinic world (deeds.step_job 1 job 9)) (record { flags = []; ended = Some 0 })
+    StepWrites world (make_request 0 (steps 1 9)) job 9 (deed_effect clinic world (deeds.step_job 1 job 9)) (record { flags = []; ended = Some 0 })
 the_last_step_says_end = inl refl
 
 -- where memory is short nothing is written
@@ -110,12 +110,12 @@ nothing_is_written_without_memory : JudgedWrites 1 world three_numbers (Ok (deed
 nothing_is_written_without_memory = inl (refl, inr (refl, refl))
 
 -- of job 2 a step of job 1 writes nothing
-others_write_nothing : JudgedWrites 2 world three_numbers (Ok (deeds.step_job 1 one_waits 3)) (done clinic world (deeds.step_job 1 one_waits 3)) no_portion
+others_write_nothing : JudgedWrites 2 world three_numbers (Ok (deeds.step_job 1 one_waits 3)) (deed_effect clinic world (deeds.step_job 1 one_waits 3)) no_portion
 others_write_nothing = inr (λ same. omega (arith, same), refl)
 
 -- lines that are refused write nothing
 refused_lines_write_nothing :
-    OfEachLine (Writes 1) clinic world (too_long_line ∷ not_utf8_line ∷ [])
+    OfEachLine (WritesPortion 1) clinic world (too_long_line ∷ not_utf8_line ∷ [])
     (only_reply world (refusal_line Nobody LineTooLong) ∷ only_reply world (refusal_line Nobody BadLine) ∷ []) (no_portion ∷ no_portion ∷ [])
 refused_lines_write_nothing = (refl, (refl, tt))
 
@@ -143,13 +143,13 @@ nothing_is_heard_of_refused_lines : IsHeard 1 clinic world (wrong Nobody LineToo
 nothing_is_heard_of_refused_lines = refl
 
 nothing_is_heard_without_memory :
-    JudgedHeard 1 clinic world (question (all_rows (codes "name" ∷ []))) (Ok (deeds.answer (asked_for (1 ∷ []))))
+    JudgedHeard 1 clinic world (question (all_rows (codes "name" ∷ []))) (Ok (deeds.answer_question (asked_for (1 ∷ []))))
     (only_reply world (refusal_line (speaker_at 1) Memory)) None
 nothing_is_heard_without_memory = inr (refl, refl)
 
 -- what is unfolded to read lines and texts
 unfoldable reading : ⊤
-unfolding words_of keywords unsupported_words sign_table sign_of number_of number_first closing quoted_first date_first word_first sign_first token_first tokens_from outcome_of words_check leading_item leading_member leading_members leading_joined leading_sources leading_where leading_scope leading_draft_of leading_draft ungrouped leading_select placed_select_of open_of extract_of select_of statement_of word_of meaning_in
+unfolding words_of keywords unsupported_words sign_table sign_of number_of number_first closing quoted_first date_first word_first sign_first token_first tokens_from outcome_of words_check leading_item leading_member leading_members leading_joined leading_sources leading_where leading_scope leading_draft_of leading_draft ungrouped_select leading_select placed_select_of open_of extract_of select_of statement_of word_of meaning_in
 reading = tt
 
 -- Ann asks for the names of patients
@@ -203,7 +203,7 @@ effects_of (line ∷ lines) history held = with_effect history (effects_of lines
 
 -- a job over these eight entries in two steps, and a line of others between them
 abbrev audited : World
-audited = with_job (world_within 4000000) 1 (Some (new_job asked_once names_of_patients))
+audited = with_job (world_within 4000000) 1 (Some (new_open_audit asked_once names_of_patients))
 
 abbrev in_two_steps : List LineText
 in_two_steps = text_line (codes "0 step 1 3") ∷ too_long_line ∷ text_line (codes "0 step 1 9") ∷ []
@@ -213,10 +213,10 @@ they_are_a_run = (inl refl, (inl refl, (inl refl, tt)))
 
 -- the first writes nothing and says `part`, the second writes the flag and says `end`
 they_write_two_portions :
-    OfEachLine (Writes 1) asked_once audited in_two_steps (effects_of in_two_steps asked_once audited)
+    OfEachLine (WritesPortion 1) asked_once audited in_two_steps (effects_of in_two_steps asked_once audited)
     (no_portion ∷ no_portion ∷ record { flags = eighth ∷ []; ended = Some 1 } ∷ [])
 unfolding reading
 they_write_two_portions =
-    subst (λ (flags : List Flag). OfEachLine (Writes 1) asked_once audited in_two_steps (effects_of in_two_steps asked_once audited)
+    subst (λ (flags : List Flag). OfEachLine (WritesPortion 1) asked_once audited in_two_steps (effects_of in_two_steps asked_once audited)
     (no_portion ∷ no_portion ∷ record { flags = flags; ended = Some (length flags) } ∷ [])) ann_is_flagged
     (inl (refl, inl refl), (refl, (inl (refl, inl refl), tt)))

@@ -9,20 +9,20 @@ use Rattle.hippo_model.specs.declared.audit.Flag.{Flag}
 use Rattle.hippo_model.specs.declared.audit.SharedRow.{SharedRow}
 use Rattle.hippo_model.specs.declared.entry.Entry.{Entry}
 use Rattle.hippo_model.specs.Terms.{History}
-use Rattle.hippo_model.specs.Audits.{shared, flag_by, flag_of}
+use Rattle.hippo_model.specs.Audits.{shared_tuple, flag_by, flag_of}
 use Rattle.hippo_typing.specs.Meanings.{meaning}
 use Rattle.hippo_watch.specs.AlarmLines.{alarm_text}
 use Rattle.hippo_report.specs.Refusals.{refusal_line}
 use Rattle.hippo_report.specs.declared.refusal.Refusal.TheVariants.{Memory}
 use Rattle.hippo_world.specs.Worlds.{World, at_number, free_number}
 use Rattle.hippo_commands.specs.Commands.{Command, command_of, who_commands}
-use Rattle.hippo_judging.specs.Deeds.{Deed, Question, asked_by, next_entry}
+use Rattle.hippo_judging.specs.Deeds.{Deed, Question, question_act, next_entry}
 use Rattle.hippo_judging.specs.Deeds as deeds
 use Rattle.hippo_judging.specs.Checks.{Checked}
 use Rattle.hippo_judging.specs.Judging.{judged}
-use Rattle.hippo_engine.specs.Effects.{Effect, row_limit, question_rows, alarm_line, asked, opened, done, carried_out, IsShort, IsEffect}
+use Rattle.hippo_engine.specs.Effects.{Effect, row_limit, question_rows, alarm_line, question_effect, world_with_cursor, deed_effect, judgement_effect, IsShort, IsEffect}
 use Rattle.hippo_engine.specs.Runs.{IsRun}
-use Rattle.hippo_run_laws.specs.Lines.{NoneAsks}
+use Rattle.hippo_run_laws.specs.Lines.{NoneJudged}
 use Rattle.hippo_run_laws.specs.Watches.{alarm_of, alarm_texts, answer_to, question_answered, Heard, DeedHeard, JudgedHeard, flags_at, HasHeard}
 use Rattle.hippo_run_laws.specs.RunLaws.{AlarmsAreFlags, StandingAudits}
 use Rattle.hippo_run_laws.proofs.DeedLemmas.{IsFounded, founded}
@@ -48,7 +48,7 @@ either_watches false world other same = same
 module _ (history : History) (world : World) (question : Question) where
   -- the question's entry
   abbrev next : Entry
-  next = next_entry history world (asked_by question)
+  next = next_entry history world (question_act question)
 
   as_flag : (number : ℕ) (found : Option (List SharedRow))
       → option_map_or (alarm_text number next.seq) found []
@@ -61,7 +61,7 @@ module _ (history : History) (world : World) (question : Question) where
 
   one_alarm : (later : History) (number : ℕ) (audit : Audit) → alarm_line history next number audit ≡ option_map_or (alarm_of number) (flag_of meaning (history ++ later) audit next) []
   one_alarm later number audit =
-      as_flag number (shared meaning history audit next)
+      as_flag number (shared_tuple meaning history audit next)
       ∙ ap (λ (flag : Option Flag). option_map_or (alarm_of number) flag []) (sym (flagged_there later audit))
 
   abbrev flags_later : History → List (Option Audit) → List (Option Flag)
@@ -76,19 +76,19 @@ module _ (history : History) (world : World) (question : Question) where
 
   -- the reply to a question that is logged ends with the flags of any longer history
   asked_alarms : (reply : Txt) (after : World) (later : History)
-      → (asked history world question reply after).reply ≡ (reply ++ []) ++ alarm_texts (flags_later later world.watches)
+      → (question_effect history world question reply after).reply ≡ (reply ++ []) ++ alarm_texts (flags_later later world.watches)
   asked_alarms reply after later = λ i. sym (append-nil reply) i ++ each_alarm later 1 world.watches i
 
 module _ (history : History) (world : World) where
   answer_alarms : (question other : Question) (later : History) (reply : Txt) (after : World) → question ≡ other
-      → (asked history world question reply after).reply ≡ (reply ++ []) ++ alarm_texts (flags_later history world other later world.watches)
+      → (question_effect history world question reply after).reply ≡ (reply ++ []) ++ alarm_texts (flags_later history world other later world.watches)
   answer_alarms question other later reply after same =
       asked_alarms history world question reply after later
       ∙ ap (λ (q : Question). (reply ++ []) ++ alarm_texts (flags_later history world q later world.watches)) same
 
   done_alarms : (deed : Deed) (question : Question) (later : History) → question_answered deed ≡ Some question
-      → (done history world deed).reply ≡ answer_to history world deed ++ alarm_texts (flags_later history world question later world.watches)
-  done_alarms (deeds.answer question) other later is = answer_alarms question other later _ world cc
+      → (deed_effect history world deed).reply ≡ answer_to history world deed ++ alarm_texts (flags_later history world question later world.watches)
+  done_alarms (deeds.answer_question question) other later is = answer_alarms question other later _ world cc
   done_alarms (deeds.open_cursor session number question) other later is = answer_alarms question other later _ world cc
   done_alarms (deeds.extract question) other later is = answer_alarms question other later _ world cc
   done_alarms deed other later is = absurd cc
@@ -110,11 +110,11 @@ module _ (audit : Audit) (number : ℕ) where
 
   answered : (history : History) (world : World) (command : Command) (deed : Deed) (question : Question) (reply : Txt) (after : World)
       → question_answered deed ≡ Some question → (reply ++ []) ≡ answer_to history world deed → at_number world.watches number ≡ Some audit → after.watches ≡ world.watches
-      → After history world command (Ok deed) (asked history world question reply after)
+      → After history world command (Ok deed) (question_effect history world question reply after)
   answered history world command deed question reply after is answer stands same =
-      let entry : Entry = next_entry history world (asked_by question) in
+      let entry : Entry = next_entry history world (question_act question) in
       let one : Heard = record { entry = entry; flag = flag_of meaning (history ++ entry ∷ []) audit entry } in
-      let effect : Effect = asked history world question reply after in (
+      let effect : Effect = question_effect history world question reply after in (
         Some one,
         subst (λ (q : Option Question). DeedHeard number history world command deed q effect (Some one)) (sym is)
             (inl (
@@ -136,12 +136,12 @@ module _ (audit : Audit) (number : ℕ) where
       )
 
   carried : (history : History) (world : World) (command : Command) → at_number world.watches number ≡ Some audit → (judgement : Checked Deed)
-      → IsFounded world judgement → (judgement ≢ Ok (deeds.end_watch number)) → After history world command judgement (carried_out history world (who_commands command) judgement)
+      → IsFounded world judgement → (judgement ≢ Ok (deeds.end_watch number)) → After history world command judgement (judgement_effect history world (who_commands command) judgement)
   carried history world command stands (Err refusal) fits kept = (None, refl, λ later. tt, stands)
-  carried history world command stands (Ok (deeds.answer question)) fits kept = answered history world command (deeds.answer question) question _ world refl refl stands refl
+  carried history world command stands (Ok (deeds.answer_question question)) fits kept = answered history world command (deeds.answer_question question) question _ world refl refl stands refl
   carried history world command stands (Ok (deeds.extract question)) fits kept = answered history world command (deeds.extract question) question _ world refl refl stands refl
   carried history world command stands (Ok (deeds.open_cursor session at question)) fits kept =
-      answered history world command (deeds.open_cursor session at question) question _ (opened world session at question (question_rows history world question)) refl refl stands
+      answered history world command (deeds.open_cursor session at question) question _ (world_with_cursor world session at question (question_rows history world question)) refl refl stands
       (either_watches (nat_lt row_limit (length (question_rows history world question))) world _ refl)
   carried history world command stands (Ok (deeds.end_watch at)) fits kept =
       (None, refl, λ later. tt, elsewhere world.watches at number None (λ same. kept (ap (λ (n : ℕ). Ok (deeds.end_watch n)) same)) ∙ stands)
@@ -152,7 +152,7 @@ module _ (audit : Audit) (number : ℕ) where
   short : (history : History) (world : World) (command : Command) → at_number world.watches number ≡ Some audit → (judgement : Checked Deed)
       → (effect : Effect) → IsShort history world (refusal_line (who_commands command) Memory) judgement effect → After history world command judgement effect
   short history world command stands (Ok (deeds.step_job at job count)) effect is = (None, refl, λ later. tt, still world effect.world stands (ap (λ (e : Effect). e.world.watches) is.is))
-  short history world command stands (Ok (deeds.answer question)) effect is = (None, inr (is.said, refl), λ later. tt, still world effect.world stands (ap (λ (w : World). w.watches) is.same))
+  short history world command stands (Ok (deeds.answer_question question)) effect is = (None, inr (is.said, refl), λ later. tt, still world effect.world stands (ap (λ (w : World). w.watches) is.same))
   short history world command stands (Ok (deeds.open_cursor session at question)) effect is = (None, inr (is.said, refl), λ later. tt, still world effect.world stands (ap (λ (w : World). w.watches) is.same))
   short history world command stands (Ok (deeds.extract question)) effect is = (None, inr (is.said, refl), λ later. tt, still world effect.world stands (ap (λ (w : World). w.watches) is.same))
   short history world command stands judgement effect is = (None, refl, λ later. tt, still world effect.world stands (ap (λ (e : Effect). e.world.watches) is))
@@ -167,7 +167,7 @@ module _ (audit : Audit) (number : ℕ) where
 
   -- line by line
   all_lines : (history : History) (world : World) (lines : List LineText) (effects : List Effect) → at_number world.watches number ≡ Some audit
-      → IsRun history world lines effects → NoneAsks (deeds.end_watch number) history world lines effects → HasHeard number audit history world lines effects
+      → IsRun history world lines effects → NoneJudged (deeds.end_watch number) history world lines effects → HasHeard number audit history world lines effects
   all_lines history world [] [] stands run kept = record { heard = []; each = tt; flags = λ later. tt }
   all_lines history world [] (effect ∷ effects) stands run kept = absurd run
   all_lines history world (line ∷ lines) [] stands run kept = absurd run

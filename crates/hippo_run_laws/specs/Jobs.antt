@@ -23,7 +23,8 @@ use Rattle.hippo_engine.specs.Effects.{Effect, flag_lines}
 use Rattle.hippo_engine.specs.Runs.{world_after}
 use Rattle.hippo_run_laws.specs.Lines.{OfEachLine}
 
--- what a line writes of a job: some flags, and how many there are in all, where it says that the job has ended
+-- what a line writes of a job: some flags, and how many there are in all, where it says that the
+-- job has ended
 pub record Portion : Type 0 where
   pub flags : List Flag
   pub ended : Option ℕ
@@ -31,7 +32,8 @@ pub record Portion : Type 0 where
 abbrev pub no_portion : Portion
 no_portion = record { flags = []; ended = None }
 
--- the reply that writes a portion; its last line says `end`, or `part` and up to which number the job has looked
+-- the reply that writes a portion; its last line says `end`, or `part` and up to which number the
+-- job has looked
 abbrev pub portion_reply : World → ℕ → Portion → Txt
 portion_reply world upto portion =
     flag_lines world portion.flags
@@ -46,11 +48,12 @@ StepWrites world command job count effect portion =
 -- of the job at a number its own steps write, and nothing else does
 abbrev pub JudgedWrites : ℕ → World → Command → Checked Deed → Effect → Portion → Type 0
 JudgedWrites number world command (Ok (deeds.step_job at job count)) effect portion =
-    ((at ≡ number) × StepWrites world command job count effect portion) ⊎ ((at ≢ number) × (portion ≡ no_portion))
+    ((at ≡ number) × StepWrites world command job count effect portion)
+    ⊎ ((at ≢ number) × (portion ≡ no_portion))
 JudgedWrites number world command judgement effect portion = portion ≡ no_portion
 
-abbrev pub Writes : ℕ → History → World → Command → Effect → Portion → Type 0
-Writes number history world command effect portion =
+abbrev pub WritesPortion : ℕ → History → World → Command → Effect → Portion → Type 0
+WritesPortion number history world command effect portion =
     JudgedWrites number world command (judged history world command) effect portion
 
 -- all flags of some portions, and what the last of them says of the end
@@ -61,17 +64,20 @@ abbrev pub last_end : List Portion → Option ℕ
 last_end portions = option_and_then (λ portion. portion.ended) (last_or None portions)
 
 -- the portions have all flags of an audit of a history, and their number is told
-pub record IsWhole (history : History) (audit : Audit) (portions : List Portion) (count : ℕ) : Type 0 where
+pub record HaveAllFlags (history : History) (audit : Audit) (portions : List Portion) (count : ℕ)
+    : Type 0 where
   pub flags : flags_in portions ≡ flags_between meaning history audit 0 (length history)
   pub counted : count ≡ length (flags_in portions)
 
--- the lines of a run have written the flags that an audit gives of a history, up to the place of the job at a number,
--- but for those that wait; and all of them, where the last line says that the job has ended
-pub record HasWritten (number : ℕ) (audit : Audit) (start history : History) (world : World) (lines : List LineText)
+-- the lines of a run have written the flags that an audit gives of a history, up to the place of
+-- the job at a number, but for those that wait; and all of them, where the last line says that the
+-- job has ended
+pub record HasWritten (number : ℕ) (audit : Audit) (start history : History) (world : World)
+    (lines : List LineText)
     (effects : List Effect) : Type 0 where
   pub portions : List Portion
-  pub each : OfEachLine (Writes number) history world lines effects portions
+  pub each : OfEachLine (WritesPortion number) history world lines effects portions
   pub job : OpenAudit
   pub stands : at_number (world_after world effects).jobs number ≡ Some job
   pub flags : flags_in portions ++ job.waiting ≡ flags_between meaning start audit 0 job.place
-  pub whole : (count : ℕ) → last_end portions ≡ Some count → IsWhole start audit portions count
+  pub whole : (count : ℕ) → last_end portions ≡ Some count → HaveAllFlags start audit portions count

@@ -6,9 +6,10 @@ use Rattle.hippo_world.specs.Worlds.{World}
 use Rattle.hippo_commands.specs.Commands.{Command, command_of}
 use Rattle.hippo_judging.specs.Deeds.{Deed}
 use Rattle.hippo_judging.specs.Judging.{judged}
-use Rattle.hippo_engine.specs.Effects.{Effect, done}
+use Rattle.hippo_engine.specs.Effects.{Effect, deed_effect}
 
--- of each line a relation holds, between its command in a history and a world, its effect, and what is told of it
+-- of each line a relation holds, between its command in a history and a world, its effect, and what
+-- is told of it
 abbrev pub OfEachLine : {A : Type 0} → (History → World → Command → Effect → A → Type 0)
     → History → World → List LineText → List Effect → List A → Type 0
 OfEachLine relation history world [] [] [] = Unit {0}
@@ -18,13 +19,14 @@ OfEachLine relation history world (line ∷ lines) (effect ∷ effects) (one ∷
 OfEachLine relation history world lines effects told = ⊥
 
 -- a command asks for a deed, and that is done
-pub record Does (deed : Deed) (history : History) (world : World) (command : Command) (effect : Effect) : Type 0 where
+pub record IsDone (deed : Deed) (history : History) (world : World) (command : Command)
+    (effect : Effect) : Type 0 where
   pub asks : judged history world command ≡ Ok deed
-  pub is_done : effect ≡ done history world deed
+  pub is_done : effect ≡ deed_effect history world deed
 
 -- no line asks for the deed
-abbrev pub NoneAsks : Deed → History → World → List LineText → List Effect → Type 0
-NoneAsks deed history world (line ∷ lines) (effect ∷ effects) =
+abbrev pub NoneJudged : Deed → History → World → List LineText → List Effect → Type 0
+NoneJudged deed history world (line ∷ lines) (effect ∷ effects) =
     (judged history world (command_of line) ≢ Ok deed)
-    × NoneAsks deed (history ++ effect.added) effect.world lines effects
-NoneAsks deed history world lines effects = Unit {0}
+    × NoneJudged deed (history ++ effect.added) effect.world lines effects
+NoneJudged deed history world lines effects = Unit {0}

@@ -15,11 +15,11 @@ use Rattle.hippo_report.specs.Refusals.{refusal_line}
 use Rattle.hippo_watch.specs.AlarmLines.{alarm_text}
 use Rattle.hippo_world.specs.Worlds.{World, at_number}
 use Rattle.hippo_commands.specs.Commands.{Command, who_commands}
-use Rattle.hippo_judging.specs.Deeds.{Deed, Question, asked_by, next_entry}
+use Rattle.hippo_judging.specs.Deeds.{Deed, Question, question_act, next_entry}
 use Rattle.hippo_judging.specs.Deeds as deeds
 use Rattle.hippo_judging.specs.Checks.{Checked}
 use Rattle.hippo_judging.specs.Judging.{judged}
-use Rattle.hippo_engine.specs.Effects.{Effect, done}
+use Rattle.hippo_engine.specs.Effects.{Effect, deed_effect}
 use Rattle.hippo_engine.specs.Runs.{history_after}
 use Rattle.hippo_run_laws.specs.Lines.{OfEachLine}
 
@@ -29,15 +29,16 @@ alarm_of number flag = alarm_text number flag.seq flag.shared
 
 -- the alarms of all watches, by what each of them flags, if anything
 abbrev pub alarm_texts : List (Option Flag) → Txt
-alarm_texts flags = flat_map (λ (number, flag). option_map_or (alarm_of number) flag []) (enumerate_from 1 flags)
+alarm_texts flags =
+    flat_map (λ (number, flag). option_map_or (alarm_of number) flag []) (enumerate_from 1 flags)
 
 -- what is replied to a deed where no watch is set
 abbrev pub answer_to : History → World → Deed → Txt
-answer_to history world deed = (done history (record world { watches = [] }) deed).reply
+answer_to history world deed = (deed_effect history (record world { watches = [] }) deed).reply
 
 -- the question that a deed answers, if it answers one
 abbrev pub question_answered : Deed → Option Question
-question_answered (deeds.answer question) = Some question
+question_answered (deeds.answer_question question) = Some question
 question_answered (deeds.open_cursor session number question) = Some question
 question_answered (deeds.extract question) = Some question
 question_answered deed = None
@@ -47,24 +48,29 @@ pub record Heard : Type 0 where
   pub entry : Entry
   pub flag : Option Flag
 
--- a question becomes the next entry, and its answer is followed by the alarms, in which that of one watch is its flag
-pub record IsAnswered (number : ℕ) (history : History) (world : World) (deed : Deed) (question : Question)
+-- a question becomes the next entry, and its answer is followed by the alarms, in which that of one
+-- watch is its flag
+pub record IsAnsweredWithAlarms (number : ℕ) (history : History) (world : World) (deed : Deed)
+    (question : Question)
     (effect : Effect) (heard : Heard) : Type 0 where
-  pub entry_is : heard.entry ≡ next_entry history world (asked_by question)
+  pub entry_is : heard.entry ≡ next_entry history world (question_act question)
   pub added : effect.added ≡ heard.entry ∷ []
   pub flags : List (Option Flag)
   pub says : effect.reply ≡ answer_to history world deed ++ alarm_texts flags
   pub flag_is : at_number flags number ≡ heard.flag
 
 -- a question is answered, or its reply says that memory was short; of other deeds nothing is heard
-abbrev pub DeedHeard : ℕ → History → World → Command → Deed → Option Question → Effect → Option Heard → Type 0
+abbrev pub DeedHeard : ℕ → History → World → Command → Deed → Option Question → Effect
+    → Option Heard → Type 0
 DeedHeard number history world command deed None effect heard = heard ≡ None
 DeedHeard number history world command deed (Some question) effect heard =
-    ((one : Heard) × (heard ≡ Some one) × IsAnswered number history world deed question effect one)
+    ((one : Heard) × (heard ≡ Some one) × IsAnsweredWithAlarms number history world deed question
+    effect one)
     ⊎ ((effect.reply ≡ refusal_line (who_commands command) Memory) × (heard ≡ None))
 
 -- of what is refused nothing is heard
-abbrev pub JudgedHeard : ℕ → History → World → Command → Checked Deed → Effect → Option Heard → Type 0
+abbrev pub JudgedHeard : ℕ → History → World → Command → Checked Deed → Effect → Option Heard
+    → Type 0
 JudgedHeard number history world command (Err refusal) effect heard = heard ≡ None
 JudgedHeard number history world command (Ok deed) effect heard =
     DeedHeard number history world command deed (question_answered deed) effect heard
@@ -78,12 +84,14 @@ IsHeard number history world command effect heard =
 abbrev pub flags_at : History → Audit → Entry → List Flag
 flags_at history audit entry = flags_between meaning history audit (entry.seq - 1) entry.seq
 
--- what the lines of a run have heard of the watch at a number is, of each question that was answered, what an audit at
--- once flags of its entry in any longer history
-pub record HasHeard (number : ℕ) (audit : Audit) (history : History) (world : World) (lines : List LineText)
+-- what the lines of a run have heard of the watch at a number is, of each question that was
+-- answered, what an audit at once flags of its entry in any longer history
+pub record HasHeard (number : ℕ) (audit : Audit) (history : History) (world : World)
+    (lines : List LineText)
     (effects : List Effect) : Type 0 where
   pub heard : List (Option Heard)
   pub each : OfEachLine (IsHeard number) history world lines effects heard
   pub flags : (later : History)
       → AllByRecursion (λ of_line. IfSome of_line
-      (λ one. flags_at (history_after history effects ++ later) audit one.entry ≡ option_to_list one.flag)) heard
+      (λ one. flags_at (history_after history effects ++ later) audit one.entry
+      ≡ option_to_list one.flag)) heard

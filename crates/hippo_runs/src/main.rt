@@ -13,7 +13,7 @@
 
 ghost use Rattle.std.specs.Prelude.{◌≡◌, ◌<◌, false};
 ghost use Rattle.hippo_keeper.specs.Keeping.{IsReady};
-ghost use Rattle.hippo_keeper.specs.MemoryKeeping.{seen};
+ghost use Rattle.hippo_keeper.specs.MemoryKeeping.{memory_keeper_state};
 
 mod brief;
 mod cases;
@@ -42,7 +42,7 @@ fn counted<L: Ledger>(
     keeper: &mut MemoryKeeper,
     blank: Blank,
 ) -> u8
-    requires ready { IsReady false (seen keeper.old) }
+    requires ready { IsReady false (memory_keeper_state keeper.old) }
     requires name { blank.name ≡ L.name }
     requires parts { blank.parts ≡ L.parts }
     requires some { 0 < blank.parts }
@@ -58,7 +58,7 @@ fn called(
     sink: &mut MemorySink,
     keeper: &mut MemoryKeeper,
 ) -> u8
-    requires ready { IsReady false (seen keeper.old) }
+    requires ready { IsReady false (memory_keeper_state keeper.old) }
 {
     counted::<Brand>(alloc, words, source, sink, keeper, Blank::new(1))
 }
@@ -75,7 +75,7 @@ fn said(alloc: Global, output: &[u8], is_brief: bool, status: u8) -> Result<Stri
 
 // What a case comes to over a keeper, and the entries that are kept then.
 fn outcome(alloc: Global, case: Case, keeper: MemoryKeeper) -> Result<(String, StoredList), Memory>
-    requires ready { IsReady false (seen keeper) }
+    requires ready { IsReady false (memory_keeper_state keeper) }
 {
     let mut keeper = keeper;
     let mut source = MemorySource::new(Bytes::from_vec(case.input), case.failing_reads);

@@ -1,7 +1,7 @@
 //! The entries that a call left, which rows may change before the next one.
 ghost use Rattle.std.specs.Prelude.{◌≡◌, false, IsTrue, IfSome};
 ghost use Rattle.hippo_keeper.specs.Keeping.{IsReady, RisesAbove};
-ghost use Rattle.hippo_keeper.specs.MemoryKeeping.{seen};
+ghost use Rattle.hippo_keeper.specs.MemoryKeeping.{memory_keeper_state};
 
 use hippo_keeper::{KeeperFails, MemoryKeeper};
 use hippo_model::{StoredEntry, StoredList};
@@ -121,7 +121,7 @@ fn is_rising(entries: &[StoredEntry]) -> bool
 
 /// A keeper of these entries, if their numbers begin above 0 and rise.
 pub fn keeper_of(list: StoredList, failing: KeeperFails) -> Option<MemoryKeeper>
-    ensures { IfSome result (λ keeper. IsReady false (seen keeper)) }
+    ensures { IfSome result (λ keeper. IsReady false (memory_keeper_state keeper)) }
 {
     if is_rising(list.as_slice()) {
         return Some(MemoryKeeper::new(list, failing));

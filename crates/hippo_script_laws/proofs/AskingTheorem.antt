@@ -32,10 +32,10 @@ use Rattle.hippo_commands.specs.Commands.{command_of}
 use Rattle.hippo_judging.specs.declared.asking.Handing.TheVariants.{Rows}
 use Rattle.hippo_judging.specs.Deeds.{next_entry}
 use Rattle.hippo_judging.specs.Judging.{judged_question, text_between}
-use Rattle.hippo_engine.specs.Effects.{Effect, carried_out, effect_of, only_reply}
+use Rattle.hippo_engine.specs.Effects.{Effect, judgement_effect, effect_of, only_reply}
 use Rattle.hippo_telling_laws.proofs.ReadingTheorem.{three-names}
-use Rattle.hippo_script_laws.specs.ScriptLaws.{ends_with, is_bare, is_free, is_lost, is_unfed, login_line, question_lines, ruled}
-use Rattle.hippo_script_laws.proofs.LineLemmas.{asks-it, logs-in-it, logs-out-it}
+use Rattle.hippo_script_laws.specs.ScriptLaws.{ends_with, is_bare, is_free, is_lost, is_unfed, login_line_of, question_lines, history_by_rules}
+use Rattle.hippo_script_laws.proofs.LineLemmas.{makes_request-it, logs-in-it, logs-out-it}
 use Rattle.hippo_script_laws.proofs.JudgingLemmas.{ended-again, logged, login-judged, logout-judged, question-judged}
 use Rattle.hippo_script_laws.proofs.QuestionLemmas.{asks-itself}
 
@@ -80,8 +80,8 @@ pub question-makes : (before : History) (world : World) (user purpose recipient 
     → is_free world ≡ true → act_is_keepable (Asked user purpose recipient text) ≡ true
     → is_acceptable meaning before (Asked user purpose recipient text) ≡ true
     → is_bare text ≡ true → length before < world.limit → (more : List LineText)
-    → ruled before world (map text_line (question_lines user purpose recipient text) ++ more)
-    ≡ ruled (before ++ next_entry before world (Asked user purpose recipient text) ∷ []) world more
+    → history_by_rules before world (map text_line (question_lines user purpose recipient text) ++ more)
+    ≡ history_by_rules (before ++ next_entry before world (Asked user purpose recipient text) ∷ []) world more
 question-makes before world user purpose recipient text free kept fit bare room more =
     let names = three-names user purpose recipient
     (and_parts (is_folded_name user && is_folded_name purpose && is_folded_name recipient)
@@ -103,23 +103,23 @@ question-makes before world user purpose recipient text free kept fit bare room 
     let question : LineText = text_line (codes "1 " ++ text) in
     let logout : LineText = text_line (codes "1 logout") in
     let opens : effect_of before world (command_of (text_line
-    (login_line user purpose recipient))) ≡ only_reply w (done_line (speaker_at 1)) =
+    (login_line_of user purpose recipient))) ≡ only_reply w (done_line (speaker_at 1)) =
     ap (effect_of before world) (logs-in-it user purpose recipient names.0 names.1 names.2)
-    ∙ ap (carried_out before world (speaker_at 1)) (login-judged before world user pair free may) in
+    ∙ ap (judgement_effect before world (speaker_at 1)) (login-judged before world user pair free may) in
     let judged_so =
     ap (judged_question Rows before w 1 select) (whole-text text)
     ∙ question-judged before world user pair free may select text means.right room in
     let asks =
     ap (effect_of before w)
-    (asks-it text (stmt.Select select 0 (length text)) itself.begins itself.is)
-    ∙ ap (carried_out before w (speaker_at 1)) judged_so in
+    (makes_request-it text (stmt.Select select 0 (length text)) itself.begins itself.is)
+    ∙ ap (judgement_effect before w (speaker_at 1)) judged_so in
     let ends : effect_of so_far w (command_of logout)
     ≡ only_reply (with_session w 1 None) (done_line (speaker_at 1)) =
     ap (effect_of so_far w) logs-out-it
-    ∙ ap (carried_out so_far w (speaker_at 1)) (logout-judged before world user pair free may) in
-    ap (λ (e : Effect). ruled (before ++ e.added) e.world (question ∷ logout ∷ more)) opens
-    ∙ ap (λ (h : History). ruled h w (question ∷ logout ∷ more)) (append-nil before)
-    ∙ ap (λ (e : Effect). ruled (before ++ e.added) e.world (logout ∷ more)) asks
-    ∙ ap (λ (e : Effect). ruled (so_far ++ e.added) e.world more) ends
-    ∙ ap (λ (h : History). ruled h (with_session w 1 None) more) (append-nil so_far)
-    ∙ ap (λ (v : World). ruled so_far v more) (ended-again world user pair free)
+    ∙ ap (judgement_effect so_far w (speaker_at 1)) (logout-judged before world user pair free may) in
+    ap (λ (e : Effect). history_by_rules (before ++ e.added) e.world (question ∷ logout ∷ more)) opens
+    ∙ ap (λ (h : History). history_by_rules h w (question ∷ logout ∷ more)) (append-nil before)
+    ∙ ap (λ (e : Effect). history_by_rules (before ++ e.added) e.world (logout ∷ more)) asks
+    ∙ ap (λ (e : Effect). history_by_rules (so_far ++ e.added) e.world more) ends
+    ∙ ap (λ (h : History). history_by_rules h (with_session w 1 None) more) (append-nil so_far)
+    ∙ ap (λ (v : World). history_by_rules so_far v more) (ended-again world user pair free)

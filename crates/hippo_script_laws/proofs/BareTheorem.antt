@@ -13,7 +13,7 @@ use Rattle.hippo_values.specs.Names.{is_word, is_word_byte}
 use Rattle.hippo_values.specs.Texts.{Txt}
 use Rattle.hippo_lexer.specs.Cutting.{tokens_from}
 use Rattle.hippo_lexer.specs.Grammar.{IsCut, IsNumber, IsOutcome, IsToken, a_day, a_keyword, a_name, a_number, a_quoted_text, a_refused_word, a_sign, at_blank, at_end, at_fault, at_token, negative, plain}
-use Rattle.hippo_lexer.specs.Spelling.{begins_with, doubled, is_blank, sign_of, sign_table}
+use Rattle.hippo_lexer.specs.Spelling.{begins_with, doubled_quotes, is_blank, sign_of, sign_table}
 use Rattle.hippo_lexer.specs.declared.kinds.Symbol.{Symbol}
 use Rattle.hippo_lexer.specs.declared.kinds.Token.{Token}
 use Rattle.hippo_lexer.specs.declared.kinds.TokenKind.{TokenKind}
@@ -23,8 +23,8 @@ use Rattle.hippo_model.specs.declared.statement.RawSelect.{RawSelect}
 use Rattle.hippo_model.specs.declared.statement.Stmt.{Stmt}
 use Rattle.hippo_spj_reader.specs.Front.{Kinds, kinds}
 use Rattle.hippo_stmt_reader.specs.StatementGrammar as statements
-use Rattle.hippo_stmt_reader.specs.StatementGrammar.{IsConsole, create_table, create_purpose, create_recipient, create_opt_in, create_opt_out, authorize, deauthorize, allow, revoke, choice_yes, choice_no, insert, update, delete, explain, audit, begin_audit, watch, IsPlacedSelect, placed, IsStatement, console, open_select, extract_select}
-use Rattle.hippo_reading_laws.specs.QuestionLaws.{question_of}
+use Rattle.hippo_stmt_reader.specs.StatementGrammar.{IsConsole, create_table, create_purpose, create_recipient, create_opt_in, create_opt_out, authorize, deauthorize, allow, revoke, choice_yes, choice_no, insert, update, delete, console_explain, console_audit, console_begin_audit, console_watch, IsPlacedSelect, placed, IsStatement, console, open_select, extract_select}
+use Rattle.hippo_reading_laws.specs.QuestionLaws.{select_place}
 use Rattle.hippo_reading_laws.proofs.TextParts.{end_from, end_of, front_of}
 use Rattle.hippo_script_laws.specs.ScriptLaws.{QuestionsAreBare, ends_with, is_bare, is_lost, is_unfed}
 use Rattle.hippo_script_laws.proofs.QuestionLemmas.{Outcome, first_is, last-at, last-ends, last_or-append, last_token, later_tokens, looked-up}
@@ -90,12 +90,12 @@ token-stays text rest kind (a_refused_word _ _ whole among) = word-stays text wh
 token-stays text rest kind (a_name _ _ whole form) = word-stays text whole.form
 token-stays text rest kind (a_number _ _ number h fits ends) = number-stays text number h
 token-stays text rest kind (a_quoted_text _ said _ spelled ends) =
-    quote-stays (39 ∷ doubled said) text spelled
+    quote-stays (39 ∷ doubled_quotes said) text spelled
 token-stays text rest kind (a_day _ word behind blanks said _ day opens is_day spelled) =
-    quote-stays (word ++ (blanks ++ 39 ∷ doubled said)) text
+    quote-stays (word ++ (blanks ++ 39 ∷ doubled_quotes said)) text
     (spelled
-    ∙ sym (append_assoc word (blanks ++ 39 ∷ doubled said) (39 ∷ [])
-    ∙ ap (λ (b : Txt). word ++ b) (append_assoc blanks (39 ∷ doubled said) (39 ∷ []))))
+    ∙ sym (append_assoc word (blanks ++ 39 ∷ doubled_quotes said) (39 ∷ [])
+    ∙ ap (λ (b : Txt). word ++ b) (append_assoc blanks (39 ∷ doubled_quotes said) (39 ∷ []))))
 token-stays text rest kind (a_sign _ _ sign h longest) = sign-stays text sign h
 
 -- a text that ends where its last token does
@@ -225,7 +225,7 @@ module _ (text : Txt) (unfed : list_all is_unfed text ≡ true) where
 
 -- a statement of the console asks nothing
 console-none : (tokens : Kinds) (s : Stmt) (rest : Kinds) → IsConsole tokens s rest
-    → question_of s ≡ None
+    → select_place s ≡ None
 console-none _ _ rest (create_table _ _ _) = refl
 console-none _ _ rest create_purpose = refl
 console-none _ _ rest create_recipient = refl
@@ -240,10 +240,10 @@ console-none _ _ rest choice_no = refl
 console-none _ _ rest (insert _) = refl
 console-none _ s rest (update _ _ is) = rw is refl
 console-none _ s rest (delete _ is) = rw is refl
-console-none _ _ rest explain = refl
-console-none _ _ rest (audit _) = refl
-console-none _ _ rest (begin_audit _) = refl
-console-none _ _ rest (watch _) = refl
+console-none _ _ rest console_explain = refl
+console-none _ _ rest (console_audit _) = refl
+console-none _ _ rest (console_begin_audit _) = refl
+console-none _ _ rest (console_watch _) = refl
 
 module _ (text : Txt) (unfed : list_all is_unfed text ≡ true) where
   abbrev Asked : Type 0
@@ -256,7 +256,7 @@ module _ (text : Txt) (unfed : list_all is_unfed text ≡ true) where
       subst (λ (q : Asked). is_bare (slice_range text q.1 q.2) ≡ true) (same_Some one other e) bare
 
   statement-is-bare : (tokens : List Token) (s : Stmt) (question : Asked)
-      → IsOutcome text (Ok tokens) → IsStatement tokens s → question_of s ≡ Some question
+      → IsOutcome text (Ok tokens) → IsStatement tokens s → select_place s ≡ Some question
       → is_bare (slice_range text question.1 question.2) ≡ true
   statement-is-bare tokens s question cut (console {rest = rest} is_console is_end) asks =
       absurd (none-some question (sym (console-none (kinds tokens) s rest is_console) ∙ asks))

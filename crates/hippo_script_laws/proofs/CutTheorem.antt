@@ -17,7 +17,7 @@ use Rattle.hippo_values.specs.Texts.{Txt}
 use Rattle.hippo_values.specs.declared.moments.Moment.{Moment}
 use Rattle.hippo_values.specs.declared.names.Name.{Name}
 use Rattle.hippo_values.proofs.MomentTextLemmas.{IsDayNumber-of_moment, day_of, second_of}
-use Rattle.hippo_io.specs.Lines.{line_of, lines, pieces, text_line, text_or_not, too_long_line, with_first}
+use Rattle.hippo_io.specs.Lines.{line_of, lines, pieces, text_line, text_or_not, too_long_line, with_first_byte}
 use Rattle.hippo_lexer.specs.Spelling.{is_blank}
 use Rattle.hippo_model.specs.declared.entry.Act.{Act}
 use Rattle.hippo_model.specs.declared.entry.Act.TheVariants.{Asked}
@@ -34,8 +34,8 @@ use Rattle.hippo_telling.specs.Telling.{schema_before, table_named, told_act}
 use Rattle.hippo_telling_laws.specs.TellingLaws.{is_stated}
 use Rattle.hippo_telling_laws.proofs.ReadingTheorem.{three-names}
 use Rattle.hippo_showing.specs.declared.asking.View.TheVariants.{Entries}
-use Rattle.hippo_showing.specs.Showing.{is_told, shown, stands_at}
-use Rattle.hippo_script_laws.specs.ScriptLaws.{ScriptsRunAgain, act_script, are_scripted, clock_lines, ends_with, entry_lines, is_bare, is_lost, is_scripted, is_unfed, login_line, question_lines, ruled, script_lines}
+use Rattle.hippo_showing.specs.Showing.{is_told, shown_text, stands_at}
+use Rattle.hippo_script_laws.specs.ScriptLaws.{ScriptsRunAgain, act_script, are_scripted, clock_lines, ends_with, entry_lines, is_bare, is_lost, is_scripted, is_unfed, login_line_of, question_lines, history_by_rules, script_lines}
 use Rattle.hippo_script_laws.proofs.AskingTheorem.{bare-parts}
 use Rattle.hippo_script_laws.proofs.InnerLemmas.{AreInner, both, inner-day, inner-digit, inner-name, is_inner, is_simple, said}
 use Rattle.hippo_script_laws.proofs.LineLemmas.{moment-fits}
@@ -103,9 +103,9 @@ cut-line [] rest unfed = refl
 cut-line (byte ∷ line) rest unfed =
     let parts = and_parts (is_unfed byte) (list_all is_unfed line) unfed in
     let other = not-true (byte == 10) parts.0 in
-    ap (λ (feed : Bool). if feed then [] ∷ pieces (line ++ 10 ∷ rest) else with_first byte
+    ap (λ (feed : Bool). if feed then [] ∷ pieces (line ++ 10 ∷ rest) else with_first_byte byte
     (pieces (line ++ 10 ∷ rest))) other
-    ∙ ap (with_first byte) (cut-line line rest parts.1)
+    ∙ ap (with_first_byte byte) (cut-line line rest parts.1)
 
 cut-lines : (written : List Txt) → list_all is_line written ≡ true
     → pieces (flat_map fed written) ≡ written
@@ -210,7 +210,7 @@ question-are user purpose recipient text kept bare =
     let names = three-names user purpose recipient outer.0 in
     let is_text = (and_parts (nat_le 1 (length text)) (is_text line_limit text) outer.1).1 in
     let utf8 = (and_parts (nat_le (length text) line_limit) (is_utf8 text) is_text).1 in
-    let login : AreInner (login_line user purpose recipient) =
+    let login : AreInner (login_line_of user purpose recipient) =
     both (codes "1 login ") _ (said refl) (both user _ (inner-name user names.0)
     (both (codes " ") _ (said refl) (both purpose _ (inner-name purpose names.1)
     (both (codes " ") recipient (said refl) (inner-name recipient names.2))))) in
@@ -290,11 +290,11 @@ scripts_run_again history excerpt world valid scripted is_script all room starts
     let written : List Txt = script_lines history None history in
     let told : filter (is_told history excerpt) history ≡ history =
     all-told (is_told history excerpt) history all in
-    let spelled : shown (Entries excerpt) history ≡ flat_map fed written =
+    let spelled : shown_text (Entries excerpt) history ≡ flat_map fed written =
     scripts_are_lines history excerpt None history is_script
     ∙ ap (λ (entries : History). flat_map fed (script_lines history None entries)) told in
     let are = scripts-are history valid history [] None refl scripted in
-    let cut : lines (shown (Entries excerpt) history) ≡ map text_line written =
+    let cut : lines (shown_text (Entries excerpt) history) ≡ map text_line written =
     ap lines spelled ∙ ap (map line_of) (cut-lines written are) ∙ whole-lines written are texts in
-    ap (ruled [] world) cut
+    ap (history_by_rules [] world) cut
     ∙ scripts_make_histories history world valid scripted room starts served

@@ -13,7 +13,7 @@ use Rattle.hippo_values.specs.Dates.{date_text, day_of_month, day_text, month_of
 use Rattle.hippo_values.specs.Limits.{text_limit}
 use Rattle.hippo_values.specs.Moments.{IsDayNumber, first_day, is_day, is_signed_number, last_day}
 use Rattle.hippo_values.specs.Names.{is_name, is_word_byte}
-use Rattle.hippo_values.specs.Quoting.{doubled, is_quote}
+use Rattle.hippo_values.specs.Quoting.{doubled_quotes, is_quote}
 use Rattle.hippo_values.specs.Texts.{Txt, is_plain}
 use Rattle.hippo_values.specs.declared.names.Name.{Name}
 use Rattle.hippo_values.specs.declared.values.Value.{Value}
@@ -22,7 +22,7 @@ use Rattle.hippo_values.proofs.DateTextLemmas.{IsAscii-date_text, date_text-of_d
 use Rattle.hippo_lexer.proofs.FrontLemmas.{small_digit, small_word_byte}
 use Rattle.hippo_lexer.proofs.NumberLemmas.{fits-signed}
 use Rattle.hippo_model.specs.Keepable.{is_folded_name, value_is_keepable}
-use Rattle.hippo_report.specs.Cells.{joined}
+use Rattle.hippo_report.specs.Cells.{separated_text}
 use Rattle.hippo_following.proofs.TokenTheorem.{a_quote, after_ascii, before_ascii}
 use Rattle.hippo_telling.specs.Telling.{literal_text}
 use Rattle.hippo_telling_laws.proofs.SpellingLemmas.{decimal_digits}
@@ -102,7 +102,7 @@ inner-name name is =
     inner-all is_word_byte refl refl small_word_byte name
     (and_parts _ (list_all is_word_byte name) form).1
 
-inner_doubled : (text : Txt) → list_all is_inner text ≡ true → list_all is_inner (doubled text)
+inner_doubled : (text : Txt) → list_all is_inner text ≡ true → list_all is_inner (doubled_quotes text)
     ≡ true
 inner_doubled [] inner = refl
 inner_doubled (byte ∷ text) inner =
@@ -113,7 +113,7 @@ inner_doubled (byte ∷ text) inner =
       | inr is ↦ rw is (and_from _ _ parts.0 later)
     ]
 
-doubled_utf8 : (front text : Txt) → IsUtf8 (front ++ text) → IsUtf8 (front ++ doubled text)
+doubled_utf8 : (front text : Txt) → IsUtf8 (front ++ text) → IsUtf8 (front ++ doubled_quotes text)
 doubled_utf8 front [] utf8 = utf8
 doubled_utf8 front (byte ∷ text) utf8 =
     elim (cases_Bool (is_quote byte)) [
@@ -123,16 +123,16 @@ doubled_utf8 front (byte ∷ text) utf8 =
           subst (λ (b : ℕ). IsUtf8 (front ++ b ∷ text)) same utf8 in
           let first = before_ascii front 39 text (omega arith) quoted_text in
           let rest = doubled_utf8 [] text (after_ascii 39 text (omega arith) first.1) in
-          let behind : IsUtf8 (39 ∷ 39 ∷ doubled text) =
-          IsUtf8-append (39 ∷ []) (39 ∷ doubled text) a_quote
-          (IsUtf8-append (39 ∷ []) (doubled text) a_quote rest) in
-          rw is (IsUtf8-append front (39 ∷ 39 ∷ doubled text) first.0 behind)
+          let behind : IsUtf8 (39 ∷ 39 ∷ doubled_quotes text) =
+          IsUtf8-append (39 ∷ []) (39 ∷ doubled_quotes text) a_quote
+          (IsUtf8-append (39 ∷ []) (doubled_quotes text) a_quote rest) in
+          rw is (IsUtf8-append front (39 ∷ 39 ∷ doubled_quotes text) first.0 behind)
       | inr is ↦
           let longer : IsUtf8 ((front ++ byte ∷ []) ++ text) =
           subst (λ (bytes : Txt). IsUtf8 bytes) (sym (append_assoc front (byte ∷ []) text)) utf8 in
           let doubled_rest = doubled_utf8 (front ++ byte ∷ []) text longer in
           rw is
-          (subst (λ (bytes : Txt). IsUtf8 bytes) (append_assoc front (byte ∷ []) (doubled text))
+          (subst (λ (bytes : Txt). IsUtf8 bytes) (append_assoc front (byte ∷ []) (doubled_quotes text))
           doubled_rest)
     ]
 
@@ -195,10 +195,10 @@ inner-literal (values.Int number) kept plain = inner-number number kept
 inner-literal (values.Text text) kept plain =
     let inner = all_inner is_plain refl refl text plain in
     let utf8 = IsUtf8-from_is_utf8 text (and_parts (nat_le (length text) text_limit) _ kept).1 in
-    let within : AreInner (doubled text) =
+    let within : AreInner (doubled_quotes text) =
     record { all = inner_doubled text inner; utf8 = doubled_utf8 [] text utf8 } in
-    both (39 ∷ []) (doubled text ++ 39 ∷ []) (said refl)
-    (both (doubled text) (39 ∷ []) within (said refl))
+    both (39 ∷ []) (doubled_quotes text ++ 39 ∷ []) (said refl)
+    (both (doubled_quotes text) (39 ∷ []) within (said refl))
 inner-literal (values.Day day) kept plain =
     both (codes "DATE '") _ (said refl)
     (both (day_text day) (codes "'") (inner-day day (day-fits day kept)) (said refl))
@@ -214,10 +214,10 @@ module _ {A : Type 0} (text : A → Txt) (separator : Txt) (between : AreInner s
       both (separator ++ text member) _ (both separator (text member) between (each member parts.0))
       (later-inner fits each members parts.1)
 
-  pub inner-joined : (fits : A → Bool)
+  pub inner-separated_text : (fits : A → Bool)
       → ((member : A) → fits member ≡ true → AreInner (text member))
-      → (members : List A) → list_all fits members ≡ true → AreInner (joined text separator members)
-  inner-joined fits each [] all = said refl
-  inner-joined fits each (member ∷ members) all =
+      → (members : List A) → list_all fits members ≡ true → AreInner (separated_text text separator members)
+  inner-separated_text fits each [] all = said refl
+  inner-separated_text fits each (member ∷ members) all =
       let parts = and_parts (fits member) (list_all fits members) all in
       both (text member) _ (each member parts.0) (later-inner fits each members parts.1)

@@ -24,12 +24,12 @@ use Rattle.hippo_catalog.specs.Catalogs.{known_at}
 use Rattle.hippo_catalog.specs.ChangesRefused.{change_refused}
 use Rattle.hippo_catalog.specs.ChangesWanted.{wanted_by}
 use Rattle.hippo_catalog.specs.Selects.{query_of, select_refused}
-use Rattle.hippo_tables.specs.Finished.{finished}
+use Rattle.hippo_tables.specs.Finished.{finished_act}
 use Rattle.hippo_report.specs.declared.refusal.Refusal.TheVariants.{BadSyntax, HistoryFull, MomentBack, NoSession, SessionOpen}
 use Rattle.hippo_world.specs.declared.sessions.Session.{Session}
 use Rattle.hippo_world.specs.Worlds.{World, new_session, with_session}
 use Rattle.hippo_judging.specs.declared.asking.Handing.TheVariants.{Rows}
-use Rattle.hippo_judging.specs.Checks.{◌>>=◌, Checked, act_made, allowed_by, authorized, has_room, meant, open_session, refused_if}
+use Rattle.hippo_judging.specs.Checks.{◌>>=◌, Checked, act_made, allowed_by, by_authorized_user, has_room, unless_refused, open_session, refused_if}
 use Rattle.hippo_judging.specs.Deeds as deeds
 use Rattle.hippo_judging.specs.Deeds.{Question}
 use Rattle.hippo_judging.specs.Judging.{deed_for, delivery_for, judged_change, judged_clock, judged_login, judged_logout, judged_question, judged_statement, judged_wanted, question_in}
@@ -52,14 +52,14 @@ changes-judged history world statement text wanted wants = refl
 -- room
 pub change-judged : (history : History) (world : World) (statement : Stmt) (text : Txt)
     (wanted : Wanted) (act : Act) → change_refused (known_at history) statement ≡ []
-    → wanted_by (known_at history) statement ≡ Some wanted → finished history wanted ≡ Ok act
+    → wanted_by (known_at history) statement ≡ Some wanted → finished_act history wanted ≡ Ok act
     → length history < world.limit
     → judged_statement history world 0 statement text ≡ Ok (deeds.change act)
 change-judged history world statement text wanted act unrefused wants comes room =
     let full : nat_le world.limit (length history) ≡ false =
     lt-leb world.limit (length history) room in
     changes-judged history world statement text wanted wants
-    ∙ ap (λ (refusals : List NameFault). meant refusals (wanted_by (known_at history) statement) >>=
+    ∙ ap (λ (refusals : List NameFault). unless_refused refusals (wanted_by (known_at history) statement) >>=
     λ change. (ok_or change BadSyntax >>= λ made. judged_wanted history world made)) unrefused
     ∙ ap (λ (change : Option Wanted). ok_or change BadSyntax >>= λ made. judged_wanted history world
     made) wants
@@ -114,7 +114,7 @@ module _ (history : History) (world : World) (user : Name) (pair : Pair)
   pub login-judged : judged_login history world 1 user pair ≡ Ok (deeds.log_in 1 user pair)
   login-judged =
       ap (λ (held : Option Session). (refused_if (is_some held) SessionOpen >>= λ closed.
-      authorized history user pair) >>= λ allowed. Ok (deeds.log_in 1 user pair))
+      by_authorized_user history user pair) >>= λ allowed. Ok (deeds.log_in 1 user pair))
       (none_held (slice_get world.sessions 0) free)
       ∙ ap (λ (said : Authorization). allowed_by said >>= λ allowed. Ok (deeds.log_in 1 user pair))
       may
@@ -149,16 +149,16 @@ module _ (history : History) (world : World) (user : Name) (pair : Pair)
   unfolding asked_by_it
   question_found =
       ap (λ (opened : Checked Session). opened >>= λ asker.
-      authorized history asker.user asker.pair >>= λ allowed.
-      asked_by_it text asker (meant (select_refused (known_at history) select) query))
+      by_authorized_user history asker.user asker.pair >>= λ allowed.
+      asked_by_it text asker (unless_refused (select_refused (known_at history) select) query))
       (stands_open history world user pair free may)
       ∙ ap (λ (said : Authorization). allowed_by said >>= λ allowed. asked_by_it text
-      (new_session user pair) (meant (select_refused (known_at history) select) query)) may
+      (new_session user pair) (unless_refused (select_refused (known_at history) select) query)) may
       ∙ ap (λ (refusals : List NameFault). asked_by_it text (new_session user pair)
-      (meant refusals query)) right
+      (unless_refused refusals query)) right
 
   pub question-judged : judged_question Rows history (logged world user pair) 1 select text
-      ≡ Ok (deeds.answer (question_so user pair text query))
+      ≡ Ok (deeds.answer_question (question_so user pair text query))
   question-judged =
       let w : World = logged world user pair in
       let question : Question = question_so user pair text query in
@@ -170,5 +170,5 @@ module _ (history : History) (world : World) (user : Name) (pair : Pair)
       ∙ ap (λ (opened : Checked Session). opened >>= λ session.
       delivery_for Rows session >>= λ delivery. has_room history w >>= λ free.
       Ok (deed_for session question delivery)) (stands_open history world user pair free may)
-      ∙ ap (λ (test : Bool). refused_if test HistoryFull >>= λ free. Ok (deeds.answer question))
+      ∙ ap (λ (test : Bool). refused_if test HistoryFull >>= λ free. Ok (deeds.answer_question question))
       full

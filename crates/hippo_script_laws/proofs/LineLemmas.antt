@@ -8,7 +8,7 @@ use Rattle.std.proofs.lemmas.Int.{ints}
 use Rattle.std.proofs.lemmas.Slice.Eq.{bytes_eq-Decides}
 use Rattle.hippo_values.specs.Dates.{clock_text, date_text, day_of_month, day_text, moment_text, month_of, time_text, year_of}
 use Rattle.hippo_values.specs.Moments.{IsMoment, day_seconds, first_moment, is_moment, last_moment}
-use Rattle.hippo_values.specs.Names.{begins_with_letter, folded, is_name, is_word_byte, name_of}
+use Rattle.hippo_values.specs.Names.{begins_with_letter, lower_case, is_name, is_word_byte, name_of}
 use Rattle.hippo_values.specs.Texts.{Txt}
 use Rattle.hippo_values.specs.declared.moments.Moment.{Moment}
 use Rattle.hippo_values.specs.declared.names.Name.{Name}
@@ -17,11 +17,11 @@ use Rattle.hippo_model.specs.declared.statement.Stmt.{Stmt}
 use Rattle.hippo_model.specs.Keepable.{is_folded_name}
 use Rattle.hippo_report.specs.declared.refusal.Refusal.TheVariants.{BadSyntax}
 use Rattle.hippo_lines.specs.Words.{is_filled, is_space, words_of, only}
-use Rattle.hippo_lines.specs.Forms.{◌>>=◌, asks, logs_in, logs_out, sets_clock, states, short_word_of, form_with, line_form}
-use Rattle.hippo_commands.specs.Commands.{ask, state, set_clock, command_of, command_by, clock_command, state_command, statement_among, statement_by, statement_in}
+use Rattle.hippo_lines.specs.Forms.{◌>>=◌, makes_request, logs_in, logs_out, sets_clock, makes_statement, short_word_of, form_with, line_form}
+use Rattle.hippo_commands.specs.Commands.{make_request, make_statement, set_clock, command_of, command_by, clock_command, state_command, statement_among, statement_by, statement_in}
 use Rattle.hippo_commands.proofs.MomentLemmas.{moments_are_read}
 use Rattle.hippo_telling_laws.specs.TellingLaws.{ReadsAs}
-use Rattle.hippo_script_laws.specs.ScriptLaws.{login_line}
+use Rattle.hippo_script_laws.specs.ScriptLaws.{login_line_of}
 
 -- a text that is read as a statement is that statement
 pub statement-is : (text : Txt) (statement : Stmt) → ReadsAs text statement → statement_in text
@@ -32,7 +32,7 @@ statement-is text statement reads =
 
 -- the form of a console's line that begins with a word which is no short one
 pub console_form : (text word : Txt) (words : List Txt) → words_of text ≡ word ∷ words
-    → short_word_of word ≡ None → line_form (codes "0 " ++ text) ≡ Some (states 0 text)
+    → short_word_of word ≡ None → line_form (codes "0 " ++ text) ≡ Some (makes_statement 0 text)
 console_form text word words are plain =
     let more : 1 < suc (suc (length text)) = omega arith in
     let within : nat_lt 1 (length (codes "0 " ++ text)) ≡ true =
@@ -40,10 +40,10 @@ console_form text word words are plain =
     rw within (ap (form_with 0 text) are ∙ rw plain refl)
 
 -- the line of the console with a text that is read as a statement
-pub states-it : (text word : Txt) (words : List Txt) (statement : Stmt) → words_of text
+pub makes_statement-it : (text word : Txt) (words : List Txt) (statement : Stmt) → words_of text
     ≡ word ∷ words → short_word_of word ≡ None → ReadsAs text statement
-    → command_of (text_line (codes "0 " ++ text)) ≡ state 0 statement text
-states-it text word words statement are plain reads =
+    → command_of (text_line (codes "0 " ++ text)) ≡ make_statement 0 statement text
+makes_statement-it text word words statement are plain reads =
     ap command_by (console_form text word words are plain)
     ∙ ap (state_command 0 text) (statement-is text statement reads)
 
@@ -153,14 +153,14 @@ some_letter (byte ∷ word) begins = refl
 
 name-word : (name : Name) → is_folded_name name ≡ true → IsWord name
 name-word name is =
-    let parts = and_parts (is_name name) (bytes_eq (folded name) name) is in
+    let parts = and_parts (is_name name) (bytes_eq (lower_case name) name) is in
     let form = (and_parts _ _ (and_parts _ _ parts.0).0).0 in
     let word = and_parts (begins_with_letter name) (list_all is_word_byte name) form in
-    let same : folded name ≡ name = (bytes_eq-Decides (folded name) name).0 parts.1 in
+    let same : lower_case name ≡ name = (bytes_eq-Decides (lower_case name) name).0 parts.1 in
     record {
       filled = some_letter name word.0;
       one = no_spaces name word.1;
-      named = ap (λ (test : Bool). if test then Some (folded name) else None) parts.0
+      named = ap (λ (test : Bool). if test then Some (lower_case name) else None) parts.0
           ∙ ap Some same;
     }
 
@@ -173,12 +173,12 @@ session-form text =
     rw within refl
 
 -- what it commands where its text is read as a statement
-pub asks-it : (text : Txt) (statement : Stmt) → Begins text → statement_in text ≡ Ok statement
-    → command_of (text_line (codes "1 " ++ text)) ≡ state 1 statement text
-asks-it text statement begins is =
-    let stated : form_with 1 text (begins.word ∷ begins.words) ≡ Some (states 1 text) =
+pub makes_request-it : (text : Txt) (statement : Stmt) → Begins text → statement_in text ≡ Ok statement
+    → command_of (text_line (codes "1 " ++ text)) ≡ make_statement 1 statement text
+makes_request-it text statement begins is =
+    let stated : form_with 1 text (begins.word ∷ begins.words) ≡ Some (makes_statement 1 text) =
     rw begins.plain refl in
-    let form : line_form (codes "1 " ++ text) ≡ Some (states 1 text) =
+    let form : line_form (codes "1 " ++ text) ≡ Some (makes_statement 1 text) =
     session-form text ∙ ap (form_with 1 text) begins.are ∙ stated in
     ap command_by form ∙ ap (state_command 1 text) is
 
@@ -196,32 +196,32 @@ login-words user purpose recipient who why whom =
     ap (λ (later : List Txt). filter is_filled (codes "login" ∷ later)) all
     ∙ rw (who.filled, why.filled, whom.filled) refl
 
-login-asks : (user purpose recipient : Name) (text : Txt) → IsWord user → IsWord purpose
+login-makes_request : (user purpose recipient : Name) (text : Txt) → IsWord user → IsWord purpose
     → IsWord recipient → form_with 1 text (codes "login" ∷ user ∷ purpose ∷ recipient ∷ [])
-    ≡ Some (asks 1 (logs_in user purpose recipient))
-login-asks user purpose recipient text who why whom =
-    ap (λ (name : Option Name). option_map (asks 1) (name >>= λ u. (name_of purpose >>= λ p.
+    ≡ Some (makes_request 1 (logs_in user purpose recipient))
+login-makes_request user purpose recipient text who why whom =
+    ap (λ (name : Option Name). option_map (makes_request 1) (name >>= λ u. (name_of purpose >>= λ p.
     (name_of recipient >>= λ r. Some (logs_in u p r))))) who.named
-    ∙ ap (λ (name : Option Name). option_map (asks 1) (name >>= λ p. (name_of recipient >>= λ r.
+    ∙ ap (λ (name : Option Name). option_map (makes_request 1) (name >>= λ p. (name_of recipient >>= λ r.
     Some (logs_in user p r)))) why.named
-    ∙ ap (λ (name : Option Name). option_map (asks 1) (name >>= λ r.
+    ∙ ap (λ (name : Option Name). option_map (makes_request 1) (name >>= λ r.
     Some (logs_in user purpose r))) whom.named
 
 pub logs-in-it : (user purpose recipient : Name) → is_folded_name user ≡ true
     → is_folded_name purpose ≡ true → is_folded_name recipient ≡ true
-    → command_of (text_line (login_line user purpose recipient))
-    ≡ ask 1 (logs_in user purpose recipient)
+    → command_of (text_line (login_line_of user purpose recipient))
+    ≡ make_request 1 (logs_in user purpose recipient)
 logs-in-it user purpose recipient is_user is_purpose is_recipient =
     let who = name-word user is_user in
     let why = name-word purpose is_purpose in
     let whom = name-word recipient is_recipient in
     let text : Txt =
     codes "login " ++ (user ++ (codes " " ++ (purpose ++ (codes " " ++ recipient)))) in
-    let form : line_form (codes "1 " ++ text) ≡ Some (asks 1 (logs_in user purpose recipient)) =
+    let form : line_form (codes "1 " ++ text) ≡ Some (makes_request 1 (logs_in user purpose recipient)) =
     session-form text ∙ ap (form_with 1 text) (login-words user purpose recipient who why whom)
-    ∙ login-asks user purpose recipient text who why whom in
+    ∙ login-makes_request user purpose recipient text who why whom in
     ap command_by form
 
-pub logs-out-it : command_of (text_line (codes "1 logout")) ≡ ask 1 logs_out
+pub logs-out-it : command_of (text_line (codes "1 logout")) ≡ make_request 1 logs_out
 unfolding words_of
 logs-out-it = refl

@@ -9,7 +9,7 @@ use Rattle.std.proofs.lemmas.Bool.{and_parts, both_ways, cases_Bool, ne_eqb}
 use Rattle.std.proofs.lemmas.List.{append-nil, length-append}
 use Rattle.std.proofs.lemmas.Option.{same_Some}
 use Rattle.std.proofs.lemmas.Slice.Eq.{bytes_eq-Decides}
-use Rattle.hippo_values.specs.Names.{folded, keyword_of, keywords}
+use Rattle.hippo_values.specs.Names.{lower_case, keyword_of, keywords}
 use Rattle.hippo_values.specs.Texts.{Txt}
 use Rattle.hippo_values.specs.declared.keywords.Keyword as words
 use Rattle.hippo_values.specs.declared.keywords.Keyword.TheVariants.{KSelect}
@@ -17,7 +17,7 @@ use Rattle.hippo_lexer.specs.declared.faults.LexFault.{LexFault}
 use Rattle.hippo_lexer.specs.declared.kinds.Token.{Token}
 use Rattle.hippo_lexer.specs.declared.kinds.TokenKind.{TokenKind}
 use Rattle.hippo_lexer.specs.declared.kinds.TokenKind.TheVariants.{Keyword}
-use Rattle.hippo_lexer.specs.Grammar.{IsCut, IsOutcome, IsToken, a_keyword, at_blank, at_end, at_fault, at_token, with_first}
+use Rattle.hippo_lexer.specs.Grammar.{IsCut, IsOutcome, IsToken, a_keyword, at_blank, at_end, at_fault, at_token, with_first_token}
 use Rattle.hippo_lexer.specs.Spelling.{begins_with, is_blank}
 use Rattle.hippo_lexer.specs.Words.{words_check}
 use Rattle.hippo_lines.specs.Forms.{short_words}
@@ -28,7 +28,7 @@ use Rattle.hippo_spj_reader.specs.Front.{Kinds, kinds, same_keyword}
 use Rattle.hippo_spj_reader.specs.SelectGrammar as selects
 use Rattle.hippo_spj_reader.specs.SelectGrammar.{IsSelect}
 use Rattle.hippo_stmt_reader.specs.StatementGrammar as statements
-use Rattle.hippo_stmt_reader.specs.StatementGrammar.{IsPlacedSelect, nothing, placed}
+use Rattle.hippo_stmt_reader.specs.StatementGrammar.{IsPlacedSelect, no_semicolon, placed}
 use Rattle.hippo_typing.specs.Meanings.{IsSelectText}
 use Rattle.hippo_commands.specs.Commands.{statement_in}
 use Rattle.hippo_commands.proofs.StatementLemmas.{statements_are_read}
@@ -72,7 +72,7 @@ abbrev pub Later : Token → Outcome → List Token → Type 0
 Later token later tokens = (others : List Token) × (later ≡ Ok others) × (tokens ≡ token ∷ others)
 
 pub later_tokens : (token : Token) (later : Outcome) (tokens : List Token)
-    → with_first token later ≡ Ok tokens → Later token later tokens
+    → with_first_token token later ≡ Ok tokens → Later token later tokens
 later_tokens token (Ok others) tokens e = (others, refl, cc)
 later_tokens token (Err fault) tokens e = absurd cc
 
@@ -138,9 +138,9 @@ opens text outcome first tokens (at_fault _ _ fault h) ok plain = absurd cc
 -- it is SELECT
 select_first : (tokens : Kinds) (select : RawSelect) (rest : Kinds) → IsSelect tokens select rest
     → (behind : Kinds) × (tokens ≡ Keyword KSelect ∷ behind)
-select_first _ select rest (selects.plain a b) = (_, refl)
+select_first _ select rest (selects.plain_select a b) = (_, refl)
 select_first _ select rest (selects.distinct a b) = (_, refl)
-select_first _ select rest (selects.grouped a b c) = (_, refl)
+select_first _ select rest (selects.grouped_select a b c) = (_, refl)
 
 head_is : (kind other : TokenKind) (tokens behind : Kinds)
     → ◌≡◌ {A = Kinds} (kind ∷ tokens) (other ∷ behind) → kind ≡ other
@@ -180,14 +180,14 @@ abbrev spells_select : Txt × words.Keyword → Bool
 spells_select (word, keyword) =
     not (same_keyword keyword KSelect) || bytes_eq word (codes "select")
 
-select-spelled : (word : Txt) → keyword_of word ≡ Some KSelect → folded word ≡ codes "select"
+select-spelled : (word : Txt) → keyword_of word ≡ Some KSelect → lower_case word ≡ codes "select"
 unfolding keywords
 select-spelled word found =
-    let there = looked-up (λ (known : Txt). bytes_eq known (folded word)) spells_select keywords
+    let there = looked-up (λ (known : Txt). bytes_eq known (lower_case word)) spells_select keywords
     KSelect refl found in
     let is_select : bytes_eq there.entry.0 (codes "select") ≡ true =
     subst (λ (k : words.Keyword). spells_select (there.entry.0, k) ≡ true) there.is there.fits in
-    sym ((bytes_eq-Decides there.entry.0 (folded word)).0 there.passes)
+    sym ((bytes_eq-Decides there.entry.0 (lower_case word)).0 there.passes)
     ∙ (bytes_eq-Decides there.entry.0 (codes "select")).0 is_select
 
 -- so the first word of the line's text begins with `se`, as no short word does
@@ -203,12 +203,12 @@ two_heads : (one other x y : ℕ) (rest more : Txt)
     → ◌≡◌ {A = Txt} (one ∷ other ∷ rest) (x ∷ y ∷ more) → (one ≡ x) × (other ≡ y)
 two_heads one other x y rest more e = (cc, cc)
 
-letters : (word : Txt) → folded word ≡ codes "select" → Letters word
+letters : (word : Txt) → lower_case word ≡ codes "select" → Letters word
 letters [] same = absurd cc
 letters (first ∷ []) same = absurd cc
 letters (first ∷ second ∷ rest) same =
     let heads =
-    two_heads (to_ascii_lowercase first) (to_ascii_lowercase second) 115 101 (folded rest)
+    two_heads (to_ascii_lowercase first) (to_ascii_lowercase second) 115 101 (lower_case rest)
     (codes "lect") same in
     record {
       first = first;
@@ -259,7 +259,7 @@ begins-select text letters =
       words = filter is_filled rest.later;
       are = ap words_of letters.parts ∙ ap (filter is_filled) split;
       plain = no-short (to_ascii_lowercase letters.first) (to_ascii_lowercase letters.second)
-          (folded rest.first) letters.is_s letters.is_e;
+          (lower_case rest.first) letters.is_s letters.is_e;
     }
 
 -- a text that is, in a line, a question with just this text
@@ -301,7 +301,7 @@ module _ (text : Txt) (select : RawSelect) (plain : begins_with is_blank text �
       subst (λ (place : ℕ). slice_get (first ∷ tokens) place ≡ Some last) (sym count)
       (last-at first tokens) in
       let is_placed : IsPlacedSelect (first ∷ tokens) select first.start last.end =
-      placed (first ∷ tokens) [] (sym (append-nil (first ∷ tokens))) reading nothing refl
+      placed (first ∷ tokens) [] (sym (append-nil (first ∷ tokens))) reading no_semicolon refl
       last_is in
       let asked : statement_in text ≡ Ok (stmt.Select select first.start last.end) =
       (statements_are_read text (stmt.Select select first.start last.end)).1

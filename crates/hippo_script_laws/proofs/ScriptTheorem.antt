@@ -32,14 +32,14 @@ use Rattle.hippo_world.specs.Worlds.{World, opening}
 use Rattle.hippo_commands.specs.Commands.{command_of}
 use Rattle.hippo_model.specs.HandedOver.{is_question}
 use Rattle.hippo_judging.specs.Deeds.{next_entry}
-use Rattle.hippo_engine.specs.Effects.{Effect, carried_out, effect_of, only_reply}
+use Rattle.hippo_engine.specs.Effects.{Effect, judgement_effect, effect_of, only_reply}
 use Rattle.hippo_following.proofs.HistoryLemmas.{acceptable, followed, keepable}
 use Rattle.hippo_telling.specs.Telling.{schema_before, told_act}
 use Rattle.hippo_telling_laws.specs.TellingLaws.{MakesAgain, is_stated}
 use Rattle.hippo_telling_laws.proofs.EntryTheorem.{entries_are_made_again}
 use Rattle.hippo_showing.specs.Showing.{stands_at}
-use Rattle.hippo_script_laws.specs.ScriptLaws.{RunsBeginFree, ScriptsMakeHistories, act_script, are_scripted, entry_lines, is_bare, is_free, is_scripted, ruled, script_lines, serves, starts_before}
-use Rattle.hippo_script_laws.proofs.LineLemmas.{Begins, is_whole, sets-it, split-word, states-it}
+use Rattle.hippo_script_laws.specs.ScriptLaws.{RunsBeginFree, ScriptsMakeHistories, act_script, are_scripted, entry_lines, is_bare, is_free, is_scripted, history_by_rules, script_lines, finds_free_session, starts_before}
+use Rattle.hippo_script_laws.proofs.LineLemmas.{Begins, is_whole, sets-it, split-word, makes_statement-it}
 use Rattle.hippo_script_laws.proofs.JudgingLemmas.{change-judged, clock-judged}
 use Rattle.hippo_script_laws.proofs.AskingTheorem.{question-makes}
 
@@ -160,7 +160,7 @@ module _ (before later : History) (entry : Entry)
       let text : Txt = told_act schema entry.act in
       let begins = told-begins schema entry.act stated in
       let commands =
-      states-it text begins.word begins.words again.back.statement begins.are begins.plain
+      makes_statement-it text begins.word begins.words again.back.statement begins.are begins.plain
       again.back.reads in
       let judges =
       change-judged before world again.back.statement text again.back.wanted entry.act
@@ -168,7 +168,7 @@ module _ (before later : History) (entry : Entry)
       let next = made-entry world clock in
       let last : made_effect_of world (next_entry before world entry.act) ≡ made_effect world =
       ap (made_effect_of world) next in
-      ap (effect_of before world) commands ∙ ap (carried_out before world Console) judges ∙ last
+      ap (effect_of before world) commands ∙ ap (judgement_effect before world Console) judges ∙ last
     where
       made_effect_of : World → Entry → Effect
       made_effect_of world made =
@@ -182,15 +182,15 @@ module _ (before later : History) (entry : Entry)
   entry-makes : (world : World) → world.clock ≡ entry.moment → length before < world.limit
       → is_scripted (schema_before whole entry) entry.act ≡ true
       → (not (is_question entry.act) || is_free world) ≡ true → (more : List LineText)
-      → ruled before world (map text_line (entry_lines whole entry) ++ more)
-      ≡ ruled (before ++ entry ∷ []) world more
+      → history_by_rules before world (map text_line (entry_lines whole entry) ++ more)
+      ≡ history_by_rules (before ++ entry ∷ []) world more
   entry-makes world clock room scripted served more =
       let schema : Option Schema = schema_before whole entry in
       elim (scripted-so schema entry.act scripted) [
         | inl stated ↦
-            ap (λ (written : List Txt). ruled before world (map text_line written ++ more))
+            ap (λ (written : List Txt). history_by_rules before world (map text_line written ++ more))
             (stated-lines schema entry.act stated)
-            ∙ ap (λ (e : Effect). ruled (before ++ e.added) e.world more)
+            ∙ ap (λ (e : Effect). history_by_rules (before ++ e.added) e.world more)
             (line-makes world clock room stated)
         | inr asked ↦
             let act : entry.act ≡ Asked asked.user asked.purpose asked.recipient asked.text =
@@ -201,12 +201,12 @@ module _ (before later : History) (entry : Entry)
             (keepable meaning before entry may) in
             let fit = subst (λ (a : Act). is_acceptable meaning before a ≡ true) act
             (acceptable meaning before entry may) in
-            ap (λ (a : Act). ruled before world (map text_line (act_script schema a) ++ more)) act
+            ap (λ (a : Act). history_by_rules before world (map text_line (act_script schema a) ++ more)) act
             ∙ question-makes before world asked.user asked.purpose asked.recipient asked.text free
             kept fit asked.bare room more
-            ∙ ap (λ (a : Act). ruled (before ++ next_entry before world a ∷ []) world more)
+            ∙ ap (λ (a : Act). history_by_rules (before ++ next_entry before world a ∷ []) world more)
             (sym act)
-            ∙ ap (λ (made : Entry). ruled (before ++ made ∷ []) world more)
+            ∙ ap (λ (made : Entry). history_by_rules (before ++ made ∷ []) world more)
             (made-entry world clock)
       ]
 
@@ -215,7 +215,7 @@ module _ (before later : History) (entry : Entry)
       ≡ only_reply (record world { clock = entry.moment }) (done_line Nobody)
   clock-moves world no_earlier =
       ap (effect_of before world) (sets-it entry.moment (follows before entry may).moment_fits)
-      ∙ ap (carried_out before world Nobody) (clock-judged world entry.moment no_earlier)
+      ∙ ap (judgement_effect before world Nobody) (clock-judged world entry.moment no_earlier)
 
 -- the clock stands as the script says, and no later than the next entry
 record Stands (clock : Option Moment) (world : World) (later : History) : Type 0 where
@@ -255,8 +255,8 @@ next-stands before (next ∷ rest) entry world valid clock =
 module _ (whole : History) (valid : is_valid meaning whole ≡ true) where
   script-runs : (later before : History) (clock : Option Moment) (world : World) → whole
       ≡ before ++ later → are_scripted whole later ≡ true → length whole ≤ world.limit
-      → serves world later ≡ true → Stands clock world later
-      → ruled before world (map text_line (script_lines whole clock later)) ≡ before ++ later
+      → finds_free_session world later ≡ true → Stands clock world later
+      → history_by_rules before world (map text_line (script_lines whole clock later)) ≡ before ++ later
   script-runs [] before clock world parts scripted room served stands = sym (append-nil before)
   script-runs (entry ∷ later) before clock world parts scripted room served stands =
       let each = and_parts (is_scripted (schema_before whole entry) entry.act)
@@ -269,27 +269,27 @@ module _ (whole : History) (valid : is_valid meaning whole ≡ true) where
       let size : length whole ≡ length before + suc (length later) =
       ap length parts ∙ length-append before (entry ∷ later) in
       let makes : (w : World) → w.clock ≡ entry.moment → w.limit ≡ world.limit
-      → serves w (entry ∷ later) ≡ true
-      → ruled before w (map text_line (written ++ rest)) ≡ before ++ entry ∷ later =
+      → finds_free_session w (entry ∷ later) ≡ true
+      → history_by_rules before w (map text_line (written ++ rest)) ≡ before ++ entry ∷ later =
       λ w at same free.
       let small : length before < w.limit = omega (arith, size, room, same) in
-      let wants = and_parts (not (is_question entry.act) || is_free w) (serves w later) free in
-      let made : ruled before w (map text_line written ++ more)
-      ≡ ruled (before ++ entry ∷ []) w more =
+      let wants = and_parts (not (is_question entry.act) || is_free w) (finds_free_session w later) free in
+      let made : history_by_rules before w (map text_line written ++ more)
+      ≡ history_by_rules (before ++ entry ∷ []) w more =
       subst (λ (h : History). is_scripted (schema_before h entry) entry.act ≡ true
-      → ruled before w (map text_line (entry_lines h entry) ++ more)
-      ≡ ruled (before ++ entry ∷ []) w more)
+      → history_by_rules before w (map text_line (entry_lines h entry) ++ more)
+      ≡ history_by_rules (before ++ entry ∷ []) w more)
       (sym parts)
       (λ told. entry-makes before later entry here w at small told wants.0 more) each.0 in
       let room_left : length whole ≤ w.limit = omega (arith, room, same) in
       let regrouped : whole ≡ (before ++ entry ∷ []) ++ later =
       parts ∙ sym (append_assoc before (entry ∷ []) later) in
-      ap (ruled before w) (map-append text_line written rest) ∙ made
+      ap (history_by_rules before w) (map-append text_line written rest) ∙ made
       ∙ script-runs later (before ++ entry ∷ []) (Some entry.moment) w regrouped each.1
       room_left wants.1 (next-stands before later entry w here at)
       ∙ append_assoc before (entry ∷ []) later in
       elim (stands_at clock entry.moment) as (λ test. stands_at clock entry.moment ≡ test
-      → ruled before world
+      → history_by_rules before world
       (map text_line
       ((if test then [] else (codes "at " ++ moment_text entry.moment) ∷ [])
       ++ (written ++ rest)))
@@ -299,9 +299,9 @@ module _ (whole : History) (valid : is_valid meaning whole ≡ true) where
         | false ↦ λ is.
             let set : World = record world { clock = entry.moment } in
             let behind : List LineText = map text_line (written ++ rest) in
-            ap (λ (e : Effect). ruled (before ++ e.added) e.world behind)
+            ap (λ (e : Effect). history_by_rules (before ++ e.added) e.world behind)
             (clock-moves before later entry here world stands.no_later)
-            ∙ ap (λ (h : History). ruled h set behind) (append-nil before)
+            ∙ ap (λ (h : History). history_by_rules h set behind) (append-nil before)
             ∙ makes set refl refl served
       ] refl
 

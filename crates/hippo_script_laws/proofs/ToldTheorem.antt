@@ -25,16 +25,16 @@ use Rattle.hippo_model.specs.Terms.{History, Key, Meaning, Place, Row}
 use Rattle.hippo_model.specs.Validity.{days_fit, has_columns, is_acceptable, is_valid, is_well_formed, item_fits, pair_exists, rule_fits, table_passes}
 use Rattle.hippo_model.specs.Values.{fits, has_kind}
 use Rattle.hippo_model.specs.Versions.{is_live, key_fits, row_fits, version_fits}
-use Rattle.hippo_report.specs.Cells.{comma, joined}
+use Rattle.hippo_report.specs.Cells.{comma, separated_text}
 use Rattle.hippo_following.proofs.HistoryLemmas.{passes_so}
-use Rattle.hippo_telling.specs.Telling.{column_text, kind_text, literal_text, literals_text, name_at, names_text, not_null_text, assigned_text, row_text, key_text, retention_text, rule_text, set_places, subject_text, table_named, told_act, with_text, create_text, insert_text, update_text, delete_text}
+use Rattle.hippo_telling.specs.Telling.{column_definition, kind_text, literal_text, literals_text, name_at, names_text, not_null_text, assigned_text, row_text, key_text, retention_text, rule_text, set_places, subject_text, table_named, told_act, with_text, create_text, insert_text, update_text, delete_text}
 use Rattle.hippo_telling_laws.specs.TellingLaws.{is_stated}
 use Rattle.hippo_telling_laws.proofs.ChangeTheorem.{sets_within}
 use Rattle.hippo_telling_laws.proofs.EntryTheorem.{has, key-within}
 use Rattle.hippo_telling_laws.proofs.NamePlaces.{all_within, names_folded}
 use Rattle.hippo_telling_laws.proofs.ReadingTheorem.{three-names}
 use Rattle.hippo_telling_laws.proofs.TableTheorem.{HasNames, has-names, is_table, subject_named}
-use Rattle.hippo_script_laws.proofs.InnerLemmas.{AreInner, both, inner-decimal, inner-joined, inner-literal, inner-name, inner-number, is_plain_value, said}
+use Rattle.hippo_script_laws.proofs.InnerLemmas.{AreInner, both, inner-decimal, inner-separated_text, inner-literal, inner-name, inner-number, is_plain_value, said}
 
 -- values that fit, and values at places
 plain-value : (column : Column) (value : Value) → fits column value ≡ true → is_plain_value value
@@ -92,14 +92,14 @@ module _ (columns : List Column) where
   names-inner : (places : List Place) → list_all is_named places ≡ true
       → AreInner (names_text columns places)
   names-inner places named =
-      inner-joined (name_at columns) comma (said refl) is_named
+      inner-separated_text (name_at columns) comma (said refl) is_named
       (λ place is. inner-name (name_at columns place) is) places named
 
   row-inner : (row : Row) (separator : Txt) → AreInner separator → list_all is_written row ≡ true
       → (places : List Place) → list_all is_named places ≡ true
       → AreInner (row_text columns row separator places)
   row-inner row separator between is places named =
-      inner-joined (λ (place : Place). assigned_text columns place (cell_at row place)) separator
+      inner-separated_text (λ (place : Place). assigned_text columns place (cell_at row place)) separator
       between is_named
       (λ place name. assigned-inner place (cell_at row place) name (written-at row place is)) places
       named
@@ -125,7 +125,7 @@ module _ (columns : List Column) where
   key-inner : (places : List Place) (key : Key) → list_all is_named places ≡ true
       → list_all is_written key ≡ true → AreInner (key_text columns places key)
   key-inner places key named is =
-      inner-joined (λ (place, value). assigned_text columns place value) (codes " AND ")
+      inner-separated_text (λ (place, value). assigned_text columns place value) (codes " AND ")
       (said refl) pair_fits pair-inner (zip places key) (pairs-fit places key named is)
 
   subject-inner : (place : Option Place) → subject_named columns place ≡ true
@@ -157,7 +157,7 @@ form-inner kinds.Text false = said refl
 form-inner kinds.Date true = said refl
 form-inner kinds.Date false = said refl
 
-column-inner : (column : Column) → is_folded_name column.name ≡ true → AreInner (column_text column)
+column-inner : (column : Column) → is_folded_name column.name ≡ true → AreInner (column_definition column)
 column-inner column named =
     both column.name (kind_text column.kind ++ not_null_text column.not_null)
     (inner-name column.name named) (form-inner column.kind column.not_null)
@@ -167,8 +167,8 @@ create-inner : (schema : Schema) → HasNames schema.name schema.columns schema.
 create-inner schema names =
     both (codes "CREATE TABLE ") _ (said refl)
     (both schema.name _ (inner-name schema.name names.name_fits) (both (codes " (") _ (said refl)
-    (both (joined column_text comma schema.columns) _
-    (inner-joined column_text comma (said refl) (λ (column : Column). is_folded_name column.name)
+    (both (separated_text column_definition comma schema.columns) _
+    (inner-separated_text column_definition comma (said refl) (λ (column : Column). is_folded_name column.name)
     column-inner schema.columns names.columns_fit)
     (both (codes ", PRIMARY KEY (") _ (said refl)
     (both (names_text schema.columns schema.key) _
@@ -183,7 +183,7 @@ insert-inner table row named is =
     both (codes "INSERT INTO ") _ (said refl)
     (both table _ (inner-name table named) (both (codes " VALUES (") _ (said refl)
     (both (literals_text row) (codes ")")
-    (inner-joined literal_text comma (said refl) is_written literal-inner row is) (said refl))))
+    (inner-separated_text literal_text comma (said refl) is_written literal-inner row is) (said refl))))
 
 update-inner : (columns : List Column) (key : List Place) (table : Name) (row : Row)
     → is_folded_name table ≡ true → list_all is_written row ≡ true

@@ -12,13 +12,13 @@ use Rattle.hippo_io.specs.HandingOut.{HasHandedOut}
 use Rattle.hippo_io.specs.Position.{Position}
 use Rattle.hippo_words.specs.declared.calls.Job.{Job}
 use Rattle.hippo_words.specs.declared.calls.Job.TheVariants.{Run, Load, Check, Drill}
-use Rattle.hippo_serve.specs.Loads.{clock_text, record_line, asked_line, asked_lines, limited_line, counted_line}
+use Rattle.hippo_serve.specs.Loads.{at_line, record_line, asked_line, asked_lines, limited_line, counted_line}
 use Rattle.hippo_serve.specs.Outside.{Told}
 use Rattle.hippo_serve.specs.Runs.{ForInput}
 
 -- of one line more a job asks for one line more
 pub asked-last : (job : Job) (read : List LineText) (line : LineText) → asked_lines job (read ++ line ∷ []) ≡ asked_lines job read ++ asked_line job line ∷ []
-asked-last (Load setting table moment) read line = ap (λ (rest : List LineText). text_line (clock_text moment) ∷ rest) (map-append (record_line table) read (line ∷ []))
+asked-last (Load setting table moment) read line = ap (λ (rest : List LineText). text_line (at_line moment) ∷ rest) (map-append (record_line table) read (line ∷ []))
 asked-last (Run setting) read line = refl
 asked-last Check read line = refl
 asked-last (Drill size number) read line = refl

@@ -8,7 +8,7 @@ use Rattle.hippo_drill.specs.Tallies.{counts_of}
 use Rattle.hippo_io.specs.Lines.{text_line}
 use Rattle.hippo_model.specs.Terms.{History}
 use Rattle.hippo_keeper.specs.Keeping.{KeeperState, IsReady}
-use Rattle.hippo_keeper.specs.MemoryKeeping.{MemoryStore, seen}
+use Rattle.hippo_keeper.specs.MemoryKeeping.{MemoryStore, memory_keeper_state}
 use Rattle.hippo_report.specs.declared.speaker.Speaker.{Speaker}
 use Rattle.hippo_report.specs.declared.format.Format.TheVariants.{Text}
 use Rattle.hippo_report.specs.declared.refusal.Refusal.TheVariants.{Memory}
@@ -43,7 +43,7 @@ short_reply history world reply (Ok (deeds.step_job number job count)) effect sh
 short_reply history world reply (Ok (deeds.drop_job number)) effect short = ap (λ (e : Effect). e.reply) short
 short_reply history world reply (Ok (deeds.end_watch number)) effect short = ap (λ (e : Effect). e.reply) short
 short_reply history world reply (Ok (deeds.change act)) effect short = ap (λ (e : Effect). e.reply) short
-short_reply history world reply (Ok (deeds.answer question)) effect short = short.said
+short_reply history world reply (Ok (deeds.answer_question question)) effect short = short.said
 short_reply history world reply (Ok (deeds.open_cursor session number question)) effect short = short.said
 short_reply history world reply (Ok (deeds.extract question)) effect short = short.said
 short_reply history world reply (Ok (deeds.explain entry)) effect short = ap (λ (e : Effect). e.reply) short
@@ -94,24 +94,24 @@ drilled_none size number drilling left world stands kept counts = record {
   order =
       ap (λ (w : World). effects_of [] w (map text_line (script size number))) (sym world)
       ∙ ap (λ (lines : List Txt). effects_of [] (world_of drilling.engine.world) (map text_line lines)) (sym left);
-  holds = Holds-opening [] drilling.engine.state drilling.engine (seen drilling.keeper) (latest_moment []) drill_limit Text refl stands (sym kept) world;
+  holds = Holds-opening [] drilling.engine.state drilling.engine (memory_keeper_state drilling.keeper) (latest_moment []) drill_limit Text refl stands (sym kept) world;
   counted = counts;
 }
 
 pub at_work_none : (engine : Engine) (keeper : MemoryStore) → StandsFor engine.state [] → keeper.kept ≡ []
-    → world_of engine.world ≡ opening (latest_moment []) drill_limit Text → IsReady true (seen keeper) → AtWork engine (seen keeper)
+    → world_of engine.world ≡ opening (latest_moment []) drill_limit Text → IsReady true (memory_keeper_state keeper) → AtWork engine (memory_keeper_state keeper)
 at_work_none engine keeper stands kept world ready = record {
   sound = record { history = []; stands = stands };
   timely = IsTimely-begun engine drill_limit Text (world ∙ ap (λ (moment : Moment). opening moment drill_limit Text) (sym stands.last));
   ready = ready;
-  told = λ tells. ([], Holds-opening [] engine.state engine (seen keeper) (latest_moment []) drill_limit Text refl stands (sym kept) world);
+  told = λ tells. ([], Holds-opening [] engine.state engine (memory_keeper_state keeper) (latest_moment []) drill_limit Text refl stands (sym kept) world);
 }
 
 -- the next line has had its effect, and its reply is counted
 module _ (size number : ℕ) (old new : Drilling) (line said reply : Txt) (drilled : HasDrilled size number old)
     (left : old.left ≡ line ∷ new.left) (says : said ≡ line) (shown : reply ≡ new.engine.reply)
-    (does : (history : History) → Holds history old.engine (seen old.keeper)
-    → HasDone history (effect_of history (world_of old.engine.world) (command_of (text_line said))) new.engine (seen new.keeper))
+    (does : (history : History) → Holds history old.engine (memory_keeper_state old.keeper)
+    → HasDone history (effect_of history (world_of old.engine.world) (command_of (text_line said))) new.engine (memory_keeper_state new.keeper))
     (counts : (replies : List Txt) → old.counts ≡ counts_of replies → new.counts ≡ counts_of (replies ++ reply ∷ [])) where
   abbrev here : History
   here = history_after [] drilled.effects
@@ -119,7 +119,7 @@ module _ (size number : ℕ) (old new : Drilling) (line said reply : Txt) (drill
   abbrev effect : Effect
   effect = effect_of here (world_of old.engine.world) (command_of (text_line said))
 
-  abbrev done : HasDone here effect new.engine (seen new.keeper)
+  abbrev done : HasDone here effect new.engine (memory_keeper_state new.keeper)
   done = does here drilled.holds
 
   abbrev all : List Effect
@@ -144,7 +144,7 @@ module _ (size number : ℕ) (old new : Drilling) (line said reply : Txt) (drill
   drilled_more = record {
     effects = all;
     order = ordered;
-    holds = subst (λ (h : History). Holds h new.engine (seen new.keeper)) (sym longer) done.holds;
+    holds = subst (λ (h : History). Holds h new.engine (memory_keeper_state new.keeper)) (sym longer) done.holds;
     counted = counts (replies_of drilled.effects) drilled.counted
         ∙ ap counts_of (ap (λ (text : Txt). replies_of drilled.effects ++ text ∷ []) (shown ∙ done.reply)
         ∙ sym (map-last (λ (e : Effect). e.reply) drilled.effects effect));

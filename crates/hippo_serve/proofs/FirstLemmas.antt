@@ -21,13 +21,13 @@ use Rattle.hippo_engine.specs.declared.faults.EngineFault.TheVariants.{Write}
 use Rattle.hippo_engine.specs.Carrying.{AtWork, BreaksOff}
 use Rattle.hippo_judging.specs.Checks.{refused_if, ◌>>=◌}
 use Rattle.hippo_judging.specs.Deeds as deeds
-use Rattle.hippo_engine.specs.Effects.{carried_out, effect_of}
+use Rattle.hippo_engine.specs.Effects.{judgement_effect, effect_of}
 use Rattle.hippo_engine.specs.Ledgers.{reads_kept}
 use Rattle.hippo_words.specs.declared.calls.Job.{Job}
 use Rattle.hippo_words.specs.declared.calls.Setting.{Setting}
 use Rattle.hippo_serve.specs.declared.endings.Ending.{Ending}
 use Rattle.hippo_serve.specs.Endings.{as_line_call, EndsUnread}
-use Rattle.hippo_serve.specs.Loads.{clock_text, asked_lines}
+use Rattle.hippo_serve.specs.Loads.{at_line, asked_lines}
 use Rattle.hippo_serve.specs.Outside.{Told, Outside, outside}
 use Rattle.hippo_serve.specs.Runs.{ForInput, HasReadFront, LinesEnd, HasReplied, Turn}
 use Rattle.hippo_serve.proofs.RunLemmas.{replied_more, unwritten, undamaged}
@@ -53,7 +53,7 @@ clock_adds : (history : History) (world : World) (moment : Option Moment) → (e
 clock_adds history world None = refl
 clock_adds history world (Some moment) = at (int_lt moment world.clock)
   where
-    at : (back : Bool) → (carried_out history world Nobody (refused_if back (MomentBack world.clock) >>= λ _. Ok (deeds.set_clock moment))).added ≡ []
+    at : (back : Bool) → (judgement_effect history world Nobody (refused_if back (MomentBack world.clock) >>= λ _. Ok (deeds.set_clock moment))).added ≡ []
     at true = refl
     at false = refl
 
@@ -63,13 +63,13 @@ module _ (Q : Command → Type 0) (clock : (moment : Option Moment) → Q (clock
   by_word (Some moment) = clock _
 
   -- what holds of each command that sets the clock holds of a load's first one
-  by_clock : (moment : Moment) → Q (command_of (text_line (clock_text moment)))
+  by_clock : (moment : Moment) → Q (command_of (text_line (at_line moment)))
   by_clock moment = subst (λ (form : Option Form). Q (command_by form)) (sym (at_form (moment_text moment))) (by_word (only (words_of (moment_text moment))))
 
-first_quiet : (moment : Moment) → reads_kept (command_of (text_line (clock_text moment))) ≡ false
+first_quiet : (moment : Moment) → reads_kept (command_of (text_line (at_line moment))) ≡ false
 first_quiet moment = by_clock (λ command. reads_kept command ≡ false) clock_quiet refl moment
 
-first_adds : (history : History) (world : World) (moment : Moment) → (effect_of history world (command_of (text_line (clock_text moment)))).added ≡ []
+first_adds : (history : History) (world : World) (moment : Moment) → (effect_of history world (command_of (text_line (at_line moment)))).added ≡ []
 first_adds history world moment = by_clock (λ command. (effect_of history world command).added ≡ []) (clock_adds history world) refl moment
 
 none_one : (added : History) (entry : Entry) → added ≡ [] → added ≡ entry ∷ [] → ⊥
@@ -78,10 +78,10 @@ none_one added entry none one = cc
 not_both : (reads : Bool) → reads ≡ false → reads ≡ true → ⊥
 not_both reads quiet e = cc
 
-module _ (job : Job) (moment : Moment) (first : asked_lines job [] ≡ text_line (clock_text moment) ∷ [])
+module _ (job : Job) (moment : Moment) (first : asked_lines job [] ≡ text_line (at_line moment) ∷ [])
     (engine engine' : Engine) (keeper keeper' : KeeperState) (output output' : Option Txt) (steps steps' : ℕ) where
   abbrev line : LineText
-  line = text_line (clock_text moment)
+  line = text_line (at_line moment)
 
   -- the keeper cannot fail at it
   unbroken : (history : History) → BreaksOff history (command_of line) engine keeper keeper' → ⊥

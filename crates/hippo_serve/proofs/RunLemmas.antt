@@ -30,7 +30,7 @@ use Rattle.hippo_words.specs.declared.calls.Setting.{Setting}
 use Rattle.hippo_serve.specs.Keeping.{KeepsHistory}
 use Rattle.hippo_serve.specs.Loads.{asked_line, asked_lines}
 use Rattle.hippo_serve.specs.Outside.{Told, Outside, telling, outside}
-use Rattle.hippo_serve.specs.Runs.{opening_after, IsReading, ForInput, StepsWithin, HasRun, HasReadAll, IsServed, IsCutOff, HasReadFront, IsUnwritten, KeepsBroken, IsBrokenOff, HasReplied, HasServed}
+use Rattle.hippo_serve.specs.Runs.{opening_after, IsHandingOut, ForInput, StepsWithin, HasRun, HasReadAll, IsServed, IsCutOff, HasReadFront, IsUnwritten, KeepsBroken, IsBrokenOff, HasReplied, HasServed}
 use Rattle.hippo_serve.proofs.AskedLemmas.{asked-last}
 use Rattle.hippo_serve.proofs.KeptLemmas.{KeepsHistory-after, KeepsHistory-same, KeepsEither-after}
 use Rattle.hippo_programs.proofs.WriteLemmas.{both_whole}
@@ -99,7 +99,7 @@ within_limit line taken same = not_above (λ more. differ (same.1 more))
     not_above no_more = omega arith
 
 -- no line was handed out yet
-pub reading_none : (input : Txt) (reader : Position) (left : Option Txt) → left ≡ Some input → HasHandedOut input [] reader (Some input) → IsReading input reader left
+pub reading_none : (input : Txt) (reader : Position) (left : Option Txt) → left ≡ Some input → HasHandedOut input [] reader (Some input) → IsHandingOut input reader left
 reading_none input reader left is handing = record { handed = []; handing = subst (λ (told : Option Txt). HasHandedOut input [] reader told) (sym is) handing }
 
 -- no line has a reply yet

@@ -15,7 +15,7 @@ use Rattle.hippo_keeper.proofs.Results.{well}
 use Rattle.hippo_report.specs.declared.format.Format.{Format}
 use Rattle.hippo_world.specs.Holding.{world_of}
 use Rattle.hippo_world.specs.Worlds.{opening}
-use Rattle.hippo_commands.specs.Commands.{Command, command_of, commanded}
+use Rattle.hippo_commands.specs.Commands.{Command, command_of, input_command}
 use Rattle.hippo_engine.specs.declared.engine.Engine.{Engine}
 use Rattle.hippo_engine.specs.declared.faults.EngineFault.{EngineFault}
 use Rattle.hippo_engine.specs.declared.faults.EngineFault.TheVariants.{Keeper, Write, Damaged as DamagedAt}
@@ -88,7 +88,7 @@ module _ (engine engine' : Engine) (keeper keeper' : KeeperState) (output output
   }
 
 module _ (job : Job) (line : Option LineText) (result : Option Ending) (engine engine' : Engine) (keeper keeper' : KeeperState) (output output' : Option Txt) (steps steps' : ℕ)
-    (turn : line ≢ None → Turn result (commanded (option_map (asked_line job) (option_map (counted_line job) line))) engine engine' keeper keeper' output output' steps steps')
+    (turn : line ≢ None → Turn result (input_command (option_map (asked_line job) (option_map (counted_line job) line))) engine engine' keeper keeper' output output' steps steps')
     (end : line ≡ None → (result ≡ Some Served) × (engine' ≡ engine) × (output' ≡ output) × (steps' ≡ steps))
     (same : line ≡ None → keeper' ≡ keeper) where
   -- the command of what a job asks for where it reads a line
@@ -109,7 +109,7 @@ module _ (job : Job) (line : Option LineText) (result : Option Ending) (engine e
       at : (l : Option LineText) → line ≡ l → Q result
       at None is = subst Q (sym (end is).0) (done is)
       at (Some text) is = by_turn engine engine' keeper keeper' output output' steps steps' Q (asks text) (on text is) (broken text is) (cut text is) (damaged text is) result
-          (subst (λ (l : Option LineText). Turn result (commanded (option_map (asked_line job) (option_map (counted_line job) l))) engine engine' keeper keeper' output output' steps steps') is
+          (subst (λ (l : Option LineText). Turn result (input_command (option_map (asked_line job) (option_map (counted_line job) l))) engine engine' keeper keeper' output output' steps steps') is
           (turn (λ none. some_line text (sym is ∙ none))))
 
   pub status_of_turn : (result ≢ Some Refused) × (result ≢ Some NoMemory)

@@ -1,4 +1,5 @@
--- A drill: the lines of a script, each with the effect that the rules make of it, and what is said of the replies.
+-- A drill: the lines of a script, each with the effect that the rules make of it, and what is said
+-- of the replies.
 use Rattle.std.specs.Prelude.{◌≡◌, ℕ, List, [], ◌∷◌, ◌++◌, length, map}
 use Rattle.hippo_values.specs.Texts.{Txt}
 use Rattle.hippo_drill.specs.Script.{script}
@@ -7,7 +8,7 @@ use Rattle.hippo_drill.specs.Tallies.{counts_of}
 use Rattle.hippo_io.specs.Lines.{LineText, text_line}
 use Rattle.hippo_model.specs.Terms.{History}
 use Rattle.hippo_keeper.specs.Keeping.{KeeperState}
-use Rattle.hippo_keeper.specs.MemoryKeeping.{seen}
+use Rattle.hippo_keeper.specs.MemoryKeeping.{memory_keeper_state}
 use Rattle.hippo_report.specs.declared.format.Format.TheVariants.{Text}
 use Rattle.hippo_replay.specs.Standing.{latest_moment}
 use Rattle.hippo_world.specs.Worlds.{World, opening}
@@ -44,8 +45,10 @@ summary size number =
     let effects : List Effect = drill_effects size number in
     summary_of (replies_of effects) (length (history_after [] effects))
 
--- an engine shows an effect after a history, and it and its keeper hold the history with what was added
-pub record HasDone (history : History) (effect : Effect) (engine : Engine) (keeper : KeeperState) : Type 0 where
+-- an engine shows an effect after a history, and it and its keeper hold the history with what was
+-- added
+pub record HasDone (history : History) (effect : Effect) (engine : Engine) (keeper : KeeperState)
+    : Type 0 where
   pub reply : engine.reply ≡ effect.reply
   pub world : world_of engine.world ≡ effect.world
   pub holds : Holds (history ++ effect.added) engine keeper
@@ -54,6 +57,7 @@ pub record HasDone (history : History) (effect : Effect) (engine : Engine) (keep
 pub record HasDrilled (size number : ℕ) (drilling : Drilling) : Type 0 where
   pub effects : List Effect
   pub order : drill_effects size number
-      ≡ effects ++ effects_of (history_after [] effects) (world_of drilling.engine.world) (map text_line drilling.left)
-  pub holds : Holds (history_after [] effects) drilling.engine (seen drilling.keeper)
+      ≡ effects ++ effects_of (history_after [] effects) (world_of drilling.engine.world)
+      (map text_line drilling.left)
+  pub holds : Holds (history_after [] effects) drilling.engine (memory_keeper_state drilling.keeper)
   pub counted : drilling.counts ≡ counts_of (replies_of effects)

@@ -16,15 +16,17 @@ status_of NoMemory = 7
 status_of TooMuch = 8
 
 -- all that a program did with its keeper, as one call of it
-abbrev pub as_call : Ending → Result (Unit {0}) Fault
-as_call KeeperFault = Err Failed
-as_call ending = Ok tt
+abbrev pub ending_as_call : Ending → Result (Unit {0}) Fault
+ending_as_call KeeperFault = Err Failed
+ending_as_call ending = Ok tt
 
 -- what a line did with it, where the run may end there
 abbrev pub as_line_call : Option Ending → Result (Unit {0}) Fault
 as_line_call None = Ok tt
-as_line_call (Some ending) = as_call ending
+as_line_call (Some ending) = ending_as_call ending
 
 -- an ending before anything is read; memory was there
 abbrev pub EndsUnread : Ending → Type 0
-EndsUnread ending = (ending ≢ Served) × (ending ≢ Refused) × (ending ≢ ReadFault) × (ending ≢ NoMemory) × (ending ≢ TooMuch)
+EndsUnread ending =
+    (ending ≢ Served) × (ending ≢ Refused) × (ending ≢ ReadFault) × (ending ≢ NoMemory)
+    × (ending ≢ TooMuch)

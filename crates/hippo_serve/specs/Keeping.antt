@@ -15,7 +15,8 @@ pub record KeepsHistory (history : History) (keeper : KeeperState) : Type 0 wher
 -- it keeps those of one of two valid histories, and a stop leaves those of one of them
 pub record KeepsEither (history longer : History) (keeper : KeeperState) : Type 0 where
   pub kept : IsStoreOf meaning keeper.kept history ⊎ IsStoreOf meaning keeper.kept longer
-  pub alone : (store : Store) → keeper.survives store → IsStoreOf meaning store history ⊎ IsStoreOf meaning store longer
+  pub alone : (store : Store) → keeper.survives store → IsStoreOf meaning store history
+      ⊎ IsStoreOf meaning store longer
 
 -- a start of the next keeper finds only what survives a stop of the last one
 abbrev pub FindsWhatSurvives : Txt → KeeperState → KeeperState → Type 0
@@ -23,7 +24,8 @@ FindsWhatSurvives name last next = (store : Store) → next.finds name store →
 
 -- a start finds only the stored forms of this history
 abbrev pub FindsHistory : Txt → History → KeeperState → Type 0
-FindsHistory name history keeper = (store : Store) → keeper.finds name store → IsStoreOf meaning store history
+FindsHistory name history keeper =
+    (store : Store) → keeper.finds name store → IsStoreOf meaning store history
 
 -- or of one of these two
 abbrev pub FindsEither : Txt → History → History → KeeperState → Type 0

@@ -13,8 +13,8 @@ use Rattle.hippo_words.specs.declared.calls.Job.TheVariants.{Load}
 abbrev pub load_text : Name → Txt → Txt
 load_text table fields = codes "0 load " ++ (table ++ (codes " " ++ fields))
 
-abbrev pub clock_text : Moment → Txt
-clock_text moment = codes "at " ++ moment_text moment
+abbrev pub at_line : Moment → Txt
+at_line moment = codes "at " ++ moment_text moment
 
 -- a text is a record of the table; a line that is none stays as it is
 abbrev pub record_line : Name → LineText → LineText
@@ -32,12 +32,14 @@ asked_line job line = line
 
 -- the lines that a job asks for where it reads these; a load sets the clock first
 abbrev pub asked_lines : Job → List LineText → List LineText
-asked_lines (Load setting table moment) lines = text_line (clock_text moment) ∷ map (record_line table) lines
+asked_lines (Load setting table moment) lines =
+    text_line (at_line moment) ∷ map (record_line table) lines
 asked_lines job lines = lines
 
 -- a text that is longer than a line may be is no record; no input has such a line
 abbrev pub limited_line : LineText → LineText
-limited_line (text_line text) = if nat_lt line_limit (length text) then too_long_line else text_line text
+limited_line (text_line text) =
+    if nat_lt line_limit (length text) then too_long_line else text_line text
 limited_line line = line
 
 -- a line as a job counts it

@@ -20,8 +20,10 @@ use Rattle.hippo_serve.specs.Keeping.{KeepsHistory}
 use Rattle.hippo_serve.specs.Outside.{Told, Outside}
 use Rattle.hippo_serve.specs.Runs.{IsServed, IsReadCut, HasTooMuch, IsUnwritten, IsBrokenOff}
 
--- a start with a name may find stored forms of a valid history, and this holds of each history of which they are
-pub record FromFound (name : Txt) (holds : History → Told → Outside → Type 0) (before after : Outside)
+-- a start with a name may find stored forms of a valid history, and this holds of each history of
+-- which they are
+pub record FromFound (name : Txt) (holds : History → Told → Outside → Type 0)
+    (before after : Outside)
     : Type 0 where
   pub store : Store
   pub found : before.keeper.finds name store
@@ -31,7 +33,8 @@ pub record FromFound (name : Txt) (holds : History → Told → Outside → Type
 
 -- the keeper was not started, or keeps what it found
 abbrev pub IsIdle : Txt → Outside → Outside → Type 0
-IsIdle name before after = after.keeper.started ≡ true → KeepsFound (before.keeper.finds name) after.keeper
+IsIdle name before after =
+    after.keeper.started ≡ true → KeepsFound (before.keeper.finds name) after.keeper
 
 -- what is kept was found, and is damaged at this place
 pub record KeepsDamaged (name : Txt) (place : ℕ) (before after : Outside) : Type 0 where
@@ -52,16 +55,21 @@ pub record BeginsDamaged (name : Txt) (before after : Outside) : Type 0 where
 
 -- how a run or a load ends; unread and unwritten say that source and sink are as before
 abbrev pub RunEnds : Ending → Type 0 → Type 0 → Setting → Job → Txt → Outside → Outside → Type 0
-RunEnds Served unread unwritten setting job name before after = FromFound name (IsServed setting job) before after
+RunEnds Served unread unwritten setting job name before after =
+    FromFound name (IsServed setting job) before after
 RunEnds Refused unread unwritten setting job name before after = ⊥
 RunEnds KeeperFault unread unwritten setting job name before after =
-    (unread × unwritten × IsIdle name before after) ⊎ FromFound name (IsBrokenOff setting job) before after
-RunEnds ReadFault unread unwritten setting job name before after = FromFound name (IsReadCut setting job) before after
+    (unread × unwritten × IsIdle name before after)
+    ⊎ FromFound name (IsBrokenOff setting job) before after
+RunEnds ReadFault unread unwritten setting job name before after =
+    FromFound name (IsReadCut setting job) before after
 RunEnds WriteFault unread unwritten setting job name before after =
-    (unread × BeginsDamaged name before after) ⊎ FromFound name (IsUnwritten setting job) before after
+    (unread × BeginsDamaged name before after)
+    ⊎ FromFound name (IsUnwritten setting job) before after
 RunEnds Damaged unread unwritten setting job name before after = SaysDamaged name before after
 RunEnds NoMemory unread unwritten setting job name before after = IsIdle name before after
-RunEnds TooMuch unread unwritten setting job name before after = FromFound name (HasTooMuch setting job) before after
+RunEnds TooMuch unread unwritten setting job name before after =
+    FromFound name (HasTooMuch setting job) before after
 
 -- a history is kept, and survives a stop; there was one step for each version in it
 pub record WasLoaded (history : History) (before : Told) (after : Outside) : Type 0 where
@@ -88,10 +96,12 @@ CheckEnds Damaged unwritten name before after = SaysDamaged name before after
 CheckEnds NoMemory unwritten name before after = unwritten × IsIdle name before after
 CheckEnds ending unwritten name before after = ⊥
 
--- how the program ends where what is kept was not loaded: the keeper failed or memory was short, and nothing is
--- written; or the place of damage is said
+-- how the program ends where what is kept was not loaded: the keeper failed or memory was short,
+-- and nothing is written; or the place of damage is said
 abbrev pub Stops : LoadFault → Ending → Type 0 → Option Txt → Option Txt → ℕ → ℕ → Type 0
-Stops Keeper ending unwritten before after faults faults' = (ending ≡ KeeperFault) × unwritten × (faults' ≡ faults)
+Stops Keeper ending unwritten before after faults faults' =
+    (ending ≡ KeeperFault) × unwritten × (faults' ≡ faults)
 Stops (DamagedAt place) ending unwritten before after faults faults' =
     Says Damaged (damaged_line place) ending before after faults faults'
-Stops Memory ending unwritten before after faults faults' = (ending ≡ NoMemory) × unwritten × (faults' ≡ faults)
+Stops Memory ending unwritten before after faults faults' =
+    (ending ≡ NoMemory) × unwritten × (faults' ≡ faults)

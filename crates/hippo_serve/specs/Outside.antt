@@ -3,7 +3,8 @@ use Rattle.std.specs.Prelude.{ℕ, Option}
 use Rattle.hippo_values.specs.Texts.{Txt}
 use Rattle.hippo_keeper.specs.Keeping.{KeeperState}
 
--- the bytes that the source has left and those that the sink has written, where they tell them, and the steps so far
+-- the bytes that the source has left and those that the sink has written, where they tell them, and
+-- the steps so far
 pub record Told : Type 0 where
   pub left : Option Txt
   pub written : Option Txt

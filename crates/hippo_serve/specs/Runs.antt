@@ -37,15 +37,17 @@ opening_after setting history = opening (latest_moment history) setting.limit se
 abbrev pub ForInput : Told → (Txt → Type 0) → Type 0
 ForInput before holds = (input : Txt) → before.left ≡ Some input → holds input
 
--- where memory was ample, what is kept was read once by loading, and at most once for each audit that was asked for:
--- a step is one version that was read
+-- where memory was ample, what is kept was read once by loading, and at most once for each audit
+-- that was asked for: a step is one version that was read
 abbrev pub StepsWithin : Setting → History → List LineText → List Effect → Told → Outside → Type 0
 StepsWithin setting history asked effects before after =
     IsAmple history (opening_after setting history) asked effects
-    → after.told.steps ≤ before.steps + versions (history_after history effects) * (1 + audits_in asked)
+    → after.told.steps ≤ before.steps + versions (history_after history effects)
+    * (1 + audits_in asked)
 
--- so many bytes of the input were taken, and the others are left: all at status 0, and more than are read just at 8
-pub record HasTaken (status : ℕ) (input : Txt) (left : Option Txt) : Type 0 where
+-- so many bytes of the input were taken, and the others are left: all at status 0, and more than
+-- are read just at 8
+pub record HasTakenBytes (status : ℕ) (input : Txt) (left : Option Txt) : Type 0 where
   pub taken : ℕ
   pub within : taken ≤ length input
   pub others : left ≡ Some (drop taken input)
@@ -53,12 +55,14 @@ pub record HasTaken (status : ℕ) (input : Txt) (left : Option Txt) : Type 0 wh
   pub limit : (status ≡ 8) ↔ (input_limit < taken)
 
 -- some lines of the input were handed out so far
-pub record IsReading (input : Txt) (reader : Position) (left : Option Txt) : Type 0 where
+pub record IsHandingOut (input : Txt) (reader : Position) (left : Option Txt) : Type 0 where
   pub handed : List LineText
   pub handing : HasHandedOut input handed reader left
 
--- lines have had their effects from a history on, and what the last one left is kept, and survives a stop
-pub record HasRun (setting : Setting) (history : History) (asked : List LineText) (effects : List Effect)
+-- lines have had their effects from a history on, and what the last one left is kept, and survives
+-- a stop
+pub record HasRun (setting : Setting) (history : History) (asked : List LineText)
+    (effects : List Effect)
     (before : Told) (after : Outside) : Type 0 where
   pub run : IsRun history (opening_after setting history) asked effects
   pub kept : KeepsHistory (history_after history effects) after.keeper
@@ -71,7 +75,8 @@ pub record HasReadAll (replied : List LineText) (input : Txt) (left : Option Txt
   pub limit : length input ≤ input_limit
 
 -- every line has its reply, as the job asks for it
-pub record IsServed (setting : Setting) (job : Job) (history : History) (before : Told) (after : Outside)
+pub record IsServed (setting : Setting) (job : Job) (history : History) (before : Told)
+    (after : Outside)
     : Type 0 where
   pub replied : List LineText
   pub effects : List Effect
@@ -79,8 +84,10 @@ pub record IsServed (setting : Setting) (job : Job) (history : History) (before 
   pub read : ForInput before (λ input. HasReadAll replied input after.told.left)
   pub written : Appends before.written after.told.written (replies effects)
 
--- so many bytes of the input were taken, and these are just the lines whose line feeds are among them, up to the limit
-pub record HasReadWhole (amount : ℕ → Type 0) (replied : List LineText) (input : Txt) (left : Option Txt)
+-- so many bytes of the input were taken, and these are just the lines whose line feeds are among
+-- them, up to the limit
+pub record HasReadWhole (amount : ℕ → Type 0) (replied : List LineText) (input : Txt)
+    (left : Option Txt)
     : Type 0 where
   pub taken : ℕ
   pub is : amount taken
@@ -89,7 +96,8 @@ pub record HasReadWhole (amount : ℕ → Type 0) (replied : List LineText) (inp
   pub whole : replied ≡ whole_lines input (min taken input_limit)
 
 -- just the lines that were read whole have their replies
-pub record IsCutOff (amount : ℕ → Type 0) (setting : Setting) (job : Job) (history : History) (before : Told)
+pub record IsCutOff (amount : ℕ → Type 0) (setting : Setting) (job : Job) (history : History)
+    (before : Told)
     (after : Outside) : Type 0 where
   pub replied : List LineText
   pub effects : List Effect
@@ -107,7 +115,8 @@ abbrev pub HasTooMuch : Setting → Job → History → Told → Outside → Typ
 HasTooMuch setting job history before after =
     IsCutOff (λ taken. input_limit < taken) setting job history before after
 
--- these are the first lines of the input; some of its bytes were taken, within the limit, and the others are left
+-- these are the first lines of the input; some of its bytes were taken, within the limit, and the
+-- others are left
 pub record HasReadFront (first : List LineText) (input : Txt) (left : Option Txt) : Type 0 where
   pub following : List LineText
   pub order : lines input ≡ first ++ following
@@ -116,9 +125,11 @@ pub record HasReadFront (first : List LineText) (input : Txt) (left : Option Txt
   pub others : left ≡ Some (drop taken input)
   pub limit : taken ≤ input_limit
 
--- the lines have their replies but the last, of whose reply a front is written; it has had its effect all the same. Of
--- a load that may be the line that sets the clock, where no other one was read
-pub record IsUnwritten (setting : Setting) (job : Job) (history : History) (before : Told) (after : Outside)
+-- the lines have their replies but the last, of whose reply a front is written; it has had its
+-- effect all the same. Of a load that may be the line that sets the clock, where no other one was
+-- read
+pub record IsUnwritten (setting : Setting) (job : Job) (history : History) (before : Told)
+    (after : Outside)
     : Type 0 where
   pub replied : List LineText
   pub effects : List Effect
@@ -142,22 +153,24 @@ pub record KeepsOrAdds (history added : History) (keeper : KeeperState) : Type 0
   pub kept : KeepsEither history (history ++ entry ∷ []) keeper
 
 -- the rules add nothing to a history for a line that reads it, and it is kept
-pub record KeepsRead (history added : History) (line : LineText) (keeper : KeeperState) : Type 0 where
+pub record KeepsRead (history added : History) (line : LineText) (keeper : KeeperState)
+    : Type 0 where
   pub reads : reads_kept (command_of line) ≡ true
   pub adds : added ≡ []
   pub kept : KeepsHistory history keeper
 
--- the keeper failed at a line behind some effects: while it was to keep the entry that the rules add for the line, or
--- while it was read
+-- the keeper failed at a line behind some effects: while it was to keep the entry that the rules
+-- add for the line, or while it was read
 abbrev pub KeepsBroken : Setting → History → List Effect → LineText → KeeperState → Type 0
 KeepsBroken setting history effects line keeper =
     let here : History = history_after history effects in
     let added : History = added_next setting history effects line in
     KeepsOrAdds here added keeper ⊎ KeepsRead here added line keeper
 
--- the lines have their replies, and nothing is written of the next one's; what they left is kept, or that with the one
--- entry that the rules add for the next line
-pub record IsBrokenOff (setting : Setting) (job : Job) (history : History) (before : Told) (after : Outside)
+-- the lines have their replies, and nothing is written of the next one's; what they left is kept,
+-- or that with the one entry that the rules add for the next line
+pub record IsBrokenOff (setting : Setting) (job : Job) (history : History) (before : Told)
+    (after : Outside)
     : Type 0 where
   pub replied : List LineText
   pub effects : List Effect
@@ -179,7 +192,8 @@ LinesEnd TooMuch setting job history before after = HasTooMuch setting job histo
 LinesEnd ending setting job history before after = ⊥
 
 -- so far these lines have their replies, and the engine and its keeper hold what the last one left
-pub record HasReplied (setting : Setting) (history : History) (asked : List LineText) (before : Told)
+pub record HasReplied (setting : Setting) (history : History) (asked : List LineText)
+    (before : Told)
     (engine : Engine) (now : Outside) : Type 0 where
   pub effects : List Effect
   pub run : IsRun history (opening_after setting history) asked effects
@@ -187,29 +201,37 @@ pub record HasReplied (setting : Setting) (history : History) (asked : List Line
   pub holds : Holds (history_after history effects) engine now.keeper
   pub kept : KeepsHistory (history_after history effects) now.keeper
   pub sum : IsAmple history (opening_after setting history) asked effects
-      → RunSum before.steps now.told.steps (versions (history_after history effects)) (audits_in asked)
+      → RunSum before.steps now.told.steps (versions (history_after history effects))
+      (audits_in asked)
       (taken_of engine.world)
   pub written : Appends before.written now.told.written (replies effects)
 
 -- so far the lines that were handed out have their replies, as the job asks for them
-pub record HasServed (setting : Setting) (job : Job) (history : History) (before : Told) (reader : Position)
+pub record HasServed (setting : Setting) (job : Job) (history : History) (before : Told)
+    (reader : Position)
     (engine : Engine) (now : Outside) : Type 0 where
   pub handed : List LineText
   pub handing : ForInput before (λ input. HasHandedOut input handed reader now.told.left)
   pub replied : HasReplied setting history (asked_lines job handed) before engine now
 
--- what a call with a line did: the line was carried out and replied to, or the keeper failed, or the sink did; or the
--- keeper handed over what it did not keep, and that was said, or the sink failed then
-abbrev pub Turn : Option Ending → Command → Engine → Engine → KeeperState → KeeperState → Option Txt → Option Txt
+-- what a call with a line did: the line was carried out and replied to, or the keeper failed, or
+-- the sink did; or the keeper handed over what it did not keep, and that was said, or the sink
+-- failed then
+abbrev pub Turn : Option Ending → Command → Engine → Engine → KeeperState → KeeperState → Option Txt
+    → Option Txt
     → ℕ → ℕ → Type 0
 Turn None command old new before after written written' steps steps' =
-    Carries {A = Unit {0}} command (Ok tt) old new before after steps steps' × Appends written written' new.reply
+    Carries {A = Unit {0}} command (Ok tt) old new before after steps steps'
+    × Appends written written' new.reply
 Turn (Some KeeperFault) command old new before after written written' steps steps' =
-    Carries {A = Unit {0}} command (Err Keeper) old new before after steps steps' × (written' ≡ written)
+    Carries {A = Unit {0}} command (Err Keeper) old new before after steps steps'
+    × (written' ≡ written)
 Turn (Some WriteFault) command old new before after written written' steps steps' =
     (Carries {A = Unit {0}} command (Err Write) old new before after steps steps'
     × AppendsFront written written' new.reply)
-    ⊎ ((number : ℕ) × Carries {A = Unit {0}} command (Err (DamagedAt number)) old new before after steps steps')
+    ⊎ ((number : ℕ) × Carries {A = Unit {0}} command (Err (DamagedAt number)) old new before after
+    steps steps')
 Turn (Some Damaged) command old new before after written written' steps steps' =
-    (number : ℕ) × Carries {A = Unit {0}} command (Err (DamagedAt number)) old new before after steps steps'
+    (number : ℕ) × Carries {A = Unit {0}} command (Err (DamagedAt number)) old new before after
+    steps steps'
 Turn (Some ending) command old new before after written written' steps steps' = ⊥

@@ -9,7 +9,8 @@ use Rattle.hippo_serve.specs.declared.endings.Ending.TheVariants.{WriteFault}
 
 -- how the program is called
 unfoldable pub usage : Txt
-usage = codes "usage: hippo run|check|drill|load [--store NAME] [--history N] [--size N] [--number N]"
+usage =
+    codes "usage: hippo run|check|drill|load [--store NAME] [--history N] [--size N] [--number N]"
     ++ codes " [--format text|json|csv] [--table NAME] [--moment MOMENT]\n"
 
 -- how many entries are kept

@@ -3,7 +3,7 @@ ghost use Rattle.std.specs.Prelude.{◌≡◌, ◌≢◌, ℕ, ◌<◌, [], true
 ghost use Rattle.hippo_io.specs.Lines.{text_line};
 ghost use Rattle.hippo_model.specs.Terms.{History};
 ghost use Rattle.hippo_keeper.specs.Keeping.{IsReady};
-ghost use Rattle.hippo_keeper.specs.MemoryKeeping.{seen};
+ghost use Rattle.hippo_keeper.specs.MemoryKeeping.{memory_keeper_state};
 ghost use Rattle.hippo_report.specs.declared.speaker.Speaker.{Speaker};
 ghost use Rattle.hippo_report.specs.declared.format.Format.TheVariants.{Text};
 ghost use Rattle.hippo_report.specs.declared.refusal.Refusal.TheVariants.{Memory as WantsMemory};
@@ -37,7 +37,8 @@ const ENTRY_LIMIT: u32 = 4_000_000;
 // The end of each reply that says that memory was short.
 const SHORT_REPLY: &str = " no 90 Memory\n";
 
-/// A drill on its way: the lines that are left, an engine over a keeper in memory, and the counts of the replies so far.
+/// A drill on its way: the lines that are left, an engine over a keeper in memory, and the counts
+/// of the replies so far.
 #[derive(Drop)]
 pub struct Drilling {
     pub left: Drill,
@@ -49,7 +50,7 @@ pub struct Drilling {
 // A keeper in memory on which no call is to fail, started.
 fn start(alloc: Global) -> Result<MemoryKeeper, Memory>
     ensures empty { IfOk result (λ keeper. keeper.kept ≡ []) }
-    ensures ready { IfOk result (λ keeper. IsReady true (seen keeper)) }
+    ensures ready { IfOk result (λ keeper. IsReady true (memory_keeper_state keeper)) }
 {
     let mut keeper = MemoryKeeper::new(StoredList::new(alloc), KeeperFails::new(alloc));
     match keeper.start(alloc, "") {
@@ -61,7 +62,8 @@ fn start(alloc: Global) -> Result<MemoryKeeper, Memory>
 // An engine over the empty history.
 fn open(alloc: Global) -> Result<Engine, Memory>
     ensures stands { IfOk result (λ engine. StandsFor engine.state []) }
-    ensures world { IfOk result (λ engine. world_of engine.world ≡ opening (latest_moment []) drill_limit Text) }
+    ensures world { IfOk result (λ engine. world_of engine.world
+        ≡ opening (latest_moment []) drill_limit Text) }
 {
     Engine::new(alloc, State::new(alloc), ENTRY_LIMIT, Format::Text)
 }
@@ -76,7 +78,8 @@ fn accept(reply: &str) -> Result<(), Memory>
     Ok(())
 }
 
-// Makes the reply to a line. A keeper in memory on which no call is to fail fails at most for want of memory.
+// Makes the reply to a line. A keeper in memory on which no call is to fail fails at most for want
+// of memory.
 fn answer<L: Ledger>(
     alloc: Global,
     line: &str,
@@ -84,11 +87,13 @@ fn answer<L: Ledger>(
     keeper: &mut MemoryKeeper,
     steps: &mut Steps<L>,
 ) -> Result<(), Memory>
-    requires at_work { AtWork engine.old (seen keeper.old) }
-    ensures at_work { OnOk result (AtWork engine.new (seen keeper.new)) }
-    ensures done { OnOk result ((history : History) → Holds history engine.old (seen keeper.old) →
-        HasDone history (effect_of history (world_of engine.old.world) (command_of (text_line line.now)))
-        engine.new (seen keeper.new)) }
+    requires at_work { AtWork engine.old (memory_keeper_state keeper.old) }
+    ensures at_work { OnOk result (AtWork engine.new (memory_keeper_state keeper.new)) }
+    ensures done { OnOk result ((history : History)
+        → Holds history engine.old (memory_keeper_state keeper.old) →
+        HasDone history (effect_of history (world_of engine.old.world)
+        (command_of (text_line line.now)))
+        engine.new (memory_keeper_state keeper.new)) }
 {
     match engine.answer(alloc, Line::Text(line), keeper, steps) {
         Ok(()) => accept(engine.reply()),
@@ -100,7 +105,8 @@ impl Drilling {
     // All lines of a script are left.
     fn begin(alloc: Global, size: u32, number: u32) -> Result<Drilling, Memory>
         ensures drilled { IfOk result (λ drilling. HasDrilled size number drilling) }
-        ensures at_work { IfOk result (λ drilling. AtWork drilling.engine (seen drilling.keeper)) }
+        ensures at_work { IfOk result (λ drilling. AtWork drilling.engine
+            (memory_keeper_state drilling.keeper)) }
     {
         let keeper = start(alloc)?;
         let engine = open(alloc)?;
@@ -114,8 +120,9 @@ impl Drilling {
 
     // Makes the reply to the next line and counts it; false where no line is left.
     fn go_on<L: Ledger>(&mut self, alloc: Global, steps: &mut Steps<L>) -> Result<bool, Memory>
-        requires at_work { AtWork self.old.engine (seen self.old.keeper) }
-        ensures at_work { OnOk result (AtWork self.new.engine (seen self.new.keeper)) }
+        requires at_work { AtWork self.old.engine (memory_keeper_state self.old.keeper) }
+        ensures at_work { OnOk result (AtWork self.new.engine
+            (memory_keeper_state self.new.keeper)) }
         ensures drilled { OnOk result ((size number : ℕ) → HasDrilled size number self.old
             → HasDrilled size number self.new) }
         ensures end { result ≡ Ok false → self.new.left ≡ [] }
@@ -138,7 +145,7 @@ impl Drilling {
 
     // Goes on to the end.
     fn finish<L: Ledger>(&mut self, alloc: Global, steps: &mut Steps<L>) -> Result<(), Memory>
-        requires at_work { AtWork self.old.engine (seen self.old.keeper) }
+        requires at_work { AtWork self.old.engine (memory_keeper_state self.old.keeper) }
         ensures drilled { OnOk result ((size number : ℕ) → HasDrilled size number self.old
             → HasDrilled size number self.new) }
         ensures end { OnOk result (self.new.left ≡ []) }
@@ -163,7 +170,7 @@ impl Drilling {
 
     // Goes on to the end, and says what there was.
     fn say_all<L: Ledger>(&mut self, alloc: Global, steps: &mut Steps<L>) -> Result<String, Memory>
-        requires at_work { AtWork self.old.engine (seen self.old.keeper) }
+        requires at_work { AtWork self.old.engine (memory_keeper_state self.old.keeper) }
         ensures { IfOk result (λ text. (size number : ℕ) → HasDrilled size number self.old
             → string_bytes text ≡ summary size number) }
     {
@@ -195,8 +202,9 @@ fn run_script<L: Ledger>(
     }
 }
 
-/// Runs the script of a size and a number over a keeper in memory of its own, line by line, and writes how many lines,
-/// entries, rows, flags and refusals there were. Nothing is written where memory was short for a line or its reply.
+/// Runs the script of a size and a number over a keeper in memory of its own, line by line, and
+/// writes how many lines, entries, rows, flags and refusals there were. Nothing is written where
+/// memory was short for a line or its reply.
 pub(crate) fn drill<K: Sink>(alloc: Global, size: u32, number: u32, sink: &mut K) -> Ending
     ensures says { result ≢ NoMemory → Says Served (summary size number) result
         (K.written sink.old) (K.written sink.new) (K.faults sink.old) (K.faults sink.new) }

@@ -1,4 +1,5 @@
-//! The database as a service of lines: each line of the input has its reply before the next is read.
+//! The database as a service of lines: each line of the input has its reply before the next is
+//! read.
 #![tactic(auto)]
 
 mod drilling;

@@ -1,7 +1,7 @@
 //! The texts of the lines that a load asks for.
 ghost use Rattle.std.specs.Prelude.{◌≡◌, ◌+◌, ◌≤◌, ◌++◌, length};
 ghost use Rattle.hippo_values.specs.Limits.{line_limit};
-ghost use Rattle.hippo_serve.specs.Loads.{made_room, load_text, clock_text};
+ghost use Rattle.hippo_serve.specs.Loads.{made_room, load_text, at_line};
 
 use hippo_values::{Memory, Moment, Name, RoomyTxt, moment_text};
 
@@ -36,7 +36,7 @@ pub fn make_load(table: &Name, fields: &str, made: &mut MadeText)
 
 /// Makes the text that sets the clock.
 pub fn make_clock(moment: Moment, made: &mut MadeText)
-    ensures { made.new ≡ clock_text moment }
+    ensures { made.new ≡ at_line moment }
 {
     made.clear();
     add("at ", made);

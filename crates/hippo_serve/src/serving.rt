@@ -1,24 +1,24 @@
 //! The lines of the input, one after the other, each with its reply.
 ghost use Rattle.std.specs.Prelude.{◌≡◌, ◌≢◌, ℕ, ◌+◌, ◌<◌, ◌≤◌, List, [], Some, None, option_map, IfNone, IfOk, MatchOption, true, false};
 ghost use Rattle.hippo_io.specs.Faults.{HasRisen};
-ghost use Rattle.hippo_io.specs.HandingOut.{at_beginning, consumed, input_limit, HasHandedOut};
+ghost use Rattle.hippo_io.specs.HandingOut.{at_beginning, bytes_handed_out, input_limit, HasHandedOut};
 ghost use Rattle.hippo_io.specs.Lines.{text_line};
 ghost use Rattle.hippo_io.specs.LineTexts.{line_text};
 ghost use Rattle.hippo_model.specs.Terms.{History};
 ghost use Rattle.hippo_model.specs.Versions.{versions};
 ghost use Rattle.hippo_keeper.specs.Keeping.{IsAfterCall};
-ghost use Rattle.hippo_commands.specs.Commands.{command_of, commanded};
+ghost use Rattle.hippo_commands.specs.Commands.{command_of, input_command};
 ghost use Rattle.hippo_replay.specs.Standing.{StandsFor};
 ghost use Rattle.hippo_world.specs.Holding.{world_of};
 ghost use Rattle.hippo_world.specs.Worlds.{opening};
 ghost use Rattle.hippo_engine.specs.Carrying.{Holds, AtWork, IsBacked};
 ghost use Rattle.hippo_words.specs.declared.calls.Setting.{Setting};
 ghost use Rattle.hippo_serve.specs.declared.endings.Ending.TheVariants.{Served, Refused, ReadFault, WriteFault, NoMemory};
-ghost use Rattle.hippo_serve.specs.Endings.{status_of, as_call, as_line_call, EndsUnread};
+ghost use Rattle.hippo_serve.specs.Endings.{status_of, ending_as_call, as_line_call, EndsUnread};
 ghost use Rattle.hippo_serve.specs.Keeping.{KeepsHistory};
 ghost use Rattle.hippo_serve.specs.Loads.{record_line, asked_line, asked_lines, limited_line, counted_line};
 ghost use Rattle.hippo_serve.specs.Outside.{Told, telling, outside};
-ghost use Rattle.hippo_serve.specs.Runs.{opening_after, HasTaken, IsReading, LinesEnd, HasReplied, HasServed, Turn};
+ghost use Rattle.hippo_serve.specs.Runs.{opening_after, HasTakenBytes, IsHandingOut, LinesEnd, HasReplied, HasServed, Turn};
 
 use crate::endings::Ending;
 use crate::loads::{MadeText, make_clock, make_load};
@@ -43,12 +43,16 @@ fn carry_out<K: Sink, P: Keeper, L: Ledger>(
 ) -> Option<Ending>
     requires at_work { AtWork engine.old (P.state keeper.old) }
     ensures line { line_text line.entry ≢ None →
-        Turn result (commanded (line_text line.entry)) engine.old engine.new (P.state keeper.old) (P.state keeper.new)
+        Turn result (input_command (line_text line.entry)) engine.old engine.new
+        (P.state keeper.old)
+        (P.state keeper.new)
         (K.written sink.old) (K.written sink.new) steps.old steps.new }
     ensures end { line_text line.entry ≡ None →
-        (result ≡ Some Served) × (engine.new ≡ engine.old) × (keeper.new ≡ keeper.old) × (sink.new ≡ sink.old)
+        (result ≡ Some Served) × (engine.new ≡ engine.old) × (keeper.new ≡ keeper.old)
+        × (sink.new ≡ sink.old)
         × (steps.new ≡ steps.old) }
-    ensures write_fault { result ≡ Some WriteFault → HasRisen (K.faults sink.old) (K.faults sink.new) }
+    ensures write_fault { result ≡ Some WriteFault
+        → HasRisen (K.faults sink.old) (K.faults sink.new) }
     ensures unfailed_write { result ≢ Some WriteFault → K.faults sink.new ≡ K.faults sink.old }
 {
     if line == Line::End {
@@ -62,7 +66,8 @@ fn carry_out<K: Sink, P: Keeper, L: Ledger>(
     }
 }
 
-// Carries out the line that loads a record of a table. A text that is longer than a line may be is no record.
+// Carries out the line that loads a record of a table. A text that is longer than a line may be is
+// no record.
 fn carry_out_record<K: Sink, P: Keeper, L: Ledger>(
     alloc: Global,
     table: &Name,
@@ -74,10 +79,12 @@ fn carry_out_record<K: Sink, P: Keeper, L: Ledger>(
     steps: &mut Steps<L>,
 ) -> Option<Ending>
     requires at_work { AtWork engine.old (P.state keeper.old) }
-    ensures line { Turn result (command_of (record_line table.now (limited_line (text_line fields.now))))
+    ensures line { Turn result (command_of
+        (record_line table.now (limited_line (text_line fields.now))))
         engine.old engine.new (P.state keeper.old) (P.state keeper.new)
         (K.written sink.old) (K.written sink.new) steps.old steps.new }
-    ensures write_fault { result ≡ Some WriteFault → HasRisen (K.faults sink.old) (K.faults sink.new) }
+    ensures write_fault { result ≡ Some WriteFault
+        → HasRisen (K.faults sink.old) (K.faults sink.new) }
     ensures unfailed_write { result ≢ Some WriteFault → K.faults sink.new ≡ K.faults sink.old }
 {
     if fields.len() > LINE_LIMIT {
@@ -107,13 +114,16 @@ fn carry_out_asked<K: Sink, P: Keeper, L: Ledger>(
 ) -> Option<Ending>
     requires at_work { AtWork engine.old (P.state keeper.old) }
     ensures line { line_text line.entry ≢ None →
-        Turn result (commanded (option_map (asked_line job.now) (option_map (counted_line job.now) (line_text line.entry))))
+        Turn result (input_command (option_map (asked_line job.now)
+        (option_map (counted_line job.now) (line_text line.entry))))
         engine.old engine.new (P.state keeper.old) (P.state keeper.new)
         (K.written sink.old) (K.written sink.new) steps.old steps.new }
     ensures end { line_text line.entry ≡ None →
-        (result ≡ Some Served) × (engine.new ≡ engine.old) × (keeper.new ≡ keeper.old) × (sink.new ≡ sink.old)
+        (result ≡ Some Served) × (engine.new ≡ engine.old) × (keeper.new ≡ keeper.old)
+        × (sink.new ≡ sink.old)
         × (steps.new ≡ steps.old) }
-    ensures write_fault { result ≡ Some WriteFault → HasRisen (K.faults sink.old) (K.faults sink.new) }
+    ensures write_fault { result ≡ Some WriteFault
+        → HasRisen (K.faults sink.old) (K.faults sink.new) }
     ensures unfailed_write { result ≢ Some WriteFault → K.faults sink.new ≡ K.faults sink.old }
 {
     match (job, line) {
@@ -124,7 +134,8 @@ fn carry_out_asked<K: Sink, P: Keeper, L: Ledger>(
     }
 }
 
-// Sets the clock where a job begins with that; answers how the run ends, where it does. Nothing is read.
+// Sets the clock where a job begins with that; answers how the run ends, where it does. Nothing is
+// read.
 fn serve_first<K: Sink, P: Keeper, L: Ledger>(
     alloc: Global,
     job: &Job,
@@ -136,8 +147,10 @@ fn serve_first<K: Sink, P: Keeper, L: Ledger>(
 ) -> Option<Ending>
     requires at_work { AtWork engine.old (P.state keeper.old) }
     ensures status { MatchOption result (AtWork engine.new (P.state keeper.new)) EndsUnread }
-    ensures call { IsAfterCall true false (as_line_call result) (P.state keeper.old) (P.state keeper.new) }
-    ensures served { (P.state keeper.new).tells → (setting : Setting) (history : History) (before : Told) →
+    ensures call { IsAfterCall true false (as_line_call result) (P.state keeper.old)
+        (P.state keeper.new) }
+    ensures served { (P.state keeper.new).tells
+        → (setting : Setting) (history : History) (before : Told) →
         HasReplied setting history [] before engine.old
         (outside before.left (K.written sink.old) (P.state keeper.old) steps.old) →
         MatchOption result
@@ -145,7 +158,8 @@ fn serve_first<K: Sink, P: Keeper, L: Ledger>(
         (outside before.left (K.written sink.new) (P.state keeper.new) steps.new))
         (λ ending. LinesEnd ending setting job.now history before
         (outside before.left (K.written sink.new) (P.state keeper.new) steps.new)) }
-    ensures write_fault { result ≡ Some WriteFault → HasRisen (K.faults sink.old) (K.faults sink.new) }
+    ensures write_fault { result ≡ Some WriteFault
+        → HasRisen (K.faults sink.old) (K.faults sink.new) }
     ensures unfailed_write { result ≢ Some WriteFault → K.faults sink.new ≡ K.faults sink.old }
 {
     match job {
@@ -180,13 +194,16 @@ fn serve_line<S: Source, K: Sink, P: Keeper, L: Ledger>(
     requires at_work { AtWork engine.old (P.state keeper.old) }
     ensures status { (result ≢ Some Refused) × (result ≢ Some NoMemory) }
     ensures goes_on { IfNone result ((reader.new.failure ≡ None)
-        × (consumed reader.old < consumed reader.new) × (reader.new.taken ≤ input_limit)) }
+        × (bytes_handed_out reader.old < bytes_handed_out reader.new)
+        × (reader.new.taken ≤ input_limit)) }
     ensures at_work { IfNone result (AtWork engine.new (P.state keeper.new)) }
-    ensures call { IsAfterCall true false (as_line_call result) (P.state keeper.old) (P.state keeper.new) }
-    ensures read { (input : List ℕ) → IsReading input reader.old (S.left source.old) →
-        MatchOption result (IsReading input reader.new (S.left source.new))
-        (λ ending. HasTaken (status_of ending) input (S.left source.new)) }
-    ensures served { (P.state keeper.new).tells → (setting : Setting) (history : History) (before : Told) →
+    ensures call { IsAfterCall true false (as_line_call result) (P.state keeper.old)
+        (P.state keeper.new) }
+    ensures read { (input : List ℕ) → IsHandingOut input reader.old (S.left source.old) →
+        MatchOption result (IsHandingOut input reader.new (S.left source.new))
+        (λ ending. HasTakenBytes (status_of ending) input (S.left source.new)) }
+    ensures served { (P.state keeper.new).tells
+        → (setting : Setting) (history : History) (before : Told) →
         HasServed setting job.now history before reader.old engine.old
         (outside (S.left source.old) (K.written sink.old) (P.state keeper.old) steps.old) →
         MatchOption result
@@ -194,8 +211,10 @@ fn serve_line<S: Source, K: Sink, P: Keeper, L: Ledger>(
         (outside (S.left source.new) (K.written sink.new) (P.state keeper.new) steps.new))
         (λ ending. LinesEnd ending setting job.now history before
         (outside (S.left source.new) (K.written sink.new) (P.state keeper.new) steps.new)) }
-    ensures read_fault { result ≡ Some ReadFault → HasRisen (S.faults source.old) (S.faults source.new) }
-    ensures write_fault { result ≡ Some WriteFault → HasRisen (K.faults sink.old) (K.faults sink.new) }
+    ensures read_fault { result ≡ Some ReadFault
+        → HasRisen (S.faults source.old) (S.faults source.new) }
+    ensures write_fault { result ≡ Some WriteFault
+        → HasRisen (K.faults sink.old) (K.faults sink.new) }
     ensures unfailed_read { result ≢ Some ReadFault → S.faults source.new ≡ S.faults source.old }
     ensures unfailed_write { result ≢ Some WriteFault → K.faults sink.new ≡ K.faults sink.old }
 {
@@ -221,10 +240,12 @@ fn serve_lines<S: Source, K: Sink, P: Keeper, L: Ledger>(
     requires reader { reader.old ≡ at_beginning }
     requires at_work { AtWork engine.old (P.state keeper.old) }
     ensures status { (result ≢ Refused) × (result ≢ NoMemory) }
-    ensures call { IsAfterCall true false (as_call result) (P.state keeper.old) (P.state keeper.new) }
-    ensures read { (input : List ℕ) → IsReading input reader.old (S.left source.old) →
-        HasTaken (status_of result) input (S.left source.new) }
-    ensures ends { (P.state keeper.new).tells → (setting : Setting) (history : History) (before : Told) →
+    ensures call { IsAfterCall true false (ending_as_call result) (P.state keeper.old)
+        (P.state keeper.new) }
+    ensures read { (input : List ℕ) → IsHandingOut input reader.old (S.left source.old) →
+        HasTakenBytes (status_of result) input (S.left source.new) }
+    ensures ends { (P.state keeper.new).tells
+        → (setting : Setting) (history : History) (before : Told) →
         HasServed setting job.now history before reader.old engine.old
         (outside (S.left source.old) (K.written sink.old) (P.state keeper.old) steps.old) →
         LinesEnd result setting job.now history before
@@ -259,14 +280,17 @@ fn serve_all<S: Source, K: Sink, P: Keeper, L: Ledger>(
     requires handed { (input : List ℕ) → HasHandedOut input [] reader.old (Some input) }
     requires at_work { AtWork engine.old (P.state keeper.old) }
     ensures status { (result ≢ Refused) × (result ≢ NoMemory) }
-    ensures call { IsAfterCall true false (as_call result) (P.state keeper.old) (P.state keeper.new) }
+    ensures call { IsAfterCall true false (ending_as_call result) (P.state keeper.old)
+        (P.state keeper.new) }
     ensures read { (input : List ℕ) → S.left source.old ≡ Some input →
-        HasTaken (status_of result) input (S.left source.new) }
+        HasTakenBytes (status_of result) input (S.left source.new) }
     ensures ends { (P.state keeper.new).tells → (setting : Setting) (history : History) →
         Holds history engine.old (P.state keeper.old) →
-        world_of engine.old.world ≡ opening_after setting history → KeepsHistory history (P.state keeper.old) →
+        world_of engine.old.world ≡ opening_after setting history
+        → KeepsHistory history (P.state keeper.old) →
         (start : ℕ) → steps.old ≡ start + versions history →
-        LinesEnd result setting job.now history (telling (S.left source.old) (K.written sink.old) start)
+        LinesEnd result setting job.now history
+        (telling (S.left source.old) (K.written sink.old) start)
         (outside (S.left source.new) (K.written sink.new) (P.state keeper.new) steps.new) }
     ensures read_fault { result ≡ ReadFault → HasRisen (S.faults source.old) (S.faults source.new) }
     ensures write_fault { result ≡ WriteFault → HasRisen (K.faults sink.old) (K.faults sink.new) }
@@ -290,8 +314,8 @@ fn open(alloc: Global, setting: Setting, state: State) -> Result<Engine, Memory>
     Engine::new(alloc, state, setting.limit, setting.format)
 }
 
-/// Serves all lines that a job asks for, over a state that was loaded from the keeper. Want of memory comes before
-/// anything is read.
+/// Serves all lines that a job asks for, over a state that was loaded from the keeper. Want of
+/// memory comes before anything is read.
 pub fn serve<S: Source, K: Sink, P: Keeper, L: Ledger>(
     alloc: Global,
     setting: Setting,
@@ -304,14 +328,18 @@ pub fn serve<S: Source, K: Sink, P: Keeper, L: Ledger>(
 ) -> Ending
     requires backed { IsBacked state (P.state keeper.old) }
     ensures status { result ≢ Refused }
-    ensures call { IsAfterCall true false (as_call result) (P.state keeper.old) (P.state keeper.new) }
+    ensures call { IsAfterCall true false (ending_as_call result) (P.state keeper.old)
+        (P.state keeper.new) }
     ensures nothing { result ≡ NoMemory →
         (source.new ≡ source.old) × (keeper.new ≡ keeper.old) × (sink.new ≡ sink.old) }
     ensures read { (input : List ℕ) → S.left source.old ≡ Some input →
-        HasTaken (status_of result) input (S.left source.new) }
-    ensures ends { result ≢ NoMemory → (P.state keeper.new).tells → (history : History) → StandsFor state history →
-        KeepsHistory history (P.state keeper.old) → (start : ℕ) → steps.old ≡ start + versions history →
-        LinesEnd result setting job.now history (telling (S.left source.old) (K.written sink.old) start)
+        HasTakenBytes (status_of result) input (S.left source.new) }
+    ensures ends { result ≢ NoMemory → (P.state keeper.new).tells → (history : History)
+        → StandsFor state history →
+        KeepsHistory history (P.state keeper.old) → (start : ℕ)
+        → steps.old ≡ start + versions history →
+        LinesEnd result setting job.now history
+        (telling (S.left source.old) (K.written sink.old) start)
         (outside (S.left source.new) (K.written sink.new) (P.state keeper.new) steps.new) }
     ensures read_fault { result ≡ ReadFault → HasRisen (S.faults source.old) (S.faults source.new) }
     ensures write_fault { result ≡ WriteFault → HasRisen (K.faults sink.old) (K.faults sink.new) }

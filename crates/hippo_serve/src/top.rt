@@ -9,11 +9,11 @@ ghost use Rattle.hippo_words.specs.declared.calls.Job.{Job};
 ghost use Rattle.hippo_words.specs.declared.calls.Job.TheVariants.{Check, Drill};
 ghost use Rattle.hippo_serve.specs.declared.endings.Ending.TheVariants.{Served, Refused, ReadFault, WriteFault, Damaged, NoMemory, TooMuch};
 ghost use Rattle.hippo_serve.specs.Drilling.{summary};
-ghost use Rattle.hippo_serve.specs.Endings.{status_of, as_call};
+ghost use Rattle.hippo_serve.specs.Endings.{status_of, ending_as_call};
 ghost use Rattle.hippo_serve.specs.Asking.{job_of, store_of, AskToServe};
 ghost use Rattle.hippo_serve.specs.Outcomes.{FromFound, IsIdle, BeginsDamaged, SaysDamaged, IsCounted, BeginsCount, RunEnds, CheckEnds, Stops};
 ghost use Rattle.hippo_serve.specs.Outside.{Outside, outside};
-ghost use Rattle.hippo_serve.specs.Runs.{HasTaken, IsServed, IsBrokenOff, IsReadCut, IsUnwritten, HasTooMuch};
+ghost use Rattle.hippo_serve.specs.Runs.{HasTakenBytes, IsServed, IsBrokenOff, IsReadCut, IsUnwritten, HasTooMuch};
 ghost use Rattle.hippo_serve.specs.Saying.{usage};
 
 use crate::drilling::drill;
@@ -63,7 +63,8 @@ fn run<S: Source, K: Sink, P: Keeper, L: Ledger>(
 ) -> Ending
     requires ready { IsReady false (P.state keeper.old) }
     ensures status { result ≢ Refused }
-    ensures call { IsAfterCall (P.state keeper.new).started (P.state keeper.new).closed (as_call result)
+    ensures call { IsAfterCall (P.state keeper.new).started (P.state keeper.new).closed
+        (ending_as_call result)
         (P.state keeper.old) (P.state keeper.new) }
     ensures ends { (P.state keeper.new).tells →
         RunEnds result (source.new ≡ source.old) (sink.new ≡ sink.old) setting job.now store.now
@@ -73,7 +74,7 @@ fn run<S: Source, K: Sink, P: Keeper, L: Ledger>(
     ensures unread { result ≡ NoMemory → source.new ≡ source.old }
     ensures unwritten { result ≡ NoMemory → sink.new ≡ sink.old }
     ensures read { (input : List ℕ) → S.left source.old ≡ Some input →
-        HasTaken (status_of result) input (S.left source.new) }
+        HasTakenBytes (status_of result) input (S.left source.new) }
     ensures read_fault { result ≡ ReadFault → HasRisen (S.faults source.old) (S.faults source.new) }
     ensures write_fault { result ≡ WriteFault → HasRisen (K.faults sink.old) (K.faults sink.new) }
     ensures unfailed_read { result ≢ ReadFault → S.faults source.new ≡ S.faults source.old }
@@ -85,7 +86,8 @@ fn run<S: Source, K: Sink, P: Keeper, L: Ledger>(
     }
 }
 
-// Loads what a store keeps, and says how many entries there are. The source is not handed over, and stays as it is.
+// Loads what a store keeps, and says how many entries there are. The source is not handed over, and
+// stays as it is.
 fn check<K: Sink, P: Keeper, L: Ledger>(
     alloc: Global,
     store: &str,
@@ -95,7 +97,8 @@ fn check<K: Sink, P: Keeper, L: Ledger>(
 ) -> Ending
     requires ready { IsReady false (P.state keeper.old) }
     ensures status { (result ≢ Refused) × (result ≢ ReadFault) × (result ≢ TooMuch) }
-    ensures call { IsAfterCall (P.state keeper.new).started (P.state keeper.new).closed (as_call result)
+    ensures call { IsAfterCall (P.state keeper.new).started (P.state keeper.new).closed
+        (ending_as_call result)
         (P.state keeper.old) (P.state keeper.new) }
     ensures ends { (P.state keeper.new).tells → (left : Option (List ℕ)) →
         CheckEnds result (sink.new ≡ sink.old) store.now
@@ -114,24 +117,27 @@ fn check<K: Sink, P: Keeper, L: Ledger>(
     }
 }
 
-/// Runs the program: `words` are those behind its name, `source` is its input, `sink` its output, and `keeper`, which
-/// must be neither started nor spent nor closed, keeps its history in the store that the words name, or in memory.
-/// Answers the exit status.
+/// Runs the program: `words` are those behind its name, `source` is its input, `sink` its output,
+/// and `keeper`, which must be neither started nor spent nor closed, keeps its history in the store
+/// that the words name, or in memory. Answers the exit status.
 ///
-/// - 0: for `run` the input was read to its end, and every line has its reply; for `load` so has the line that sets the
-///   clock, and then for each line of the input the one that loads its text as a record; for `check` the line
-///   `entries N` is written, with N the number of kept entries; for `drill` five lines say what the replies to its
-///   script come to.
-/// - 2: exactly where the words are not those of a call (see [`call_of`]); the usage line is written, and nothing is
-///   read.
-/// - 3: the keeper failed; the lines before have their replies, and the next one's entry is kept or not.
-/// - 4: the source failed; just the lines that were read whole have their replies, and in a load that which sets the
-///   clock.
+/// - 0: for `run` the input was read to its end, and every line has its reply; for `load` so has
+///   the line that sets the clock, and then for each line of the input the one that loads its text
+///   as a record; for `check` the line `entries N` is written, with N the number of kept entries;
+///   for `drill` five lines say what the replies to its script come to.
+/// - 2: exactly where the words are not those of a call (see [`call_of`]); the usage line is
+///   written, and nothing is read.
+/// - 3: the keeper failed; the lines before have their replies, and the next one's entry is kept or
+///   not.
+/// - 4: the source failed; just the lines that were read whole have their replies, and in a load
+///   that which sets the clock.
 /// - 5: the sink failed; what was written is a front of what was to be written.
-/// - 6: the kept entries are those of no valid history; the line `damaged PLACE` is written, with the place, counted
-///   from 1, of the first entry up to which they are not. Nothing is read. Over a keeper that does not tell what it
-///   keeps a line may find such an entry too, and `damaged NUMBER` is written behind the replies of the lines before.
-/// - 7: memory was short before the first byte was read, or in a drill; nothing was read or written.
+/// - 6: the kept entries are those of no valid history; the line `damaged PLACE` is written, with
+///   the place, counted from 1, of the first entry up to which they are not. Nothing is read. Over
+///   a keeper that does not tell what it keeps a line may find such an entry too, and `damaged
+///   NUMBER` is written behind the replies of the lines before.
+/// - 7: memory was short before the first byte was read, or in a drill; nothing was read or
+///   written.
 /// - 8: more than 2^40 bytes were read; just the lines that end among the first 2^40 have their
 ///   replies, and in a load that which sets the clock.
 ///
@@ -166,37 +172,48 @@ pub fn hippo_top<S: Source, K: Sink, P: Keeper, L: Ledger>(
     ensures usage_cut { call_of words.now ≡ None → result ≡ 5 →
         AppendsFront (K.written sink.old) (K.written sink.new) usage }
 
-    // What a run or a load comes to, where the keeper tells, from what a start may find; of an input and an output that are told,
-    // which lines were read, and what is written.
-    ensures served { (job : Job) (setting : Setting) → AskToServe words.now job setting → result ≡ 0 →
+    // What a run or a load comes to, where the keeper tells, from what a start may find; of an
+    // input and an output that are told, which lines were read, and what is written.
+    ensures served { (job : Job) (setting : Setting) → AskToServe words.now job setting
+        → result ≡ 0 →
         (P.state keeper.new).tells → FromFound (store_of words.now) (IsServed setting job)
         (outside (S.left source.old) (K.written sink.old) (P.state keeper.old) steps.old)
         (outside (S.left source.new) (K.written sink.new) (P.state keeper.new) steps.new) }
-    ensures keeper_cut { (job : Job) (setting : Setting) → AskToServe words.now job setting → result ≡ 3 →
+    ensures keeper_cut { (job : Job) (setting : Setting) → AskToServe words.now job setting
+        → result ≡ 3 →
         (P.state keeper.new).tells →
-        let before : Outside = outside (S.left source.old) (K.written sink.old) (P.state keeper.old) steps.old in
-        let after : Outside = outside (S.left source.new) (K.written sink.new) (P.state keeper.new) steps.new in
-        ((source.new ≡ source.old) × (sink.new ≡ sink.old) × IsIdle (store_of words.now) before after)
+        let before : Outside = outside (S.left source.old) (K.written sink.old) (P.state keeper.old)
+        steps.old in
+        let after : Outside = outside (S.left source.new) (K.written sink.new) (P.state keeper.new)
+        steps.new in
+        ((source.new ≡ source.old) × (sink.new ≡ sink.old)
+        × IsIdle (store_of words.now) before after)
         ⊎ FromFound (store_of words.now) (IsBrokenOff setting job) before after }
-    ensures read_cut { (job : Job) (setting : Setting) → AskToServe words.now job setting → result ≡ 4 →
+    ensures read_cut { (job : Job) (setting : Setting) → AskToServe words.now job setting
+        → result ≡ 4 →
         (P.state keeper.new).tells → FromFound (store_of words.now) (IsReadCut setting job)
         (outside (S.left source.old) (K.written sink.old) (P.state keeper.old) steps.old)
         (outside (S.left source.new) (K.written sink.new) (P.state keeper.new) steps.new) }
-    ensures write_cut { (job : Job) (setting : Setting) → AskToServe words.now job setting → result ≡ 5 →
+    ensures write_cut { (job : Job) (setting : Setting) → AskToServe words.now job setting
+        → result ≡ 5 →
         (P.state keeper.new).tells →
-        let before : Outside = outside (S.left source.old) (K.written sink.old) (P.state keeper.old) steps.old in
-        let after : Outside = outside (S.left source.new) (K.written sink.new) (P.state keeper.new) steps.new in
+        let before : Outside = outside (S.left source.old) (K.written sink.old) (P.state keeper.old)
+        steps.old in
+        let after : Outside = outside (S.left source.new) (K.written sink.new) (P.state keeper.new)
+        steps.new in
         ((source.new ≡ source.old) × BeginsDamaged (store_of words.now) before after)
         ⊎ FromFound (store_of words.now) (IsUnwritten setting job) before after }
-    ensures too_much { (job : Job) (setting : Setting) → AskToServe words.now job setting → result ≡ 8 →
+    ensures too_much { (job : Job) (setting : Setting) → AskToServe words.now job setting
+        → result ≡ 8 →
         (P.state keeper.new).tells → FromFound (store_of words.now) (HasTooMuch setting job)
         (outside (S.left source.old) (K.written sink.old) (P.state keeper.old) steps.old)
         (outside (S.left source.new) (K.written sink.new) (P.state keeper.new) steps.new) }
 
-    // Of an input that is told, a run or a load takes all where it ends with 0, and more than are read just where it ends with 8,
-    // whatever the keeper.
-    ensures taken { (job : Job) (setting : Setting) → AskToServe words.now job setting → (input : List ℕ) →
-        S.left source.old ≡ Some input → HasTaken result input (S.left source.new) }
+    // Of an input that is told, a run or a load takes all where it ends with 0, and more than are
+    // read just where it ends with 8, whatever the keeper.
+    ensures taken { (job : Job) (setting : Setting) → AskToServe words.now job setting
+        → (input : List ℕ) →
+        S.left source.old ≡ Some input → HasTakenBytes result input (S.left source.new) }
 
     // A check reads nothing and keeps what it finds.
     ensures counted { job_of words.now ≡ Some Check → result ≡ 0 → (P.state keeper.new).tells →
@@ -204,21 +221,26 @@ pub fn hippo_top<S: Source, K: Sink, P: Keeper, L: Ledger>(
         (outside (S.left source.old) (K.written sink.old) (P.state keeper.old) steps.old)
         (outside (S.left source.new) (K.written sink.new) (P.state keeper.new) steps.new) }
     ensures count_cut { job_of words.now ≡ Some Check → result ≡ 5 → (P.state keeper.new).tells →
-        let before : Outside = outside (S.left source.old) (K.written sink.old) (P.state keeper.old) steps.old in
-        let after : Outside = outside (S.left source.new) (K.written sink.new) (P.state keeper.new) steps.new in
-        BeginsDamaged (store_of words.now) before after ⊎ FromFound (store_of words.now) BeginsCount before after }
+        let before : Outside = outside (S.left source.old) (K.written sink.old) (P.state keeper.old)
+        steps.old in
+        let after : Outside = outside (S.left source.new) (K.written sink.new) (P.state keeper.new)
+        steps.new in
+        BeginsDamaged (store_of words.now) before after
+        ⊎ FromFound (store_of words.now) BeginsCount before after }
     ensures uncounted { job_of words.now ≡ Some Check → result ≡ 3 → (P.state keeper.new).tells →
         sink.new ≡ sink.old }
     ensures uncut { job_of words.now ≡ Some Check → (result ≢ 4) × (result ≢ 8) }
     ensures unread { job_of words.now ≡ Some Check → source.new ≡ source.old }
-    ensures same { job_of words.now ≡ Some Check → (P.state keeper.new).tells → IsIdle (store_of words.now)
+    ensures same { job_of words.now ≡ Some Check → (P.state keeper.new).tells
+        → IsIdle (store_of words.now)
         (outside (S.left source.old) (K.written sink.old) (P.state keeper.old) steps.old)
         (outside (S.left source.new) (K.written sink.new) (P.state keeper.new) steps.new) }
 
     // A drill writes what the rules make of its script, and neither reads nor keeps anything.
     ensures drilled { (size number : ℕ) → job_of words.now ≡ Some (Drill size number) → result ≡ 0 →
         Appends (K.written sink.old) (K.written sink.new) (summary size number) }
-    ensures drill_cut { (size number : ℕ) → job_of words.now ≡ Some (Drill size number) → result ≡ 5 →
+    ensures drill_cut { (size number : ℕ) → job_of words.now ≡ Some (Drill size number)
+        → result ≡ 5 →
         AppendsFront (K.written sink.old) (K.written sink.new) (summary size number) }
     ensures apart { (size number : ℕ) → job_of words.now ≡ Some (Drill size number) →
         ((result ≡ 0) ⊎ (result ≡ 5) ⊎ (result ≡ 7))
@@ -229,17 +251,20 @@ pub fn hippo_top<S: Source, K: Sink, P: Keeper, L: Ledger>(
         (source.new ≡ source.old) × SaysDamaged (store_of words.now)
         (outside (S.left source.old) (K.written sink.old) (P.state keeper.old) steps.old)
         (outside (S.left source.new) (K.written sink.new) (P.state keeper.new) steps.new) }
-    ensures nothing { result ≡ 7 → (source.new ≡ source.old) × (sink.new ≡ sink.old) × ((P.state keeper.new).tells →
+    ensures nothing { result ≡ 7 → (source.new ≡ source.old) × (sink.new ≡ sink.old)
+        × ((P.state keeper.new).tells →
         IsIdle (store_of words.now)
         (outside (S.left source.old) (K.written sink.old) (P.state keeper.old) steps.old)
         (outside (S.left source.new) (K.written sink.new) (P.state keeper.new) steps.new)) }
 
     // A fault comes where its object's count rose, and only there.
-    ensures keeper_fault { result ≡ 3 → HasRisen (P.state keeper.old).faults (P.state keeper.new).faults
+    ensures keeper_fault { result ≡ 3 → HasRisen (P.state keeper.old).faults
+        (P.state keeper.new).faults
         × ((P.state keeper.new).spent ≡ true) }
     ensures read_fault { result ≡ 4 → HasRisen (S.faults source.old) (S.faults source.new) }
     ensures write_fault { result ≡ 5 → HasRisen (K.faults sink.old) (K.faults sink.new) }
-    ensures unfailed_keeper { result ≢ 3 → ((P.state keeper.new).faults ≡ (P.state keeper.old).faults)
+    ensures unfailed_keeper { result ≢ 3
+        → ((P.state keeper.new).faults ≡ (P.state keeper.old).faults)
         × ((P.state keeper.new).spent ≡ false) }
     ensures unfailed_read { result ≢ 4 → S.faults source.new ≡ S.faults source.old }
     ensures unfailed_write { result ≢ 5 → K.faults sink.new ≡ K.faults sink.old }

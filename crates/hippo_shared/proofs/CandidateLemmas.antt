@@ -16,11 +16,11 @@ use Rattle.hippo_model.specs.RowSets.{KeyedRows, IsAscending, key_in}
 use Rattle.hippo_model.specs.Answers.{product}
 use Rattle.hippo_eval.specs.Walks.{rows_of}
 use Rattle.hippo_join.specs.Finding.{has_places}
-use Rattle.hippo_join.specs.Places.{chosen, in_range, places_of}
+use Rattle.hippo_join.specs.Places.{chosen_rows, in_range, places_of}
 use Rattle.hippo_join.proofs.PruneLemmas.{below-rows}
 use Rattle.hippo_join.proofs.ProductLemmas.{product-rows, has-places_of}
 use Rattle.hippo_join.proofs.SlotLemmas.{row-at, length-in_range}
-use Rattle.hippo_shared.specs.Sharing.{common_tables, place_in, rows_named, HaveSameRows, has_tuple}
+use Rattle.hippo_shared.specs.Sharing.{common_tables, place_in, rows_named, HaveSameRows, has_tuple_in}
 use Rattle.hippo_shared.specs.Tuples.{tuple_at}
 use Rattle.hippo_shared.specs.Marks.{place_like, row_place, row_places, same_places, mark_of, is_one}
 use Rattle.hippo_shared.proofs.CommonLemmas.{place-found, common-in-query, common-in-audit}
@@ -33,14 +33,14 @@ from_all P [] all = tt
 from_all P (x ∷ xs) all = (all 0 x (omega arith), from_all P xs (λ k d within. all (suc k) d (omega arith)))
 
 -- what holds of the combinations of a product's places holds of each of the product
-each_chosen : (sets : List KeyedRows) (P : Combination → Type 0) → ((places : List Place) → in_range sets places ≡ true → P (chosen sets places)) → AllByRecursion P (product (rows_of sets))
+each_chosen : (sets : List KeyedRows) (P : Combination → Type 0) → ((places : List Place) → in_range sets places ≡ true → P (chosen_rows sets places)) → AllByRecursion P (product (rows_of sets))
 each_chosen sets P holds = subst (λ (all : List Combination). AllByRecursion P all) (sym (product-rows sets)) (each (places_of sets) (λ places has. holds places (sym (has-places_of sets places) ∙ has)))
   where
     or_true : (b : Bool) → (b || true) ≡ true
     or_true true = refl
     or_true false = refl
 
-    each : (some : List (List Place)) → ((places : List Place) → has_places places some ≡ true → P (chosen sets places)) → AllByRecursion P (map (chosen sets) some)
+    each : (some : List (List Place)) → ((places : List Place) → has_places places some ≡ true → P (chosen_rows sets places)) → AllByRecursion P (map (chosen_rows sets) some)
     each [] holds = tt
     each (first ∷ some) holds = (
       holds first (ap (λ b. b || has_places first some) ((eq_by_cmp_equiv nat_list_cmp_total).refl first)),
@@ -66,7 +66,7 @@ module _ (query audit : List Name) (query_sets audit_sets : List KeyedRows) (lon
 
   -- the place of a common table's row
   place-is : (table : Name) → list_any (bytes_eq table) query ≡ true → list_any (bytes_eq table) audit ≡ true → rows_named query query_sets table ≡ rows_named audit audit_sets table
-      → (places : List Place) → in_range query_sets places ≡ true → slice_get places (place_in query table) ≡ Some (row_place query_sets (chosen query_sets places) (place_in query table))
+      → (places : List Place) → in_range query_sets places ≡ true → slice_get places (place_in query table) ≡ Some (row_place query_sets (chosen_rows query_sets places) (place_in query table))
   place-is table here there same_here places within =
       let set = rows_named query query_sets table in
       let place = get_or places (place_in query table) 0 in
@@ -80,7 +80,7 @@ module _ (query audit : List Name) (query_sets audit_sets : List KeyedRows) (lon
       ∙ place_like-own set place ascends (below-rows query_sets places (place_in query table) set place within at_set at)))
 
   agree-own : (tables : List Name) → AllStandIn query tables → AllStandIn audit tables → AreSame tables → (places : List Place) → in_range query_sets places ≡ true
-      → AgreeAt (map (place_in query) tables) (row_places query_sets (map (place_in query) tables) (chosen query_sets places)) places
+      → AgreeAt (map (place_in query) tables) (row_places query_sets (map (place_in query) tables) (chosen_rows query_sets places)) places
   agree-own [] here there are places within = tt
   agree-own (table ∷ tables) here there are places within = (place-is table here.0 there.0 are.0 places within, agree-own tables here.1 there.1 are.1 places within)
 
@@ -109,38 +109,38 @@ module _ (query audit : List Name) (query_sets audit_sets : List KeyedRows) (lon
   abbrev pub places_at : Combination → List Place
   places_at rows = row_places query_sets query_places rows
 
-  own : (places : List Place) → in_range query_sets places ≡ true → AgreeAt query_places (places_at (chosen query_sets places)) places
+  own : (places : List Place) → in_range query_sets places ≡ true → AgreeAt query_places (places_at (chosen_rows query_sets places)) places
   own places within = agree-own common in_query in_audit same_rows places within
 
   sets_same : (tables : List Name) → AreSame tables → map (rows_named query query_sets) tables ≡ map (rows_named audit audit_sets) tables
   sets_same [] are = refl
   sets_same (table ∷ tables) are = λ i. are.0 i ∷ sets_same tables are.1 i
 
-  own-within : (places : List Place) → in_range query_sets places ≡ true → in_range common_sets (places_at (chosen query_sets places)) ≡ true
+  own-within : (places : List Place) → in_range query_sets places ≡ true → in_range common_sets (places_at (chosen_rows query_sets places)) ≡ true
   own-within places within =
-      subst (λ (sets : List KeyedRows). in_range sets (places_at (chosen query_sets places)) ≡ true) (sets_same common same_rows)
-      (agrees-in-range query query_sets long_query common in_query (places_at (chosen query_sets places)) places within (own places within))
+      subst (λ (sets : List KeyedRows). in_range sets (places_at (chosen_rows query_sets places)) ≡ true) (sets_same common same_rows)
+      (agrees-in-range query query_sets long_query common in_query (places_at (chosen_rows query_sets places)) places within (own places within))
 
   has-own : (places : List Place) → in_range query_sets places ≡ true → (given : List Place) → in_range common_sets given ≡ true
-      → has_tuple query query_sets (shared_at given) (chosen query_sets places) ≡ same_places (places_at (chosen query_sets places)) given
+      → has_tuple_in query query_sets (shared_at given) (chosen_rows query_sets places) ≡ same_places (places_at (chosen_rows query_sets places)) given
   has-own places within given given_within =
-      both_ways (has_tuple query query_sets (shared_at given) (chosen query_sets places)) (same_places (places_at (chosen query_sets places)) given)
-      (λ has. same-from (places_at (chosen query_sets places)) given
-      (one-tuple query_places (places_at (chosen query_sets places)) given places (own places within)
+      both_ways (has_tuple_in query query_sets (shared_at given) (chosen_rows query_sets places)) (same_places (places_at (chosen_rows query_sets places)) given)
+      (λ has. same-from (places_at (chosen_rows query_sets places)) given
+      (one-tuple query_places (places_at (chosen_rows query_sets places)) given places (own places within)
       (agrees-from-tuple query query_sets audit audit_sets long_query long_audit common in_query in_audit same_rows ascend given places within given_within has)))
       (λ equal. tuple-from-agrees query query_sets audit audit_sets long_query long_audit common in_query in_audit same_rows given places
-      (subst (λ (l : List Place). AgreeAt query_places l places) (same-exact (places_at (chosen query_sets places)) given equal) (own places within)))
+      (subst (λ (l : List Place). AgreeAt query_places l places) (same-exact (places_at (chosen_rows query_sets places)) given equal) (own places within)))
 
   -- what is told of each combination of the product
   abbrev pub Told : Combination → Type 0
   Told rows = (in_range common_sets (places_at rows) ≡ true)
-      × ((given : List Place) → in_range common_sets given ≡ true → has_tuple query query_sets (shared_at given) rows ≡ same_places (places_at rows) given)
+      × ((given : List Place) → in_range common_sets given ≡ true → has_tuple_in query query_sets (shared_at given) rows ≡ same_places (places_at rows) given)
 
   pub all_told : AllByRecursion Told (product (rows_of query_sets))
   all_told = each_chosen query_sets Told (λ places within. (own-within places within, has-own places within))
 
   tests_same : (test : Combination → Bool) (given : List Place) → in_range common_sets given ≡ true → (combinations : List Combination) → AllByRecursion Told combinations
-      → list_all (λ rows. not (test rows) || same_places (places_at rows) given) combinations ≡ list_all (λ rows. not (test rows) || has_tuple query query_sets (shared_at given) rows) combinations
+      → list_all (λ rows. not (test rows) || same_places (places_at rows) given) combinations ≡ list_all (λ rows. not (test rows) || has_tuple_in query query_sets (shared_at given) rows) combinations
   tests_same test given within [] told = refl
   tests_same test given within (rows ∷ combinations) told = λ i. (not (test rows) || sym (told.0.1 given within) i) && tests_same test given within combinations told.1 i
 
@@ -159,7 +159,7 @@ module _ (query audit : List Name) (query_sets audit_sets : List KeyedRows) (lon
   pub marked-alone : (test : Combination → Bool) (given : List Place)
       → is_one given (mark_of (map places_at (filter test (product (rows_of query_sets)))))
       ≡ (in_range common_sets given && (list_any test (product (rows_of query_sets))
-      && list_all (λ rows. not (test rows) || has_tuple query query_sets (shared_at given) rows) (product (rows_of query_sets))))
+      && list_all (λ rows. not (test rows) || has_tuple_in query query_sets (shared_at given) rows) (product (rows_of query_sets))))
   marked-alone test given = is_one-passing places_at test given (product (rows_of query_sets)) ∙ by (in_range common_sets given) refl
     where
       all : List Combination
@@ -174,8 +174,8 @@ module _ (query audit : List Name) (query_sets audit_sets : List KeyedRows) (lon
       neither false b wrong = refl
 
       by : (within : Bool) → in_range common_sets given ≡ within
-          → (list_any test all && alike) ≡ (in_range common_sets given && (list_any test all && list_all (λ rows. not (test rows) || has_tuple query query_sets (shared_at given) rows) all))
-      by true e = ap (λ b. list_any test all && b) (tests_same test given e all all_told) ∙ sym (ap (λ b. b && (list_any test all && list_all (λ rows. not (test rows) || has_tuple query query_sets (shared_at given) rows) all)) e)
+          → (list_any test all && alike) ≡ (in_range common_sets given && (list_any test all && list_all (λ rows. not (test rows) || has_tuple_in query query_sets (shared_at given) rows) all))
+      by true e = ap (λ b. list_any test all && b) (tests_same test given e all all_told) ∙ sym (ap (λ b. b && (list_any test all && list_all (λ rows. not (test rows) || has_tuple_in query query_sets (shared_at given) rows) all)) e)
       by false e =
           neither (list_any test all) alike (λ any all_same. false≢true (sym e ∙ one_within test given all all_told any all_same))
-          ∙ sym (ap (λ b. b && (list_any test all && list_all (λ rows. not (test rows) || has_tuple query query_sets (shared_at given) rows) all)) e)
+          ∙ sym (ap (λ b. b && (list_any test all && list_all (λ rows. not (test rows) || has_tuple_in query query_sets (shared_at given) rows) all)) e)

@@ -25,7 +25,7 @@ use Rattle.hippo_eval.specs.Unmasked.{all_shown}
 use Rattle.hippo_eval.specs.Walks.{rows_of}
 use Rattle.hippo_join.specs.Places.{blank}
 use Rattle.hippo_join.proofs.ProductLemmas.{map-map, map-flat_map}
-use Rattle.hippo_shared.specs.Sharing.{common_tables, place_in, rows_named, shared_rows, virtual_tuples, key_at, has_tuple, audit_has}
+use Rattle.hippo_shared.specs.Sharing.{common_tables, place_in, rows_named, shared_rows_in, virtual_tuples_in, shared_key_in, has_tuple_in, audit_has}
 use Rattle.hippo_shared.specs.HistoryLaws.{sets_at}
 use Rattle.hippo_shared.proofs.CommonLemmas.{place-found, common-in-audit}
 use Rattle.hippo_shared.proofs.TupleLemmas.{no_rows}
@@ -53,7 +53,7 @@ module _ (history : History) where
       let found = place-found tables table has in
       get_map (λ (name : Name). rows_by (schema_at history name)) tables (place_in tables table) [] no_rows found.0 ∙ ap (λ (name : Name). rows_by (schema_at history name)) found.1
 
-  rows_are : (tables : List Name) (table : Name) → list_any (bytes_eq table) tables ≡ true → shared_rows tables (sets_at history tables) table ≡ rows_at_history history table
+  rows_are : (tables : List Name) (table : Name) → list_any (bytes_eq table) tables ≡ true → shared_rows_in tables (sets_at history tables) table ≡ rows_at_history history table
   rows_are tables table has = ap (λ (set : KeyedRows). map (λ kept. by_key set kept) set.rows) (set_is tables table has) ∙ by (schema_at history table)
     where
       by_key : KeyedRows → BornRow → SharedRow
@@ -64,10 +64,10 @@ module _ (history : History) where
       by None = refl
       by (Some schema) = refl
 
-  pub tuples-are : (query : Query) (audit : Audit) → virtual_tuples audit.tables (sets_at history audit.tables) (common_tables query.tables audit.tables) ≡ tuples_at history (common query audit)
+  pub tuples-are : (query : Query) (audit : Audit) → virtual_tuples_in audit.tables (sets_at history audit.tables) (common_tables query.tables audit.tables) ≡ tuples_at history (common query audit)
   tuples-are query audit =
-      ap product (map_same (shared_rows audit.tables (sets_at history audit.tables)) (rows_at_history history) (common_tables query.tables audit.tables)
-      (all_from (λ table. list_any (bytes_eq table) audit.tables ≡ true) (λ table. shared_rows audit.tables (sets_at history audit.tables) table ≡ rows_at_history history table)
+      ap product (map_same (shared_rows_in audit.tables (sets_at history audit.tables)) (rows_at_history history) (common_tables query.tables audit.tables)
+      (all_from (λ table. list_any (bytes_eq table) audit.tables ≡ true) (λ table. shared_rows_in audit.tables (sets_at history audit.tables) table ≡ rows_at_history history table)
       (rows_are audit.tables) (common_tables query.tables audit.tables) (common-in-audit query.tables audit.tables)))
 
 -- ---- unmasked rows
@@ -114,7 +114,7 @@ module _ (history : History) where
   pub unmasked-are : (audit : Audit) → unmasked_combinations history audit ≡ map all_shown (product (rows_of (sets_at history audit.tables)))
   unmasked-are audit = ap product (lists_shown audit.tables) ∙ product_shown (rows_of (sets_at history audit.tables))
 
-  keys_are : (tables : List Name) (rows : Combination) (table : Name) → list_any (bytes_eq table) tables ≡ true → key_at_history history tables (all_shown rows) table ≡ key_at tables (sets_at history tables) rows table
+  keys_are : (tables : List Name) (rows : Combination) (table : Name) → list_any (bytes_eq table) tables ≡ true → key_at_history history tables (all_shown rows) table ≡ shared_key_in tables (sets_at history tables) rows table
   keys_are tables rows table has = by (schema_at history table) ∙ sym (ap (λ (set : KeyedRows). key_in set.key (get_or rows (place_in tables table) blank)) (set_is history tables table has))
     where
       by : (schema : Option Schema) → option_map_or (λ made. key_of made.key (map value_in (get_or (all_shown rows) (place_in tables table) []))) schema [] ≡ key_in (rows_by history schema).key (get_or rows (place_in tables table) blank)
@@ -122,7 +122,7 @@ module _ (history : History) where
       by (Some schema) = ap (key_of schema.key) (row_values rows (place_in tables table))
 
   tuple_is : (tables : List Name) (rows : Combination) (tuple : List SharedRow) → AllByRecursion (λ shared. list_any (bytes_eq shared.table) tables ≡ true) tuple
-      → has_tuple_at history tables tuple (all_shown rows) ≡ has_tuple tables (sets_at history tables) tuple rows
+      → has_tuple_at history tables tuple (all_shown rows) ≡ has_tuple_in tables (sets_at history tables) tuple rows
   tuple_is tables rows [] all = refl
   tuple_is tables rows (shared ∷ tuple) all = λ i. same_cells (keys_are tables rows shared.table all.0 i) shared.key && tuple_is tables rows tuple all.1 i
 

@@ -19,7 +19,7 @@ use Rattle.hippo_model.specs.Rows.{key_of}
 use Rattle.hippo_model.specs.RowSets.{KeyedRows, IsAscending, key_in, find_row}
 use Rattle.hippo_model.proofs.Orders.{cells_total}
 use Rattle.hippo_join.specs.Finding.{has_places}
-use Rattle.hippo_join.specs.Places.{row_at}
+use Rattle.hippo_join.specs.Places.{row_at_place}
 use Rattle.hippo_join.proofs.FoundLemmas.{same_places as equal_places}
 use Rattle.hippo_shared.specs.declared.marks.Mark.{Mark}
 use Rattle.hippo_shared.specs.declared.marks.Mark.TheVariants.{One, Several}
@@ -70,18 +70,18 @@ row_place-no_row sets rows table past =
 
 -- a row's key is found at its own place
 own_place : (key : List Place) (rows : List BornRow) (place : Place) → IsAscending (map (key_in key) rows) → place < length rows
-    → position_or_len (λ kept. same_cells (key_in key kept) (key_in key (row_at rows place))) rows ≡ place
+    → position_or_len (λ kept. same_cells (key_in key kept) (key_in key (row_at_place rows place))) rows ≡ place
 own_place key [] place ascends within = absurd (omega arith)
 own_place key (row ∷ rows) zero ascends within =
     let test : same_cells (key_in key row) (key_in key row) ≡ true = (eq_by_cmp_equiv cells_total).refl (key_in key row) in
     ap (λ b. cond (not b) (1 + position_or_len (λ kept. same_cells (key_in key kept) (key_in key row)) rows) 0) test
 own_place key (row ∷ rows) (suc place) ascends within =
-    let below : cells_cmp (key_in key row) (key_in key (row_at rows place)) ≡ _ = below_at key (key_in key row) rows place ascends.0 (omega arith) in
+    let below : cells_cmp (key_in key row) (key_in key (row_at_place rows place)) ≡ _ = below_at key (key_in key row) rows place ascends.0 (omega arith) in
     let later = own_place key rows place ascends.1 (omega arith) in
-    let step : 1 + position_or_len (λ kept. same_cells (key_in key kept) (key_in key (row_at rows place))) rows ≡ suc place = omega (arith, later) in
-    ap (λ b. cond (not b) (1 + position_or_len (λ kept. same_cells (key_in key kept) (key_in key (row_at rows place))) rows) 0) (ap is_eq below) ∙ step
+    let step : 1 + position_or_len (λ kept. same_cells (key_in key kept) (key_in key (row_at_place rows place))) rows ≡ suc place = omega (arith, later) in
+    ap (λ b. cond (not b) (1 + position_or_len (λ kept. same_cells (key_in key kept) (key_in key (row_at_place rows place))) rows) 0) (ap is_eq below) ∙ step
 
-pub place_like-own : (set : KeyedRows) (place : Place) → IsAscending (map (key_in set.key) set.rows) → place < length set.rows → place_like set (row_at set.rows place) ≡ place
+pub place_like-own : (set : KeyedRows) (place : Place) → IsAscending (map (key_in set.key) set.rows) → place < length set.rows → place_like set (row_at_place set.rows place) ≡ place
 place_like-own set place ascends within =
     let test : nat_lt place (length set.rows) ≡ true = grind (arith, nat_tests) in
     ap (λ (p : ℕ). unwrap_or (cond (nat_lt p (length set.rows)) (Some p) None) 0) (own_place set.key set.rows place ascends within)

@@ -22,7 +22,7 @@ use Rattle.hippo_join.specs.declared.stages.Stage.{Stage}
 use Rattle.hippo_shared.specs.declared.commons.CommonStages.{CommonStages}
 use Rattle.hippo_shared.specs.declared.searching.Search.{Search}
 use Rattle.hippo_shared.specs.FirstPlaces.{AreOpen, AreWhole, AreFirst, IsFirst, with_rows}
-use Rattle.hippo_shared.specs.Searching.{Slots, query_tables, audit_tables, FindsFirst, HasOneOf, IsReady, IsStageOf, ReachesOf, Shared}
+use Rattle.hippo_shared.specs.Searching.{Slots, query_tables, audit_tables, FindsFirst, HasOneOf, IsSearchReady, IsStageOf, ReachesOf, Shared}
 use Rattle.hippo_shared.proofs.SideLemmas.{set-here, share-both, one-agrees}
 
 pub reaches-moved : (choices : Choices) (query : Masked) (sets : List KeyedRows) (slots : List (Option Place)) (table : Place) (some these sorted : List Place) → ReachesFrom choices query sets slots table some → these ≡ some → IsPermutation these sorted
@@ -59,7 +59,7 @@ length-tables (stages ∷ left) = ap suc (length-tables left)
 
 module _ {C : Type 0} (choices : C → Choices) (sides : Search C) where
   -- ---- what a search counts on
-  pub ready-none : (common : List CommonStages) (query audit : Slots) → IsReady choices sides common query audit → IsReady choices sides [] query audit
+  pub ready-none : (common : List CommonStages) (query audit : Slots) → IsSearchReady choices sides common query audit → IsSearchReady choices sides [] query audit
   ready-none common query audit ready = record {
     query_stages = ready.query_stages;
     audit_stages = ready.audit_stages;
@@ -71,8 +71,8 @@ module _ {C : Type 0} (choices : C → Choices) (sides : Search C) where
     audit_open = tt;
   }
 
-  pub ready-next : (stages : CommonStages) (rest : List CommonStages) (query audit : Slots) (place : Place) → IsReady choices sides (stages ∷ rest) query audit
-      → IsReady choices sides rest (slice_set query stages.query.now.table (Some place)) (slice_set audit stages.audit.now.table (Some place))
+  pub ready-next : (stages : CommonStages) (rest : List CommonStages) (query audit : Slots) (place : Place) → IsSearchReady choices sides (stages ∷ rest) query audit
+      → IsSearchReady choices sides rest (slice_set query stages.query.now.table (Some place)) (slice_set audit stages.audit.now.table (Some place))
   ready-next stages rest query audit place ready = record {
     query_stages = ready.query_stages;
     audit_stages = ready.audit_stages;
@@ -84,9 +84,9 @@ module _ {C : Type 0} (choices : C → Choices) (sides : Search C) where
     audit_open = ready.audit_open.1 place;
   }
 
-  pub ready-same : (left : List CommonStages) (query query_now audit audit_now : Slots) → query_now ≡ query → audit_now ≡ audit → IsReady choices sides left query audit → IsReady choices sides left query_now audit_now
+  pub ready-same : (left : List CommonStages) (query query_now audit audit_now : Slots) → query_now ≡ query → audit_now ≡ audit → IsSearchReady choices sides left query audit → IsSearchReady choices sides left query_now audit_now
   ready-same left query query_now audit audit_now same_query same_audit ready =
-      subst (λ (slots : Slots). IsReady choices sides left slots audit_now) (sym same_query) (subst (λ (slots : Slots). IsReady choices sides left query slots) (sym same_audit) ready)
+      subst (λ (slots : Slots). IsSearchReady choices sides left slots audit_now) (sym same_query) (subst (λ (slots : Slots). IsSearchReady choices sides left query slots) (sym same_audit) ready)
 
   -- both sides have a combination with the rows that are chosen already
   share-ones : (left : List CommonStages) (query audit : Slots) (given : List Place) → AreOpen (query_tables left) query → AreOpen (audit_tables left) audit → Shared choices sides left query audit given
@@ -97,7 +97,7 @@ module _ {C : Type 0} (choices : C → Choices) (sides : Search C) where
         (one-agrees (choices sides.audit.now.choices.now) sides.audit.now.query.now [] sides.audit.now.sets.now (audit_tables left) given audit audit_open (both.0 ∙ length-tables left) both.2).0,
       )
 
-  pub none-may : (left : List CommonStages) (query audit : Slots) → IsReady choices sides left query audit → (may : Bool)
+  pub none-may : (left : List CommonStages) (query audit : Slots) → IsSearchReady choices sides left query audit → (may : Bool)
       → (HasOneOf choices sides.query.now sides.seen.now query → HasOneOf choices sides.audit.now [] audit → may ≡ true) → may ≡ false → IsFirst (Shared choices sides left query audit) None
   none-may left query audit ready may told not given share =
       let ones = share-ones left query audit given ready.query_open ready.audit_open share in
@@ -109,9 +109,9 @@ module _ {C : Type 0} (choices : C → Choices) (sides : Search C) where
       subst (λ (o : Option (Vec ℕ Global)). IsFirst (Shared choices sides left query audit) (option_map (λ (places : Vec ℕ Global). places.items) o)) (sym is) first
 
   -- ---- a stage's places are tried one after the other
-  module _ (common : List CommonStages) (stages : CommonStages) (rest : List CommonStages) (split : common ≡ stages ∷ rest) (query audit : Slots) (ready : IsReady choices sides common query audit) where
-    pub split-ready : IsReady choices sides (stages ∷ rest) query audit
-    split-ready = subst (λ (left : List CommonStages). IsReady choices sides left query audit) split ready
+  module _ (common : List CommonStages) (stages : CommonStages) (rest : List CommonStages) (split : common ≡ stages ∷ rest) (query audit : Slots) (ready : IsSearchReady choices sides common query audit) where
+    pub split-ready : IsSearchReady choices sides (stages ∷ rest) query audit
+    split-ready = subst (λ (left : List CommonStages). IsSearchReady choices sides left query audit) split ready
 
     pub first-stages : IsStageOf choices sides.query.now stages.query.now × IsStageOf choices sides.audit.now stages.audit.now
     first-stages = (split-ready.query_left 0 stages.query.now (omega arith), split-ready.audit_left 0 stages.audit.now (omega arith))

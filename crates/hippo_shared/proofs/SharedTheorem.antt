@@ -16,23 +16,23 @@ use Rattle.hippo_model.specs.Masking.{Choices, is_guarded, masked_passes}
 use Rattle.hippo_eval.specs.Unmasked.{all_shown}
 use Rattle.hippo_eval.specs.Walks.{rows_of}
 use Rattle.hippo_join.specs.Finding.{IsRising}
-use Rattle.hippo_join.specs.Places.{chosen, in_range, places_of}
+use Rattle.hippo_join.specs.Places.{chosen_rows, in_range, places_of}
 use Rattle.hippo_join.specs.Existence.{are_shown, HasOne}
 use Rattle.hippo_join.proofs.SlotLemmas.{Fits-open, length-in_range}
 use Rattle.hippo_shared.specs.declared.audited.Audited.{Audited}
 use Rattle.hippo_shared.specs.declared.sharing.AuditSide.{AuditSide}
 use Rattle.hippo_shared.specs.declared.sides.Sides.{Sides}
 use Rattle.hippo_shared.specs.Audited.{HasRowsFor}
-use Rattle.hippo_shared.specs.Sharing.{common_tables, place_in, rows_named, HaveSameRows, virtual_tuples, has_tuple, query_has, audit_has, first_shared}
+use Rattle.hippo_shared.specs.Sharing.{common_tables, place_in, rows_named, HaveSameRows, virtual_tuples_in, has_tuple_in, query_has, audit_has, first_shared}
 use Rattle.hippo_shared.specs.Tuples.{tuple_at}
 use Rattle.hippo_shared.specs.FirstPlaces.{AreCommon, ShareAt, IsFirst, IsFirstAmong, with_rows}
-use Rattle.hippo_shared.specs.Candidates.{AreThoseOf, first_passing}
+use Rattle.hippo_shared.specs.Candidates.{AreCandidates, first_passing}
 use Rattle.hippo_shared.proofs.AmongLemmas.{find-filter, find-same, and_grouped, those-of, found-among, among-holds}
 use Rattle.hippo_shared.specs.Searching.{SharedBy}
-use Rattle.hippo_shared.specs.Sides.{common_in, AreSidesOf, StandsFor}
+use Rattle.hippo_shared.specs.Sides.{common_in, AreSidesOf, StandsForAudit}
 use Rattle.hippo_shared.proofs.CommonLemmas.{place-found, common-in-query, common-in-audit, common-distinct, common-open}
 use Rattle.hippo_shared.proofs.FirstLemmas.{find-map, find-first, find-none, first-holds}
-use Rattle.hippo_shared.proofs.SideLemmas.{one-of-product, any-of-product, share-both, both-share, one-agrees, agrees-one, counts-parts, parts-counted, unmasked_query, passes-unmasked}
+use Rattle.hippo_shared.proofs.SideLemmas.{one-of-product, any-of-product, share-both, both-share, one-agrees, agrees-one, counts-parts, parts-counted, unmasked_query, passes-unmasked_operand}
 use Rattle.hippo_shared.proofs.TupleLemmas.{AllStandIn, tuples-by-places, agrees-from-tuple, tuple-from-agrees, agrees-in-range}
 
 length_map : {A B : Type 0} (f : A → B) (xs : List A) → length (map f xs) ≡ length xs
@@ -67,7 +67,7 @@ module _ (choices : Choices) (query : Masked) (seen : List Expr) (tables : List 
   tuple given = tuple_at names others (map (place_in names) common) given
 
   abbrev has_one_with : List SharedRow → Bool
-  has_one_with shared = list_any (λ rows. has_tuple tables sets shared rows && counted rows) (product (rows_of sets))
+  has_one_with shared = list_any (λ rows. has_tuple_in tables sets shared rows && counted rows) (product (rows_of sets))
 
   pub side-so : (given : List Place) → length given ≡ length common → HasOne choices query seen sets (with_rows (map (place_in tables) common) given slots) → has_one_with (tuple given) ≡ true
   side-so given long_given one =
@@ -75,16 +75,16 @@ module _ (choices : Choices) (query : Masked) (seen : List Expr) (tables : List 
       let places = found.0.places in
       let parts = parts-counted choices query seen sets places found.0.counts in
       let has = tuple-from-agrees tables sets names others long long_others common here there same given places found.1 in
-      any-of-product sets (λ rows. has_tuple tables sets (tuple given) rows && counted rows) places parts.0
-      (λ i. has i && (counted_is (chosen sets places) ∙ (λ j. parts.1 j && found.0.shows j)) i)
+      any-of-product sets (λ rows. has_tuple_in tables sets (tuple given) rows && counted rows) places parts.0
+      (λ i. has i && (counted_is (chosen_rows sets places) ∙ (λ j. parts.1 j && found.0.shows j)) i)
 
   pub side-back : All (λ set. IsAscending (map (key_in set.key) set.rows)) others → (given : List Place) → in_range (map (rows_named names others) common) given ≡ true → has_one_with (tuple given) ≡ true
       → HasOne choices query seen sets (with_rows (map (place_in tables) common) given slots)
   side-back ascend given within has =
-      let found = one-of-product sets (λ rows. has_tuple tables sets (tuple given) rows && counted rows) has in
+      let found = one-of-product sets (λ rows. has_tuple_in tables sets (tuple given) rows && counted rows) has in
       let places = found.0 in
-      let both = and_parts (has_tuple tables sets (tuple given) (chosen sets places)) (counted (chosen sets places)) found.2 in
-      let parts = and_parts (is_guarded choices query (chosen sets places) && masked_passes choices query (chosen sets places)) (are_shown choices seen (chosen sets places)) (sym (counted_is (chosen sets places)) ∙ both.1) in
+      let both = and_parts (has_tuple_in tables sets (tuple given) (chosen_rows sets places)) (counted (chosen_rows sets places)) found.2 in
+      let parts = and_parts (is_guarded choices query (chosen_rows sets places) && masked_passes choices query (chosen_rows sets places)) (are_shown choices seen (chosen_rows sets places)) (sym (counted_is (chosen_rows sets places)) ∙ both.1) in
       let agree = agrees-from-tuple tables sets names others long long_others common here there same ascend given places found.1 within both.0 in
       let one : HasOne choices query seen sets slots = record {
         places = places;
@@ -148,7 +148,7 @@ module _ (choices : Choices) (query : Masked) (audit : Audit) (seen : List Expr)
   own_rows = each_itself (rows_named audit.tables audit_sets) common
 
   audit_counts : (rows : Combination) → passes audit.cond (all_shown rows) ≡ (is_guarded choices (unmasked_query audit.cond) rows && masked_passes choices (unmasked_query audit.cond) rows && are_shown choices [] rows)
-  audit_counts rows = sym (passes-unmasked choices audit.cond rows) ∙ and_true (masked_passes choices (unmasked_query audit.cond) rows)
+  audit_counts rows = sym (passes-unmasked_operand choices audit.cond rows) ∙ and_true (masked_passes choices (unmasked_query audit.cond) rows)
 
   so : (given : List Place) → Holds given → shares (shared_at given) ≡ true
   so given holds =
@@ -188,14 +188,14 @@ module _ (choices : Choices) (query : Masked) (audit : Audit) (seen : List Expr)
       sym (ap (find shares) (tuples-by-places audit.tables audit_sets common in_audit) ∙ find-map shares shared_at (places_of common_sets) ∙ ap (option_map shared_at) (found_is found first))
 
   -- the first of some places, ascending, that are those of the virtual tuples that pass a test
-  candidate-is : (test : List SharedRow → Bool) (candidates : List (List Place)) → IsRising candidates → AreThoseOf test audit.tables audit_sets common candidates → (found : Option (List Place)) → IsFirstAmong Holds candidates found
+  candidate-is : (test : List SharedRow → Bool) (candidates : List (List Place)) → IsRising candidates → AreCandidates test audit.tables audit_sets common candidates → (found : Option (List Place)) → IsFirstAmong Holds candidates found
       → option_map shared_at found ≡ first_passing test choices query audit seen query_sets audit_sets
   candidate-is test candidates rising those found first =
       let passes : List Place → Bool = λ given. shares (shared_at given) in
       let chosen_by : List Place → Bool = λ given. test (shared_at given) in
       let here : find passes candidates ≡ found =
       found-among Holds passes candidates (λ given has. (so given, back given (and_parts (in_range common_sets given) (chosen_by given) (sym (those given) ∙ has)).0)) found first in
-      let tuples = virtual_tuples audit.tables audit_sets common in
+      let tuples = virtual_tuples_in audit.tables audit_sets common in
       sym (find-same (λ tuple. test tuple && query_has choices query seen query_sets tuple && audit_has audit audit_sets tuple) (λ tuple. test tuple && shares tuple)
       (λ tuple. and_grouped (test tuple) (query_has choices query seen query_sets tuple) (audit_has audit audit_sets tuple)) tuples
       ∙ ap (find (λ tuple. test tuple && shares tuple)) (tuples-by-places audit.tables audit_sets common in_audit)
@@ -222,7 +222,7 @@ module _ {C : Type 0} (query : Masked) (audited : Audited C) (rows : HasRowsFor 
     same = length_map (place_in query.tables) both ∙ sym (length_map (place_in audited.audit.now.tables) both);
   }
 
-  pub common-served : (side : AuditSide) → StandsFor query audited.audit.now side → AreCommon (length audited.query_sets.now) (length audited.audit_sets.now) side.common.query.items side.common.audit.items
+  pub common-served : (side : AuditSide) → StandsForAudit query audited.audit.now side → AreCommon (length audited.query_sets.now) (length audited.audit_sets.now) side.common.query.items side.common.audit.items
   common-served side stands =
       subst (λ (l : List Place). AreCommon (length audited.query_sets.now) (length audited.audit_sets.now) l side.common.audit.items) (sym stands.query_places)
       (subst (λ (l : List Place). AreCommon (length audited.query_sets.now) (length audited.audit_sets.now) (common_in query.tables query audited.audit.now) l) (sym stands.audit_places) served_here)
@@ -290,13 +290,13 @@ module _ {C : Type 0} (choices : C → Choices) (query : Masked) (seen : List Ex
     candidate-long places at = long_here places (among-holds Here candidates places (among_here (Some places) at))
 
     pub candidate-some : (places : List Place) → found ≡ Some places → (shared : List SharedRow) → shared ≡ tuple_here places → (test : List SharedRow → Bool)
-        → AreThoseOf test audited.audit.now.tables audited.audit_sets.now (common_tables query.tables audited.audit.now.tables) candidates
+        → AreCandidates test audited.audit.now.tables audited.audit_sets.now (common_tables query.tables audited.audit.now.tables) candidates
         → Some shared ≡ first_passing test now query audited.audit.now seen audited.query_sets.now audited.audit_sets.now
     candidate-some places at shared is test those =
         ap Some is ∙ candidate-is now query audited.audit.now seen audited.query_sets.now audited.audit_sets.now rows.query_sets rows.audit_sets rows.tables rows.rows ascend test candidates rising those (Some places) (among_here (Some places) at)
 
     pub candidate-none : found ≡ None → (test : List SharedRow → Bool)
-        → AreThoseOf test audited.audit.now.tables audited.audit_sets.now (common_tables query.tables audited.audit.now.tables) candidates
+        → AreCandidates test audited.audit.now.tables audited.audit_sets.now (common_tables query.tables audited.audit.now.tables) candidates
         → None ≡ first_passing test now query audited.audit.now seen audited.query_sets.now audited.audit_sets.now
     candidate-none at test those =
         candidate-is now query audited.audit.now seen audited.query_sets.now audited.audit_sets.now rows.query_sets rows.audit_sets rows.tables rows.rows ascend test candidates rising those None (among_here None at)

@@ -23,10 +23,10 @@ use Rattle.hippo_model.specs.Answers.{product, passes}
 use Rattle.hippo_model.specs.Masking.{Choices, is_guarded, masked_passes}
 use Rattle.hippo_laws.proofs.TruthWithChange.{agrees}
 use Rattle.hippo_eval.specs.MaskedTruth.{masked_value}
-use Rattle.hippo_eval.specs.Unmasked.{unmasked, unmasked_condition, all_shown}
+use Rattle.hippo_eval.specs.Unmasked.{unmasked_operand, unmasked_condition, all_shown}
 use Rattle.hippo_eval.specs.Walks.{rows_of}
 use Rattle.hippo_eval.proofs.UnmaskedLemmas.{value_is}
-use Rattle.hippo_join.specs.Places.{slot_at, chosen, in_range, places_of, stays, stands}
+use Rattle.hippo_join.specs.Places.{slot_at, chosen_rows, in_range, places_of, stays, stands}
 use Rattle.hippo_join.specs.Known.{is_chosen}
 use Rattle.hippo_join.specs.Existence.{HasOne, Decides}
 use Rattle.hippo_join.specs.Finding.{has_places}
@@ -35,7 +35,7 @@ use Rattle.hippo_join.proofs.FoundLemmas.{same_places}
 use Rattle.hippo_join.proofs.SlotLemmas.{Fits-at, Fits-set, Fits-open, length-in_range}
 use Rattle.hippo_join.proofs.ExistenceLemmas.{Fits-unset}
 use Rattle.hippo_shared.specs.FirstPlaces.{AgreeAt, AreOpen, ShareAt, with_rows}
-use Rattle.hippo_shared.specs.Sharing.{has_tuple, audit_has}
+use Rattle.hippo_shared.specs.Sharing.{has_tuple_in, audit_has}
 
 -- ---- a combination of the product that passes a test
 list_any-map : {A B : Type 0} (test : B → Bool) (f : A → B) (xs : List A) → list_any test (map f xs) ≡ list_any (λ x. test (f x)) xs
@@ -63,15 +63,15 @@ any_by test (first ∷ some) places has good = by (is_eq (slice_cmp nat_cmp plac
     by true e has later = ap (λ b. b || list_any test some) (ap test (sym (same_places places first e)) ∙ good)
     by false e has later = or_right (test first) (list_any test some) (later has)
 
-pub one-of-product : (sets : List KeyedRows) (test : Combination → Bool) → list_any test (product (rows_of sets)) ≡ true → (places : List Place) × (in_range sets places ≡ true) × (test (chosen sets places) ≡ true)
+pub one-of-product : (sets : List KeyedRows) (test : Combination → Bool) → list_any test (product (rows_of sets)) ≡ true → (places : List Place) × (in_range sets places ≡ true) × (test (chosen_rows sets places) ≡ true)
 one-of-product sets test any =
-    let found = one_of (λ places. test (chosen sets places)) (places_of sets) (sym (ap (list_any test) (product-rows sets) ∙ list_any-map test (chosen sets) (places_of sets)) ∙ any) in
+    let found = one_of (λ places. test (chosen_rows sets places)) (places_of sets) (sym (ap (list_any test) (product-rows sets) ∙ list_any-map test (chosen_rows sets) (places_of sets)) ∙ any) in
     (found.0, sym (has-places_of sets found.0) ∙ found.1, found.2)
 
-pub any-of-product : (sets : List KeyedRows) (test : Combination → Bool) (places : List Place) → in_range sets places ≡ true → test (chosen sets places) ≡ true → list_any test (product (rows_of sets)) ≡ true
+pub any-of-product : (sets : List KeyedRows) (test : Combination → Bool) (places : List Place) → in_range sets places ≡ true → test (chosen_rows sets places) ≡ true → list_any test (product (rows_of sets)) ≡ true
 any-of-product sets test places within good =
-    ap (list_any test) (product-rows sets) ∙ list_any-map test (chosen sets) (places_of sets)
-    ∙ any_by (λ places. test (chosen sets places)) (places_of sets) places (has-places_of sets places ∙ within) good
+    ap (list_any test) (product-rows sets) ∙ list_any-map test (chosen_rows sets) (places_of sets)
+    ∙ any_by (λ places. test (chosen_rows sets places)) (places_of sets) places (has-places_of sets places ∙ within) good
 
 -- ---- rows of the common tables that are chosen
 module _ (Query Audit : List (Option Place) → Type 0) where
@@ -154,21 +154,21 @@ module _ (choices : Choices) (query : Masked) (seen : List Expr) (sets : List Ke
       agrees-one tables given (slice_set slots table (Some place)) one_more agree.1
 
   -- what counts for a query
-  pub counts-parts : (places : List Place) → in_range sets places ≡ true → (is_guarded choices query (chosen sets places) && masked_passes choices query (chosen sets places)) ≡ true → stands choices query sets places ≡ true
+  pub counts-parts : (places : List Place) → in_range sets places ≡ true → (is_guarded choices query (chosen_rows sets places) && masked_passes choices query (chosen_rows sets places)) ≡ true → stands choices query sets places ≡ true
   unfolding stays
   counts-parts places within counts = λ i. within i && counts i
 
-  pub parts-counted : (places : List Place) → stands choices query sets places ≡ true → (in_range sets places ≡ true) × ((is_guarded choices query (chosen sets places) && masked_passes choices query (chosen sets places)) ≡ true)
+  pub parts-counted : (places : List Place) → stands choices query sets places ≡ true → (in_range sets places ≡ true) × ((is_guarded choices query (chosen_rows sets places) && masked_passes choices query (chosen_rows sets places)) ≡ true)
   unfolding stays
-  parts-counted places counts = and_parts (in_range sets places) (is_guarded choices query (chosen sets places) && masked_passes choices query (chosen sets places)) counts
+  parts-counted places counts = and_parts (in_range sets places) (is_guarded choices query (chosen_rows sets places) && masked_passes choices query (chosen_rows sets places)) counts
 
 -- an audit's condition, as that of a query without guards
 abbrev pub unmasked_query : CondOf Operand → Masked
 unmasked_query condition = record { items = []; tables = []; guards = []; cond = unmasked_condition condition }
 
-pub passes-unmasked : (choices : Choices) (condition : CondOf Operand) (rows : Combination) → masked_passes choices (unmasked_query condition) rows ≡ passes condition (all_shown rows)
-passes-unmasked choices condition rows =
-    ap is_true (agrees unmasked (masked_value choices rows) condition ∙ ap (λ (value : Operand → Value). truth value condition) (λ i operand. value_is choices rows operand i))
+pub passes-unmasked_operand : (choices : Choices) (condition : CondOf Operand) (rows : Combination) → masked_passes choices (unmasked_query condition) rows ≡ passes condition (all_shown rows)
+passes-unmasked_operand choices condition rows =
+    ap is_true (agrees unmasked_operand (masked_value choices rows) condition ∙ ap (λ (value : Operand → Value). truth value condition) (λ i operand. value_is choices rows operand i))
 
 -- where no combination of an audit's rows counts, none has a tuple
 pub audit-none : (choices : Choices) (audit : Audit) (sets : List KeyedRows) (unmasked : Masked) → unmasked ≡ unmasked_query audit.cond
@@ -176,9 +176,9 @@ pub audit-none : (choices : Choices) (audit : Audit) (sets : List KeyedRows) (un
     → IfOk result (λ has. has ≡ false → (tuple : List SharedRow) → audit_has audit sets tuple ≡ false)
 audit-none choices audit sets unmasked is (Ok true) one = λ wrong. absurd (false≢true (sym wrong))
 audit-none choices audit sets unmasked is (Ok false) none = λ e tuple. not_so (audit_has audit sets tuple) (λ has.
-    let found = one-of-product sets (λ rows. has_tuple audit.tables sets tuple rows && passes audit.cond (all_shown rows)) has in
-    let rows : Combination = chosen sets found.0 in
-    let counts : masked_passes choices (unmasked_query audit.cond) rows ≡ true = passes-unmasked choices audit.cond rows ∙ (and_parts (has_tuple audit.tables sets tuple rows) (passes audit.cond (all_shown rows)) found.2).1 in
+    let found = one-of-product sets (λ rows. has_tuple_in audit.tables sets tuple rows && passes audit.cond (all_shown rows)) has in
+    let rows : Combination = chosen_rows sets found.0 in
+    let counts : masked_passes choices (unmasked_query audit.cond) rows ≡ true = passes-unmasked_operand choices audit.cond rows ∙ (and_parts (has_tuple_in audit.tables sets tuple rows) (passes audit.cond (all_shown rows)) found.2).1 in
     let one : HasOne choices (unmasked_query audit.cond) [] sets (replicate (length sets) None) = record {
       places = found.0;
       fits = Fits-open found.0 (length sets) (length-in_range sets found.0 found.1);

@@ -15,12 +15,12 @@ use Rattle.hippo_model.specs.declared.born_row.BornRow.{BornRow}
 use Rattle.hippo_model.specs.Terms.{Key, Place}
 use Rattle.hippo_model.specs.RowSets.{KeyedRows, IsAscending, key_in}
 use Rattle.hippo_model.proofs.Orders.{cells_total, same_exact}
-use Rattle.hippo_join.specs.Places.{blank, row_at, chosen, in_range, places_of}
+use Rattle.hippo_join.specs.Places.{blank, row_at_place, chosen_rows, in_range, places_of}
 use Rattle.hippo_join.proofs.ProductLemmas.{each_row, map-map, map-flat_map}
 use Rattle.hippo_join.proofs.SlotLemmas.{row-at, length-in_range}
 use Rattle.hippo_join.proofs.PruneLemmas.{below-rows}
 use Rattle.hippo_shared.specs.FirstPlaces.{AgreeAt}
-use Rattle.hippo_shared.specs.Sharing.{place_in, rows_named, shared_rows, virtual_tuples, key_at, has_tuple}
+use Rattle.hippo_shared.specs.Sharing.{place_in, rows_named, shared_rows_in, virtual_tuples_in, shared_key_in, has_tuple_in}
 use Rattle.hippo_shared.specs.Tuples.{row_shared, tuple_at}
 use Rattle.hippo_shared.proofs.CommonLemmas.{place-found}
 use Rattle.hippo_shared.proofs.KeyLemmas.{one-place}
@@ -41,15 +41,15 @@ module _ (names : List Name) (sets : List KeyedRows) where
   set_of table = rows_named names sets table
 
   -- the rows of a table by their places
-  rows_by_place : (table : Name) → get_or names (place_in names table) [] ≡ table → shared_rows names sets table ≡ map (row_shared names sets (place_in names table)) (range_with_len 0 (length (set_of table).rows))
+  rows_by_place : (table : Name) → get_or names (place_in names table) [] ≡ table → shared_rows_in names sets table ≡ map (row_shared names sets (place_in names table)) (range_with_len 0 (length (set_of table).rows))
   rows_by_place table found =
       let by_key : Name → BornRow → SharedRow = λ name kept. record { table = name; key = key_in (set_of table).key kept } in
       let range = range_with_len 0 (length (set_of table).rows) in
-      ap (map (by_key table)) (sym (each_row (set_of table).rows)) ∙ map-map (by_key table) (row_at (set_of table).rows) range
-      ∙ ap (λ (name : Name). map (λ place. by_key name (row_at (set_of table).rows place)) range) (sym found)
+      ap (map (by_key table)) (sym (each_row (set_of table).rows)) ∙ map-map (by_key table) (row_at_place (set_of table).rows) range
+      ∙ ap (λ (name : Name). map (λ place. by_key name (row_at_place (set_of table).rows place)) range) (sym found)
 
   -- virtual tuples are those of the places of the common tables' rows
-  pub tuples-by-places : (common : List Name) → AllStandIn names common → virtual_tuples names sets common ≡ map (tuple_at names sets (map (place_in names) common)) (places_of (map (rows_named names sets) common))
+  pub tuples-by-places : (common : List Name) → AllStandIn names common → virtual_tuples_in names sets common ≡ map (tuple_at names sets (map (place_in names) common)) (places_of (map (rows_named names sets) common))
   tuples-by-places [] all = refl
   tuples-by-places (table ∷ common) all =
       let range = range_with_len 0 (length (set_of table).rows) in
@@ -57,7 +57,7 @@ module _ (names : List Name) (sets : List KeyedRows) where
       let later = tuple_at names sets (map (place_in names) common) in
       let whole = tuple_at names sets (map (place_in names) (table ∷ common)) in
       let places = places_of (map (rows_named names sets) common) in
-      let after : SharedRow → List (List SharedRow) = λ shared. map (λ others. shared ∷ others) (virtual_tuples names sets common) in
+      let after : SharedRow → List (List SharedRow) = λ shared. map (λ others. shared ∷ others) (virtual_tuples_in names sets common) in
       ap (flat_map after) (rows_by_place table (place-found names table all.0).1) ∙ flat_map-map after row range
       ∙ flat_map_same (λ place. after (row place)) (λ place. map whole (map (λ others. place ∷ others) places))
       (λ place. ap (map (λ others. row place ∷ others)) (tuples-by-places common all.1)
@@ -69,10 +69,10 @@ pub set_at : (tables : List Name) (sets : List KeyedRows) (table : Name) → len
 set_at tables sets table long has = slice_get-get_or sets (place_in tables table) no_rows (subst (λ (n : ℕ). place_in tables table < n) (sym long) (place-found tables table has).0)
 
 key_is : (tables : List Name) (sets : List KeyedRows) (table : Name) (places : List Place) (place : Place) → length sets ≡ length tables → list_any (bytes_eq table) tables ≡ true → slice_get places (place_in tables table) ≡ Some place
-    → key_at tables sets (chosen sets places) table ≡ key_in (rows_named tables sets table).key (row_at (rows_named tables sets table).rows place)
+    → shared_key_in tables sets (chosen_rows sets places) table ≡ key_in (rows_named tables sets table).key (row_at_place (rows_named tables sets table).rows place)
 key_is tables sets table places place long has here =
     ap (key_in (rows_named tables sets table).key)
-    (sym (unwrap_or-slice_get (chosen sets places) (place_in tables table) blank)
+    (sym (unwrap_or-slice_get (chosen_rows sets places) (place_in tables table) blank)
     ∙ ap (λ (o : Option BornRow). unwrap_or o blank) (row-at sets places (place_in tables table) (rows_named tables sets table) place (set_at tables sets table long has) here))
 
 module _ (tables : List Name) (sets : List KeyedRows) (names : List Name) (others : List KeyedRows) (long : length sets ≡ length tables) (long_others : length others ≡ length names) where
@@ -82,7 +82,7 @@ module _ (tables : List Name) (sets : List KeyedRows) (names : List Name) (other
   -- a combination that has the keys of given places has these places
   pub agrees-from-tuple : (common : List Name) → AllStandIn tables common → AllStandIn names common → AreSame common → All (λ set. IsAscending (map (key_in set.key) set.rows)) others
       → (given places : List Place) → in_range sets places ≡ true → in_range (map (rows_named names others) common) given ≡ true
-      → has_tuple tables sets (tuple_at names others (map (place_in names) common) given) (chosen sets places) ≡ true → AgreeAt (map (place_in tables) common) given places
+      → has_tuple_in tables sets (tuple_at names others (map (place_in names) common) given) (chosen_rows sets places) ≡ true → AgreeAt (map (place_in tables) common) given places
   agrees-from-tuple [] here there same ascend [] places within given_within has = tt
   agrees-from-tuple [] here there same ascend (k ∷ given) places within given_within has = absurd (false≢true given_within)
   agrees-from-tuple (table ∷ common) here there same ascend [] places within given_within has = absurd (false≢true given_within)
@@ -92,31 +92,31 @@ module _ (tables : List Name) (sets : List KeyedRows) (names : List Name) (other
       let row = row_shared names others (place_in names table) k in
       let rest = tuple_at names others (map (place_in names) common) given in
       let name = place-found names table there.0 in
-      let both = and_parts (same_cells (key_at tables sets (chosen sets places) row.table) row.key) (has_tuple tables sets rest (chosen sets places)) has in
+      let both = and_parts (same_cells (shared_key_in tables sets (chosen_rows sets places) row.table) row.key) (has_tuple_in tables sets rest (chosen_rows sets places)) has in
       let place = get_or places (place_in tables table) 0 in
       let placed : place_in tables table < length places = subst (λ (n : ℕ). place_in tables table < n) (sym (length-in_range sets places within ∙ long)) (place-found tables table here.0).0 in
       let at : slice_get places (place_in tables table) ≡ Some place = slice_get-get_or places (place_in tables table) 0 placed in
-      let keys : key_in own.key (row_at own.rows place) ≡ row.key =
-      sym (key_is tables sets table places place long here.0 at) ∙ ap (key_at tables sets (chosen sets places)) (sym name.1) ∙ same_exact (key_at tables sets (chosen sets places) row.table) row.key both.0 in
+      let keys : key_in own.key (row_at_place own.rows place) ≡ row.key =
+      sym (key_is tables sets table places place long here.0 at) ∙ ap (shared_key_in tables sets (chosen_rows sets places)) (sym name.1) ∙ same_exact (shared_key_in tables sets (chosen_rows sets places) row.table) row.key both.0 in
       let parts = and_parts (nat_lt k (length other.rows)) (in_range (map (rows_named names others) common) given) given_within in
       let below : place < length other.rows = subst (λ (s : KeyedRows). place < length s.rows) same.0 (below-rows sets places (place_in tables table) own place within (set_at tables sets table long here.0) at) in
       let one = one-place other.key other.rows place k
       (ascend (place_in names table) no_rows (subst (λ (n : ℕ). place_in names table < n) (sym long_others) name.0)) below (ltb-true _ _ parts.0)
-      (ap (λ (s : KeyedRows). key_in s.key (row_at s.rows place)) (sym same.0) ∙ keys) in
+      (ap (λ (s : KeyedRows). key_in s.key (row_at_place s.rows place)) (sym same.0) ∙ keys) in
       (at ∙ ap Some one, agrees-from-tuple common here.1 there.1 same.1 ascend given places within parts.1 both.1)
 
   -- and one that has the places has their keys
   pub tuple-from-agrees : (common : List Name) → AllStandIn tables common → AllStandIn names common → AreSame common
-      → (given places : List Place) → AgreeAt (map (place_in tables) common) given places → has_tuple tables sets (tuple_at names others (map (place_in names) common) given) (chosen sets places) ≡ true
+      → (given places : List Place) → AgreeAt (map (place_in tables) common) given places → has_tuple_in tables sets (tuple_at names others (map (place_in names) common) given) (chosen_rows sets places) ≡ true
   tuple-from-agrees [] here there same [] places agree = refl
   tuple-from-agrees [] here there same (k ∷ given) places agree = absurd agree
   tuple-from-agrees (table ∷ common) here there same [] places agree = absurd agree
   tuple-from-agrees (table ∷ common) here there same (k ∷ given) places agree =
       let row = row_shared names others (place_in names table) k in
-      let keys : key_at tables sets (chosen sets places) row.table ≡ row.key =
-      ap (key_at tables sets (chosen sets places)) (place-found names table there.0).1 ∙ key_is tables sets table places k long here.0 agree.0
-      ∙ ap (λ (s : KeyedRows). key_in s.key (row_at s.rows k)) same.0 in
-      let equal : same_cells (key_at tables sets (chosen sets places) row.table) row.key ≡ true =
+      let keys : shared_key_in tables sets (chosen_rows sets places) row.table ≡ row.key =
+      ap (shared_key_in tables sets (chosen_rows sets places)) (place-found names table there.0).1 ∙ key_is tables sets table places k long here.0 agree.0
+      ∙ ap (λ (s : KeyedRows). key_in s.key (row_at_place s.rows k)) same.0 in
+      let equal : same_cells (shared_key_in tables sets (chosen_rows sets places) row.table) row.key ≡ true =
       ap (λ (key : Key). same_cells key row.key) keys ∙ (eq_by_cmp_equiv cells_total).refl row.key in
       let later = tuple-from-agrees common here.1 there.1 same.1 given places agree.1 in
       λ i. equal i && later i
@@ -145,11 +145,11 @@ tuple-more names sets tables places i tuple more whole row in_tables in_places i
     ap (λ l. l ++ rest) pushed ∙ append_assoc tuple (row ∷ []) rest ∙ sym (ap (λ l. tuple ++ l) here) ∙ so_far
 
 -- the row that a table's name, its set and a place give
-pub row-made : (names : List Name) (sets : List KeyedRows) (table place : Place) (name : Name) (set : KeyedRows) (key : Key) → slice_get sets table ≡ Some set → name ≡ get_or names table [] → key ≡ key_in set.key (row_at set.rows place)
+pub row-made : (names : List Name) (sets : List KeyedRows) (table place : Place) (name : Name) (set : KeyedRows) (key : Key) → slice_get sets table ≡ Some set → name ≡ get_or names table [] → key ≡ key_in set.key (row_at_place set.rows place)
     → record { table = name; key = key } ≡ row_shared names sets table place
 row-made names sets table place name set key at is_name is_key =
     let same : set ≡ get_or sets table no_rows = ap (λ (o : Option KeyedRows). unwrap_or o no_rows) (sym at) ∙ unwrap_or-slice_get sets table no_rows in
-    let keyed : key ≡ key_in (get_or sets table no_rows).key (row_at (get_or sets table no_rows).rows place) = is_key ∙ ap (λ (s : KeyedRows). key_in s.key (row_at s.rows place)) same in
+    let keyed : key ≡ key_in (get_or sets table no_rows).key (row_at_place (get_or sets table no_rows).rows place) = is_key ∙ ap (λ (s : KeyedRows). key_in s.key (row_at_place s.rows place)) same in
     λ i. record { table = is_name i; key = keyed i }
 
 pub name-read : (names : List Name) (table : Place) (name : Name) → table < length names → name ≡ get_or names table name → name ≡ get_or names table []

@@ -10,13 +10,13 @@ use Rattle.hippo_model.specs.Masking.{Choices}
 use Rattle.hippo_model.specs.RowSets.{KeyedRows}
 use Rattle.hippo_join.specs.Finding.{has_places}
 use Rattle.hippo_join.specs.Places.{in_range}
-use Rattle.hippo_shared.specs.Sharing.{common_tables, place_in, rows_named, virtual_tuples, query_has, audit_has}
+use Rattle.hippo_shared.specs.Sharing.{common_tables, place_in, rows_named, virtual_tuples_in, query_has, audit_has}
 use Rattle.hippo_shared.specs.Tuples.{tuple_at}
 
 -- the places of the rows of the virtual tuples that pass a test are these
-abbrev pub AreThoseOf :
+abbrev pub AreCandidates :
     (List SharedRow → Bool) → List Name → List KeyedRows → List Name → List (List Place) → Type 0
-AreThoseOf test names sets common candidates =
+AreCandidates test names sets common candidates =
     (places : List Place) → has_places places candidates
     ≡ (in_range (map (rows_named names sets) common) places
     && test (tuple_at names sets (map (place_in names) common) places))
@@ -26,5 +26,6 @@ abbrev pub first_passing :
     (List SharedRow → Bool) → Choices → Masked → Audit → List Expr → List KeyedRows → List KeyedRows
     → Option (List SharedRow)
 first_passing test choices query audit seen query_sets audit_sets =
-    find (λ tuple. test tuple && query_has choices query seen query_sets tuple && audit_has audit audit_sets tuple)
-    (virtual_tuples audit.tables audit_sets (common_tables query.tables audit.tables))
+    find (λ tuple. test tuple && query_has choices query seen query_sets tuple
+    && audit_has audit audit_sets tuple)
+    (virtual_tuples_in audit.tables audit_sets (common_tables query.tables audit.tables))

@@ -13,7 +13,8 @@ use Rattle.hippo_join.specs.Stages.{IsStage}
 abbrev pub AreOpen : List Place → List (Option Place) → Type 0
 AreOpen [] slots = Unit {0}
 AreOpen (table ∷ tables) slots =
-    (slice_get slots table ≡ Some None) × ((place : Place) → AreOpen tables (slice_set slots table (Some place)))
+    (slice_get slots table ≡ Some None) × ((place : Place)
+    → AreOpen tables (slice_set slots table (Some place)))
 
 -- the places of the common tables among those of each side: open, and as many on both sides
 pub record AreCommon (query_count audit_count : ℕ) (query audit : List Place) : Type 0 where
@@ -23,7 +24,8 @@ pub record AreCommon (query_count audit_count : ℕ) (query audit : List Place) 
   pub audit_below : All (λ table. table < audit_count) audit
   pub same : length query ≡ length audit
 
--- what holds of the rows that are chosen on each side holds with these places of the common tables, too
+-- what holds of the rows that are chosen on each side holds with these places of the common tables,
+-- too
 abbrev pub ShareAt :
     (List (Option Place) → Type 0) → (List (Option Place) → Type 0) → List Place → List Place
     → List (Option Place) → List (Option Place) → List Place → Type 0
@@ -33,7 +35,8 @@ ShareAt query_has audit_has [] (other ∷ others) query audit places = ⊥
 ShareAt query_has audit_has (table ∷ tables) [] query audit places = ⊥
 ShareAt query_has audit_has (table ∷ tables) (other ∷ others) query audit [] = ⊥
 ShareAt query_has audit_has (table ∷ tables) (other ∷ others) query audit (place ∷ places) =
-    ShareAt query_has audit_has tables others (slice_set query table (Some place)) (slice_set audit other (Some place))
+    ShareAt query_has audit_has tables others (slice_set query table (Some place))
+    (slice_set audit other (Some place))
     places
 
 -- places with which something holds, and with none before them
@@ -60,23 +63,28 @@ IsFirstAmong holds (first ∷ rest) None = (¬ holds first) × IsFirstAmong hold
 abbrev pub with_rows : List Place → List Place → List (Option Place) → List (Option Place)
 with_rows [] places slots = slots
 with_rows (table ∷ tables) [] slots = slots
-with_rows (table ∷ tables) (place ∷ places) slots = with_rows tables places (slice_set slots table (Some place))
+with_rows (table ∷ tables) (place ∷ places) slots =
+    with_rows tables places (slice_set slots table (Some place))
 
 -- stages of all tables
-pub record AreWhole (choices : Choices) (query : Masked) (sets : List KeyedRows) (stages : List Stage) : Type 0 where
+pub record AreWhole (choices : Choices) (query : Masked) (sets : List KeyedRows)
+    (stages : List Stage) : Type 0 where
   pub each : All (IsStage choices query sets) stages
-  pub all : (table : Place) → table < length sets → Contains (map (λ stage. stage.table) stages) table
+  pub all : (table : Place) → table < length sets
+      → Contains (map (λ stage. stage.table) stages) table
 
 -- places that have, in some tables, those that are given
 abbrev pub AgreeAt : List Place → List Place → List Place → Type 0
 AgreeAt [] [] places = Unit {0}
 AgreeAt [] (given ∷ others) places = ⊥
 AgreeAt (table ∷ tables) [] places = ⊥
-AgreeAt (table ∷ tables) (given ∷ others) places = (slice_get places table ≡ Some given) × AgreeAt tables others places
+AgreeAt (table ∷ tables) (given ∷ others) places =
+    (slice_get places table ≡ Some given) × AgreeAt tables others places
 
 -- places of some tables at which a place is chosen in each
 abbrev pub AreChosen : List (Option Place) → List Place → List Place → Type 0
 AreChosen slots [] [] = Unit {0}
 AreChosen slots [] (place ∷ places) = ⊥
 AreChosen slots (table ∷ tables) [] = ⊥
-AreChosen slots (table ∷ tables) (place ∷ places) = (slot_at slots table ≡ Some place) × AreChosen slots tables places
+AreChosen slots (table ∷ tables) (place ∷ places) =
+    (slot_at slots table ≡ Some place) × AreChosen slots tables places

@@ -10,7 +10,7 @@ use Rattle.hippo_model.specs.Terms.{History}
 use Rattle.hippo_model.specs.Histories.{schema_at}
 use Rattle.hippo_model.specs.RowSets.{KeyedRows, kept_at}
 use Rattle.hippo_model.specs.Audits.{common, virtual_tuples as tuples_at, audit_needs}
-use Rattle.hippo_shared.specs.Sharing.{common_tables, virtual_tuples, audit_has}
+use Rattle.hippo_shared.specs.Sharing.{common_tables, virtual_tuples_in, audit_has}
 
 -- the rows of tables after some entries; none of a table that is not created
 abbrev pub sets_at : History → List Name → List KeyedRows
@@ -22,10 +22,12 @@ sets_at history tables =
 abbrev pub TuplesAreThoseOfHistory : Type 0
 TuplesAreThoseOfHistory =
     (history : History) (query : Query) (audit : Audit)
-    → virtual_tuples audit.tables (sets_at history audit.tables) (common_tables query.tables audit.tables)
+    → virtual_tuples_in audit.tables (sets_at history audit.tables)
+    (common_tables query.tables audit.tables)
     ≡ tuples_at history (common query audit)
 
--- an audit needs a tuple of rows of its tables exactly where its condition is true of some combination that has it
+-- an audit needs a tuple of rows of its tables exactly where its condition is true of some
+-- combination that has it
 abbrev pub AuditNeedsWhatItHas : Type 0
 AuditNeedsWhatItHas =
     (history : History) (audit : Audit) (tuple : List SharedRow)

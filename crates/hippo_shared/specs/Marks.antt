@@ -16,7 +16,8 @@ place_like set kept = unwrap_or (find_row set.key (key_in set.key kept) set.rows
 -- the place of a combination's row of a table
 abbrev pub row_place : List KeyedRows → Combination → Place → Place
 row_place sets rows table =
-    option_map_or (λ set. option_map_or (place_like set) (slice_get rows table) 0) (slice_get sets table) 0
+    option_map_or (λ set. option_map_or (place_like set) (slice_get rows table) 0)
+    (slice_get sets table) 0
 
 -- the places of a combination's rows of some tables
 abbrev pub row_places : List KeyedRows → List Place → Combination → List Place

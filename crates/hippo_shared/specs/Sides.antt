@@ -14,21 +14,23 @@ use Rattle.hippo_shared.specs.Sharing.{common_tables, place_in}
 
 -- an audit's condition as that of a query without guards
 abbrev pub condition_alone : Audit → Masked
-condition_alone audit = record { items = []; tables = []; guards = []; cond = unmasked_condition audit.cond }
+condition_alone audit =
+    record { items = []; tables = []; guards = []; cond = unmasked_condition audit.cond }
 
 -- the places of the common tables of a query and an audit among those of either
 abbrev pub common_in : List Name → Masked → Audit → List Place
 common_in tables query audit = map (place_in tables) (common_tables query.tables audit.tables)
 
 -- a query stands for an audit, and the places of its common tables with another query are known
-pub record StandsFor (query : Masked) (audit : Audit) (side : AuditSide) : Type 0 where
+pub record StandsForAudit (query : Masked) (audit : Audit) (side : AuditSide) : Type 0 where
   pub condition : side.unmasked ≡ condition_alone audit
   pub query_places : side.common.query.items ≡ common_in query.tables query audit
   pub audit_places : side.common.audit.items ≡ common_in audit.tables query audit
   pub blank_is : side.blank ≡ blank
 
 -- the sides are those of a query and of an audit, over the rows beside it
-pub record AreSidesOf {C : Type 0} (query : Masked) (shown : List Expr) (audited : Audited C) (sides : Sides C)
+pub record AreSidesOf {C : Type 0} (query : Masked) (shown : List Expr) (audited : Audited C)
+    (sides : Sides C)
     : Type 0 where
   pub query_is : sides.query.query.now ≡ query
   pub query_rows : sides.query.sets.now ≡ audited.query_sets.now
@@ -38,4 +40,5 @@ pub record AreSidesOf {C : Type 0} (query : Masked) (shown : List Expr) (audited
   pub audit_choices : sides.audit.choices.now ≡ audited.choices.now
   pub seen_is : sides.seen.now ≡ shown
   pub query_places : sides.common.now.query.items ≡ common_in query.tables query audited.audit.now
-  pub audit_places : sides.common.now.audit.items ≡ common_in audited.audit.now.tables query audited.audit.now
+  pub audit_places : sides.common.now.audit.items
+      ≡ common_in audited.audit.now.tables query audited.audit.now

@@ -5,8 +5,8 @@ ghost use Rattle.hippo_join.specs.Existence.{HasOne, Decides};
 ghost use Rattle.hippo_join.specs.Finding.{IsRising};
 ghost use Rattle.hippo_shared.specs.Audited.{HasRowsFor};
 ghost use Rattle.hippo_shared.specs.Sharing.{common_tables, audit_has};
-ghost use Rattle.hippo_shared.specs.Sides.{StandsFor};
-ghost use Rattle.hippo_shared.specs.Candidates.{AreThoseOf, first_passing};
+ghost use Rattle.hippo_shared.specs.Sides.{StandsForAudit};
+ghost use Rattle.hippo_shared.specs.Candidates.{AreCandidates, first_passing};
 
 use crate::audited::Audited;
 use crate::commons::order_from;
@@ -21,7 +21,8 @@ use std::collections::BTreeSet;
 
 // Whether some combination counts.
 fn has_any<C: ChoiceView>(alloc: Global, side: &Side<'_, C>) -> Result<bool, Memory>
-    ensures { Decides (HasOne (C.choices side.now.choices.now) side.now.query.now [] side.now.sets.now
+    ensures { Decides (HasOne (C.choices side.now.choices.now) side.now.query.now []
+        side.now.sets.now
         (replicate (length side.now.sets.now) None)) result }
 {
     let order = order_from(alloc, side, &[])?;
@@ -37,7 +38,8 @@ fn any_counts<C: ChoiceView>(
     sets: &Sets<'_>,
     choices: &C,
 ) -> Result<bool, Memory>
-    ensures { Decides (HasOne (C.choices choices.now) unmasked.now [] sets.now (replicate (length sets.now) None))
+    ensures { Decides (HasOne (C.choices choices.now) unmasked.now [] sets.now
+        (replicate (length sets.now) None))
         result }
 {
     let blank = blank_row(alloc)?;
@@ -50,7 +52,8 @@ fn any_counts<C: ChoiceView>(
     has_any(alloc, &side)
 }
 
-/// Whether the audit's condition is true of some combination of its rows: if not, no virtual tuple serves.
+/// Whether the audit's condition is true of some combination of its rows: if not, no virtual tuple
+/// serves.
 pub fn audit_has_any<C: ChoiceView>(alloc: Global, audited: &Audited<'_, C>) -> Result<bool, Memory>
     requires { length audited.now.audit_sets.now ≡ length audited.now.audit.now.tables }
     ensures { IfOk result (λ has. has ≡ false → (tuple : List shared_row.SharedRow)
@@ -79,11 +82,12 @@ fn first_listed<C: ChoiceView>(
 ) -> Result<Option<SharedTuple>, Memory>
     requires order { IsRising listed.now }
     requires rows { HasRowsFor query.now.tables audited.now }
-    requires side { StandsFor query.now audited.now.audit.now side.now }
+    requires side { StandsForAudit query.now audited.now.audit.now side.now }
     ensures { IfOk result (λ shared. (test : List shared_row.SharedRow → Bool)
-        → AreThoseOf test audited.now.audit.now.tables audited.now.audit_sets.now
+        → AreCandidates test audited.now.audit.now.tables audited.now.audit_sets.now
         (common_tables query.now.tables audited.now.audit.now.tables) listed.now
-        → shared ≡ first_passing test (C.choices audited.now.choices.now) query.now audited.now.audit.now seen.now
+        → shared ≡ first_passing test (C.choices audited.now.choices.now) query.now
+        audited.now.audit.now seen.now
         audited.now.query_sets.now audited.now.audit_sets.now) }
 {
     know_order(audited.audit_sets);
@@ -104,10 +108,10 @@ fn first_listed<C: ChoiceView>(
     }
 }
 
-/// Of the virtual tuples whose rows stand at these places of the common tables, the first that some combination of the
-/// query's rows has which makes a row of its answer and in which each expression of `seen` is a shown cell, and that
-/// some combination of the audit's rows has of which its condition is true; none exactly where there is none. Wants
-/// what `first_shared` wants.
+/// Of the virtual tuples whose rows stand at these places of the common tables, the first that some
+/// combination of the query's rows has which makes a row of its answer and in which each expression
+/// of `seen` is a shown cell, and that some combination of the audit's rows has of which its
+/// condition is true; none exactly where there is none. Wants what `first_shared` wants.
 pub fn first_of<C: ChoiceView>(
     alloc: Global,
     candidates: BTreeSet<Places>,
@@ -117,9 +121,10 @@ pub fn first_of<C: ChoiceView>(
 ) -> Result<Option<SharedTuple>, Memory>
     requires { HasRowsFor query.now.tables audited.now }
     ensures { IfOk result (λ shared. (test : List shared_row.SharedRow → Bool)
-        → AreThoseOf test audited.now.audit.now.tables audited.now.audit_sets.now
+        → AreCandidates test audited.now.audit.now.tables audited.now.audit_sets.now
         (common_tables query.now.tables audited.now.audit.now.tables) candidates.keys
-        → shared ≡ first_passing test (C.choices audited.now.choices.now) query.now audited.now.audit.now seen.now
+        → shared ≡ first_passing test (C.choices audited.now.choices.now) query.now
+        audited.now.audit.now seen.now
         audited.now.query_sets.now audited.now.audit_sets.now) }
 {
     let listed = listed(alloc, candidates)?;

@@ -9,7 +9,8 @@ use hippo_model::{ChoiceView, Sets, Sizes};
 use hippo_values::{Memory, Name, Sequence};
 use std::alloc::Global;
 
-/// The places of the common tables in the query's FROM list, and in the audit's; both in the audit's order.
+/// The places of the common tables in the query's FROM list, and in the audit's; both in the
+/// audit's order.
 #[derive(Drop)]
 pub struct CommonPlaces {
     pub query: Vec<usize>,
@@ -73,7 +74,8 @@ fn is_among(places: &[usize], place: usize) -> bool
 fn tables_from(alloc: Global, first: &[usize], tables: usize) -> Result<Vec<usize>, Memory>
     requires { All (λ table. table < tables) first.now }
     ensures below { IfOk result (λ order. All (λ table. table < tables) order.items) }
-    ensures whole { IfOk result (λ order. (table : Place) → table < tables → Contains order.items table) }
+    ensures whole { IfOk result (λ order. (table : Place) → table < tables
+        → Contains order.items table) }
     ensures front { IfOk result (λ order. take (length first.now) order.items ≡ first.now) }
 {
     let mut order = Vec::from_slice(alloc, first)?;
@@ -99,7 +101,8 @@ pub(crate) fn order_from<C: ChoiceView>(
     first: &[usize],
 ) -> Result<Vec<usize>, Memory>
     requires { All (λ table. table < length side.now.sets.now) first.now }
-    ensures below { IfOk result (λ order. All (λ table. table < length side.now.sets.now) order.items) }
+    ensures below { IfOk result (λ order. All
+        (λ table. table < length side.now.sets.now) order.items) }
     ensures whole { IfOk result (λ order.
         (table : Place) → table < length side.now.sets.now → Contains order.items table) }
     ensures front { IfOk result (λ order. take (length first.now) order.items ≡ first.now) }
@@ -118,8 +121,10 @@ pub(crate) fn common_stages<'s>(
 ) -> Result<Vec<CommonStages<'s>>, Memory>
     requires query { count ≤ length query.now }
     requires audit { count ≤ length audit.now }
-    ensures query { IfOk result (λ common. map (λ stages. stages.query.now) common.items ≡ take count query.now) }
-    ensures audit { IfOk result (λ common. map (λ stages. stages.audit.now) common.items ≡ take count audit.now) }
+    ensures query { IfOk result (λ common. map (λ stages. stages.query.now) common.items
+        ≡ take count query.now) }
+    ensures audit { IfOk result (λ common. map (λ stages. stages.audit.now) common.items
+        ≡ take count audit.now) }
 {
     let mut common = Vec::with_capacity(alloc, count)?;
     for place in 0..count {

@@ -8,8 +8,8 @@ pub fn tuples_are_those_of_history()
     ensures { TuplesAreThoseOfHistory }
 {}
 
-/// Over the rows of a history's tables, an audit expression needs a virtual tuple exactly where its condition is true
-/// of some combination of its rows that has the tuple.
+/// Over the rows of a history's tables, an audit expression needs a virtual tuple exactly where its
+/// condition is true of some combination of its rows that has the tuple.
 pub fn audit_needs_what_it_has()
     ensures { AuditNeedsWhatItHas }
 {

@@ -30,8 +30,8 @@ fn row_place(sets: &Sets<'_>, rows: &Combo<'_>, table: usize) -> usize
     sets.get(table).find_like(rows.row(table)).unwrap_or(0)
 }
 
-/// The places of a combination's rows of some tables, which are told by their places in FROM. A row is found by its
-/// key, in time that grows with the logarithm of its table.
+/// The places of a combination's rows of some tables, which are told by their places in FROM. A row
+/// is found by its key, in time that grows with the logarithm of its table.
 pub fn row_places(
     alloc: Global,
     sets: &Sets<'_>,
@@ -74,7 +74,8 @@ impl Mark {
     /// Adds the places of the tuple that all these combinations have, if there is one.
     pub fn add_to(self, candidates: &mut BTreeSet<Places>) -> Result<(), Memory>
         ensures { OnOk result ((places : List Place)
-            → has_places places candidates.new.keys ≡ (is_one places self || has_places places candidates.old.keys)) }
+            → has_places places candidates.new.keys
+            ≡ (is_one places self || has_places places candidates.old.keys)) }
     {
         match self {
             Mark::One(places) => {

@@ -4,7 +4,7 @@ ghost use Rattle.std.specs.List.{All};
 ghost use Rattle.std.specs.List.Sorted.{IsNonDecreasing, IsPermutation};
 ghost use Rattle.hippo_join.specs.Existence.{Decides};
 ghost use Rattle.hippo_shared.specs.FirstPlaces.{AreCommon, IsFirst, IsFirstAmong, with_rows};
-ghost use Rattle.hippo_shared.specs.Searching.{AreWholeOf, FindsFirst, HasOneOf, HaveCommon, IsReady, IsStageOf, ReachesOf, Shared, SharedBy, SharedPlaces};
+ghost use Rattle.hippo_shared.specs.Searching.{AreWholeOf, FindsFirst, HasOneOf, HaveCommon, IsSearchReady, IsStageOf, ReachesOf, Shared, SharedBy, SharedPlaces};
 
 use crate::commons::{CommonPlaces, CommonStages, common_stages, order_from};
 use crate::sides::Sides;
@@ -58,7 +58,8 @@ pub(crate) fn slots_with(
 ) -> Result<Vec<Option<usize>>, Memory>
     requires below { All (λ table. table < count) tables.now }
     requires long { length places.now ≡ length tables.now }
-    ensures { IfOk result (λ slots. slots.items ≡ with_rows tables.now places.now (replicate count None)) }
+    ensures { IfOk result (λ slots. slots.items
+        ≡ with_rows tables.now places.now (replicate count None)) }
 {
     let mut slots = open_slots(alloc, count)?;
     for (index, table) in tables.iter().enumerate() {
@@ -68,7 +69,8 @@ pub(crate) fn slots_with(
 }
 
 impl<'a, C: ChoiceView> Search<'a, C> {
-    // The places that a common table's row may have, in ascending order: those of the side that leaves fewer.
+    // The places that a common table's row may have, in ascending order: those of the side that
+    // leaves fewer.
     fn places_of(
         &self,
         alloc: Global,
@@ -88,7 +90,8 @@ impl<'a, C: ChoiceView> Search<'a, C> {
         in_order(alloc, shorter(places, others))
     }
 
-    // Whether both sides may have a combination with the rows that are chosen, by the tests of two stages.
+    // Whether both sides may have a combination with the rows that are chosen, by the tests of two
+    // stages.
     fn may_share(
         &self,
         alloc: Global,
@@ -96,7 +99,8 @@ impl<'a, C: ChoiceView> Search<'a, C> {
         query: &[Option<usize>],
         audit: &[Option<usize>],
     ) -> Result<bool, Memory>
-        ensures { IfOk result (λ may. HasOneOf C.choices self.now.query.now self.now.seen.now query.now
+        ensures { IfOk result (λ may. HasOneOf C.choices self.now.query.now self.now.seen.now
+            query.now
             → HasOneOf C.choices self.now.audit.now [] audit.now → may ≡ true) }
     {
         Ok(
@@ -112,7 +116,7 @@ impl<'a, C: ChoiceView> Search<'a, C> {
         query: &mut [Option<usize>],
         audit: &mut [Option<usize>],
     ) -> Result<Option<Vec<usize>>, Memory>
-        requires { IsReady C.choices self.now [] query.old audit.old }
+        requires { IsSearchReady C.choices self.now [] query.old audit.old }
         ensures { FindsFirst C.choices self.now [] query.old audit.old query.new audit.new result }
     {
         let shares = self.query.has(alloc, self.query_stages, self.seen, query)?
@@ -120,8 +124,8 @@ impl<'a, C: ChoiceView> Search<'a, C> {
         Ok(if shares { Some(Vec::new(alloc)) } else { None })
     }
 
-    // The first places of the common tables that are left, behind a place of a stage's table: none if the tests of two
-    // stages allow none.
+    // The first places of the common tables that are left, behind a place of a stage's table: none
+    // if the tests of two stages allow none.
     #[cycle(first)]
     fn first_behind(
         &self,
@@ -132,7 +136,7 @@ impl<'a, C: ChoiceView> Search<'a, C> {
         query: &mut [Option<usize>],
         audit: &mut [Option<usize>],
     ) -> Result<Option<Vec<usize>>, Memory>
-        requires { IsReady C.choices self.now (stages.now ∷ rest.now) query.old audit.old }
+        requires { IsSearchReady C.choices self.now (stages.now ∷ rest.now) query.old audit.old }
         ensures query { OnOk result (query.new ≡ query.old) }
         ensures audit { OnOk result (audit.new ≡ audit.old) }
         ensures first { IfOk result (λ found. IsFirst (Shared C.choices self.now rest.now
@@ -152,7 +156,8 @@ impl<'a, C: ChoiceView> Search<'a, C> {
         Ok(found)
     }
 
-    // The first places of the common tables that are left, in the order of the tables; with the rows that are chosen.
+    // The first places of the common tables that are left, in the order of the tables; with the
+    // rows that are chosen.
     #[cycle(first)]
     fn first(
         &self,
@@ -161,8 +166,9 @@ impl<'a, C: ChoiceView> Search<'a, C> {
         query: &mut [Option<usize>],
         audit: &mut [Option<usize>],
     ) -> Result<Option<Vec<usize>>, Memory>
-        requires { IsReady C.choices self.now common.now query.old audit.old }
-        ensures { FindsFirst C.choices self.now common.now query.old audit.old query.new audit.new result }
+        requires { IsSearchReady C.choices self.now common.now query.old audit.old }
+        ensures { FindsFirst C.choices self.now common.now query.old audit.old query.new audit.new
+            result }
     {
         let Some((stages, rest)) = common.split_first() else {
             return self.first_of_none(alloc, query, audit);
@@ -180,11 +186,13 @@ impl<'a, C: ChoiceView> Search<'a, C> {
 impl<'a, C: ChoiceView> Search<'a, C> {
     // Whether both sides have a combination with these places of the common tables.
     fn shares(&self, alloc: Global, common: &CommonPlaces, places: &[usize]) -> Result<bool, Memory>
-        requires common { AreCommon (length self.now.query.now.sets.now) (length self.now.audit.now.sets.now)
+        requires common { AreCommon (length self.now.query.now.sets.now)
+            (length self.now.audit.now.sets.now)
             common.now.query.items common.now.audit.items }
         requires query { AreWholeOf C.choices self.now.query.now self.now.query_stages.now }
         requires audit { AreWholeOf C.choices self.now.audit.now self.now.audit_stages.now }
-        ensures { Decides (SharedPlaces C.choices self.now.query.now self.now.audit.now self.now.seen.now
+        ensures { Decides (SharedPlaces C.choices self.now.query.now self.now.audit.now
+            self.now.seen.now
             common.now.query.items common.now.audit.items places.now) result }
     {
         if places.len() != common.query.len() {
@@ -208,12 +216,15 @@ impl<'a, C: ChoiceView> Search<'a, C> {
         common: &CommonPlaces,
         candidates: &'p [Places],
     ) -> Result<Option<&'p Places>, Memory>
-        requires common { AreCommon (length self.now.query.now.sets.now) (length self.now.audit.now.sets.now)
+        requires common { AreCommon (length self.now.query.now.sets.now)
+            (length self.now.audit.now.sets.now)
             common.now.query.items common.now.audit.items }
         requires query { AreWholeOf C.choices self.now.query.now self.now.query_stages.now }
         requires audit { AreWholeOf C.choices self.now.audit.now self.now.audit_stages.now }
-        ensures { IfOk result (λ found. IsFirstAmong (SharedPlaces C.choices self.now.query.now self.now.audit.now
-            self.now.seen.now common.now.query.items common.now.audit.items) candidates.now (option_copied found)) }
+        ensures { IfOk result (λ found. IsFirstAmong
+            (SharedPlaces C.choices self.now.query.now self.now.audit.now
+            self.now.seen.now common.now.query.items common.now.audit.items) candidates.now
+            (option_copied found)) }
     {
         for places in candidates {
             if self.shares(alloc, common, places.as_slice())? {

@@ -5,7 +5,7 @@ ghost use Rattle.hippo_model.specs.RowSets.{IsAscending, key_in};
 ghost use Rattle.hippo_shared.specs.Audited.{HasRowsFor};
 ghost use Rattle.hippo_shared.specs.Searching.{HaveCommon};
 ghost use Rattle.hippo_shared.specs.Sharing.{first_shared};
-ghost use Rattle.hippo_shared.specs.Sides.{AreSidesOf, StandsFor, condition_alone};
+ghost use Rattle.hippo_shared.specs.Sides.{AreSidesOf, StandsForAudit, condition_alone};
 
 use crate::audited::Audited;
 use crate::commons::{CommonPlaces, common_places};
@@ -18,7 +18,8 @@ use hippo_model::{Audit, BornRow, ChoiceView, Exprs, Masked, Sets, SharedTuple};
 use hippo_values::{Memory, Sequence};
 use std::alloc::Global;
 
-// What stands for an audit in a search: its condition as a query, and the tables that it has in common with another.
+// What stands for an audit in a search: its condition as a query, and the tables that it has in
+// common with another.
 #[derive(Drop)]
 pub(crate) struct AuditSide {
     pub unmasked: Masked,
@@ -48,7 +49,7 @@ pub fn know_order(sets: &Sets<'_>)
 }
 
 pub(crate) fn audit_side(alloc: Global, query: &Masked, audit: &Audit) -> Result<AuditSide, Memory>
-    ensures { IfOk result (StandsFor query.now audit.now) }
+    ensures { IfOk result (StandsForAudit query.now audit.now) }
 {
     let common = common_places(alloc, query.tables.as_slice(), audit.tables.as_slice())?;
     let blank = blank_row(alloc)?;
@@ -68,7 +69,7 @@ pub(crate) fn sides_of<'s, C: ChoiceView>(
     side: &'s AuditSide,
 ) -> Sides<'s, C>
     requires rows { HasRowsFor query.now.tables audited.now }
-    requires side { StandsFor query.now audited.now.audit.now side.now }
+    requires side { StandsForAudit query.now audited.now.audit.now side.now }
     ensures are { AreSidesOf query.now seen.now audited.now result }
     ensures common { HaveCommon result }
 {
@@ -99,8 +100,9 @@ fn first_beside<C: ChoiceView>(
     side: &AuditSide,
 ) -> Result<Option<SharedTuple>, Memory>
     requires rows { HasRowsFor query.now.tables audited.now }
-    requires side { StandsFor query.now audited.now.audit.now side.now }
-    ensures { IfOk result (λ shared. shared ≡ first_shared (C.choices audited.now.choices.now) query.now
+    requires side { StandsForAudit query.now audited.now.audit.now side.now }
+    ensures { IfOk result (λ shared. shared
+        ≡ first_shared (C.choices audited.now.choices.now) query.now
         audited.now.audit.now seen.now audited.now.query_sets.now audited.now.audit_sets.now) }
 {
     know_order(audited.audit_sets);
@@ -121,13 +123,14 @@ fn first_beside<C: ChoiceView>(
     }
 }
 
-/// The first virtual tuple (a row of each table in both FROM lists, by its key; in the audit's order) that some
-/// combination of the query's rows has which makes a row of its answer and in which each expression of `seen` is a
-/// shown cell, and that some combination of the audit's rows has of which its condition is true; none exactly where
-/// there is none. Wants the rows of each side's tables, in the order of FROM, the same ones of a table that both have;
-/// and an audit that names no table twice. Where look-ups on either side tell the only rows of the common tables, or few
-/// of one, takes time in proportion to what they find; else to the tables and to what matches on the way to the
-/// first tuple.
+/// The first virtual tuple (a row of each table in both FROM lists, by its key; in the audit's
+/// order) that some combination of the query's rows has which makes a row of its answer and in
+/// which each expression of `seen` is a shown cell, and that some combination of the audit's rows
+/// has of which its condition is true; none exactly where there is none. Wants the rows of each
+/// side's tables, in the order of FROM, the same ones of a table that both have; and an audit that
+/// names no table twice. Where look-ups on either side tell the only rows of the common tables, or
+/// few of one, takes time in proportion to what they find; else to the tables and to what matches
+/// on the way to the first tuple.
 pub fn first_shared<C: ChoiceView>(
     alloc: Global,
     query: &Masked,
@@ -135,7 +138,8 @@ pub fn first_shared<C: ChoiceView>(
     audited: &Audited<'_, C>,
 ) -> Result<Option<SharedTuple>, Memory>
     requires { HasRowsFor query.now.tables audited.now }
-    ensures { IfOk result (λ shared. shared ≡ first_shared (C.choices audited.now.choices.now) query.now
+    ensures { IfOk result (λ shared. shared
+        ≡ first_shared (C.choices audited.now.choices.now) query.now
         audited.now.audit.now seen.now audited.now.query_sets.now audited.now.audit_sets.now) }
 {
     let side = audit_side(alloc, query, audited.audit)?;

@@ -1,4 +1,5 @@
-//! The first places of the common tables' rows, where look-ups alone tell the only ones that both sides may have.
+//! The first places of the common tables' rows, where look-ups alone tell the only ones that both
+//! sides may have.
 ghost use Rattle.std.specs.Prelude.{◌≡◌, ◌<◌, [], ◌∷◌, None, Some, IfOk, IfSome, if◌then◌else◌, get_or, length, map, option_copied, option_map, replicate};
 ghost use Rattle.std.specs.List.{All};
 ghost use Rattle.hippo_join.specs.Existence.{Decides};
@@ -32,7 +33,8 @@ fn chosen_in(
     tables: &[usize],
     slots: &[Option<usize>],
 ) -> Result<Option<Vec<usize>>, Memory>
-    ensures { IfOk result (λ found. IfSome found (λ places. AreChosen slots.now tables.now places.items)) }
+    ensures { IfOk result (λ found. IfSome found
+        (λ places. AreChosen slots.now tables.now places.items)) }
 {
     let mut places = Vec::with_capacity(alloc, tables.len())?;
     for table in tables {
@@ -44,13 +46,15 @@ fn chosen_in(
     Ok(Some(places))
 }
 
-// The places of some tables that each combination has which counts for a side, where look-ups tell them all.
+// The places of some tables that each combination has which counts for a side, where look-ups tell
+// them all.
 fn told_places<C: ChoiceView>(
     alloc: Global,
     side: &Side<'_, C>,
     tables: &[usize],
 ) -> Result<Option<Vec<usize>>, Memory>
-    ensures { IfOk result (λ found. IfSome found (λ places. AreTold C.choices side.now tables.now places.items)) }
+    ensures { IfOk result (λ found. IfSome found
+        (λ places. AreTold C.choices side.now tables.now places.items)) }
 {
     let slots = side.settled(alloc)?;
     let found = chosen_in(alloc, tables, &slots)?;
@@ -63,7 +67,8 @@ fn told_by_either<C: ChoiceView>(
     sides: &Sides<'_, C>,
 ) -> Result<Option<Vec<usize>>, Memory>
     requires { HaveCommon sides.now }
-    ensures { IfOk result (λ found. IfSome found (λ told. IsOnlyShared C.choices sides.now told.items)) }
+    ensures { IfOk result (λ found. IfSome found
+        (λ told. IsOnlyShared C.choices sides.now told.items)) }
 {
     if let Some(places) = told_places(alloc, &sides.query, &sides.common.query)? {
         return Ok(Some(places));
@@ -72,7 +77,8 @@ fn told_by_either<C: ChoiceView>(
     Ok(found)
 }
 
-// Whether a side has a combination with these places of some tables: the others are joined behind them.
+// Whether a side has a combination with these places of some tables: the others are joined behind
+// them.
 fn has_at<C: ChoiceView>(
     alloc: Global,
     side: &Side<'_, C>,
@@ -123,7 +129,8 @@ fn first_told<C: ChoiceView>(
 ) -> Result<Option<Vec<usize>>, Memory>
     requires common { HaveCommon sides.now }
     requires told { IsOnlyShared C.choices sides.now told.items }
-    ensures { IfOk result (λ found. IsFirst (SharedBy C.choices sides.now) (option_map (λ places. places.items) found)) }
+    ensures { IfOk result (λ found. IsFirst (SharedBy C.choices sides.now)
+        (option_map (λ places. places.items) found)) }
 {
     let shares = share_at(alloc, sides, &told)?;
     Ok(kept_if(shares, told))
@@ -140,15 +147,16 @@ fn only_table(tables: &[usize]) -> Option<usize>
     }
 }
 
-// The places of a table's rows, in ascending order, among which each combination has one that counts for a side: where
-// it is the only table, and look-ups find few.
+// The places of a table's rows, in ascending order, among which each combination has one that
+// counts for a side: where it is the only table, and look-ups find few.
 fn few_places<C: ChoiceView>(
     alloc: Global,
     side: &Side<'_, C>,
     tables: &[usize],
 ) -> Result<Option<Vec<usize>>, Memory>
     requires { All (λ table. table < length side.now.sets.now) tables.now }
-    ensures { IfOk result (λ found. IfSome found (λ places. AreFewOf C.choices side.now tables.now places.items)) }
+    ensures { IfOk result (λ found. IfSome found
+        (λ places. AreFewOf C.choices side.now tables.now places.items)) }
 {
     let Some(table) = only_table(tables) else {
         return Ok(None);
@@ -161,13 +169,15 @@ fn few_places<C: ChoiceView>(
     Ok(Some(sorted))
 }
 
-// The places of the one common table among which those are that are shared, where look-ups on either side find few.
+// The places of the one common table among which those are that are shared, where look-ups on
+// either side find few.
 fn few_by_either<C: ChoiceView>(
     alloc: Global,
     sides: &Sides<'_, C>,
 ) -> Result<Option<Vec<usize>>, Memory>
     requires { HaveCommon sides.now }
-    ensures { IfOk result (λ found. IfSome found (λ few. AreFewShared C.choices sides.now few.items)) }
+    ensures { IfOk result (λ found. IfSome found
+        (λ few. AreFewShared C.choices sides.now few.items)) }
 {
     if let Some(places) = few_places(alloc, &sides.query, &sides.common.query)? {
         return Ok(Some(places));
@@ -197,7 +207,8 @@ fn singles(alloc: Global, places: &[usize]) -> Result<Vec<Places>, Memory>
 }
 
 fn copied(alloc: Global, places: Option<&Places>) -> Result<Option<Vec<usize>>, Memory>
-    ensures { IfOk result (λ made. option_map (λ copy. copy.items) made ≡ option_copied places.entry) }
+    ensures { IfOk result (λ made. option_map (λ copy. copy.items) made
+        ≡ option_copied places.entry) }
 {
     match places {
         Some(places) => {
@@ -216,7 +227,8 @@ fn first_of_few<C: ChoiceView>(
 ) -> Result<Option<Vec<usize>>, Memory>
     requires common { HaveCommon sides.now }
     requires few { AreFewShared C.choices sides.now few.now }
-    ensures { IfOk result (λ found. IsFirst (SharedBy C.choices sides.now) (option_map (λ places. places.items) found)) }
+    ensures { IfOk result (λ found. IsFirst (SharedBy C.choices sides.now)
+        (option_map (λ places. places.items) found)) }
 {
     let candidates = singles(alloc, few)?;
     let found = first_looked_up(alloc, sides, &candidates)?;
@@ -229,7 +241,8 @@ pub(crate) fn first_places<C: ChoiceView>(
     sides: &Sides<'_, C>,
 ) -> Result<Option<Vec<usize>>, Memory>
     requires { HaveCommon sides.now }
-    ensures { IfOk result (λ found. IsFirst (SharedBy C.choices sides.now) (option_map (λ places. places.items) found)) }
+    ensures { IfOk result (λ found. IsFirst (SharedBy C.choices sides.now)
+        (option_map (λ places. places.items) found)) }
 {
     if let Some(told) = told_by_either(alloc, sides)? {
         return first_told(alloc, sides, told);
@@ -247,7 +260,8 @@ fn first_looked_up<'p, C: ChoiceView>(
     candidates: &'p [Places],
 ) -> Result<Option<&'p Places>, Memory>
     requires { HaveCommon sides.now }
-    ensures { IfOk result (λ found. IsFirstAmong (SharedBy C.choices sides.now) candidates.now (option_copied found)) }
+    ensures { IfOk result (λ found. IsFirstAmong (SharedBy C.choices sides.now) candidates.now
+        (option_copied found)) }
 {
     for places in candidates {
         if share_at(alloc, sides, places.as_slice())? {
@@ -264,7 +278,8 @@ pub(crate) fn first_candidate<'p, C: ChoiceView>(
     candidates: &'p [Places],
 ) -> Result<Option<&'p Places>, Memory>
     requires { HaveCommon sides.now }
-    ensures { IfOk result (λ found. IsFirstAmong (SharedBy C.choices sides.now) candidates.now (option_copied found)) }
+    ensures { IfOk result (λ found. IsFirstAmong (SharedBy C.choices sides.now) candidates.now
+        (option_copied found)) }
 {
     if candidates.len() <= FEW {
         first_looked_up(alloc, sides, candidates)

@@ -2,7 +2,7 @@
 ghost use Rattle.std.specs.Prelude.{◌≡◌, ◌<◌, IfOk, length};
 ghost use Rattle.std.specs.List.{All};
 ghost use Rattle.hippo_model.specs.RowSets.{key_in};
-ghost use Rattle.hippo_join.specs.Places.{row_at};
+ghost use Rattle.hippo_join.specs.Places.{row_at_place};
 ghost use Rattle.hippo_shared.specs.Tuples.{tuple_at};
 
 use hippo_join::value_at;
@@ -12,7 +12,7 @@ use std::alloc::Global;
 
 // The key of the row at a place.
 fn key_at(alloc: Global, set: &RowSet, place: usize) -> Result<Cells, Memory>
-    ensures { IfOk result (λ key. key ≡ key_in set.now.key (row_at set.now.rows place)) }
+    ensures { IfOk result (λ key. key ≡ key_in set.now.key (row_at_place set.now.rows place)) }
 {
     let mut key = Sequence::with_capacity(alloc, set.key().len())?;
     for column in set.key().as_slice() {

@@ -20,7 +20,7 @@ use Rattle.hippo_showing.specs.declared.endings.Ending.TheVariants.{WriteFault, 
 use Rattle.hippo_showing.specs.Endings.{cuts}
 use Rattle.hippo_showing.specs.Saying.{Says, Writes, CountsWrites}
 use Rattle.hippo_showing.specs.ByNames.{shown_as, entry_shown, clock_after, entries_shown, clock_at_end}
-use Rattle.hippo_showing.specs.Showing.{is_asked}
+use Rattle.hippo_showing.specs.Showing.{is_in_excerpt}
 use Rattle.hippo_showing.specs.Progress.{HasForms, ShowsEntry, ShowsKept}
 use Rattle.hippo_showing.proofs.WriteLemmas.{none_written, none_of, whole_front, CountsWrites-same}
 
@@ -29,7 +29,7 @@ no_damage other is = other (same_Some _ _ is)
 
 module _ (known : KnownNames) (excerpt : Excerpt) (entry : Entry) (clock : Option Moment) where
   -- an entry that is not asked for
-  pub unasked : (written : Option Txt) (faults : ℕ) → false ≡ is_asked known excerpt entry → ShowsEntry known excerpt entry None clock clock written written faults faults
+  pub unasked : (written : Option Txt) (faults : ℕ) → false ≡ is_in_excerpt known excerpt entry → ShowsEntry known excerpt entry None clock clock written written faults faults
   unasked written faults is = record {
     ends = refl;
     sound = λ e. cc;
@@ -54,7 +54,7 @@ module _ (known : KnownNames) (excerpt : Excerpt) (entry : Entry) (clock : Optio
   }
 
   -- an entry that is asked for
-  module _ (written written' : Option Txt) (faults faults' : ℕ) (is : true ≡ is_asked known excerpt entry) where
+  module _ (written written' : Option Txt) (faults faults' : ℕ) (is : true ≡ is_in_excerpt known excerpt entry) where
     lines : shown_as known excerpt.form clock entry ≡ entry_shown known excerpt clock entry
     lines = ap (λ (b : Bool). cond b (shown_as known excerpt.form clock entry) []) is
 

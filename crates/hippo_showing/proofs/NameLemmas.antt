@@ -33,7 +33,7 @@ use Rattle.hippo_showing.specs.declared.asking.Scope.{Scope}
 use Rattle.hippo_showing.specs.declared.asking.Scope.TheVariants.{Whole, Table}
 use Rattle.hippo_formats.specs.Formats.{entry_by}
 use Rattle.hippo_showing.specs.ByNames.{schema_named, shown_as, entry_shown, clock_after, entries_shown}
-use Rattle.hippo_showing.specs.Showing.{is_within, is_of, is_asked, act_lines, clock_line, told_as, is_told, entry_told, clock_then, entries_told}
+use Rattle.hippo_showing.specs.Showing.{is_in_scope, is_of, is_in_excerpt, act_lines, clock_line, told_as, is_told, entry_told, clock_then, entries_told}
 
 found_there : {A : Type 0} (test : A → Bool) (found : Option A) → option_map_or test found false ≡ true → ((x : A) × (found ≡ Some x))
 found_there test None passes = absurd (false≢true passes)
@@ -58,7 +58,7 @@ meaning_lasts front later text query is =
 -- an entry finds what the whole history has
 record FindsSame (history : History) (excerpt : Excerpt) (entry : Entry) : Type 0 where
   schema : schema_named (known_at history) entry.act ≡ schema_before history entry
-  asked : is_asked (known_at history) excerpt entry ≡ is_told history excerpt entry
+  asked : is_in_excerpt (known_at history) excerpt entry ≡ is_told history excerpt entry
 
 module _ (front : History) (entry : Entry) (later : History) (valid : is_valid meaning (front ++ entry ∷ later) ≡ true) where
   abbrev whole : History
@@ -95,7 +95,7 @@ module _ (front : History) (entry : Entry) (later : History) (valid : is_valid m
       passing (has_columns columns) table (and_parts (pair_exists front purpose recipient) (table_passes front (has_columns columns) table) fits).1
   schema_same act fits = refl
 
-  within_same : (scope : Scope) (act : Act) → is_acceptable meaning front act ≡ true → is_within (known_at whole) scope act ≡ is_within (known_at front) scope act
+  within_same : (scope : Scope) (act : Act) → is_acceptable meaning front act ≡ true → is_in_scope (known_at whole) scope act ≡ is_in_scope (known_at front) scope act
   within_same Whole act fits = refl
   within_same (Table table) (Asked user purpose recipient text) fits =
       let meant = some_there (meaning front text) (and_parts (is_authorized (authorized_at front user purpose recipient)) (is_some (meaning front text)) fits).1 in
@@ -107,7 +107,7 @@ module _ (front : History) (entry : Entry) (later : History) (valid : is_valid m
   finds_same excerpt = record {
     schema = schema_same entry.act acceptable ∙ ap (λ (h : History). option_and_then (schema_at h) (table_named entry.act)) (sym before);
     asked = ap (λ (within : Bool). nat_le excerpt.first entry.seq && nat_le entry.seq excerpt.last && is_of excerpt.acts entry.act && within) (within_same excerpt.scope entry.act acceptable)
-        ∙ ap (λ (h : History). is_asked (known_at h) excerpt entry) (sym before);
+        ∙ ap (λ (h : History). is_in_excerpt (known_at h) excerpt entry) (sym before);
   }
 
 module _ (history : History) (excerpt : Excerpt) (entry : Entry) (finds : FindsSame history excerpt entry) (clock : Option Moment) where

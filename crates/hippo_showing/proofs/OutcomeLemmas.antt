@@ -16,16 +16,16 @@ use Rattle.hippo_typing.specs.Meanings.{meaning}
 use Rattle.hippo_replay.specs.declared.faults.LoadFault.{LoadFault}
 use Rattle.hippo_replay.specs.declared.faults.LoadFault.TheVariants.{Keeper, Damaged as DamagedAt, Memory}
 use Rattle.hippo_replay.specs.declared.state.State.{State}
-use Rattle.hippo_replay.specs.Loading.{as_call as as_load_call, KeepsFound, IsLoaded, Loads}
+use Rattle.hippo_replay.specs.Loading.{load_as_call as as_load_call, KeepsFound, IsLoaded, Loads}
 use Rattle.hippo_keeper.proofs.CallLemmas.{IsAfterCall-then}
 use Rattle.hippo_replay.proofs.LoadingLemmas.{Loads-ready}
 use Rattle.hippo_keeper.proofs.Results.{ok_of, err_of}
 use Rattle.hippo_showing.specs.declared.asking.View.{View}
 use Rattle.hippo_showing.specs.declared.endings.Ending.{Ending}
 use Rattle.hippo_showing.specs.declared.endings.Ending.TheVariants.{Shown, Refused, KeeperFault, WriteFault, Damaged, NoMemory}
-use Rattle.hippo_showing.specs.Endings.{as_call}
+use Rattle.hippo_showing.specs.Endings.{showing_as_call}
 use Rattle.hippo_showing.specs.Saying.{CountsWrites}
-use Rattle.hippo_showing.specs.Showing.{shown}
+use Rattle.hippo_showing.specs.Showing.{shown_text}
 use Rattle.hippo_showing.specs.Progress.{HasForms, ShowsLoaded}
 use Rattle.hippo_showing.specs.Outcomes.{FromFound, KeepsDamaged, Ends, Stops}
 
@@ -55,7 +55,7 @@ module _ (name : Txt) (view : View) (state : State) (before loaded after : Keepe
     (written written' : Option Txt) (faults faults' start mid end : ℕ)
     (loads : Loads name (ok_of LoadFault state) before loaded start mid)
     (shows : ShowsLoaded state view result loaded after written written' faults faults' mid end) where
-  pub show_call : IsAfterCall after.started after.closed (as_call result) before after
+  pub show_call : IsAfterCall after.started after.closed (showing_as_call result) before after
   show_call =
       let ready = Loads-ready name (ok_of LoadFault state) before loaded start mid loads refl in
       let first : IsAfterCall {A = Unit {0}} true false (Ok tt) before loaded = record {
@@ -66,7 +66,7 @@ module _ (name : Txt) (view : View) (state : State) (before loaded after : Keepe
         told = loads.call.told;
         faults = loads.call.faults;
       } in
-      as_it_is true false (as_call result) before after (IsAfterCall-then {A = Unit {0}} false (Ok tt) (as_call result) before loaded after refl first shows.call)
+      as_it_is true false (showing_as_call result) before after (IsAfterCall-then {A = Unit {0}} false (Ok tt) (showing_as_call result) before loaded after refl first shows.call)
 
   module _ (tells : after.tells) where
     abbrev told : loaded.tells
@@ -102,11 +102,11 @@ module _ (name : Txt) (view : View) (state : State) (before loaded after : Keepe
       each = λ other is. subst holds (one_history meaning after.kept is_loaded.history other store is) it;
     }
 
-    front : FromFound name (λ history. AppendsFront written written' (shown view history)) before after
-    front = from_found (λ history. AppendsFront written written' (shown view history)) (shows.front tells is_loaded.history is_loaded.stands forms)
+    front : FromFound name (λ history. AppendsFront written written' (shown_text view history)) before after
+    front = from_found (λ history. AppendsFront written written' (shown_text view history)) (shows.front tells is_loaded.history is_loaded.stands forms)
 
-    whole : result ≡ Shown → FromFound name (λ history. Appends written written' (shown view history)) before after
-    whole is = from_found (λ history. Appends written written' (shown view history)) (shows.whole is tells is_loaded.history is_loaded.stands forms)
+    whole : result ≡ Shown → FromFound name (λ history. Appends written written' (shown_text view history)) before after
+    whole is = from_found (λ history. Appends written written' (shown_text view history)) (shows.whole is tells is_loaded.history is_loaded.stands forms)
 
     undamaged : result ≡ Damaged → ⊥
     undamaged is = shows.damaged is tells is_loaded.history forms
@@ -159,18 +159,18 @@ module _ (name : Txt) (view : View) (before after : KeeperState) (written writte
   stop_status Memory result unwritten stops is = absurd (let e : NoMemory ≡ Refused = sym stops.0 ∙ is in cc)
 
   pub stop_call : (fault : LoadFault) (result : Ending) (unwritten : Type 0) → Stops fault result unwritten written written' faults faults'
-      → Loads name (err_of State fault) before after start end → IsAfterCall after.started after.closed (as_call result) before after
+      → Loads name (err_of State fault) before after start end → IsAfterCall after.started after.closed (showing_as_call result) before after
   stop_call Keeper result unwritten stops loads =
-      subst (λ (r : Ending). IsAfterCall after.started after.closed (as_call r) before after) (sym stops.0) (as_it_is _ _ (as_call KeeperFault) before after loads.call)
+      subst (λ (r : Ending). IsAfterCall after.started after.closed (showing_as_call r) before after) (sym stops.0) (as_it_is _ _ (showing_as_call KeeperFault) before after loads.call)
   stop_call (DamagedAt place) result unwritten stops loads =
       elim stops [
-        | inl all ↦ subst (λ (r : Ending). IsAfterCall after.started after.closed (as_call r) before after) (sym all.0) (as_it_is _ _ (as_call Damaged) before after loads.call)
-        | inr front ↦ subst (λ (r : Ending). IsAfterCall after.started after.closed (as_call r) before after) (sym front.0) (as_it_is _ _ (as_call WriteFault) before after loads.call)
+        | inl all ↦ subst (λ (r : Ending). IsAfterCall after.started after.closed (showing_as_call r) before after) (sym all.0) (as_it_is _ _ (showing_as_call Damaged) before after loads.call)
+        | inr front ↦ subst (λ (r : Ending). IsAfterCall after.started after.closed (showing_as_call r) before after) (sym front.0) (as_it_is _ _ (showing_as_call WriteFault) before after loads.call)
       ]
   stop_call Memory result unwritten stops loads =
-      subst (λ (r : Ending). IsAfterCall after.started after.closed (as_call r) before after) (sym stops.0) (of_memory loads.call)
+      subst (λ (r : Ending). IsAfterCall after.started after.closed (showing_as_call r) before after) (sym stops.0) (of_memory loads.call)
     where
-      of_memory : {started closed : Bool} → IsAfterCall started closed (as_load_call (err_of State Memory)) before after → IsAfterCall after.started after.closed (as_call NoMemory) before after
+      of_memory : {started closed : Bool} → IsAfterCall started closed (as_load_call (err_of State Memory)) before after → IsAfterCall after.started after.closed (showing_as_call NoMemory) before after
       of_memory call = record {
         is_sound = call.is_sound;
         started_is = refl;

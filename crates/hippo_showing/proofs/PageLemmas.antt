@@ -4,7 +4,7 @@ use Rattle.std.proofs.lemmas.Bool.{false≢true}
 use Rattle.hippo_values.specs.Texts.{Txt}
 use Rattle.hippo_io.specs.Told.{Appends, AppendsFront}
 use Rattle.hippo_model.specs.Terms.{History}
-use Rattle.hippo_policy.specs.Books.{StandsFor as BookStandsFor}
+use Rattle.hippo_policy.specs.Books.{BookStandsFor}
 use Rattle.hippo_keeper.specs.Keeping.{KeeperState, IsReady}
 use Rattle.hippo_keeper.proofs.CallLemmas.{IsAfterCall-none, KeepsSame-here}
 use Rattle.hippo_replay.specs.Standing.{StandsFor}
@@ -14,11 +14,11 @@ use Rattle.hippo_showing.specs.declared.asking.Page.{Page}
 use Rattle.hippo_showing.specs.declared.asking.View.TheVariants.{Entries, Rules}
 use Rattle.hippo_showing.specs.declared.endings.Ending.{Ending}
 use Rattle.hippo_showing.specs.declared.endings.Ending.TheVariants.{Shown, Refused, KeeperFault, WriteFault, Damaged, NoMemory}
-use Rattle.hippo_showing.specs.Endings.{as_call}
+use Rattle.hippo_showing.specs.Endings.{showing_as_call}
 use Rattle.hippo_showing.specs.Ruling.{rules_by_names}
 use Rattle.hippo_showing.specs.Saying.{Writes}
 use Rattle.hippo_showing.specs.ByNames.{entries_shown}
-use Rattle.hippo_showing.specs.Showing.{shown}
+use Rattle.hippo_showing.specs.Showing.{shown_text}
 use Rattle.hippo_showing.specs.Progress.{ShowsAll, WritesPage, ShowsLoaded}
 use Rattle.hippo_showing.proofs.NameLemmas.{told_by_names}
 use Rattle.hippo_showing.proofs.PolicyLemmas.{rules_of_first}
@@ -77,7 +77,7 @@ module _ (state : State) (written written' : Option Txt) (faults faults' : ℕ) 
     steps = shows.steps;
   }
     where
-      named : (history : History) → StandsFor state history → entries_shown state.catalog.names excerpt None history ≡ shown (Entries excerpt) history
+      named : (history : History) → StandsFor state history → entries_shown state.catalog.names excerpt None history ≡ shown_text (Entries excerpt) history
       named history stands = ap (λ known. entries_shown known excerpt None history) stands.names ∙ told_by_names history stands.valid excerpt None
 
   -- and so are the rules, by those that it holds; nothing is read for them
@@ -85,7 +85,7 @@ module _ (state : State) (written written' : Option Txt) (faults faults' : ℕ) 
     abbrev text : History → Txt
     text history = rules_by_names state.catalog.names page.format page.scope (take page.last history)
 
-    named : (history : History) → StandsFor state history → text history ≡ shown (Rules page) history
+    named : (history : History) → StandsFor state history → text history ≡ shown_text (Rules page) history
     named history stands =
         ap (λ known. rules_by_names known page.format page.scope (take page.last history)) stands.names ∙ rules_of_first history stands.valid page.last page.format page.scope
 
@@ -93,12 +93,12 @@ module _ (state : State) (written written' : Option Txt) (faults faults' : ℕ) 
     Loaded result = ShowsLoaded state (Rules page) result keeper keeper written written' faults faults' ticks ticks
 
     front : {cut : Option Ending} → WritesPage (BookStandsFor state.book) text cut written written' faults faults'
-        → (history : History) → StandsFor state history → AppendsFront written written' (shown (Rules page) history)
+        → (history : History) → StandsFor state history → AppendsFront written written' (shown_text (Rules page) history)
     front writes history stands = subst (AppendsFront written written') (named history stands) (writes.front history stands.book)
 
     pub loaded_rules : (cut : Option Ending) → WritesPage (BookStandsFor state.book) text cut written written' faults faults' → Loaded (unwrap_or cut Shown)
     loaded_rules None writes = record {
-      call = IsAfterCall-none (as_call Shown) keeper refl ready;
+      call = IsAfterCall-none (showing_as_call Shown) keeper refl ready;
       stays = λ tells. KeepsSame-here keeper;
       status = λ e. cc;
       writes = record { cause = λ e. absurd cc; unfailed = λ e. writes.writes.unfailed (λ e. cc) };
@@ -108,7 +108,7 @@ module _ (state : State) (written written' : Option Txt) (faults faults' : ℕ) 
       steps = λ tells. omega arith;
     }
     loaded_rules (Some WriteFault) writes = record {
-      call = IsAfterCall-none (as_call WriteFault) keeper refl ready;
+      call = IsAfterCall-none (showing_as_call WriteFault) keeper refl ready;
       stays = λ tells. KeepsSame-here keeper;
       status = λ e. cc;
       writes = writes.writes;
@@ -118,7 +118,7 @@ module _ (state : State) (written written' : Option Txt) (faults faults' : ℕ) 
       steps = λ tells. omega arith;
     }
     loaded_rules (Some NoMemory) writes = record {
-      call = IsAfterCall-none (as_call NoMemory) keeper refl ready;
+      call = IsAfterCall-none (showing_as_call NoMemory) keeper refl ready;
       stays = λ tells. KeepsSame-here keeper;
       status = λ e. cc;
       writes = writes.writes;

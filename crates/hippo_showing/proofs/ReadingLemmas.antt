@@ -11,14 +11,14 @@ use Rattle.hippo_keeper.specs.declared.faults.KeeperFault.{KeeperFault as Fault}
 use Rattle.hippo_keeper.specs.declared.faults.KeeperFault.TheVariants as keeper_faults
 use Rattle.hippo_keeper.specs.Answering.{has_failed}
 use Rattle.hippo_keeper.specs.Keeping.{Store, RisesAbove, last_number, KeeperState, IsReady, IsAfterCall}
-use Rattle.hippo_keeper.specs.Selecting.{is_any, stored_versions, handed_over, Reads}
+use Rattle.hippo_keeper.specs.Selecting.{is_any, stored_versions, handed_over, ReadsEntries}
 use Rattle.hippo_replay.proofs.KeeperLemmas.{handed_over-behind, nothing_taken}
 use Rattle.hippo_keeper.proofs.CallLemmas.{KeepsSame-here, KeepsSame-then, KeepsSame-Stays, IsAfterCall-then, IsAfterCall-as, IsAfterCall-none, IsReady-after}
 use Rattle.hippo_replay.proofs.ReadingLemmas.{versions-append}
 use Rattle.hippo_showing.specs.declared.asking.Excerpt.{Excerpt}
 use Rattle.hippo_showing.specs.declared.endings.Ending.{Ending}
 use Rattle.hippo_showing.specs.declared.endings.Ending.TheVariants.{Shown, Refused, KeeperFault, WriteFault, Damaged, NoMemory}
-use Rattle.hippo_showing.specs.Endings.{as_call, as_part, ending_of, cuts, cut_of}
+use Rattle.hippo_showing.specs.Endings.{showing_as_call, as_part, ending_of, cuts, cut_of}
 use Rattle.hippo_showing.specs.Saying.{CountsWrites}
 use Rattle.hippo_showing.specs.ByNames.{entries_shown}
 use Rattle.hippo_showing.specs.Progress.{HasForms, ShowsKept, IsReadUpTo, ShowsNext, IsShowing, ShowsAll}
@@ -41,7 +41,7 @@ cuts_so (Some Refused) is = absurd (false≢true is)
 cuts_so (Some KeeperFault) is = absurd (false≢true is)
 
 module _ (known : KnownNames) (excerpt : Excerpt) (max number : ℕ) (before after : KeeperState) (piece : Store) (steps steps' : ℕ)
-    (reads : Reads is_any number max (Ok piece) before after) (counted : steps' ≡ steps + stored_versions piece) where
+    (reads : ReadsEntries is_any number max (Ok piece) before after) (counted : steps' ≡ steps + stored_versions piece) where
   handed : after.tells → (read rest : Store) → IsReadUpTo number before read rest → piece ≡ take max rest
   handed tells read rest upto =
       reads.ok.told tells ∙ ap (handed_over is_any number max) upto.whole
@@ -90,7 +90,7 @@ module _ (known : KnownNames) (excerpt : Excerpt) (max number : ℕ) (before aft
 
 -- the keeper did not answer
 pub ShowsNext-fault : (known : KnownNames) (excerpt : Excerpt) (max number : ℕ) (before after : KeeperState) (steps steps' : ℕ) (fault : Fault) (clock : Option Moment) (written : Option Txt) (faults : ℕ)
-    → Reads is_any number max (Err fault) before after → steps' ≡ steps + 0
+    → ReadsEntries is_any number max (Err fault) before after → steps' ≡ steps + 0
     → ShowsNext known excerpt (Some (ending_of fault)) before after number number clock clock written written faults faults steps steps'
 ShowsNext-fault known excerpt max number before after steps steps' keeper_faults.Failed clock written faults reads counted = record {
   call = IsAfterCall-as true false (Err keeper_faults.Failed) (as_part (Some KeeperFault)) before after refl reads.call;
@@ -211,7 +211,7 @@ module _ (known : KnownNames) (excerpt : Excerpt) (before now after : KeeperStat
 
       pub ShowsAll-end : ShowsAll known excerpt ending before after start written' faults faults'' steps steps''
       ShowsAll-end = record {
-        call = IsAfterCall-then {A = Unit {0}} false (Ok tt) (as_call ending) before now after refl so_far.call next.call;
+        call = IsAfterCall-then {A = Unit {0}} false (Ok tt) (showing_as_call ending) before now after refl so_far.call next.call;
         stays = λ tells. KeepsSame-then before now after (so_far.stays (next.call.told tells)) (next.stays tells);
         status = λ is. next.status (ap Some is);
         writes = writes_of ending all.writes;

@@ -1,5 +1,5 @@
--- What is shown of entries by some names, whatever entry found them: a valid history's entries are shown so by the names
--- of the whole history.
+-- What is shown of entries by some names, whatever entry found them: a valid history's entries are
+-- shown so by the names of the whole history.
 use Rattle.std.specs.Prelude.{[], ◌∷◌, ◌++◌, Option, Some, option_and_then, if◌then◌else◌}
 use Rattle.hippo_values.specs.Texts.{Txt}
 use Rattle.hippo_values.specs.declared.moments.Moment.{Moment}
@@ -13,7 +13,7 @@ use Rattle.hippo_showing.specs.declared.asking.Excerpt.{Excerpt}
 use Rattle.hippo_showing.specs.declared.asking.Form.{Form}
 use Rattle.hippo_showing.specs.declared.asking.Form.TheVariants.{Listing, Script}
 use Rattle.hippo_formats.specs.Formats.{entry_by}
-use Rattle.hippo_showing.specs.Showing.{is_asked, act_lines, clock_line}
+use Rattle.hippo_showing.specs.Showing.{is_in_excerpt, act_lines, clock_line}
 
 -- the schema of the table that an act names
 abbrev pub schema_named : KnownNames → Act → Option Schema
@@ -22,20 +22,23 @@ schema_named known act = option_and_then (table_of known) (table_named act)
 -- an entry as it is shown
 abbrev pub shown_as : KnownNames → Form → Option Moment → Entry → Txt
 shown_as known (Listing format) clock entry = entry_by format (schema_named known entry.act) entry
-shown_as known Script clock entry = clock_line clock entry.moment ++ act_lines (schema_named known entry.act) entry.act
+shown_as known Script clock entry =
+    clock_line clock entry.moment ++ act_lines (schema_named known entry.act) entry.act
 
 abbrev pub entry_shown : KnownNames → Excerpt → Option Moment → Entry → Txt
 entry_shown known excerpt clock entry =
-    if is_asked known excerpt entry then shown_as known excerpt.form clock entry else []
+    if is_in_excerpt known excerpt entry then shown_as known excerpt.form clock entry else []
 
 abbrev pub clock_after : KnownNames → Excerpt → Option Moment → Entry → Option Moment
-clock_after known excerpt clock entry = if is_asked known excerpt entry then Some entry.moment else clock
+clock_after known excerpt clock entry =
+    if is_in_excerpt known excerpt entry then Some entry.moment else clock
 
 -- entries one after the other
 abbrev pub entries_shown : KnownNames → Excerpt → Option Moment → History → Txt
 entries_shown known excerpt clock [] = []
 entries_shown known excerpt clock (entry ∷ later) =
-    entry_shown known excerpt clock entry ++ entries_shown known excerpt (clock_after known excerpt clock entry) later
+    entry_shown known excerpt clock entry
+    ++ entries_shown known excerpt (clock_after known excerpt clock entry) later
 
 abbrev pub clock_at_end : KnownNames → Excerpt → Option Moment → History → Option Moment
 clock_at_end known excerpt clock [] = clock

@@ -5,18 +5,18 @@ use Rattle.hippo_keeper.specs.declared.faults.KeeperFault.TheVariants as faults
 use Rattle.hippo_showing.specs.declared.endings.Ending.{Ending}
 use Rattle.hippo_showing.specs.declared.endings.Ending.TheVariants.{Shown, Refused, KeeperFault, WriteFault, Damaged, NoMemory}
 
-abbrev pub status_of : Ending → ℕ
-status_of Shown = 0
-status_of Refused = 2
-status_of KeeperFault = 3
-status_of WriteFault = 5
-status_of Damaged = 6
-status_of NoMemory = 7
+abbrev pub showing_status : Ending → ℕ
+showing_status Shown = 0
+showing_status Refused = 2
+showing_status KeeperFault = 3
+showing_status WriteFault = 5
+showing_status Damaged = 6
+showing_status NoMemory = 7
 
 -- all that a program did with its keeper, as one call of it
-abbrev pub as_call : Ending → Result (Unit {0}) Fault
-as_call KeeperFault = Err faults.Failed
-as_call ending = Ok tt
+abbrev pub showing_as_call : Ending → Result (Unit {0}) Fault
+showing_as_call KeeperFault = Err faults.Failed
+showing_as_call ending = Ok tt
 
 abbrev pub ending_of : Fault → Ending
 ending_of faults.Failed = KeeperFault
@@ -25,7 +25,7 @@ ending_of faults.Memory = NoMemory
 -- what a part did with it, where the program may end there
 abbrev pub as_part : Option Ending → Result (Unit {0}) Fault
 as_part None = Ok tt
-as_part (Some ending) = as_call ending
+as_part (Some ending) = showing_as_call ending
 
 -- whether entries that are shown may end the program so
 abbrev pub cuts : Option Ending → Bool

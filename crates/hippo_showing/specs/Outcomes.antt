@@ -14,10 +14,12 @@ use Rattle.hippo_showing.specs.declared.endings.Ending.{Ending}
 use Rattle.hippo_showing.specs.declared.endings.Ending.TheVariants.{Shown, Refused, KeeperFault, WriteFault, Damaged, NoMemory}
 use Rattle.hippo_programs.specs.Lines.{damaged_line}
 use Rattle.hippo_showing.specs.Saying.{Says}
-use Rattle.hippo_showing.specs.Showing.{shown}
+use Rattle.hippo_showing.specs.Showing.{shown_text}
 
--- the stored forms of a valid history were found and are kept, and this holds of each history of which they are
-pub record FromFound (name : Txt) (holds : History → Type 0) (before after : KeeperState) : Type 0 where
+-- the stored forms of a valid history were found and are kept, and this holds of each history of
+-- which they are
+pub record FromFound (name : Txt) (holds : History → Type 0) (before after : KeeperState)
+    : Type 0 where
   pub kept : KeepsFound (before.finds name) after
   pub history : History
   pub is : IsStoreOf meaning after.kept history
@@ -33,13 +35,15 @@ pub record KeepsDamaged (name : Txt) (place : ℕ) (before after : KeeperState) 
   pub damaged : IsDamagedAt meaning after.kept place
 
 -- the place of damage is written
-pub record SaysDamaged (name : Txt) (before after : KeeperState) (written written' : Option Txt) : Type 0 where
+pub record SaysDamaged (name : Txt) (before after : KeeperState) (written written' : Option Txt)
+    : Type 0 where
   pub place : ℕ
   pub kept : KeepsDamaged name place before after
   pub said : Appends written written' (damaged_line place)
 
 -- a front of it is
-pub record BeginsDamaged (name : Txt) (before after : KeeperState) (written written' : Option Txt) : Type 0 where
+pub record BeginsDamaged (name : Txt) (before after : KeeperState) (written written' : Option Txt)
+    : Type 0 where
   pub place : ℕ
   pub kept : KeepsDamaged name place before after
   pub said : AppendsFront written written' (damaged_line place)
@@ -47,22 +51,26 @@ pub record BeginsDamaged (name : Txt) (before after : KeeperState) (written writ
 -- just what is asked for of the history is written
 abbrev pub ShowsView : View → Txt → KeeperState → KeeperState → Option Txt → Option Txt → Type 0
 ShowsView view name before after written written' =
-    FromFound name (λ history. Appends written written' (shown view history)) before after
+    FromFound name (λ history. Appends written written' (shown_text view history)) before after
 
 -- a front of it is
 abbrev pub BeginsView : View → Txt → KeeperState → KeeperState → Option Txt → Option Txt → Type 0
 BeginsView view name before after written written' =
-    FromFound name (λ history. AppendsFront written written' (shown view history)) before after
+    FromFound name (λ history. AppendsFront written written' (shown_text view history)) before after
 
 -- how showing ends; unwritten says that the sink is as before
-abbrev pub Ends : Ending → Type 0 → View → Txt → KeeperState → KeeperState → Option Txt → Option Txt → Type 0
-Ends Shown unwritten view name before after written written' = ShowsView view name before after written written'
+abbrev pub Ends : Ending → Type 0 → View → Txt → KeeperState → KeeperState → Option Txt → Option Txt
+    → Type 0
+Ends Shown unwritten view name before after written written' =
+    ShowsView view name before after written written'
 Ends Refused unwritten view name before after written written' = ⊥
 Ends KeeperFault unwritten view name before after written written' =
     (unwritten × IsIdle name before after) ⊎ BeginsView view name before after written written'
 Ends WriteFault unwritten view name before after written written' =
-    BeginsDamaged name before after written written' ⊎ BeginsView view name before after written written'
-Ends Damaged unwritten view name before after written written' = SaysDamaged name before after written written'
+    BeginsDamaged name before after written written'
+    ⊎ BeginsView view name before after written written'
+Ends Damaged unwritten view name before after written written' =
+    SaysDamaged name before after written written'
 Ends NoMemory unwritten view name before after written written' =
     (unwritten × IsIdle name before after) ⊎ BeginsView view name before after written written'
 

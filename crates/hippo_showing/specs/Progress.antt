@@ -17,10 +17,10 @@ use Rattle.hippo_showing.specs.declared.asking.Excerpt.{Excerpt}
 use Rattle.hippo_showing.specs.declared.asking.View.{View}
 use Rattle.hippo_showing.specs.declared.endings.Ending.{Ending}
 use Rattle.hippo_showing.specs.declared.endings.Ending.TheVariants.{Shown, Refused, Damaged}
-use Rattle.hippo_showing.specs.Endings.{as_call, as_part, cuts, cut_of}
+use Rattle.hippo_showing.specs.Endings.{showing_as_call, as_part, cuts, cut_of}
 use Rattle.hippo_showing.specs.Saying.{CountsWrites}
 use Rattle.hippo_showing.specs.ByNames.{entry_shown, clock_after, entries_shown, clock_at_end}
-use Rattle.hippo_showing.specs.Showing.{shown}
+use Rattle.hippo_showing.specs.Showing.{shown_text}
 
 -- these entries can be kept, and these are their stored forms
 pub record HasForms (store : Store) (entries : History) : Type 0 where
@@ -28,8 +28,10 @@ pub record HasForms (store : Store) (entries : History) : Type 0 where
   pub keepable : list_all is_keepable entries ≡ true
 
 -- an entry was shown, where it is asked for; or a front of it was
-pub record ShowsEntry (known : KnownNames) (excerpt : Excerpt) (entry : Entry) (result : Option Ending)
-    (clock clock' : Option Moment) (written written' : Option Txt) (faults faults' : ℕ) : Type 0 where
+pub record ShowsEntry (known : KnownNames) (excerpt : Excerpt) (entry : Entry)
+    (result : Option Ending)
+    (clock clock' : Option Moment) (written written' : Option Txt) (faults faults' : ℕ)
+    : Type 0 where
   pub ends : cuts result ≡ true
   pub sound : result ≢ Some Damaged
   pub writes : CountsWrites result faults faults'
@@ -37,10 +39,12 @@ pub record ShowsEntry (known : KnownNames) (excerpt : Excerpt) (entry : Entry) (
   pub moment : result ≡ None → clock' ≡ clock_after known excerpt clock entry
   pub front : AppendsFront written written' (entry_shown known excerpt clock entry)
 
--- whatever entries have these stored forms, they were shown, or a front of what is shown of them; where they are called
--- damaged, none have
-pub record ShowsKept (known : KnownNames) (excerpt : Excerpt) (store : Store) (result : Option Ending)
-    (clock clock' : Option Moment) (written written' : Option Txt) (faults faults' : ℕ) : Type 0 where
+-- whatever entries have these stored forms, they were shown, or a front of what is shown of them;
+-- where they are called damaged, none have
+pub record ShowsKept (known : KnownNames) (excerpt : Excerpt) (store : Store)
+    (result : Option Ending)
+    (clock clock' : Option Moment) (written written' : Option Txt) (faults faults' : ℕ)
+    : Type 0 where
   pub ends : cuts result ≡ true
   pub writes : CountsWrites result faults faults'
   pub whole : result ≡ None → (entries : History) → HasForms store entries
@@ -58,25 +62,31 @@ pub record IsReadUpTo (number : ℕ) (keeper : KeeperState) (read rest : Store) 
   pub whole : keeper.kept ≡ read ++ rest
 
 -- a piece is read, which is the front of the rest, and shown
-pub record ShowsNext (known : KnownNames) (excerpt : Excerpt) (result : Option Ending) (before after : KeeperState)
-    (number number' : ℕ) (clock clock' : Option Moment) (written written' : Option Txt) (faults faults' : ℕ)
+pub record ShowsNext (known : KnownNames) (excerpt : Excerpt) (result : Option Ending)
+    (before after : KeeperState)
+    (number number' : ℕ) (clock clock' : Option Moment) (written written' : Option Txt)
+    (faults faults' : ℕ)
     (ticks ticks' : ℕ) : Type 0 where
   pub call : IsAfterCall true false (as_part result) before after
   pub stays : after.tells → KeepsSame before after
   pub status : result ≢ Some Refused
   pub piece : Store
-  pub shows : ShowsKept known excerpt piece (cut_of result) clock clock' written written' faults faults'
+  pub shows : ShowsKept known excerpt piece (cut_of result) clock clock' written written' faults
+      faults'
   pub steps : ticks' ≡ ticks + stored_versions piece
   pub last : result ≡ None → number' ≡ last_number number piece
   pub more : result ≡ None → (number < number') × (number < 2 ^ 64)
   pub told : after.tells → (read rest : Store) → IsReadUpTo number before read rest
       → ((behind : Store) × (rest ≡ piece ++ behind))
   pub nothing : result ≡ Some Shown → piece ≡ []
-  pub ended : result ≡ Some Shown → after.tells → (read rest : Store) → IsReadUpTo number before read rest → rest ≡ []
+  pub ended : result ≡ Some Shown → after.tells → (read rest : Store)
+      → IsReadUpTo number before read rest → rest ≡ []
 
 -- a front of what is kept is read and shown
-pub record IsShowing (known : KnownNames) (excerpt : Excerpt) (before now : KeeperState) (number : ℕ)
-    (clock : Option Moment) (written written' : Option Txt) (faults faults' ticks ticks' : ℕ) : Type 0 where
+pub record IsShowing (known : KnownNames) (excerpt : Excerpt) (before now : KeeperState)
+    (number : ℕ)
+    (clock : Option Moment) (written written' : Option Txt) (faults faults' ticks ticks' : ℕ)
+    : Type 0 where
   pub call : IsAfterCall {A = Unit {0}} true false (Ok tt) before now
   pub stays : now.tells → KeepsSame before now
   pub read : Store
@@ -86,9 +96,10 @@ pub record IsShowing (known : KnownNames) (excerpt : Excerpt) (before now : Keep
   pub told : now.tells → ((behind : Store) × (before.kept ≡ read ++ behind))
 
 -- all that is kept is read and shown, or a front of it
-pub record ShowsAll (known : KnownNames) (excerpt : Excerpt) (result : Ending) (before after : KeeperState)
+pub record ShowsAll (known : KnownNames) (excerpt : Excerpt) (result : Ending)
+    (before after : KeeperState)
     (written written' : Option Txt) (faults faults' ticks ticks' : ℕ) : Type 0 where
-  pub call : IsAfterCall true false (as_call result) before after
+  pub call : IsAfterCall true false (showing_as_call result) before after
   pub stays : after.tells → KeepsSame before after
   pub status : result ≢ Refused
   pub writes : CountsWrites (Some result) faults faults'
@@ -96,28 +107,35 @@ pub record ShowsAll (known : KnownNames) (excerpt : Excerpt) (result : Ending) (
       → Appends written written' (entries_shown known excerpt None entries)
   pub front : after.tells → (entries : History) → HasForms before.kept entries
       → AppendsFront written written' (entries_shown known excerpt None entries)
-  pub damaged : result ≡ Damaged → after.tells → (entries : History) → ¬ (HasForms before.kept entries)
+  pub damaged : result ≡ Damaged → after.tells → (entries : History)
+      → ¬ (HasForms before.kept entries)
   pub steps : after.tells → ticks' ≤ ticks + stored_versions before.kept
 
--- a text that depends on what a history is, of which this is known, is written, or a front of it, or nothing
+-- a text that depends on what a history is, of which this is known, is written, or a front of it,
+-- or nothing
 pub record WritesPage (IsSo : History → Type 0) (page : History → Txt) (result : Option Ending)
     (written written' : Option Txt) (faults faults' : ℕ) : Type 0 where
   pub ends : cuts result ≡ true
   pub sound : result ≢ Some Damaged
   pub writes : CountsWrites result faults faults'
-  pub whole : result ≡ None → (history : History) → IsSo history → Appends written written' (page history)
+  pub whole : result ≡ None → (history : History) → IsSo history
+      → Appends written written' (page history)
   pub front : (history : History) → IsSo history → AppendsFront written written' (page history)
 
--- what is asked for is shown of the history that a state stands for and that is kept, or a front of it
+-- what is asked for is shown of the history that a state stands for and that is kept, or a front of
+-- it
 pub record ShowsLoaded (state : State) (view : View) (result : Ending) (before after : KeeperState)
     (written written' : Option Txt) (faults faults' ticks ticks' : ℕ) : Type 0 where
-  pub call : IsAfterCall true false (as_call result) before after
+  pub call : IsAfterCall true false (showing_as_call result) before after
   pub stays : after.tells → KeepsSame before after
   pub status : result ≢ Refused
   pub writes : CountsWrites (Some result) faults faults'
-  pub whole : result ≡ Shown → after.tells → (history : History) → StandsFor state history → HasForms before.kept history
-      → Appends written written' (shown view history)
-  pub front : after.tells → (history : History) → StandsFor state history → HasForms before.kept history
-      → AppendsFront written written' (shown view history)
-  pub damaged : result ≡ Damaged → after.tells → (history : History) → ¬ (HasForms before.kept history)
+  pub whole : result ≡ Shown → after.tells → (history : History) → StandsFor state history
+      → HasForms before.kept history
+      → Appends written written' (shown_text view history)
+  pub front : after.tells → (history : History) → StandsFor state history
+      → HasForms before.kept history
+      → AppendsFront written written' (shown_text view history)
+  pub damaged : result ≡ Damaged → after.tells → (history : History)
+      → ¬ (HasForms before.kept history)
   pub steps : after.tells → ticks' ≤ ticks + stored_versions before.kept

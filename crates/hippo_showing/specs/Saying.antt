@@ -7,8 +7,9 @@ use Rattle.hippo_showing.specs.declared.endings.Ending.{Ending}
 use Rattle.hippo_showing.specs.declared.endings.Ending.TheVariants.{WriteFault, NoMemory}
 
 -- how the program is called
-unfoldable pub usage : Txt
-usage = codes "usage: hippo_history --store NAME [--entry N | [--from N] [--to N]] [--table NAME] [--rules | [--tables] [--script]]"
+unfoldable pub showing_usage : Txt
+showing_usage =
+    codes "usage: hippo_history --store NAME [--entry N | [--from N] [--to N]] [--table NAME] [--rules | [--tables] [--script]]"
     ++ codes " [--format text|json|csv]\n"
 
 -- a line is written, and the program ends so; or a front of it is, and the sink failed
@@ -20,7 +21,8 @@ Says ending line result before after faults faults' =
 -- a text is written; or a front of it is, and the sink failed; or memory was short, and nothing is
 abbrev pub Writes : Txt → Option Ending → Option Txt → Option Txt → ℕ → ℕ → Type 0
 Writes text None before after faults faults' = Appends before after text × (faults' ≡ faults)
-Writes text (Some WriteFault) before after faults faults' = AppendsFront before after text × HasRisen faults faults'
+Writes text (Some WriteFault) before after faults faults' =
+    AppendsFront before after text × HasRisen faults faults'
 Writes text (Some NoMemory) before after faults faults' = (after ≡ before) × (faults' ≡ faults)
 Writes text (Some ending) before after faults faults' = ⊥
 

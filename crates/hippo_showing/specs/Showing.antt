@@ -30,8 +30,9 @@ use Rattle.hippo_formats.specs.Formats.{entry_by}
 use Rattle.hippo_showing.specs.Ruling.{rules_shown}
 
 -- whether a text is a question that names this table in FROM
-abbrev pub asks : KnownNames → Name → Txt → Bool
-asks known table text = option_map_or (λ query. list_any (bytes_eq table) query.tables) (meaning_in known text) false
+abbrev pub is_question_of : KnownNames → Name → Txt → Bool
+is_question_of known table text =
+    option_map_or (λ query. list_any (bytes_eq table) query.tables) (meaning_in known text) false
 
 -- whether an act speaks of a table: it creates it, changes a row of it, rules over it or asks it
 abbrev pub speaks_of : KnownNames → Name → Act → Bool
@@ -41,22 +42,22 @@ speaks_of known table (Update name row) = bytes_eq table name
 speaks_of known table (Delete name key) = bytes_eq table name
 speaks_of known table (Allow purpose recipient name columns item days) = bytes_eq table name
 speaks_of known table (Revoke purpose recipient name columns) = bytes_eq table name
-speaks_of known table (Asked user purpose recipient text) = asks known table text
+speaks_of known table (Asked user purpose recipient text) = is_question_of known table text
 speaks_of known table act = false
 
-abbrev pub is_within : KnownNames → Scope → Act → Bool
-is_within known Whole act = true
-is_within known (Table table) act = speaks_of known table act
+abbrev pub is_in_scope : KnownNames → Scope → Act → Bool
+is_in_scope known Whole act = true
+is_in_scope known (Table table) act = speaks_of known table act
 
 abbrev pub is_of : Acts → Act → Bool
 is_of All act = true
 is_of Tables act = creates_table act
 
 -- whether an entry is asked for
-abbrev pub is_asked : KnownNames → Excerpt → Entry → Bool
-is_asked known excerpt entry =
+abbrev pub is_in_excerpt : KnownNames → Excerpt → Entry → Bool
+is_in_excerpt known excerpt entry =
     nat_le excerpt.first entry.seq && nat_le entry.seq excerpt.last && is_of excerpt.acts entry.act
-    && is_within known excerpt.scope entry.act
+    && is_in_scope known excerpt.scope entry.act
 
 -- a line of the console, and those of a session that asks one question
 abbrev pub console_lines : Txt → Txt
@@ -89,14 +90,15 @@ told_as history Script clock entry =
 
 -- where it is asked for, by the names that it found
 abbrev pub is_told : History → Excerpt → Entry → Bool
-is_told history excerpt entry = is_asked (known_at (before_entry entry history)) excerpt entry
+is_told history excerpt entry = is_in_excerpt (known_at (before_entry entry history)) excerpt entry
 
 abbrev pub entry_told : History → Excerpt → Option Moment → Entry → Txt
 entry_told history excerpt clock entry =
     if is_told history excerpt entry then told_as history excerpt.form clock entry else []
 
 abbrev pub clock_then : History → Excerpt → Option Moment → Entry → Option Moment
-clock_then history excerpt clock entry = if is_told history excerpt entry then Some entry.moment else clock
+clock_then history excerpt clock entry =
+    if is_told history excerpt entry then Some entry.moment else clock
 
 -- entries of a history, one after the other
 abbrev pub entries_told : History → Excerpt → Option Moment → History → Txt
@@ -106,6 +108,6 @@ entries_told history excerpt clock (entry ∷ later) =
     ++ entries_told history excerpt (clock_then history excerpt clock entry) later
 
 -- what is asked for of a history: an excerpt, or the rules in force after its first entries
-abbrev pub shown : View → History → Txt
-shown (Entries excerpt) history = entries_told history excerpt None history
-shown (Rules page) history = rules_shown page.format page.scope (take page.last history)
+abbrev pub shown_text : View → History → Txt
+shown_text (Entries excerpt) history = entries_told history excerpt None history
+shown_text (Rules page) history = rules_shown page.format page.scope (take page.last history)

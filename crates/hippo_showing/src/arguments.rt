@@ -1,8 +1,8 @@
 //! The command's arguments, and what they find in words.
 ghost use Rattle.std.specs.Prelude.{◌≡◌, map, IfOk};
 ghost use Rattle.clap.specs.Words.{rows_of, found_of};
-ghost use Rattle.hippo_programs.specs.Arguments.{Finds};
-ghost use Rattle.hippo_showing.specs.CommandLine.{command_line, is_on};
+ghost use Rattle.hippo_programs.specs.Arguments.{FindsMatches};
+ghost use Rattle.hippo_showing.specs.CommandLine.{showing_command_line, is_on};
 
 use clap::ArgMatches;
 use hippo_programs::{Argument, matches_in, text_of};
@@ -26,7 +26,7 @@ pub(crate) fn found_in<'w>(
     alloc: Global,
     words: &'w [&'w str],
 ) -> Result<Option<ArgMatches<'w>>, Memory>
-    ensures { IfOk result (Finds command_line (map (λ word. word.now) words.now)) }
+    ensures { IfOk result (FindsMatches showing_command_line (map (λ word. word.now) words.now)) }
 {
     matches_in(alloc, "hippo_history", &ARGUMENTS, words)
 }

@@ -1,7 +1,7 @@
 //! How a call of the program ends.
 ghost use Rattle.std.specs.Prelude.{◌≡◌, unwrap_or};
 ghost use Rattle.hippo_showing.specs.declared.endings.Ending.TheVariants.{Shown};
-ghost use Rattle.hippo_showing.specs.Endings.{status_of, ending_of};
+ghost use Rattle.hippo_showing.specs.Endings.{showing_status, ending_of};
 
 use hippo_keeper::KeeperFault;
 
@@ -25,7 +25,7 @@ pub enum Ending {
 impl Ending {
     /// The exit status.
     pub fn status(self) -> u8
-        ensures { result ≡ status_of self }
+        ensures { result ≡ showing_status self }
     {
         self as u8
     }

@@ -1,4 +1,5 @@
-//! What a store keeps, as a person reads it: its entries, or the rules in force. The command line, and the top call.
+//! What a store keeps, as a person reads it: its entries, or the rules in force. The command line,
+//! and the top call.
 #![tactic(auto)]
 
 mod arguments;

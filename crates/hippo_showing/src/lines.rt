@@ -35,7 +35,8 @@ fn stands_at(clock: &Option<Moment>, moment: &Moment) -> bool
 
 // A line that sets the clock.
 fn append_at(moment: &Moment, out: &mut Txt) -> Result<(), Memory>
-    ensures { OnOk result (out.new ≡ out.old ++ (codes "at " ++ (moment_text moment.now ++ codes "\n"))) }
+    ensures { OnOk result (out.new ≡ out.old
+        ++ (codes "at " ++ (moment_text moment.now ++ codes "\n"))) }
 {
     out.append("at ")?;
     append_moment(moment, out)?;
@@ -64,7 +65,8 @@ fn append_console(alloc: Global, catalog: &Catalog, act: &Act, out: &mut Txt) ->
 
 fn append_login(question: &Question<'_>, out: &mut Txt) -> Result<(), Memory>
     ensures { OnOk result (out.new ≡ out.old ++ (codes "1 login " ++ (question.now.user.now
-        ++ (codes " " ++ (question.now.purpose.now ++ (codes " " ++ question.now.recipient.now)))))) }
+        ++ (codes " " ++ (question.now.purpose.now
+        ++ (codes " " ++ question.now.recipient.now)))))) }
 {
     out.append("1 login ")?;
     out.append(question.user.as_str())?;
@@ -76,7 +78,8 @@ fn append_login(question: &Question<'_>, out: &mut Txt) -> Result<(), Memory>
 
 // The lines of a session that asks one question.
 fn append_session(question: &Question<'_>, out: &mut Txt) -> Result<(), Memory>
-    ensures { OnOk result (out.new ≡ out.old ++ session_lines question.now.user.now question.now.purpose.now
+    ensures { OnOk result (out.new ≡ out.old
+        ++ session_lines question.now.user.now question.now.purpose.now
         question.now.recipient.now question.now.text.now) }
 {
     append_login(question, out)?;
@@ -121,7 +124,8 @@ pub(crate) fn append_shown(
     entry: &Entry,
     out: &mut Txt,
 ) -> Result<(), Memory>
-    ensures { OnOk result (out.new ≡ out.old ++ shown_as catalog.now.names form clock.now entry.now) }
+    ensures { OnOk result (out.new ≡ out.old
+        ++ shown_as catalog.now.names form clock.now entry.now) }
 {
     match form {
         Form::Listing(format) => {

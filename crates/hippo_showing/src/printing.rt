@@ -1,7 +1,7 @@
 //! What the program writes of its own, and the write of a text.
 ghost use Rattle.hippo_programs.specs.Lines.{damaged_line};
 ghost use Rattle.hippo_showing.specs.declared.endings.Ending.TheVariants.{Refused, Damaged};
-ghost use Rattle.hippo_showing.specs.Saying.{usage, Says, Writes};
+ghost use Rattle.hippo_showing.specs.Saying.{showing_usage as usage, Says, Writes};
 
 use crate::endings::Ending;
 use hippo_io::{Failed, Sink, write_whole};
@@ -12,7 +12,7 @@ const USAGE: &str =
      [--format text|json|csv]\n";
 
 /// Writes the usage line.
-#[tactic(auto, unfolding(crate::specs::Saying::usage))]
+#[tactic(auto, unfolding(crate::specs::Saying::showing_usage))]
 pub(crate) fn refuse<K: Sink>(sink: &mut K) -> Ending
     ensures says { Says Refused usage result
         (K.written sink.old) (K.written sink.new) (K.faults sink.old) (K.faults sink.new) }

@@ -1,7 +1,7 @@
 //! What the words of a call ask for.
 ghost use Rattle.std.specs.Prelude.{◌≡◌, ◌||◌, codes, map, is_some, IfOk};
 ghost use Rattle.clap.specs.Words.{first_of, rows_of, found_of};
-ghost use Rattle.hippo_showing.specs.CommandLine.{first_in, last_in, has_end, entry_fits, has_form, rules_fit, fits, scope_of, is_text, format_fits, form_in, acts_in, excerpt_in, page_in, view_in, call_with, asked_by, asked_in, asked_of};
+ghost use Rattle.hippo_showing.specs.CommandLine.{first_in, last_in, has_end, entry_fits, has_form, rules_fit, options_fit, scope_of, is_text_format, format_fits, shown_form, acts_in, excerpt_in, page_in, view_in, call_with, call_in_format, showing_call, asked_of};
 
 use crate::arguments::{found_in, is_on};
 use crate::asking::{Acts, Call, Excerpt, Form, Page, Scope, View};
@@ -36,7 +36,8 @@ fn has_form(matches: &ArgMatches<'_>) -> bool
 }
 
 fn is_of_entries(matches: &ArgMatches<'_>) -> bool
-    ensures { result ≡ (has_end (rows_of (found_of matches.now)) || has_form (rows_of (found_of matches.now))) }
+    ensures { result ≡ (has_end (rows_of (found_of matches.now))
+        || has_form (rows_of (found_of matches.now))) }
 {
     has_end(matches) || has_form(matches)
 }
@@ -48,7 +49,7 @@ fn rules_fit(matches: &ArgMatches<'_>) -> bool
 }
 
 fn fits(matches: &ArgMatches<'_>) -> bool
-    ensures { result ≡ fits (rows_of (found_of matches.now)) }
+    ensures { result ≡ options_fit (rows_of (found_of matches.now)) }
 {
     entry_fits(matches) && rules_fit(matches)
 }
@@ -68,7 +69,8 @@ fn last_of(matches: &ArgMatches<'_>) -> Result<u64, Memory>
 }
 
 fn scope_of(alloc: Global, matches: &ArgMatches<'_>) -> Result<Option<Scope>, Memory>
-    ensures { IfOk result (λ scope. scope ≡ scope_of (first_of (codes "table") (rows_of (found_of matches.now)))) }
+    ensures { IfOk result (λ scope. scope
+        ≡ scope_of (first_of (codes "table") (rows_of (found_of matches.now)))) }
 {
     match text_of(matches, "table") {
         None => Ok(Some(Scope::Whole)),
@@ -77,7 +79,7 @@ fn scope_of(alloc: Global, matches: &ArgMatches<'_>) -> Result<Option<Scope>, Me
 }
 
 fn is_text(format: Format) -> bool
-    ensures { result ≡ is_text format }
+    ensures { result ≡ is_text_format format }
 {
     match format {
         Format::Text => true,
@@ -92,7 +94,7 @@ fn format_fits(matches: &ArgMatches<'_>, format: Format) -> bool
 }
 
 fn form_of(matches: &ArgMatches<'_>, format: Format) -> Form
-    ensures { result ≡ form_in (rows_of (found_of matches.now)) format }
+    ensures { result ≡ shown_form (rows_of (found_of matches.now)) format }
 {
     if is_on(matches, "script") {
         Form::Script
@@ -112,7 +114,8 @@ fn acts_of(matches: &ArgMatches<'_>) -> Acts
 }
 
 fn excerpt_of(matches: &ArgMatches<'_>, format: Format, scope: Scope) -> Result<Excerpt, Memory>
-    ensures { IfOk result (λ excerpt. excerpt ≡ excerpt_in (rows_of (found_of matches.now)) format scope) }
+    ensures { IfOk result (λ excerpt. excerpt
+        ≡ excerpt_in (rows_of (found_of matches.now)) format scope) }
 {
     let first = first_of(matches)?;
     let last = last_of(matches)?;
@@ -160,7 +163,7 @@ fn call_with(
 }
 
 fn asked_by(alloc: Global, matches: &ArgMatches<'_>, format: Format) -> Result<Option<Call>, Memory>
-    ensures { IfOk result (λ call. call ≡ asked_by (rows_of (found_of matches.now)) format) }
+    ensures { IfOk result (λ call. call ≡ call_in_format (rows_of (found_of matches.now)) format) }
 {
     if !format_fits(matches, format) {
         return Ok(None);
@@ -172,7 +175,7 @@ fn asked_by(alloc: Global, matches: &ArgMatches<'_>, format: Format) -> Result<O
 }
 
 fn asked_with(alloc: Global, matches: &ArgMatches<'_>) -> Result<Option<Call>, Memory>
-    ensures { IfOk result (λ call. call ≡ asked_in (rows_of (found_of matches.now))) }
+    ensures { IfOk result (λ call. call ≡ showing_call (rows_of (found_of matches.now))) }
 {
     if !fits(matches) {
         return Ok(None);
@@ -193,11 +196,12 @@ fn asked_in(alloc: Global, words: &[&str]) -> Result<Option<Call>, Memory>
     }
 }
 
-/// What the words of a call ask for: options in any order, `--NAME VALUE` or `--NAME=VALUE`, and the store must be
-/// among them. Nothing where the command does not take them, as where a word is unknown or an option stands twice, where
-/// a number is out of its bounds, a table's name is none or a format is none of the three, where an entry is named beside
-/// an end of a stretch, where the rules are asked for beside such an end, the tables or a script, or where a script is
-/// asked for in another format than text. Or want of memory.
+/// What the words of a call ask for: options in any order, `--NAME VALUE` or `--NAME=VALUE`, and
+/// the store must be among them. Nothing where the command does not take them, as where a word is
+/// unknown or an option stands twice, where a number is out of its bounds, a table's name is none
+/// or a format is none of the three, where an entry is named beside an end of a stretch, where the
+/// rules are asked for beside such an end, the tables or a script, or where a script is asked for
+/// in another format than text. Or want of memory.
 ///
 /// ```text
 /// --store clinic.db --entry 18

@@ -3,8 +3,8 @@ ghost use Rattle.std.specs.Prelude.{◌≡◌, ◌++◌, ◌&&◌, ◌∷◌, []
 ghost use Rattle.std.specs.Option.{option_map_or};
 ghost use Rattle.hippo_model.specs.Terms.{History};
 ghost use Rattle.hippo_model.specs.Rules.{allowed, revoked};
-ghost use Rattle.hippo_policy.specs.Books.{StandsFor as BookStandsFor};
-ghost use Rattle.hippo_policy.specs.Rulings.{ruling_of, asks_opt_in, opt_in_at};
+ghost use Rattle.hippo_policy.specs.Books.{BookStandsFor};
+ghost use Rattle.hippo_policy.specs.Rulings.{ruling_of, opt_in_of, opt_in_at};
 ghost use Rattle.hippo_report.specs.declared.format.Format.TheVariants.{Text};
 ghost use Rattle.hippo_telling.specs.Telling.{name_at};
 ghost use Rattle.hippo_showing.specs.Ruling.{ruling_text, silence_text, rule_line, column_rule, column_line, is_ruled, columns_shown, has_table, table_shown, tables_shown, rules_by_names};
@@ -20,7 +20,8 @@ use hippo_values::{Memory, Name, Txt};
 use itoa::Buffer;
 use std::alloc::Global;
 
-// The names and the rules of a history, as of its first so many entries, which of them are asked for, and how.
+// The names and the rules of a history, as of its first so many entries, which of them are asked
+// for, and how.
 #[derive(Clone, Copy)]
 struct Policy<'a> {
     alloc: Global,
@@ -102,7 +103,7 @@ fn silence_text(opt_in: bool) -> &'static str
 
 // How a patient's silence on a rule's item is read, where it has one.
 fn append_silence(ruling: &RuleAt<'_>, out: &mut Txt) -> Result<(), Memory>
-    ensures { OnOk result (out.new ≡ out.old ++ silence_text (asks_opt_in ruling.now)) }
+    ensures { OnOk result (out.new ≡ out.old ++ silence_text (opt_in_of ruling.now)) }
 {
     match ruling {
         RuleAt::With { opt_in, .. } => out.append(silence_text(*opt_in)),
@@ -118,7 +119,7 @@ fn append_text(
 ) -> Result<(), Memory>
     ensures { OnOk result (out.new ≡ out.old ++ (ruling_text columns.now rule.now.purpose.now
         rule.now.recipient.now rule.now.table.now rule.now.places.now (ruling_of ruling.now)
-        ++ (silence_text (asks_opt_in ruling.now) ++ codes "\n"))) }
+        ++ (silence_text (opt_in_of ruling.now) ++ codes "\n"))) }
 {
     append_ruling(columns, rule, ruling, out)?;
     append_silence(ruling, out)?;
@@ -154,8 +155,9 @@ fn append_statement(
     ruling: &RuleAt<'_>,
     out: &mut Txt,
 ) -> Result<(), Memory>
-    ensures { OnOk result (out.new ≡ out.old ++ rule_line Text group.now.purpose.now group.now.recipient.now
-        group.now.schema.now place (ruling_of ruling.now) (asks_opt_in ruling.now)) }
+    ensures { OnOk result (out.new ≡ out.old
+        ++ rule_line Text group.now.purpose.now group.now.recipient.now
+        group.now.schema.now place (ruling_of ruling.now) (opt_in_of ruling.now)) }
 {
     let places = [place];
     let rule = Rule {
@@ -176,8 +178,9 @@ fn append_line(
     ruling: &RuleAt<'_>,
     out: &mut Txt,
 ) -> Result<(), Memory>
-    ensures { OnOk result (out.new ≡ out.old ++ rule_line format group.now.purpose.now group.now.recipient.now
-        group.now.schema.now place (ruling_of ruling.now) (asks_opt_in ruling.now)) }
+    ensures { OnOk result (out.new ≡ out.old
+        ++ rule_line format group.now.purpose.now group.now.recipient.now
+        group.now.schema.now place (ruling_of ruling.now) (opt_in_of ruling.now)) }
 {
     match format {
         Format::Text => append_statement(group, place, ruling, out),
@@ -188,9 +191,12 @@ fn append_line(
 
 // The rule of a column.
 fn ruling_at<'a>(policy: &Policy<'a>, group: &Group<'a>, place: usize) -> RuleAt<'a>
-    ensures rule { (history : History) → BookStandsFor policy.now.book.now history → ruling_of result
-        ≡ column_rule (take policy.now.n history) group.now.purpose.now group.now.recipient.now group.now.schema.now place }
-    ensures silence { (history : History) → BookStandsFor policy.now.book.now history → asks_opt_in result
+    ensures rule { (history : History) → BookStandsFor policy.now.book.now history
+        → ruling_of result
+        ≡ column_rule (take policy.now.n history) group.now.purpose.now group.now.recipient.now
+        group.now.schema.now place }
+    ensures silence { (history : History) → BookStandsFor policy.now.book.now history
+        → opt_in_of result
         ≡ opt_in_at (take policy.now.n history) (column_rule (take policy.now.n history)
         group.now.purpose.now group.now.recipient.now group.now.schema.now place) }
 {
@@ -262,7 +268,8 @@ fn has_table(scope: &Scope, table: &Name) -> bool
 // Whether a table's columns are shown.
 fn is_shown(policy: &Policy<'_>, group: &Group<'_>) -> bool
     ensures { (history : History) → BookStandsFor policy.now.book.now history → result
-        ≡ (has_table policy.now.scope.now group.now.schema.now.name && is_ruled (take policy.now.n history)
+        ≡ (has_table policy.now.scope.now group.now.schema.now.name
+        && is_ruled (take policy.now.n history)
         group.now.purpose.now group.now.recipient.now group.now.schema.now) }
 {
     has_table(policy.scope, &group.schema.name) && is_ruled(policy, group)
@@ -289,8 +296,10 @@ fn append_table_at(
     out: &mut Txt,
 ) -> Result<(), Memory>
     ensures { OnOk result ((history : History) → BookStandsFor policy.now.book.now history → out.new
-        ≡ out.old ++ option_map_or (λ named. table_shown policy.now.format policy.now.scope.now (take policy.now.n history)
-        purpose.now recipient.now named.1) (slice_get policy.now.catalog.now.names.tables place) []) }
+        ≡ out.old ++ option_map_or (λ named. table_shown policy.now.format policy.now.scope.now
+        (take policy.now.n history)
+        purpose.now recipient.now named.1) (slice_get policy.now.catalog.now.names.tables place)
+        []) }
 {
     match policy.catalog.table_at(place) {
         None => Ok(()),
@@ -312,7 +321,8 @@ fn append_tables(
     out: &mut Txt,
 ) -> Result<(), Memory>
     ensures { OnOk result ((history : History) → BookStandsFor policy.now.book.now history → out.new
-        ≡ out.old ++ tables_shown policy.now.catalog.now.names policy.now.format policy.now.scope.now
+        ≡ out.old ++ tables_shown policy.now.catalog.now.names policy.now.format
+        policy.now.scope.now
         (take policy.now.n history) purpose.now recipient.now) }
 {
     for place in 0..policy.catalog.table_count() {
@@ -323,8 +333,10 @@ fn append_tables(
 
 fn append_recipients(policy: &Policy<'_>, purpose: &Name, out: &mut Txt) -> Result<(), Memory>
     ensures { OnOk result ((history : History) → BookStandsFor policy.now.book.now history → out.new
-        ≡ out.old ++ flat_map (λ recipient. tables_shown policy.now.catalog.now.names policy.now.format
-        policy.now.scope.now (take policy.now.n history) purpose.now recipient) policy.now.catalog.now.names.recipients) }
+        ≡ out.old ++ flat_map (λ recipient. tables_shown policy.now.catalog.now.names
+        policy.now.format
+        policy.now.scope.now (take policy.now.n history) purpose.now recipient)
+        policy.now.catalog.now.names.recipients) }
 {
     for recipient in policy.catalog.recipients() {
         append_tables(policy, purpose, recipient, out)?;
@@ -334,7 +346,8 @@ fn append_recipients(policy: &Policy<'_>, purpose: &Name, out: &mut Txt) -> Resu
 
 fn append_purposes(policy: &Policy<'_>, out: &mut Txt) -> Result<(), Memory>
     ensures { OnOk result ((history : History) → BookStandsFor policy.now.book.now history → out.new
-        ≡ out.old ++ rules_by_names policy.now.catalog.now.names policy.now.format policy.now.scope.now
+        ≡ out.old ++ rules_by_names policy.now.catalog.now.names policy.now.format
+        policy.now.scope.now
         (take policy.now.n history)) }
 {
     for purpose in policy.catalog.purposes() {
@@ -352,7 +365,8 @@ pub(crate) fn append_rules(
     out: &mut Txt,
 ) -> Result<(), Memory>
     ensures { OnOk result ((history : History) → BookStandsFor book.now history → out.new
-        ≡ out.old ++ rules_by_names catalog.now.names page.now.format page.now.scope (take page.now.last history)) }
+        ≡ out.old ++ rules_by_names catalog.now.names page.now.format page.now.scope
+        (take page.now.last history)) }
 {
     let policy = Policy {
         alloc,

@@ -2,7 +2,7 @@
 ghost use Rattle.std.specs.Prelude.{◌≡◌, ◌&&◌, nat_le, bytes_eq, IfOk};
 ghost use Rattle.std.specs.List.{list_any};
 ghost use Rattle.hippo_model.specs.Validity.{creates_table};
-ghost use Rattle.hippo_showing.specs.Showing.{asks, speaks_of, is_within, is_of, is_asked};
+ghost use Rattle.hippo_showing.specs.Showing.{is_question_of, speaks_of, is_in_scope, is_of, is_in_excerpt};
 
 use crate::asking::{Acts, Excerpt, Scope};
 use hippo_catalog::Catalog;
@@ -27,7 +27,7 @@ fn reads(query: Query, table: &Name) -> bool
 }
 
 fn asks(alloc: Global, catalog: &Catalog, table: &Name, text: &Txt) -> Result<bool, Memory>
-    ensures { IfOk result (λ asked. asked ≡ asks catalog.now.names table.now text.now) }
+    ensures { IfOk result (λ asked. asked ≡ is_question_of catalog.now.names table.now text.now) }
 {
     match read_meaning(alloc, catalog, text.as_str()) {
         Ok(Some(query)) => Ok(reads(query, table)),
@@ -52,7 +52,7 @@ fn speaks_of(alloc: Global, catalog: &Catalog, table: &Name, act: &Act) -> Resul
 }
 
 fn is_within(alloc: Global, catalog: &Catalog, scope: &Scope, act: &Act) -> Result<bool, Memory>
-    ensures { IfOk result (λ within. within ≡ is_within catalog.now.names scope.now act.now) }
+    ensures { IfOk result (λ within. within ≡ is_in_scope catalog.now.names scope.now act.now) }
 {
     match scope {
         Scope::Whole => Ok(true),
@@ -86,7 +86,8 @@ fn is_of(acts: Acts, act: &Act) -> bool
 
 // Whether an entry is asked for, whatever table it speaks of.
 fn is_counted(excerpt: &Excerpt, entry: &Entry) -> bool
-    ensures { result ≡ (nat_le excerpt.now.first entry.now.seq && nat_le entry.now.seq excerpt.now.last
+    ensures { result ≡ (nat_le excerpt.now.first entry.now.seq
+        && nat_le entry.now.seq excerpt.now.last
         && is_of excerpt.now.acts entry.now.act) }
 {
     is_between(excerpt, entry.seq) && is_of(excerpt.acts, &entry.act)
@@ -99,7 +100,7 @@ pub(crate) fn is_asked(
     excerpt: &Excerpt,
     entry: &Entry,
 ) -> Result<bool, Memory>
-    ensures { IfOk result (λ asked. asked ≡ is_asked catalog.now.names excerpt.now entry.now) }
+    ensures { IfOk result (λ asked. asked ≡ is_in_excerpt catalog.now.names excerpt.now entry.now) }
 {
     if is_counted(excerpt, entry) {
         is_within(alloc, catalog, &excerpt.scope, &entry.act)

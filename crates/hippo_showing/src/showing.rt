@@ -30,7 +30,8 @@ pub(crate) struct Guide<'a> {
     pub excerpt: &'a Excerpt,
 }
 
-// How far showing is: the number of the last entry that was read, and the moment of the last that was shown.
+// How far showing is: the number of the last entry that was read, and the moment of the last that
+// was shown.
 #[derive(Clone, Copy)]
 struct Progress {
     number: u64,
@@ -44,7 +45,8 @@ fn write_entry<K: Sink>(
     clock: &Option<Moment>,
     sink: &mut K,
 ) -> Option<Ending>
-    ensures writes { Writes (shown_as guide.now.catalog.now.names guide.now.excerpt.now.form clock.now entry.now) result
+    ensures writes { Writes (shown_as guide.now.catalog.now.names guide.now.excerpt.now.form
+        clock.now entry.now) result
         (K.written sink.old) (K.written sink.new) (K.faults sink.old) (K.faults sink.new) }
 {
     let mut lines = Txt::new(guide.alloc);
@@ -62,7 +64,8 @@ fn show_entry<K: Sink>(
     clock: &mut Option<Moment>,
     sink: &mut K,
 ) -> Option<Ending>
-    ensures shows { ShowsEntry guide.now.catalog.now.names guide.now.excerpt.now entry.now result clock.old clock.new
+    ensures shows { ShowsEntry guide.now.catalog.now.names guide.now.excerpt.now entry.now result
+        clock.old clock.new
         (K.written sink.old) (K.written sink.new) (K.faults sink.old) (K.faults sink.new) }
 {
     match is_asked(guide.alloc, guide.catalog, guide.excerpt, entry) {
@@ -83,7 +86,8 @@ fn show_kept<K: Sink>(
     clock: &mut Option<Moment>,
     sink: &mut K,
 ) -> Option<Ending>
-    ensures shows { ShowsKept guide.now.catalog.now.names guide.now.excerpt.now (kept.now ∷ []) result clock.old clock.new
+    ensures shows { ShowsKept guide.now.catalog.now.names guide.now.excerpt.now (kept.now ∷ [])
+        result clock.old clock.new
         (K.written sink.old) (K.written sink.new) (K.faults sink.old) (K.faults sink.new) }
 {
     match decode(guide.alloc, kept) {

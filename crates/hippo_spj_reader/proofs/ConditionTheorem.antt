@@ -7,7 +7,7 @@ use Rattle.hippo_values.specs.declared.keywords.Keyword.TheVariants.{KAnd, KBetw
 use Rattle.hippo_lexer.specs.declared.kinds.Symbol.TheVariants.{Comma, Dot, LeftParen, RightParen}
 use Rattle.hippo_lexer.specs.declared.kinds.TokenKind.{TokenKind}
 use Rattle.hippo_lexer.specs.declared.kinds.TokenKind.TheVariants.{Keyword, Symbol}
-use Rattle.hippo_spj_reader.specs.Front.{Finds, after_keyword, after_symbol}
+use Rattle.hippo_spj_reader.specs.Front.{Finder, after_keyword, after_symbol}
 use Rattle.hippo_spj_reader.specs.ListGrammar.{IsListOf, last_part, more_parts}
 use Rattle.hippo_spj_reader.specs.ListFinder.{leading_parts, leading_list}
 use Rattle.hippo_spj_reader.specs.ConditionGrammar.{RawCond, IsOperand, IsCondition, disjunction, AreDisjuncts, last_disjunct, more_disjuncts, IsConjunction, conjunction, AreConjuncts, last_conjunct, more_conjuncts, IsNegation, negated, plain, IsPrimary, parentheses, comparison, between, not_between, among, not_among, missing, present}
@@ -77,7 +77,7 @@ test_found all tokens v c rest is_operand e =
     (λ low high lows highs is_between is_low is_high is. rw is (between (rw is_between at is_operand) is_low is_high))
     (λ list others is_in is_list is. rw is (among (rw is_in at is_operand) is_list)))))
 
-module _ (deeper : Finds RawCond) (deeper_found : (tokens : List TokenKind) (c : RawCond) (rest : List TokenKind) → deeper tokens ≡ Some (c, rest) → IsNegation tokens c rest) where
+module _ (deeper : Finder RawCond) (deeper_found : (tokens : List TokenKind) (c : RawCond) (rest : List TokenKind) → deeper tokens ≡ Some (c, rest) → IsNegation tokens c rest) where
   conjunction_found : (tokens : List TokenKind) (c : RawCond) (rest : List TokenKind) → conjunction_with deeper tokens ≡ Some (c, rest) → IsConjunction tokens c rest
   conjunction_found tokens c rest e =
       found_then (leading_list deeper (after_keyword KAnd) tokens) _ _ e (λ parts found e.

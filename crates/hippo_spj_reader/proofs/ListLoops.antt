@@ -7,14 +7,14 @@ use Rattle.hippo_lexer.specs.declared.faults.SyntaxFault.{SyntaxFault}
 use Rattle.hippo_lexer.specs.declared.faults.SyntaxFault.TheVariants as fault
 use Rattle.hippo_spj_reader.specs.Promises.{◌>>=◌, Fails}
 use Rattle.hippo_spj_reader.specs.Front.{kinds}
-use Rattle.hippo_spj_reader.specs.ListFinder.{further_parts, leading_list, with_front}
+use Rattle.hippo_spj_reader.specs.ListFinder.{further_parts, leading_list, with_front_parts}
 
 pub append-nil : {X : Type 0} (xs : List X) → xs ++ [] ≡ xs
 append-nil [] = refl
 append-nil (x ∷ xs) = ap (λ ys. x ∷ ys) (append-nil xs)
 
 pushed : {X : Type 0} (front : List X) (part : X) (found : Option (List X × List TokenKind)) →
-    with_front front (found >>= λ others. Some (part ∷ others.0, others.1)) ≡ with_front (front ++ part ∷ []) found
+    with_front_parts front (found >>= λ others. Some (part ∷ others.0, others.1)) ≡ with_front_parts (front ++ part ∷ []) found
 pushed front part None = refl
 pushed front part (Some others) =
     ap (λ (parts : List _). Some (parts, others.1)) (sym (append_assoc front (part ∷ []) others.0))
@@ -24,7 +24,7 @@ module _ {X : Type 0} (leading_part : List TokenKind → Option (X × List Token
   pub record Continues (whole : Option (List X × List TokenKind)) (front : List X) (rest : List Token) : Type 0 where
     pub fuel : ℕ
     pub enough : length rest ≤ fuel
-    pub same : with_front front (further_parts leading_part after_part fuel (kinds rest)) ≡ whole
+    pub same : with_front_parts front (further_parts leading_part after_part fuel (kinds rest)) ≡ whole
 
   pub begins : (tokens rest : List Token) (first : X) (empty front : List X) →
       leading_part (kinds tokens) ≡ Some (first, kinds rest) → length rest ≤ length tokens → empty ≡ [] → front ≡ empty ++ first ∷ [] →
@@ -32,15 +32,15 @@ module _ {X : Type 0} (leading_part : List TokenKind → Option (X × List Token
   begins tokens rest first empty front found no_longer none pushed = record {
     fuel = length (kinds tokens);
     enough = omega (arith, length-map tokens (λ (token : Token). token.kind));
-    same = rw (pushed, none, found) (elim (further_parts leading_part after_part (length (kinds tokens)) (kinds rest)) as (λ m. with_front (first ∷ []) m ≡ m >>= λ others. Some (first ∷ others.0, others.1)) [ None ↦ refl | Some others ↦ refl ]);
+    same = rw (pushed, none, found) (elim (further_parts leading_part after_part (length (kinds tokens)) (kinds rest)) as (λ m. with_front_parts (first ∷ []) m ≡ m >>= λ others. Some (first ∷ others.0, others.1)) [ None ↦ refl | Some others ↦ refl ]);
   }
 
   found_then : (front : List X) (fuel : ℕ) (rest behind left : List TokenKind) (part : X) → after_part rest ≡ Some behind → leading_part behind ≡ Some (part, left) →
-      with_front front (further_parts leading_part after_part (suc fuel) rest) ≡ with_front (front ++ part ∷ []) (further_parts leading_part after_part fuel left)
+      with_front_parts front (further_parts leading_part after_part (suc fuel) rest) ≡ with_front_parts (front ++ part ∷ []) (further_parts leading_part after_part fuel left)
   found_then front fuel rest behind left part next found = rw (next, found) (pushed front part (further_parts leading_part after_part fuel left))
 
   goes_on_from : {whole : Option (List X × List TokenKind)} (front : List X) (fuel : ℕ) (rest left : List Token) (behind : List TokenKind) (part : X) →
-      length rest ≤ fuel → with_front front (further_parts leading_part after_part fuel (kinds rest)) ≡ whole →
+      length rest ≤ fuel → with_front_parts front (further_parts leading_part after_part fuel (kinds rest)) ≡ whole →
       after_part (kinds rest) ≡ Some behind → leading_part behind ≡ Some (part, kinds left) → length left < length rest →
       Continues whole (front ++ part ∷ []) left
   goes_on_from front zero rest left behind part enough same next found shorter = absurd (omega arith)
@@ -60,7 +60,7 @@ module _ {X : Type 0} (leading_part : List TokenKind → Option (X × List Token
       rw pushed (goes_on_from front so_far.fuel rest left (kinds behind) part so_far.enough so_far.same (sym next) found (omega arith))
 
   breaks_from : {whole : Option (List X × List TokenKind)} (front : List X) (fuel : ℕ) (rest behind : List Token) →
-      length rest ≤ fuel → length behind < length rest → with_front front (further_parts leading_part after_part fuel (kinds rest)) ≡ whole →
+      length rest ≤ fuel → length behind < length rest → with_front_parts front (further_parts leading_part after_part fuel (kinds rest)) ≡ whole →
       after_part (kinds rest) ≡ Some (kinds behind) → leading_part (kinds behind) ≡ None → whole ≡ None
   breaks_from front zero rest behind enough shorter same next found = absurd (omega arith)
   breaks_from front (suc fuel) rest behind enough shorter same next found = sym same ∙ rw (next, found) refl

@@ -17,8 +17,8 @@ use Rattle.hippo_spj_reader.specs.Front.{after_keyword, after_symbol}
 use Rattle.hippo_spj_reader.specs.ConditionGrammar.{IsColumn, bare, qualified}
 use Rattle.hippo_spj_reader.specs.ConditionFinder.{leading_column}
 use Rattle.hippo_spj_reader.specs.ListGrammar.{IsListOf, last_part, more_parts}
-use Rattle.hippo_spj_reader.specs.SelectGrammar.{IsItem, one_column, all_of_table, AreItems, star, listed, IsOut, column_out, minimum, maximum}
-use Rattle.hippo_spj_reader.specs.SelectFinder.{leading_whole_table, leading_item, leading_argument, leading_member, leading_members, item_of, out_of, each_of}
+use Rattle.hippo_spj_reader.specs.SelectGrammar.{IsItem, one_column, all_of_table, AreItems, star, listed_items, IsOut, column_out, minimum, maximum}
+use Rattle.hippo_spj_reader.specs.SelectFinder.{leading_whole_table, leading_item, leading_argument, leading_member, leading_members, ungrouped_item, out_of, each_of}
 use Rattle.hippo_spj_reader.proofs.FrontTheorem.{found_then, choice, symbol_then, name_then, keyword_choice, symbol_choice, after_symbol-some, read_as}
 use Rattle.hippo_spj_reader.proofs.ListTheorem.{parts_found, list_complete}
 use Rattle.hippo_spj_reader.proofs.OperandTheorem.{column_found, column_complete, column_shorter}
@@ -89,7 +89,7 @@ module _ {X Y : Type 0} (IsX : List TokenKind → X → List TokenKind → Type 
       found_then (each_of f xs) _ _ e (λ left is_left e.
       rw (← same_Some (y ∷ left) ys e) (more_parts (turned tokens x y _ d is_y) (list_as others xs left rest ds is_left))))
 
-as_item : (tokens : List TokenKind) (m : Member) (i : RawItem) (rest : List TokenKind) → IsMember tokens m rest → item_of m ≡ Some i → IsItem tokens i rest
+as_item : (tokens : List TokenKind) (m : Member) (i : RawItem) (rest : List TokenKind) → IsMember tokens m rest → ungrouped_item m ≡ Some i → IsItem tokens i rest
 as_item tokens m i rest (of_item {i = j} d) e = rw (← same_Some j i e) d
 as_item tokens m i rest (of_min d) e = absurd (none-some i e)
 as_item tokens m i rest (of_max d) e = absurd (none-some i e)
@@ -100,9 +100,9 @@ as_out tokens m o rest (of_item all_of_table) e = absurd (none-some o e)
 as_out tokens m o rest (of_min {c = c} d) e = rw (← same_Some (out.Min c) o e) (minimum d)
 as_out tokens m o rest (of_max {c = c} d) e = rw (← same_Some (out.Max c) o e) (maximum d)
 
-pub as_items : (tokens : List TokenKind) (members : List Member) (items : List RawItem) (rest : List TokenKind) → AreMembers tokens members rest → each_of item_of members ≡ Some items → AreItems tokens items rest
+pub as_items : (tokens : List TokenKind) (members : List Member) (items : List RawItem) (rest : List TokenKind) → AreMembers tokens members rest → each_of ungrouped_item members ≡ Some items → AreItems tokens items rest
 as_items tokens _ items rest star_member e = rw (← same_Some (item.All ∷ []) items e) star
-as_items tokens members items rest (listed_members ds) e = listed (list_as IsMember IsItem (Symbol Comma) item_of as_item tokens members items rest ds e)
+as_items tokens members items rest (listed_members ds) e = listed_items (list_as IsMember IsItem (Symbol Comma) ungrouped_item as_item tokens members items rest ds e)
 
 pub as_outs : (tokens : List TokenKind) (members : List Member) (outs : List RawOut) (rest : List TokenKind) → AreMembers tokens members rest → each_of out_of members ≡ Some outs → IsListOf IsOut (Symbol Comma) tokens outs rest
 as_outs tokens _ outs rest star_member e = absurd (none-some outs e)
@@ -197,10 +197,10 @@ out_back (out.Max c) = refl
 
 pub from_items : (tokens : List TokenKind) (items : List RawItem) (rest : List TokenKind) → AreItems tokens items rest → AreMembers tokens (map member.Item items) rest
 from_items tokens _ rest star = star_member
-from_items tokens items rest (listed ds) = listed_members (list_from IsMember IsItem (Symbol Comma) (λ i. member.Item i) (λ _ _ _ d. of_item d) tokens items rest ds)
+from_items tokens items rest (listed_items ds) = listed_members (list_from IsMember IsItem (Symbol Comma) (λ i. member.Item i) (λ _ _ _ d. of_item d) tokens items rest ds)
 
-pub items_back : (items : List RawItem) → each_of item_of (map member.Item items) ≡ Some items
-items_back items = each_back item_of (λ i. member.Item i) (λ i. refl) items
+pub items_back : (items : List RawItem) → each_of ungrouped_item (map member.Item items) ≡ Some items
+items_back items = each_back ungrouped_item (λ i. member.Item i) (λ i. refl) items
 
 pub from_outs : (tokens : List TokenKind) (outs : List RawOut) (rest : List TokenKind) → IsListOf IsOut (Symbol Comma) tokens outs rest → AreMembers tokens (map member_of_out outs) rest
 from_outs tokens outs rest ds = listed_members (list_from IsMember IsOut (Symbol Comma) member_of_out from_out tokens outs rest ds)

@@ -16,7 +16,7 @@ use Rattle.hippo_lexer.specs.declared.kinds.TokenKind.{TokenKind}
 use Rattle.hippo_lexer.specs.declared.kinds.TokenKind.TheVariants.{Keyword, Number, Quoted, Day, Symbol}
 use Rattle.hippo_spj_reader.specs.Promises.{◌>>=◌}
 use Rattle.hippo_spj_reader.specs.Front.{after_keyword, after_symbol, same_keyword, leading_literal}
-use Rattle.hippo_spj_reader.specs.ConditionGrammar.{IsColumn, bare, qualified, IsLiteral, number, quoted, day, null, IsOperand, column, literal, IsOperator, equal, not_equal, less, less_equal, greater, greater_equal}
+use Rattle.hippo_spj_reader.specs.ConditionGrammar.{IsColumn, bare, qualified, IsLiteral, number, quoted_literal, day, null, IsOperand, column, literal, IsOperator, equal, not_equal, less, less_equal, greater_sign, greater_equal}
 use Rattle.hippo_spj_reader.specs.ConditionFinder.{leading_column, begins_with_name, leading_operand, operator_of, leading_operator}
 use Rattle.hippo_spj_reader.proofs.FrontTheorem.{found_then, name_then, symbol_choice, read_as}
 
@@ -29,7 +29,7 @@ column_found tokens c rest e =
 
 pub literal_found : (tokens : List TokenKind) (v : Value) (rest : List TokenKind) → leading_literal tokens ≡ Some (v, rest) → IsLiteral tokens v rest
 literal_found (Number n ∷ behind) v rest e = read_as IsLiteral _ _ _ _ _ e number
-literal_found (Quoted text ∷ behind) v rest e = read_as IsLiteral _ _ _ _ _ e quoted
+literal_found (Quoted text ∷ behind) v rest e = read_as IsLiteral _ _ _ _ _ e quoted_literal
 literal_found (Day d ∷ behind) v rest e = read_as IsLiteral _ _ _ _ _ e day
 literal_found (Keyword keyword ∷ behind) v rest e =
     let p = cond_some (same_keyword keyword KNull) (value.Null, behind) (v, rest) e in
@@ -50,7 +50,7 @@ operator_of-found Equal op e = rw (← same_Some _ op e) equal
 operator_of-found NotEqual op e = rw (← same_Some _ op e) not_equal
 operator_of-found Less op e = rw (← same_Some _ op e) less
 operator_of-found LessEqual op e = rw (← same_Some _ op e) less_equal
-operator_of-found Greater op e = rw (← same_Some _ op e) greater
+operator_of-found Greater op e = rw (← same_Some _ op e) greater_sign
 operator_of-found GreaterEqual op e = rw (← same_Some _ op e) greater_equal
 operator_of-found _ op e = absurd (none-some op e)
 
@@ -67,7 +67,7 @@ column_complete tokens c rest qualified ended = refl
 
 pub literal_complete : (tokens : List TokenKind) (v : Value) (rest : List TokenKind) → IsLiteral tokens v rest → leading_literal tokens ≡ Some (v, rest)
 literal_complete tokens v rest number = refl
-literal_complete tokens v rest quoted = refl
+literal_complete tokens v rest quoted_literal = refl
 literal_complete tokens v rest day = refl
 literal_complete tokens v rest null = refl
 
@@ -75,7 +75,7 @@ pub operand_complete : (tokens : List TokenKind) (o : RawOperand) (rest : List T
 operand_complete tokens o rest (column bare) ended = rw ended refl
 operand_complete tokens o rest (column qualified) ended = refl
 operand_complete tokens o rest (literal number) ended = refl
-operand_complete tokens o rest (literal quoted) ended = refl
+operand_complete tokens o rest (literal quoted_literal) ended = refl
 operand_complete tokens o rest (literal day) ended = refl
 operand_complete tokens o rest (literal null) ended = refl
 
@@ -84,7 +84,7 @@ operator_complete sign op equal = refl
 operator_complete sign op not_equal = refl
 operator_complete sign op less = refl
 operator_complete sign op less_equal = refl
-operator_complete sign op greater = refl
+operator_complete sign op greater_sign = refl
 operator_complete sign op greater_equal = refl
 
 pub column_shorter : (tokens : List TokenKind) (c : RawColumn) (rest : List TokenKind) → IsColumn tokens c rest → length rest < length tokens
@@ -93,7 +93,7 @@ column_shorter tokens c rest qualified = omega arith
 
 pub literal_shorter : (tokens : List TokenKind) (v : Value) (rest : List TokenKind) → IsLiteral tokens v rest → length rest < length tokens
 literal_shorter tokens v rest number = omega arith
-literal_shorter tokens v rest quoted = omega arith
+literal_shorter tokens v rest quoted_literal = omega arith
 literal_shorter tokens v rest day = omega arith
 literal_shorter tokens v rest null = omega arith
 
@@ -106,7 +106,7 @@ neither_stands : (tokens : List TokenKind) (o : RawOperand) (rest : List TokenKi
 neither_stands tokens o rest (column bare) = (refl, refl)
 neither_stands tokens o rest (column qualified) = (refl, refl)
 neither_stands tokens o rest (literal number) = (refl, refl)
-neither_stands tokens o rest (literal quoted) = (refl, refl)
+neither_stands tokens o rest (literal quoted_literal) = (refl, refl)
 neither_stands tokens o rest (literal day) = (refl, refl)
 neither_stands tokens o rest (literal null) = (refl, refl)
 
@@ -122,5 +122,5 @@ no_operator-dot sign op rest equal = refl
 no_operator-dot sign op rest not_equal = refl
 no_operator-dot sign op rest less = refl
 no_operator-dot sign op rest less_equal = refl
-no_operator-dot sign op rest greater = refl
+no_operator-dot sign op rest greater_sign = refl
 no_operator-dot sign op rest greater_equal = refl

@@ -17,8 +17,8 @@ use Rattle.hippo_spj_reader.specs.Front.{after_keyword, after_symbol}
 use Rattle.hippo_spj_reader.specs.ConditionGrammar.{RawCond, IsCondition}
 use Rattle.hippo_spj_reader.specs.ConditionFinder.{leading_column, leading_condition}
 use Rattle.hippo_spj_reader.specs.ListFinder.{leading_list}
-use Rattle.hippo_spj_reader.specs.SelectGrammar.{AreJoined, no_more, comma, join, inner_join, IsWhere, no_where, condition, IsScope, scope, select_of, IsSelect, plain, distinct, grouped}
-use Rattle.hippo_spj_reader.specs.SelectFinder.{item_of, out_of, each_of, after_join, joined_table, leading_joined_by_comma, leading_joined_on, leading_joined, no_sources, with_first, leading_all_joined, leading_sources, leading_where, leading_scope, draft_of, leading_draft_of, leading_draft, leading_members, ungrouped, leading_grouped, leading_select}
+use Rattle.hippo_spj_reader.specs.SelectGrammar.{AreJoined, no_more, comma_table, join, inner_join, IsWhere, no_where, condition, IsScope, scope, select_with, IsSelect, plain_select, distinct, grouped_select}
+use Rattle.hippo_spj_reader.specs.SelectFinder.{ungrouped_item, out_of, each_of, after_join, joined_table, leading_joined_by_comma, leading_joined_on, leading_joined, no_sources, with_first_table, leading_all_joined, leading_sources, leading_where, leading_scope, draft_of, leading_draft_of, leading_draft, leading_members, ungrouped_select, leading_grouped, leading_select}
 use Rattle.hippo_spj_reader.proofs.FrontTheorem.{found_then, choice, keyword_then, word_then, name_then, keyword_choice, symbol_choice, after_keyword-some, read_as}
 use Rattle.hippo_spj_reader.proofs.NameTheorem.{columns_found, columns_complete}
 use Rattle.hippo_spj_reader.proofs.MemberTheorem.{AreMembers, members_found, as_items, as_outs, members-no_distinct, members_complete, from_items, items_back, from_outs, outs_back, member_of_out}
@@ -58,7 +58,7 @@ joined_found tokens left entry e tables conditions rest others =
     (λ behind is_comma e. found_then (leading_joined_by_comma behind) _ _ e (λ one found e.
     name_then behind _ _ found (λ name after is_name found.
     let whole = some_pair_parts (joined_table name None) entry after left (found_is found (same_Some _ _ e)) in
-    rw (is_comma, is_name, ← whole.0, whole.1) (comma others))))
+    rw (is_comma, is_name, ← whole.0, whole.1) (comma_table others))))
     (λ _ e. choice (after_join tokens) _ _ _ e
     (λ behind is_join e. found_then (leading_joined_on behind) _ _ e (λ one found e.
     on_found behind entry left (found_is found (same_Some _ _ e)) (λ after c table is_on is_condition is.
@@ -72,7 +72,7 @@ all_joined_found zero tokens s rest e = absurd (none-some _ e)
 all_joined_found (suc n) tokens s rest e =
     found_then (leading_joined tokens) _ _ e (λ found is e. choice found _ _ _ e
     (λ one is_one e. found_then (leading_all_joined n one.1) _ _ e (λ others others_found e.
-    let whole = some_pair_parts (with_first one.0.table one.0.on others.0) s others.1 rest e in
+    let whole = some_pair_parts (with_first_table one.0.table one.0.on others.0) s others.1 rest e in
     rw (← whole.0, ← whole.1)
     (joined_found tokens one.1 one.0 (rw is_one at is) others.0.names others.0.conditions others.1 (all_joined_found n one.1 others.0 others.1 others_found))))
     (λ none e.
@@ -94,7 +94,7 @@ scope_found tokens s rest e =
     found_then (leading_where sources.1) _ _ e (λ last last_is e.
     name_then named _ _ sources_is (λ table joined is_name sources_is.
     found_then (leading_all_joined (suc (length joined)) joined) _ _ sources_is (λ others others_is sources_is.
-    let whole = some_pair_parts (with_first table None others.0) sources.0 others.1 sources.1 sources_is in
+    let whole = some_pair_parts (with_first_table table None others.0) sources.0 others.1 sources.1 sources_is in
     let are_joined : AreJoined joined others.0.names others.0.conditions sources.1 = rw whole.1 at (all_joined_found (suc (length joined)) joined others.0 others.1 others_is) in
     rw (is_from, is_name) (read_as IsScope _ _ _ _ _ e (rw (← whole.0) (scope are_joined (where_found sources.1 last.0 last.1 last_is) refl))))))))
 
@@ -123,14 +123,14 @@ draft_found tokens d rest e =
     (λ after is_distinct e. draft_of_found true after d rest e (λ members s from are_members is_scope is. rw (is_select, is_distinct, is) (without_repeats are_members is_scope)))
     (λ _ e. draft_of_found false behind d rest e (λ members s from are_members is_scope is. rw (is_select, is) (each_row are_members is_scope))))
 
-ungrouped_found : (tokens : List TokenKind) (d : Draft) (rest : List TokenKind) (s : RawSelect) → IsDraft tokens d rest → ungrouped d ≡ Some s → IsSelect tokens s rest
-unfolding ungrouped
+ungrouped_found : (tokens : List TokenKind) (d : Draft) (rest : List TokenKind) (s : RawSelect) → IsDraft tokens d rest → ungrouped_select d ≡ Some s → IsSelect tokens s rest
+unfolding ungrouped_select
 ungrouped_found _ _ rest s (each_row {members = members} {s = in_scope} {tokens = tokens} {from = from} are_members is_scope) e =
-    found_then (each_of item_of members) _ _ e (λ items items_are e.
-    rw (← same_Some (select_of items in_scope Plain) s e) (plain (as_items tokens members items from are_members items_are) is_scope))
+    found_then (each_of ungrouped_item members) _ _ e (λ items items_are e.
+    rw (← same_Some (select_with items in_scope Plain) s e) (plain_select (as_items tokens members items from are_members items_are) is_scope))
 ungrouped_found _ _ rest s (without_repeats {members = members} {s = in_scope} {tokens = tokens} {from = from} are_members is_scope) e =
-    found_then (each_of item_of members) _ _ e (λ items items_are e.
-    rw (← same_Some (select_of items in_scope Distinct) s e) (distinct (as_items tokens members items from are_members items_are) is_scope))
+    found_then (each_of ungrouped_item members) _ _ e (λ items items_are e.
+    rw (← same_Some (select_with items in_scope Distinct) s e) (distinct (as_items tokens members items from are_members items_are) is_scope))
 
 grouped_found : (tokens : List TokenKind) (d : Draft) (behind rest : List TokenKind) (s : RawSelect) → IsDraft tokens d (Keyword KGroup ∷ behind) → leading_grouped d behind ≡ Some (s, rest) → IsSelect tokens s rest
 unfolding leading_grouped
@@ -139,7 +139,7 @@ grouped_found _ _ behind rest s (each_row {members = members} {s = in_scope} {to
     found_then (leading_list leading_column (after_symbol Comma) columns) _ _ e (λ by by_is e.
     found_then (each_of out_of members) _ _ e (λ outs outs_are e.
     let in_group : IsScope from in_scope (Keyword KGroup ∷ Word (codes "by") ∷ columns) = rw is_by at is_scope in
-    read_as IsSelect _ _ _ _ _ e (grouped (as_outs tokens members outs from are_members outs_are) in_group (columns_found columns by.0 by.1 by_is)))))
+    read_as IsSelect _ _ _ _ _ e (grouped_select (as_outs tokens members outs from are_members outs_are) in_group (columns_found columns by.0 by.1 by_is)))))
 grouped_found _ _ behind rest s (without_repeats are_members is_scope) e =
     word_then (codes "by") behind _ _ e (λ columns is_by e.
     found_then (leading_list leading_column (after_symbol Comma) columns) _ _ e (λ by by_is e. absurd (none-some _ e)))
@@ -152,7 +152,7 @@ found tokens s rest e =
     let is_draft : IsDraft tokens draft.0 draft.1 = draft_found tokens draft.0 draft.1 draft_is in
     keyword_choice KGroup draft.1 _ _ _ e
     (λ behind is_group e. grouped_found tokens draft.0 behind rest s (rw is_group at is_draft) e)
-    (λ _ e. found_then (ungrouped draft.0) _ _ e (λ one one_is e. read_as IsSelect tokens _ _ _ _ e (ungrouped_found tokens draft.0 draft.1 one is_draft one_is))))
+    (λ _ e. found_then (ungrouped_select draft.0) _ _ e (λ one one_is e. read_as IsSelect tokens _ _ _ _ e (ungrouped_found tokens draft.0 draft.1 one is_draft one_is))))
 
 -- what the tables of FROM and their conditions are not followed by
 pub record JoinsEnd (rest : List TokenKind) : Type 0 where
@@ -199,7 +199,7 @@ scope_ends-group rest = record {
 
 joined-ends : (tokens : List TokenKind) (tables : List (List ℕ)) (conditions : List RawCond) (rest : List TokenKind) → AreJoined tokens tables conditions rest → JoinsEnd rest → Ends tokens
 joined-ends tokens tables conditions rest no_more ends = ends.condition_ends
-joined-ends tokens tables conditions rest (comma d) ends = record { no_dot = refl; no_and = refl; no_or = refl }
+joined-ends tokens tables conditions rest (comma_table d) ends = record { no_dot = refl; no_and = refl; no_or = refl }
 joined-ends tokens tables conditions rest (join c d) ends = record { no_dot = refl; no_and = refl; no_or = refl }
 joined-ends tokens tables conditions rest (inner_join c d) ends = record { no_dot = refl; no_and = refl; no_or = refl }
 
@@ -208,7 +208,7 @@ all_joined_complete : (n : ℕ) (tokens : List TokenKind) (tables : List (List �
 unfolding leading_joined
 all_joined_complete zero tokens tables conditions rest d ends enough = absurd (omega arith)
 all_joined_complete (suc n) tokens tables conditions rest no_more ends enough = rw (ends.no_comma, ends.no_inner, ends.no_join) refl
-all_joined_complete (suc n) _ _ conditions rest (comma {tables = tables} {others = others} d) ends enough =
+all_joined_complete (suc n) _ _ conditions rest (comma_table {tables = tables} {others = others} d) ends enough =
     rw (all_joined_complete n others tables conditions rest d ends (omega arith)) refl
 all_joined_complete (suc n) _ _ _ rest (join {tables = tables} {condition = c} {conditions = conditions} {on = on} {others = others} is_condition d) ends enough =
     let shorter : length others < length on = theorem.condition_shorter on c others is_condition in
@@ -253,8 +253,8 @@ draft_of_complete once tokens members from s rest are_members is_scope ends =
 
 -- the select is found, whole, where nothing behind it goes on with it
 pub complete : (tokens : List TokenKind) (s : RawSelect) (rest : List TokenKind) → IsSelect tokens s rest → SelectEnds rest → leading_select tokens ≡ Some (s, rest)
-unfolding leading_select leading_draft ungrouped leading_grouped
-complete _ _ rest (plain {items = items} {in_scope = in_scope} {tokens = tokens} {from = from} are_items is_scope) ends =
+unfolding leading_select leading_draft ungrouped_select leading_grouped
+complete _ _ rest (plain_select {items = items} {in_scope = in_scope} {tokens = tokens} {from = from} are_items is_scope) ends =
     rw (
       members-no_distinct tokens (map member.Item items) from (from_items tokens items from are_items),
       draft_of_complete false tokens (map member.Item items) from in_scope rest (from_items tokens items from are_items) is_scope ends.scope_ends,
@@ -267,7 +267,7 @@ complete _ _ rest (distinct {items = items} {in_scope = in_scope} {tokens = toke
       ends.no_group,
       items_back items,
     ) refl
-complete _ _ rest (grouped {outs = outs} {by = by} {in_scope = in_scope} {tokens = tokens} {from = from} {columns = columns} are_outs is_scope are_columns) ends =
+complete _ _ rest (grouped_select {outs = outs} {by = by} {in_scope = in_scope} {tokens = tokens} {from = from} {columns = columns} are_outs is_scope are_columns) ends =
     let behind : List TokenKind = Keyword KGroup ∷ Word (codes "by") ∷ columns in
     rw (
       members-no_distinct tokens (map member_of_out outs) from (from_outs tokens outs from are_outs),

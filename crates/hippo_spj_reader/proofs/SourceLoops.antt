@@ -8,7 +8,7 @@ use Rattle.hippo_spj_reader.specs.declared.selects.Sources.{Sources}
 use Rattle.hippo_spj_reader.specs.Promises.{◌>>=◌}
 use Rattle.hippo_spj_reader.specs.ConditionGrammar.{RawCond}
 use Rattle.hippo_spj_reader.specs.Front.{kinds, leading_name}
-use Rattle.hippo_spj_reader.specs.SelectFinder.{with_first, leading_joined, leading_all_joined, leading_sources}
+use Rattle.hippo_spj_reader.specs.SelectFinder.{with_first_table, leading_joined, leading_all_joined, leading_sources}
 
 abbrev Found : Type 0
 Found = Option (Sources × List TokenKind)
@@ -36,7 +36,7 @@ begins tokens rest first empty names conditions found no_names one none = record
 }
 
 pushed : (names : List (List ℕ)) (conditions : List RawCond) (table : List ℕ) (on : Option RawCond) (found : Found) →
-    with_front names conditions (found >>= λ others. Some (with_first table on others.0, others.1)) ≡ with_front (names ++ table ∷ []) (conditions ++ option_to_list on) found
+    with_front names conditions (found >>= λ others. Some (with_first_table table on others.0, others.1)) ≡ with_front (names ++ table ∷ []) (conditions ++ option_to_list on) found
 pushed names conditions table on None = refl
 pushed names conditions table on (Some others) = rw (append_assoc names (table ∷ []) others.0.names, append_assoc conditions (option_to_list on) others.0.conditions) refl
 

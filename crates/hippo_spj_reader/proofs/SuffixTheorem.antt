@@ -9,9 +9,9 @@ use Rattle.hippo_model.specs.declared.statement.RawSelect.{RawSelect}
 use Rattle.hippo_lexer.specs.declared.kinds.TokenKind.{TokenKind}
 use Rattle.hippo_spj_reader.specs.declared.selects.Scope.{Scope}
 use Rattle.hippo_spj_reader.specs.ConditionGrammar as conditions
-use Rattle.hippo_spj_reader.specs.ConditionGrammar.{RawCond, IsColumn, bare, qualified, IsLiteral, number, quoted, day, null, IsOperand, column, literal, IsCondition, disjunction, AreDisjuncts, last_disjunct, more_disjuncts, IsConjunction, conjunction, AreConjuncts, last_conjunct, more_conjuncts, IsNegation, negated, IsPrimary, parentheses, comparison, between, not_between, among, not_among, missing, present}
+use Rattle.hippo_spj_reader.specs.ConditionGrammar.{RawCond, IsColumn, bare, qualified, IsLiteral, number, quoted_literal, day, null, IsOperand, column, literal, IsCondition, disjunction, AreDisjuncts, last_disjunct, more_disjuncts, IsConjunction, conjunction, AreConjuncts, last_conjunct, more_conjuncts, IsNegation, negated, IsPrimary, parentheses, comparison, between, not_between, among, not_among, missing, present}
 use Rattle.hippo_spj_reader.specs.ListGrammar.{IsListOf, last_part, more_parts}
-use Rattle.hippo_spj_reader.specs.SelectGrammar.{IsItem, one_column, all_of_table, AreItems, star, listed, AreJoined, no_more, comma, join, inner_join, IsWhere, no_where, condition, IsScope, scope, IsOut, column_out, minimum, maximum, IsSelect, plain, distinct, grouped}
+use Rattle.hippo_spj_reader.specs.SelectGrammar.{IsItem, one_column, all_of_table, AreItems, star, listed_items, AreJoined, no_more, comma_table, join, inner_join, IsWhere, no_where, condition, IsScope, scope, IsOut, column_out, minimum, maximum, IsSelect, plain_select, distinct, grouped_select}
 
 -- the rest is what is left of the tokens behind some of them
 pub data IsSuffix (rest : List TokenKind) : List TokenKind → Type 0 where
@@ -36,7 +36,7 @@ column_suffix qualified = behind (behind (behind all_left))
 
 literal_suffix : {tokens rest : List TokenKind} {v : Value} → IsLiteral tokens v rest → IsSuffix rest tokens
 literal_suffix number = behind all_left
-literal_suffix quoted = behind all_left
+literal_suffix quoted_literal = behind all_left
 literal_suffix day = behind all_left
 literal_suffix null = behind all_left
 
@@ -85,7 +85,7 @@ item_suffix all_of_table = behind (behind (behind all_left))
 
 items_suffix : {tokens rest : List TokenKind} {items : List RawItem} → AreItems tokens items rest → IsSuffix rest tokens
 items_suffix star = behind all_left
-items_suffix (listed ds) = list_suffix IsItem _ (λ _ _ _ d. item_suffix d) ds
+items_suffix (listed_items ds) = list_suffix IsItem _ (λ _ _ _ d. item_suffix d) ds
 
 out_suffix : {tokens rest : List TokenKind} {o : RawOut} → IsOut tokens o rest → IsSuffix rest tokens
 out_suffix (column_out c) = column_suffix c
@@ -94,7 +94,7 @@ out_suffix (maximum c) = behind (behind (next (column_suffix c)))
 
 joined_suffix : {tokens rest : List TokenKind} {tables : List _} {conditions : List RawCond} → AreJoined tokens tables conditions rest → IsSuffix rest tokens
 joined_suffix no_more = all_left
-joined_suffix (comma d) = behind (behind (joined_suffix d))
+joined_suffix (comma_table d) = behind (behind (joined_suffix d))
 joined_suffix (join c d) = behind (behind (behind (within (condition_suffix c) (joined_suffix d))))
 joined_suffix (inner_join c d) = behind (behind (behind (behind (within (condition_suffix c) (joined_suffix d)))))
 
@@ -107,8 +107,8 @@ scope_suffix (scope are_joined is_where is_whole) = behind (behind (within (join
 
 -- what follows a select is the end of its tokens
 pub select_suffix : {tokens rest : List TokenKind} {s : RawSelect} → IsSelect tokens s rest → IsSuffix rest tokens
-select_suffix (plain are_items is_scope) = behind (within (items_suffix are_items) (scope_suffix is_scope))
+select_suffix (plain_select are_items is_scope) = behind (within (items_suffix are_items) (scope_suffix is_scope))
 select_suffix (distinct are_items is_scope) = behind (behind (within (items_suffix are_items) (scope_suffix is_scope)))
-select_suffix (grouped are_outs is_scope are_columns) =
+select_suffix (grouped_select are_outs is_scope are_columns) =
     behind (within (list_suffix IsOut _ (λ _ _ _ d. out_suffix d) are_outs)
     (within (next (next (scope_suffix is_scope))) (list_suffix IsColumn _ (λ _ _ _ d. column_suffix d) are_columns)))

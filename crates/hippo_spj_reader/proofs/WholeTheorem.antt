@@ -5,13 +5,13 @@ use Rattle.std.proofs.lemmas.Option.{none-some, same_Some}
 use Rattle.hippo_lexer.specs.declared.kinds.TokenKind.{TokenKind}
 use Rattle.hippo_lexer.specs.declared.faults.SyntaxFault.{SyntaxFault}
 use Rattle.hippo_lexer.specs.declared.faults.SyntaxFault.TheVariants as fault
-use Rattle.hippo_spj_reader.specs.Promises.{Gives, ended, whole_of, IsFaultOnlyWhere, ReadsAll}
+use Rattle.hippo_spj_reader.specs.Promises.{Gives, part_at_end, whole_of, IsFaultOnlyWhere, ReadsAll}
 use Rattle.hippo_spj_reader.proofs.FrontTheorem.{found_then}
 
 module _ {X : Type 0} (leading_part : List TokenKind → Option (X × List TokenKind)) (IsPart : List TokenKind → X → List TokenKind → Type 0) (tokens : List TokenKind)
     (found : (x : X) (rest : List TokenKind) → leading_part tokens ≡ Some (x, rest) → IsPart tokens x rest)
     (complete : (x : X) → IsPart tokens x [] → leading_part tokens ≡ Some (x, [])) where
-  ended_found : (x : X) (one : X × List TokenKind) → ended one ≡ Some x → one ≡ (x, [])
+  ended_found : (x : X) (one : X × List TokenKind) → part_at_end one ≡ Some x → one ≡ (x, [])
   ended_found x (y, []) e = ap (λ (z : X). (z, [])) (same_Some y x e)
   ended_found x (y, first ∷ rest) e = absurd (none-some x e)
 
@@ -19,7 +19,7 @@ module _ {X : Type 0} (leading_part : List TokenKind → Option (X × List Token
   whole_complete x is_part = rw (complete x is_part) refl
 
   whole_found : (result : Result X SyntaxFault) → Gives (λ x. x) result (whole_of (leading_part tokens)) → IfOk result (λ x. IsPart tokens x [])
-  whole_found (Ok x) gives = found_then (leading_part tokens) ended x gives (λ one is e. found x [] (is ∙ ap Some (ended_found x one e)))
+  whole_found (Ok x) gives = found_then (leading_part tokens) part_at_end x gives (λ one is e. found x [] (is ∙ ap Some (ended_found x one e)))
   whole_found (Err e) gives = tt
 
   whole_only : (result : Result X SyntaxFault) → Gives (λ x. x) result (whole_of (leading_part tokens)) → IfOk result (λ x. (other : X) → IsPart tokens other [] → other ≡ x)

@@ -11,11 +11,11 @@ use Rattle.hippo_lexer.specs.declared.kinds.Symbol as signs
 use Rattle.hippo_lexer.specs.declared.kinds.Symbol.TheVariants.{LeftParen, RightParen, Comma, Dot, Equal, NotEqual, Less, LessEqual, Greater, GreaterEqual}
 use Rattle.hippo_lexer.specs.declared.kinds.TokenKind.TheVariants.{Word, Symbol}
 use Rattle.hippo_spj_reader.specs.Promises.{◌>>=◌, either}
-use Rattle.hippo_spj_reader.specs.Front.{Kinds, Finds, after_keyword, after_symbol, leading_name, leading_literal}
+use Rattle.hippo_spj_reader.specs.Front.{Kinds, Finder, after_keyword, after_symbol, leading_name, leading_literal}
 use Rattle.hippo_spj_reader.specs.ListFinder.{leading_list}
 use Rattle.hippo_spj_reader.specs.ConditionGrammar.{RawCond, any_of, all_of}
 
-abbrev pub leading_column : Finds RawColumn
+abbrev pub leading_column : Finder RawColumn
 leading_column tokens = do
   first ← leading_name tokens
   either (after_symbol Dot first.1) (λ behind. do
@@ -28,7 +28,7 @@ abbrev pub begins_with_name : Kinds → Bool
 begins_with_name (Word name ∷ rest) = true
 begins_with_name tokens = false
 
-abbrev pub leading_operand : Finds RawOperand
+abbrev pub leading_operand : Finder RawOperand
 leading_operand tokens =
     if begins_with_name tokens
     then leading_column tokens >>= (λ found. Some (Column found.0, found.1))
@@ -43,24 +43,24 @@ operator_of Greater = Some Gt
 operator_of GreaterEqual = Some Ge
 operator_of sign = None
 
-abbrev pub leading_operator : Finds CompareOp
+abbrev pub leading_operator : Finder CompareOp
 leading_operator (Symbol sign ∷ rest) = operator_of sign >>= λ op. Some (op, rest)
 leading_operator tokens = None
 
 -- what a condition says of its first operand
-unfoldable pub leading_comparison : RawOperand → CompareOp → Finds RawCond
+unfoldable pub leading_comparison : RawOperand → CompareOp → Finder RawCond
 leading_comparison left op tokens = do
   right ← leading_operand tokens
   Some (Compare op left right.0, right.1)
 
-unfoldable pub leading_between : RawOperand → Finds RawCond
+unfoldable pub leading_between : RawOperand → Finder RawCond
 leading_between v tokens = do
   low ← leading_operand tokens
   behind ← after_keyword KAnd low.1
   high ← leading_operand behind
   Some (Between v low.0 high.0, high.1)
 
-unfoldable pub leading_among : RawOperand → Finds RawCond
+unfoldable pub leading_among : RawOperand → Finder RawCond
 leading_among v tokens = do
   inside ← after_symbol LeftParen tokens
   list ← leading_list leading_operand (after_symbol Comma) inside
@@ -68,11 +68,12 @@ leading_among v tokens = do
   Some (Among v list.0, rest)
 
 -- BETWEEN or IN
-unfoldable pub leading_range : RawOperand → Finds RawCond
+unfoldable pub leading_range : RawOperand → Finder RawCond
 leading_range v tokens =
-    either (after_keyword KBetween tokens) (leading_between v) (after_keyword KIn tokens >>= leading_among v)
+    either (after_keyword KBetween tokens) (leading_between v)
+    (after_keyword KIn tokens >>= leading_among v)
 
-unfoldable pub leading_null : RawOperand → Finds RawCond
+unfoldable pub leading_null : RawOperand → Finder RawCond
 leading_null v tokens =
     either (after_keyword KNot tokens) (λ behind. do
       rest ← after_keyword KNull behind
@@ -80,25 +81,27 @@ leading_null v tokens =
         rest ← after_keyword KNull tokens
         Some (Missing v, rest))
 
-abbrev pub negative : Option (RawCond × Kinds) → Option (RawCond × Kinds)
-negative found = found >>= λ part. Some (Not part.0, part.1)
+abbrev pub negation : Option (RawCond × Kinds) → Option (RawCond × Kinds)
+negation found = found >>= λ part. Some (Not part.0, part.1)
 
-unfoldable pub leading_test : RawOperand → Finds RawCond
+unfoldable pub leading_test : RawOperand → Finder RawCond
 leading_test v tokens =
-    either (after_keyword KNot tokens) (λ behind. negative (leading_range v behind))
+    either (after_keyword KNot tokens) (λ behind. negation (leading_range v behind))
     (either (after_keyword KIs tokens) (leading_null v)
-    (either (leading_operator tokens) (λ op. leading_comparison v op.0 op.1) (leading_range v tokens)))
+    (either (leading_operator tokens) (λ op. leading_comparison v op.0 op.1)
+    (leading_range v tokens)))
 
-module _ (deeper : Finds RawCond) where
-  abbrev pub conjunction_with : Finds RawCond
+module _ (deeper : Finder RawCond) where
+  abbrev pub conjunction_with : Finder RawCond
   conjunction_with tokens =
       leading_list deeper (after_keyword KAnd) tokens >>= λ parts. Some (all_of parts.0, parts.1)
 
-  abbrev pub condition_with : Finds RawCond
+  abbrev pub condition_with : Finder RawCond
   condition_with tokens =
-      leading_list conjunction_with (after_keyword KOr) tokens >>= λ parts. Some (any_of parts.0, parts.1)
+      leading_list conjunction_with (after_keyword KOr) tokens >>=
+      λ parts. Some (any_of parts.0, parts.1)
 
-  abbrev pub primary_with : Finds RawCond
+  abbrev pub primary_with : Finder RawCond
   primary_with tokens =
       either (after_symbol LeftParen tokens) (λ inside. do
         found ← condition_with inside
@@ -108,12 +111,12 @@ module _ (deeper : Finds RawCond) where
           leading_test v.0 v.1)
 
 -- NOT and parentheses at most this deep
-abbrev pub leading_negation : ℕ → Finds RawCond
+abbrev pub leading_negation : ℕ → Finder RawCond
 leading_negation zero tokens = None
 leading_negation (suc n) tokens =
-    either (after_keyword KNot tokens) (λ behind. negative (leading_negation n behind))
+    either (after_keyword KNot tokens) (λ behind. negation (leading_negation n behind))
     (primary_with (leading_negation n) tokens)
 
 -- the longest condition that stands first
-unfoldable pub leading_condition : Finds RawCond
+unfoldable pub leading_condition : Finder RawCond
 leading_condition tokens = condition_with (leading_negation (suc (length tokens))) tokens

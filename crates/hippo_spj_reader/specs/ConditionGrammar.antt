@@ -1,4 +1,5 @@
--- The grammar of conditions. Each relation says that the tokens begin with such a part, how it reads, and what follows.
+-- The grammar of conditions. Each relation says that the tokens begin with such a part, how it
+-- reads, and what follows.
 use Rattle.std.specs.Prelude.{◌≡◌, List, [], ◌∷◌, Some, None}
 use Rattle.hippo_values.specs.declared.names.Name.{Name}
 use Rattle.hippo_values.specs.declared.truths.CompareOp.{CompareOp}
@@ -24,19 +25,22 @@ pub data IsColumn : Kinds → RawColumn → Kinds → Type 0 where
   bare : {column : Name} {rest : Kinds} →
       IsColumn (Word column ∷ rest) (record { table = None; column = column }) rest
   qualified : {table column : Name} {rest : Kinds} →
-      IsColumn (Word table ∷ Symbol Dot ∷ Word column ∷ rest) (record { table = Some table; column = column }) rest
+      IsColumn (Word table ∷ Symbol Dot ∷ Word column ∷ rest)
+      (record { table = Some table; column = column }) rest
 
 -- literal = number | quoted | day | NULL
 pub data IsLiteral : Kinds → Value → Kinds → Type 0 where
   number : {n : _} {rest : Kinds} → IsLiteral (Number n ∷ rest) (value.Int n) rest
-  quoted : {text : _} {rest : Kinds} → IsLiteral (Quoted text ∷ rest) (value.Text text) rest
+  quoted_literal : {text : _} {rest : Kinds} → IsLiteral (Quoted text ∷ rest) (value.Text text) rest
   day : {d : _} {rest : Kinds} → IsLiteral (Day d ∷ rest) (value.Day d) rest
   null : {rest : Kinds} → IsLiteral (Keyword KNull ∷ rest) value.Null rest
 
 -- operand = column | literal
 pub data IsOperand : Kinds → RawOperand → Kinds → Type 0 where
-  column : {c : RawColumn} {tokens rest : Kinds} → IsColumn tokens c rest → IsOperand tokens (Column c) rest
-  literal : {v : Value} {tokens rest : Kinds} → IsLiteral tokens v rest → IsOperand tokens (Literal v) rest
+  column : {c : RawColumn} {tokens rest : Kinds} → IsColumn tokens c rest
+      → IsOperand tokens (Column c) rest
+  literal : {v : Value} {tokens rest : Kinds} → IsLiteral tokens v rest
+      → IsOperand tokens (Literal v) rest
 
 -- op = "=" | "<>" | "!=" | "<" | "<=" | ">" | ">="
 pub data IsOperator : signs.Symbol → CompareOp → Type 0 where
@@ -44,7 +48,7 @@ pub data IsOperator : signs.Symbol → CompareOp → Type 0 where
   not_equal : IsOperator NotEqual Ne
   less : IsOperator Less Lt
   less_equal : IsOperator LessEqual Le
-  greater : IsOperator Greater Gt
+  greater_sign : IsOperator Greater Gt
   greater_equal : IsOperator GreaterEqual Ge
 
 -- several parts of OR make one Any; a single part is itself
@@ -63,7 +67,8 @@ mutual
   -- cond = conj {OR conj}
   pub data IsCondition : Kinds → RawCond → Kinds → Type 0 where
     disjunction : {condition : RawCond} {parts : List RawCond} {tokens rest : Kinds} →
-        AreDisjuncts tokens parts rest → condition ≡ any_of parts → IsCondition tokens condition rest
+        AreDisjuncts tokens parts rest → condition ≡ any_of parts
+        → IsCondition tokens condition rest
 
   pub data AreDisjuncts : Kinds → List RawCond → Kinds → Type 0 where
     last_disjunct : {part : RawCond} {tokens rest : Kinds} →
@@ -75,7 +80,8 @@ mutual
   -- conj = neg {AND neg}
   pub data IsConjunction : Kinds → RawCond → Kinds → Type 0 where
     conjunction : {condition : RawCond} {parts : List RawCond} {tokens rest : Kinds} →
-        AreConjuncts tokens parts rest → condition ≡ all_of parts → IsConjunction tokens condition rest
+        AreConjuncts tokens parts rest → condition ≡ all_of parts
+        → IsConjunction tokens condition rest
 
   pub data AreConjuncts : Kinds → List RawCond → Kinds → Type 0 where
     last_conjunct : {part : RawCond} {tokens rest : Kinds} →
@@ -87,7 +93,8 @@ mutual
   -- neg = NOT neg | prim
   pub data IsNegation : Kinds → RawCond → Kinds → Type 0 where
     negated : {condition part : RawCond} {tokens rest : Kinds} →
-        IsNegation tokens part rest → condition ≡ Not part → IsNegation (Keyword KNot ∷ tokens) condition rest
+        IsNegation tokens part rest → condition ≡ Not part
+        → IsNegation (Keyword KNot ∷ tokens) condition rest
     plain : {condition : RawCond} {tokens rest : Kinds} →
         IsPrimary tokens condition rest → IsNegation tokens condition rest
 
@@ -95,20 +102,27 @@ mutual
   --      | operand [NOT] IN "(" operand {"," operand} ")" | operand IS [NOT] NULL
   pub data IsPrimary : Kinds → RawCond → Kinds → Type 0 where
     parentheses : {condition : RawCond} {tokens rest : Kinds} →
-        IsCondition tokens condition (Symbol RightParen ∷ rest) → IsPrimary (Symbol LeftParen ∷ tokens) condition rest
-    comparison : {left right : RawOperand} {sign : signs.Symbol} {op : CompareOp} {tokens others rest : Kinds} →
-        IsOperand tokens left (Symbol sign ∷ others) → IsOperator sign op → IsOperand others right rest →
+        IsCondition tokens condition (Symbol RightParen ∷ rest)
+        → IsPrimary (Symbol LeftParen ∷ tokens) condition rest
+    comparison : {left right : RawOperand} {sign : signs.Symbol} {op : CompareOp}
+        {tokens others rest : Kinds} →
+        IsOperand tokens left (Symbol sign ∷ others) → IsOperator sign op
+        → IsOperand others right rest →
         IsPrimary tokens (Compare op left right) rest
     between : {v low high : RawOperand} {tokens lows highs rest : Kinds} →
         IsOperand tokens v (Keyword KBetween ∷ lows) → IsOperand lows low (Keyword KAnd ∷ highs) →
         IsOperand highs high rest → IsPrimary tokens (Between v low high) rest
     not_between : {condition : RawCond} {v low high : RawOperand} {tokens lows highs rest : Kinds} →
-        IsOperand tokens v (Keyword KNot ∷ Keyword KBetween ∷ lows) → IsOperand lows low (Keyword KAnd ∷ highs) →
-        IsOperand highs high rest → condition ≡ Not (Between v low high) → IsPrimary tokens condition rest
+        IsOperand tokens v (Keyword KNot ∷ Keyword KBetween ∷ lows)
+        → IsOperand lows low (Keyword KAnd ∷ highs) →
+        IsOperand highs high rest → condition ≡ Not (Between v low high)
+        → IsPrimary tokens condition rest
     among : {v : RawOperand} {list : List RawOperand} {tokens others rest : Kinds} →
         IsOperand tokens v (Keyword KIn ∷ Symbol LeftParen ∷ others) →
-        IsListOf IsOperand (Symbol Comma) others list (Symbol RightParen ∷ rest) → IsPrimary tokens (Among v list) rest
-    not_among : {condition : RawCond} {v : RawOperand} {list : List RawOperand} {tokens others rest : Kinds} →
+        IsListOf IsOperand (Symbol Comma) others list (Symbol RightParen ∷ rest)
+        → IsPrimary tokens (Among v list) rest
+    not_among : {condition : RawCond} {v : RawOperand} {list : List RawOperand}
+        {tokens others rest : Kinds} →
         IsOperand tokens v (Keyword KNot ∷ Keyword KIn ∷ Symbol LeftParen ∷ others) →
         IsListOf IsOperand (Symbol Comma) others list (Symbol RightParen ∷ rest) →
         condition ≡ Not (Among v list) → IsPrimary tokens condition rest

@@ -19,8 +19,8 @@ abbrev pub Kinds : Type 0
 Kinds = List TokenKind
 
 -- what can be found at the front of the tokens, and what follows it
-abbrev pub Finds : Type 0 → Type 0
-Finds X = Kinds → Option (X × Kinds)
+abbrev pub Finder : Type 0 → Type 0
+Finder X = Kinds → Option (X × Kinds)
 
 -- what the tokens say, without their places
 abbrev pub kinds : List Token → Kinds
@@ -38,7 +38,8 @@ same_symbol one other = sameb symbols.the_type one other
 
 -- what follows the keyword, where it stands first
 abbrev pub after_keyword : words.Keyword → Kinds → Option Kinds
-after_keyword keyword (Keyword first ∷ rest) = if same_keyword first keyword then Some rest else None
+after_keyword keyword (Keyword first ∷ rest) =
+    if same_keyword first keyword then Some rest else None
 after_keyword keyword tokens = None
 
 -- what follows the symbol, where it stands first
@@ -52,14 +53,15 @@ after_word word (Word first ∷ rest) = if bytes_eq first word then Some rest el
 after_word word tokens = None
 
 -- the name that stands first, and what follows it
-abbrev pub leading_name : Finds Name
+abbrev pub leading_name : Finder Name
 leading_name (Word name ∷ rest) = Some (name, rest)
 leading_name tokens = None
 
 -- literal = number | quoted | day | NULL
-abbrev pub leading_literal : Finds Value
+abbrev pub leading_literal : Finder Value
 leading_literal (Number number ∷ rest) = Some (value.Int number, rest)
 leading_literal (Quoted text ∷ rest) = Some (value.Text text, rest)
 leading_literal (Day day ∷ rest) = Some (value.Day day, rest)
-leading_literal (Keyword keyword ∷ rest) = if same_keyword keyword KNull then Some (value.Null, rest) else None
+leading_literal (Keyword keyword ∷ rest) =
+    if same_keyword keyword KNull then Some (value.Null, rest) else None
 leading_literal tokens = None

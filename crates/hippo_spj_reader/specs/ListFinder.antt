@@ -1,11 +1,11 @@
 -- The list that can be found at the front of the tokens, part by part: the longest one.
 use Rattle.std.specs.Prelude.{ℕ, zero, suc, List, [], ◌∷◌, ◌++◌, length, Option, Some, None}
-use Rattle.hippo_spj_reader.specs.Front.{Kinds, Finds}
+use Rattle.hippo_spj_reader.specs.Front.{Kinds, Finder}
 use Rattle.hippo_spj_reader.specs.Promises.{◌>>=◌, either}
 
-module _ {X : Type 0} (leading_part : Finds X) (after_part : Kinds → Option Kinds) where
+module _ {X : Type 0} (leading_part : Finder X) (after_part : Kinds → Option Kinds) where
   -- at most this many parts, as long as something leads from one to the next
-  abbrev pub leading_parts : ℕ → Finds (List X)
+  abbrev pub leading_parts : ℕ → Finder (List X)
   leading_parts zero tokens = None
   leading_parts (suc n) tokens = do
     first ← leading_part tokens
@@ -13,13 +13,15 @@ module _ {X : Type 0} (leading_part : Finds X) (after_part : Kinds → Option Ki
     Some (first.0 ∷ others.0, others.1)
 
   -- what is left of a list behind one of its parts
-  abbrev pub further_parts : ℕ → Finds (List X)
-  further_parts n tokens = either (after_part tokens) (λ behind. leading_parts n behind) (Some ([], tokens))
+  abbrev pub further_parts : ℕ → Finder (List X)
+  further_parts n tokens = either (after_part tokens)
+      (λ behind. leading_parts n behind) (Some ([], tokens))
 
   -- the longest list that stands first
-  abbrev pub leading_list : Finds (List X)
+  abbrev pub leading_list : Finder (List X)
   leading_list tokens = leading_parts (suc (length tokens)) tokens
 
 -- these parts, and then those
-abbrev pub with_front : {X : Type 0} → List X → Option (List X × Kinds) → Option (List X × Kinds)
-with_front front found = found >>= λ others. Some (front ++ others.0, others.1)
+abbrev pub with_front_parts : {X : Type 0} → List X → Option (List X × Kinds)
+    → Option (List X × Kinds)
+with_front_parts front found = found >>= λ others. Some (front ++ others.0, others.1)

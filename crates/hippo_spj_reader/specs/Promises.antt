@@ -4,7 +4,7 @@ use denote.Ref.{Bor}
 use Rattle.hippo_lexer.specs.declared.faults.SyntaxFault.{SyntaxFault}
 use Rattle.hippo_lexer.specs.declared.faults.SyntaxFault.TheVariants as fault
 use Rattle.hippo_lexer.specs.declared.kinds.Token.{Token}
-use Rattle.hippo_spj_reader.specs.Front.{Kinds, Finds, kinds}
+use Rattle.hippo_spj_reader.specs.Front.{Kinds, Finder, kinds}
 
 infixl 10 ◌>>=◌
 -- one and then the next, where both find something
@@ -45,12 +45,14 @@ abbrev pub LeavesNoMore : {X : Type 0} → List Token → Read X → Type 0
 LeavesNoMore tokens result = IfOk result (λ x. length x.1.now ≤ length tokens)
 
 -- the part that can be found first is read, and what follows it is left
-pub record Reads {X : Type 0} (leading : Finds X) (tokens : List Token) (result : Read X) : Type 0 where
+pub record Reads {X : Type 0} (leading : Finder X) (tokens : List Token) (result : Read X)
+    : Type 0 where
   pub found : GivesPart result (leading (kinds tokens))
   pub no_longer : LeavesNoMore tokens result
 
 -- where it stands first, a token or two are passed
-pub record Passes (after : Kinds → Option Kinds) (tokens : List Token) (result : Option Left) : Type 0 where
+pub record Passes (after : Kinds → Option Kinds) (tokens : List Token) (result : Option Left)
+    : Type 0 where
   pub rest : option_map (λ rest. kinds rest.now) result ≡ after (kinds tokens)
   pub shorter : IfSome result (λ rest. length rest.now < length tokens)
 
@@ -60,13 +62,13 @@ pub record Expects (after : Kinds → Option Kinds) (tokens : List Token)
   pub rest : Gives (λ rest. kinds rest.now) result (after (kinds tokens))
   pub shorter : IfOk result (λ rest. length rest.now < length tokens)
 
-abbrev pub ended : {X : Type 0} → X × Kinds → Option X
-ended (x, []) = Some x
-ended (x, first ∷ rest) = None
+abbrev pub part_at_end : {X : Type 0} → X × Kinds → Option X
+part_at_end (x, []) = Some x
+part_at_end (x, first ∷ rest) = None
 
 -- what was found, where nothing follows it
 abbrev pub whole_of : {X : Type 0} → Option (X × Kinds) → Option X
-whole_of found = found >>= ended
+whole_of found = found >>= part_at_end
 
 -- BadSyntax comes only where this holds, want of memory at any time, and no other fault at all
 abbrev pub IsFaultOnlyWhere : Type 0 → SyntaxFault → Type 0
@@ -75,7 +77,8 @@ IsFaultOnlyWhere P (fault.Unsupported place) = ⊥
 IsFaultOnlyWhere P fault.BadSyntax = P
 IsFaultOnlyWhere P fault.Memory = Unit {0}
 
--- all of the tokens are read, as the one reading that the grammar has for them; BadSyntax only where it has none
+-- all of the tokens are read, as the one reading that the grammar has for them; BadSyntax only
+-- where it has none
 pub record ReadsAll {X : Type 0} (IsPart : Kinds → X → Kinds → Type 0) (tokens : Kinds)
     (result : Result X SyntaxFault) : Type 0 where
   pub found : IfOk result (λ x. IsPart tokens x [])

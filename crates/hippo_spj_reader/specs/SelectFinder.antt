@@ -19,25 +19,25 @@ use Rattle.hippo_spj_reader.specs.declared.selects.Sources.{Sources}
 use Rattle.hippo_spj_reader.specs.Promises.{◌>>=◌, either}
 use Rattle.hippo_spj_reader.specs.ConditionGrammar.{RawCond}
 use Rattle.hippo_spj_reader.specs.ConditionFinder.{leading_column, leading_condition}
-use Rattle.hippo_spj_reader.specs.Front.{Kinds, Finds, after_keyword, after_symbol, after_word, leading_name}
+use Rattle.hippo_spj_reader.specs.Front.{Kinds, Finder, after_keyword, after_symbol, after_word, leading_name}
 use Rattle.hippo_spj_reader.specs.ListFinder.{leading_list}
-use Rattle.hippo_spj_reader.specs.SelectGrammar.{whole_condition, select_of}
+use Rattle.hippo_spj_reader.specs.SelectGrammar.{whole_condition, select_with}
 
 -- the table of `t.*`
-abbrev pub leading_whole_table : Finds Name
+abbrev pub leading_whole_table : Finder Name
 leading_whole_table tokens = do
   table ← leading_name tokens
   behind ← after_symbol Dot table.1
   rest ← after_symbol Star behind
   Some (table.0, rest)
 
-unfoldable pub leading_item : Finds RawItem
+unfoldable pub leading_item : Finder RawItem
 leading_item tokens =
     either (leading_whole_table tokens) (λ table. Some (item.AllOf table.0, table.1))
     (leading_column tokens >>= λ c. Some (item.One c.0, c.1))
 
 -- ( column ), behind MIN or MAX
-unfoldable pub leading_argument : Finds RawColumn
+unfoldable pub leading_argument : Finder RawColumn
 leading_argument tokens = do
   inside ← after_symbol LeftParen tokens
   c ← leading_column inside
@@ -45,21 +45,23 @@ leading_argument tokens = do
   Some (c.0, rest)
 
 -- a member of a select list, before it is known whether the select is grouped
-unfoldable pub leading_member : Finds Member
+unfoldable pub leading_member : Finder Member
 leading_member tokens =
-    either (after_keyword KMin tokens) (λ behind. leading_argument behind >>= λ c. Some (member.Min c.0, c.1))
-    (either (after_keyword KMax tokens) (λ behind. leading_argument behind >>= λ c. Some (member.Max c.0, c.1))
+    either (after_keyword KMin tokens) (λ behind. leading_argument behind >>=
+    λ c. Some (member.Min c.0, c.1))
+    (either (after_keyword KMax tokens) (λ behind. leading_argument behind >>=
+    λ c. Some (member.Max c.0, c.1))
     (leading_item tokens >>= λ i. Some (member.Item i.0, i.1)))
 
-unfoldable pub leading_members : Finds (List Member)
+unfoldable pub leading_members : Finder (List Member)
 leading_members tokens =
     either (after_symbol Star tokens) (λ rest. Some (member.Item item.All ∷ [], rest))
     (leading_list leading_member (after_symbol Comma) tokens)
 
 -- what a member is in a select that is not grouped
-abbrev pub item_of : Member → Option RawItem
-item_of (member.Item i) = Some i
-item_of m = None
+abbrev pub ungrouped_item : Member → Option RawItem
+ungrouped_item (member.Item i) = Some i
+ungrouped_item m = None
 
 -- what it is in a grouped one
 abbrev pub out_of : Member → Option RawOut
@@ -78,15 +80,17 @@ each_of f (x ∷ xs) = do
 
 -- behind [INNER] JOIN
 abbrev pub after_join : Kinds → Option Kinds
-after_join tokens = either (after_keyword KInner tokens) (after_keyword KJoin) (after_keyword KJoin tokens)
+after_join tokens =
+    either (after_keyword KInner tokens) (after_keyword KJoin) (after_keyword KJoin tokens)
 
 abbrev pub joined_table : Name → Option RawCond → JoinedTable
 joined_table table on = record { table = table; on = on }
 
-abbrev pub leading_joined_by_comma : Finds JoinedTable
-leading_joined_by_comma tokens = leading_name tokens >>= λ table. Some (joined_table table.0 None, table.1)
+abbrev pub leading_joined_by_comma : Finder JoinedTable
+leading_joined_by_comma tokens =
+    leading_name tokens >>= λ table. Some (joined_table table.0 None, table.1)
 
-abbrev pub leading_joined_on : Finds JoinedTable
+abbrev pub leading_joined_on : Finder JoinedTable
 leading_joined_on tokens = do
   table ← leading_name tokens
   on ← after_keyword KOn table.1
@@ -96,37 +100,40 @@ leading_joined_on tokens = do
 -- one table more, where something leads to one
 unfoldable pub leading_joined : Kinds → Option (Option (JoinedTable × Kinds))
 leading_joined tokens =
-    either (after_symbol Comma tokens) (λ behind. leading_joined_by_comma behind >>= λ found. Some (Some found))
-    (either (after_join tokens) (λ behind. leading_joined_on behind >>= λ found. Some (Some found)) (Some None))
+    either (after_symbol Comma tokens) (λ behind. leading_joined_by_comma behind >>=
+    λ found. Some (Some found))
+    (either (after_join tokens) (λ behind. leading_joined_on behind >>= λ found. Some (Some found))
+    (Some None))
 
 abbrev pub no_sources : Sources
 no_sources = record { names = []; conditions = [] }
 
 -- a table before others
-abbrev pub with_first : Name → Option RawCond → Sources → Sources
-with_first table on others =
+abbrev pub with_first_table : Name → Option RawCond → Sources → Sources
+with_first_table table on others =
     record { names = table ∷ others.names; conditions = option_to_list on ++ others.conditions }
 
 -- the tables and conditions of at most this many joins
-abbrev pub leading_all_joined : ℕ → Finds Sources
+abbrev pub leading_all_joined : ℕ → Finder Sources
 leading_all_joined zero tokens = None
 leading_all_joined (suc n) tokens = leading_joined tokens >>= λ found. either found (λ one. do
   others ← leading_all_joined n one.1
-  Some (with_first one.0.table one.0.on others.0, others.1)) (Some (no_sources, tokens))
+  Some (with_first_table one.0.table one.0.on others.0, others.1)) (Some (no_sources, tokens))
 
-unfoldable pub leading_sources : Finds Sources
+unfoldable pub leading_sources : Finder Sources
 leading_sources tokens = do
   table ← leading_name tokens
   others ← leading_all_joined (suc (length table.1)) table.1
-  Some (with_first table.0 None others.0, others.1)
+  Some (with_first_table table.0 None others.0, others.1)
 
-unfoldable pub leading_where : Finds (Option RawCond)
+unfoldable pub leading_where : Finder (Option RawCond)
 leading_where tokens =
-    either (after_keyword KWhere tokens) (λ behind. leading_condition behind >>= λ c. Some (Some c.0, c.1))
+    either (after_keyword KWhere tokens)
+    (λ behind. leading_condition behind >>= λ c. Some (Some c.0, c.1))
     (Some (None, tokens))
 
 -- the tables and the whole condition, from FROM on
-unfoldable pub leading_scope : Finds Scope
+unfoldable pub leading_scope : Finder Scope
 leading_scope tokens = do
   named ← after_keyword KFrom tokens
   sources ← leading_sources named
@@ -138,34 +145,35 @@ abbrev pub draft_of : Bool → List Member → Scope → Draft
 draft_of distinct members scope = record { distinct = distinct; members = members; scope = scope }
 
 -- a select behind SELECT or DISTINCT, up to GROUP
-unfoldable pub leading_draft_of : Bool → Finds Draft
+unfoldable pub leading_draft_of : Bool → Finder Draft
 leading_draft_of distinct tokens = do
   members ← leading_members tokens
   scope ← leading_scope members.1
   Some (draft_of distinct members.0 scope.0, scope.1)
 
 -- a select up to GROUP
-unfoldable pub leading_draft : Finds Draft
+unfoldable pub leading_draft : Finder Draft
 leading_draft tokens = do
   behind ← after_keyword KSelect tokens
   either (after_keyword KDistinct behind) (leading_draft_of true) (leading_draft_of false behind)
 
 -- a select that ends there
-unfoldable pub ungrouped : Draft → Option RawSelect
-ungrouped draft = do
-  items ← each_of item_of draft.members
-  Some (select_of items draft.scope (if draft.distinct then Distinct else Plain))
+unfoldable pub ungrouped_select : Draft → Option RawSelect
+ungrouped_select draft = do
+  items ← each_of ungrouped_item draft.members
+  Some (select_with items draft.scope (if draft.distinct then Distinct else Plain))
 
 -- a select that goes on behind GROUP
-unfoldable pub leading_grouped : Draft → Finds RawSelect
+unfoldable pub leading_grouped : Draft → Finder RawSelect
 leading_grouped draft tokens = do
   columns ← after_word (codes "by") tokens
   by ← leading_list leading_column (after_symbol Comma) columns
   outs ← if draft.distinct then None else each_of out_of draft.members
-  Some (select_of [] draft.scope (Grouped outs by.0), by.1)
+  Some (select_with [] draft.scope (Grouped outs by.0), by.1)
 
 -- the longest select that stands first
-unfoldable pub leading_select : Finds RawSelect
+unfoldable pub leading_select : Finder RawSelect
 leading_select tokens = do
   draft ← leading_draft tokens
-  either (after_keyword KGroup draft.1) (leading_grouped draft.0) (ungrouped draft.0 >>= λ s. Some (s, draft.1))
+  either (after_keyword KGroup draft.1) (leading_grouped draft.0)
+      (ungrouped_select draft.0 >>= λ s. Some (s, draft.1))

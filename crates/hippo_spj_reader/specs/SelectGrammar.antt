@@ -1,4 +1,5 @@
--- The grammar of selects. Each relation says that the tokens begin with such a part, how it reads, and what follows it.
+-- The grammar of selects. Each relation says that the tokens begin with such a part, how it reads,
+-- and what follows it.
 use Rattle.std.specs.Prelude.{◌≡◌, List, [], ◌∷◌, ◌++◌, codes, option_to_list, Option, Some, None}
 use Rattle.std.specs.List.{flat_map}
 use Rattle.hippo_values.specs.declared.names.Name.{Name}
@@ -22,26 +23,29 @@ use Rattle.hippo_spj_reader.specs.ListGrammar.{IsListOf}
 
 -- item = column | t "." "*"
 pub data IsItem : Kinds → RawItem → Kinds → Type 0 where
-  one_column : {c : RawColumn} {tokens rest : Kinds} → IsColumn tokens c rest → IsItem tokens (item.One c) rest
+  one_column : {c : RawColumn} {tokens rest : Kinds} → IsColumn tokens c rest
+      → IsItem tokens (item.One c) rest
   all_of_table : {table : Name} {rest : Kinds} →
       IsItem (Word table ∷ Symbol Dot ∷ Symbol Star ∷ rest) (item.AllOf table) rest
 
 -- items = "*" | item {"," item}
 pub data AreItems : Kinds → List RawItem → Kinds → Type 0 where
   star : {rest : Kinds} → AreItems (Symbol Star ∷ rest) (item.All ∷ []) rest
-  listed : {items : List RawItem} {tokens rest : Kinds} →
+  listed_items : {items : List RawItem} {tokens rest : Kinds} →
       IsListOf IsItem (Symbol Comma) tokens items rest → AreItems tokens items rest
 
 -- {"," t | [INNER] JOIN t ON cond}: the tables, and the conditions of ON
 pub data AreJoined : Kinds → List Name → List RawCond → Kinds → Type 0 where
   no_more : {rest : Kinds} → AreJoined rest [] [] rest
-  comma : {table : Name} {tables : List Name} {conditions : List RawCond} {others rest : Kinds} →
+  comma_table : {table : Name} {tables : List Name} {conditions : List RawCond}
+      {others rest : Kinds} →
       AreJoined others tables conditions rest →
       AreJoined (Symbol Comma ∷ Word table ∷ others) (table ∷ tables) conditions rest
   join : {table : Name} {tables : List Name} {condition : RawCond} {conditions : List RawCond}
       {on others rest : Kinds} →
       IsCondition on condition others → AreJoined others tables conditions rest →
-      AreJoined (Keyword KJoin ∷ Word table ∷ Keyword KOn ∷ on) (table ∷ tables) (condition ∷ conditions) rest
+      AreJoined (Keyword KJoin ∷ Word table ∷ Keyword KOn ∷ on) (table ∷ tables)
+      (condition ∷ conditions) rest
   inner_join : {table : Name} {tables : List Name} {condition : RawCond} {conditions : List RawCond}
       {on others rest : Kinds} →
       IsCondition on condition others → AreJoined others tables conditions rest →
@@ -54,7 +58,8 @@ pub data IsWhere : Kinds → Option RawCond → Kinds → Type 0 where
   condition : {condition : RawCond} {tokens rest : Kinds} →
       IsCondition tokens condition rest → IsWhere (Keyword KWhere ∷ tokens) (Some condition) rest
 
--- the conditions of ON and WHERE together are one All, in which an All among them is dissolved into its parts
+-- the conditions of ON and WHERE together are one All, in which an All among them is dissolved into
+-- its parts
 abbrev pub whole_condition : List RawCond → RawCond
 whole_condition conditions = All (flat_map outer_parts conditions)
 
@@ -64,15 +69,18 @@ pub data IsScope : Kinds → Scope → Kinds → Type 0 where
       {last : Option RawCond} {joined behind rest : Kinds} →
       AreJoined joined tables conditions behind → IsWhere behind last rest →
       whole ≡ whole_condition (conditions ++ option_to_list last) →
-      IsScope (Keyword KFrom ∷ Word table ∷ joined) (record { tables = table ∷ tables; cond = whole }) rest
+      IsScope (Keyword KFrom ∷ Word table ∷ joined)
+      (record { tables = table ∷ tables; cond = whole }) rest
 
 -- a select with these items and of this form
-abbrev pub select_of : List RawItem → Scope → RawForm → RawSelect
-select_of items in_scope form = record { items = items; tables = in_scope.tables; cond = in_scope.cond; form = form }
+abbrev pub select_with : List RawItem → Scope → RawForm → RawSelect
+select_with items in_scope form =
+    record { items = items; tables = in_scope.tables; cond = in_scope.cond; form = form }
 
 -- gitem = column | (MIN | MAX) "(" column ")"
 pub data IsOut : Kinds → RawOut → Kinds → Type 0 where
-  column_out : {c : RawColumn} {tokens rest : Kinds} → IsColumn tokens c rest → IsOut tokens (out.Column c) rest
+  column_out : {c : RawColumn} {tokens rest : Kinds} → IsColumn tokens c rest
+      → IsOut tokens (out.Column c) rest
   minimum : {c : RawColumn} {tokens rest : Kinds} →
       IsColumn tokens c (Symbol RightParen ∷ rest) →
       IsOut (Keyword KMin ∷ Symbol LeftParen ∷ tokens) (out.Min c) rest
@@ -83,14 +91,16 @@ pub data IsOut : Kinds → RawOut → Kinds → Type 0 where
 -- select = SELECT [DISTINCT] items FROM sources [WHERE cond]
 --        | SELECT gitem {"," gitem} FROM sources [WHERE cond] GROUP by column {"," column}
 pub data IsSelect : Kinds → RawSelect → Kinds → Type 0 where
-  plain : {items : List RawItem} {in_scope : Scope} {tokens from rest : Kinds} →
+  plain_select : {items : List RawItem} {in_scope : Scope} {tokens from rest : Kinds} →
       AreItems tokens items from → IsScope from in_scope rest →
-      IsSelect (Keyword KSelect ∷ tokens) (select_of items in_scope Plain) rest
+      IsSelect (Keyword KSelect ∷ tokens) (select_with items in_scope Plain) rest
   distinct : {items : List RawItem} {in_scope : Scope} {tokens from rest : Kinds} →
       AreItems tokens items from → IsScope from in_scope rest →
-      IsSelect (Keyword KSelect ∷ Keyword KDistinct ∷ tokens) (select_of items in_scope Distinct) rest
-  grouped : {outs : List RawOut} {by : List RawColumn} {in_scope : Scope} {tokens from columns rest : Kinds} →
+      IsSelect (Keyword KSelect ∷ Keyword KDistinct ∷ tokens) (select_with items in_scope Distinct)
+      rest
+  grouped_select : {outs : List RawOut} {by : List RawColumn} {in_scope : Scope}
+      {tokens from columns rest : Kinds} →
       IsListOf IsOut (Symbol Comma) tokens outs from →
       IsScope from in_scope (Keyword KGroup ∷ Word (codes "by") ∷ columns) →
       IsListOf IsColumn (Symbol Comma) columns by rest →
-      IsSelect (Keyword KSelect ∷ tokens) (select_of [] in_scope (Grouped outs by)) rest
+      IsSelect (Keyword KSelect ∷ tokens) (select_with [] in_scope (Grouped outs by)) rest

@@ -90,7 +90,8 @@ fn operator_of(symbol: Symbol) -> Option<CompareOp>
 }
 
 fn operator(tokens: &[Token]) -> Option<(CompareOp, &[Token])>
-    ensures found { option_map (λ x. (x.0, kinds x.1.now)) result ≡ leading_operator (kinds tokens.now) }
+    ensures found { option_map (λ x. (x.0, kinds x.1.now)) result
+        ≡ leading_operator (kinds tokens.now) }
     ensures shorter { IfSome result (λ x. length x.1.now < length tokens.now) }
 {
     match split(tokens)? {
@@ -341,8 +342,9 @@ impl Part for ConditionPart {
     }
 }
 
-/// The condition that the tokens from place `first` to the place before `last` are; BadSyntax exactly where they are
-/// no condition, but for want of memory. The depth of the recursion is that of NOT and of parentheses.
+/// The condition that the tokens from place `first` to the place before `last` are; BadSyntax
+/// exactly where they are no condition, but for want of memory. The depth of the recursion is that
+/// of NOT and of parentheses.
 pub fn read_condition(
     alloc: Global,
     t: &Tokens,

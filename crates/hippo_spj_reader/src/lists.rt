@@ -1,4 +1,5 @@
-//! The rules of the grammar as types, lists of their parts, and texts that are one part and nothing more.
+//! The rules of the grammar as types, lists of their parts, and texts that are one part and nothing
+//! more.
 
 ghost use Rattle.std.specs.Prelude.{◌≡◌, ◌≤◌, length};
 ghost use Rattle.hippo_spj_reader.specs.Promises.{Gives, Reads, Passes, whole_of};
@@ -12,12 +13,12 @@ use std::alloc::Global;
 
 /// A rule of the grammar.
 pub trait Part {
-    ghost use Rattle.hippo_spj_reader.specs.Front.{Finds};
+    ghost use Rattle.hippo_spj_reader.specs.Front.{Finder};
 
     /// How a part reads.
     type Reading: Drop;
 
-    ghost leading: { Finds Self.Reading };
+    ghost leading: { Finder Self.Reading };
 
     /// The part that has to stand first, and the tokens behind it.
     fn read(alloc: Global, tokens: &[Token]) -> Result<(Self::Reading, &[Token]), SyntaxFault>

@@ -7,7 +7,7 @@ ghost use Rattle.hippo_spj_reader.specs.Promises.{Gives, Reads, Passes, ReadsAll
 ghost use Rattle.hippo_spj_reader.specs.Front.{kinds, kinds_between};
 ghost use Rattle.hippo_spj_reader.specs.SelectGrammar.{whole_condition, IsSelect};
 ghost use Rattle.hippo_model.specs.Conditions.{outer_parts};
-ghost use Rattle.hippo_spj_reader.specs.SelectFinder.{leading_whole_table, leading_item, leading_argument, leading_member, leading_members, out_of, each_of, after_join, leading_joined_by_comma, leading_joined_on, leading_joined, leading_sources, leading_where, leading_scope, leading_draft_of, leading_draft, ungrouped, leading_grouped, leading_select};
+ghost use Rattle.hippo_spj_reader.specs.SelectFinder.{leading_whole_table, leading_item, leading_argument, leading_member, leading_members, out_of, each_of, after_join, leading_joined_by_comma, leading_joined_on, leading_joined, leading_sources, leading_where, leading_scope, leading_draft_of, leading_draft, ungrouped_select, leading_grouped, leading_select};
 
 use crate::conditions::{ColumnPart, column, condition};
 use crate::front::{
@@ -128,9 +128,9 @@ trait OfMember: Sized + Drop {
 }
 
 impl OfMember for RawItem {
-    ghost use Rattle.hippo_spj_reader.specs.SelectFinder.{item_of};
+    ghost use Rattle.hippo_spj_reader.specs.SelectFinder.{ungrouped_item};
 
-    ghost of = { item_of };
+    ghost of = { ungrouped_item };
 
     fn of(member: Member) -> Result<RawItem, SyntaxFault> {
         match member {
@@ -203,7 +203,8 @@ fn joined_by_comma(alloc: Global, tokens: &[Token]) -> Result<(JoinedTable, &[To
 // The table that a comma or a JOIN adds, where one of them stands first, and the tokens behind it.
 #[tactic(auto, unfolding(crate::specs::SelectFinder::leading_joined))]
 fn joined(alloc: Global, tokens: &[Token]) -> Result<Option<(JoinedTable, &[Token])>, SyntaxFault>
-    ensures found { Gives (λ r. option_map (λ x. (x.0, kinds x.1.now)) r) result (leading_joined (kinds tokens.now)) }
+    ensures found { Gives (λ r. option_map (λ x. (x.0, kinds x.1.now)) r) result
+        (leading_joined (kinds tokens.now)) }
     ensures shorter { IfOk result (λ r. IfSome r (λ x. length x.1.now < length tokens.now)) }
 {
     if let Some(behind) = after_symbol(tokens, Symbol::Comma) {
@@ -359,9 +360,9 @@ fn select_draft(alloc: Global, tokens: &[Token]) -> Result<(Draft, &[Token]), Sy
     }
 }
 
-#[tactic(auto, unfolding(crate::specs::SelectFinder::ungrouped))]
+#[tactic(auto, unfolding(crate::specs::SelectFinder::ungrouped_select))]
 fn ungrouped(alloc: Global, draft: Draft) -> Result<RawSelect, SyntaxFault>
-    ensures { Gives (λ x. x) result (ungrouped draft) }
+    ensures { Gives (λ x. x) result (ungrouped_select draft) }
 {
     let Draft {
         distinct,
@@ -446,8 +447,9 @@ impl Part for SelectPart {
     }
 }
 
-/// The select that the tokens from place `first` to the place before `last` are; BadSyntax exactly where they are no
-/// select, but for want of memory. The depth of the recursion is that of NOT and of parentheses.
+/// The select that the tokens from place `first` to the place before `last` are; BadSyntax exactly
+/// where they are no select, but for want of memory. The depth of the recursion is that of NOT and
+/// of parentheses.
 pub fn read_select(
     alloc: Global,
     t: &Tokens,

@@ -18,14 +18,14 @@ use Rattle.hippo_keeper.specs.Keeping.{RisesAbove, next_number}
 use Rattle.hippo_keeper.specs.declared.faults.KeeperFault.{KeeperFault}
 use Rattle.hippo_keeper.specs.declared.faults.KeeperFault.TheVariants.{Failed, Memory}
 use Rattle.hippo_sqlite.specs.Tables.{values_of, row_of, stored_row, entries_in, history_schema}
-use Rattle.hippo_sqlite.specs.Contents.{entries_of, HasHistory, StartsWell, Rests, Contents, contents, OnlyKept, IsSame, AppendsTo, LooksAt}
-use Rattle.hippo_sqlite.specs.Outcomes.{answered, HasExecuted, HasLooked, IsLinked}
-use Rattle.hippo_sqlite.specs.Queries.{create_text, insert_text}
+use Rattle.hippo_sqlite.specs.Contents.{entries_of, HasHistory, StartsWell, Rests, Contents, connection_contents, OnlyKept, IsSame, AppendsTo, LooksAtStore}
+use Rattle.hippo_sqlite.specs.Outcomes.{append_result, HasExecuted, HasLooked, IsLinked}
+use Rattle.hippo_sqlite.specs.Queries.{create_sql, insert_sql}
 use Rattle.hippo_sqlite.proofs.OrderLemmas.{entries_rise}
 use Rattle.hippo_sqlite.proofs.StateLemmas.{IsLeft, IsNext, left_open, executes_left, executes_open, shown_open, shown_same, query_left, left_rests, appends, may_append, prepares, kept_is, same_entries}
 
 abbrev ExecutesSome : List ℕ → Row → State → State → Result (Unit {0}) KeeperFault → Type 0
-ExecutesSome text params old new result = (outcome : Result ℕ Error) × Executes text params old new outcome × (result ≡ answered outcome)
+ExecutesSome text params old new result = (outcome : Result ℕ Error) × Executes text params old new outcome × (result ≡ append_result outcome)
 
 abbrev done : Result (Unit {0}) KeeperFault
 done = Ok tt
@@ -36,11 +36,11 @@ err_of A fault = Err fault
 abbrev ok_of : {A : Type 0} → A → Result A KeeperFault
 ok_of value = Ok value
 
-ran_well : (text : List ℕ) (params : Row) (old new : State) (outcome : Result ℕ Error) → Executes text params old new outcome → ◌≡◌ {A = Result (Unit {0}) KeeperFault} (Ok tt) (answered outcome) → (count : ℕ) × Executes text params old new (Ok count)
+ran_well : (text : List ℕ) (params : Row) (old new : State) (outcome : Result ℕ Error) → Executes text params old new outcome → ◌≡◌ {A = Result (Unit {0}) KeeperFault} (Ok tt) (append_result outcome) → (count : ℕ) × Executes text params old new (Ok count)
 ran_well text params old new (Ok count) ran is = (count, ran)
 ran_well text params old new (Err e) ran is = absurd cc
 
-ran_badly : (text : List ℕ) (params : Row) (old new : State) (fault : KeeperFault) (outcome : Result ℕ Error) → Executes text params old new outcome → ◌≡◌ {A = Result (Unit {0}) KeeperFault} (Err fault) (answered outcome) → IsLeft old new
+ran_badly : (text : List ℕ) (params : Row) (old new : State) (fault : KeeperFault) (outcome : Result ℕ Error) → Executes text params old new outcome → ◌≡◌ {A = Result (Unit {0}) KeeperFault} (Err fault) (append_result outcome) → IsLeft old new
 ran_badly text params old new fault (Ok count) ran is = absurd cc
 ran_badly text params old new fault (Err e) ran is = executes_left text params old new e ran
 
@@ -56,13 +56,13 @@ module _ {S : Type 0} (g : store.Ghosts S)
   after = state g new
 
   abbrev was : Contents
-  was = contents g old old opened
+  was = connection_contents g old old opened
 
   -- it rests, where it is open and tells
   abbrev RestsIf : State → Type 0
   RestsIf s = HasCleanDisk s → IsTrue s.is_open → StartsWell (state g opened).now → Rests s
 
-  only_kept : IsTrue after.is_open → Rests after → OnlyKept (contents g new new opened)
+  only_kept : IsTrue after.is_open → Rests after → OnlyKept (connection_contents g new new opened)
   only_kept is_open rests = record {
     survives_stop = (after.committed.trees, stays new.store is_open, (after.committed.schema, rests.sound, refl));
     alone = λ entries it.
@@ -70,7 +70,7 @@ module _ {S : Type 0} (g : store.Ghosts S)
         it.2.2 ∙ same_entries it.2.0 after.committed.schema it.0 it.2.1 (subst (IsSound after.committed.schema) (sym same) rests.sound) ∙ ap (entries_of after.committed.schema) same;
   }
 
-  same_committed : IsTrue before.is_open → IsTrue after.is_open → Rests after → after.committed ≡ before.committed → IsSame was (contents g new new opened)
+  same_committed : IsTrue before.is_open → IsTrue after.is_open → Rests after → after.committed ≡ before.committed → IsSame was (connection_contents g new new opened)
   same_committed was_open is_open rests same = record {
     kept = ap (λ (db : Database). entries_of db.schema db.trees) same;
     stop = λ entries it.
@@ -80,7 +80,7 @@ module _ {S : Type 0} (g : store.Ghosts S)
   }
 
   -- where a read failed, what was told before it is told
-  same_as_told : IsTrue before.is_open → HasCleanDisk after → Rests before → ((trees : Trees) → after.may_leave trees → before.may_leave trees) → IsSame was (contents g new old opened)
+  same_as_told : IsTrue before.is_open → HasCleanDisk after → Rests before → ((trees : Trees) → after.may_leave trees → before.may_leave trees) → IsSame was (connection_contents g new old opened)
   same_as_told was_open clean rests crash = record {
     kept = refl;
     stop = λ entries it. (it.0, crash it.0 it.1, it.2);
@@ -92,13 +92,13 @@ module _ {S : Type 0} (g : store.Ghosts S)
   -- ---- an append
 
   module _ (entry : StoredEntry) (rests : RestsIf before) (next : was.tells → IsNext entry before.committed)
-      (survives : Survives before after (CommitsBy insert_text (values_of (row_of entry)) before)) where
+      (survives : Survives before after (CommitsBy insert_sql (values_of (row_of entry)) before)) where
     early : HasCleanDisk after → HasCleanDisk before
     early clean = let falls = survives.clean in omega (arith, clean)
 
-    appends_well : (HasCleanDisk after → (count : ℕ) × Executes insert_text (values_of (row_of entry)) before after (Ok count)) → AppendsTo entry done was (contents g new new opened)
+    appends_well : (HasCleanDisk after → (count : ℕ) × Executes insert_sql (values_of (row_of entry)) before after (Ok count)) → AppendsTo entry done was (connection_contents g new new opened)
     appends_well ran =
-        let was_open = λ (clean : HasCleanDisk after). executes_open insert_text (values_of (row_of entry)) before after (Ok (ran clean).0) (ran clean).1 in
+        let was_open = λ (clean : HasCleanDisk after). executes_open insert_sql (values_of (row_of entry)) before after (Ok (ran clean).0) (ran clean).1 in
         let made = λ (clean : HasCleanDisk after) (is_open : IsTrue after.is_open) (well : StartsWell (state g opened).now).
         appends before after (ran clean).0 entry (rests (early clean) (was_open clean is_open) well) (next (early clean, was_open clean is_open, well)) (ran clean).1 in
         record {
@@ -110,7 +110,7 @@ module _ {S : Type 0} (g : store.Ghosts S)
           memory = λ short. absurd cc;
         }
 
-    appends_badly : AppendsTo entry (err_of (Unit {0}) Failed) was (contents g new old opened)
+    appends_badly : AppendsTo entry (err_of (Unit {0}) Failed) was (connection_contents g new old opened)
     appends_badly = record {
       on = record { told = λ t. (early t.0, t.1, t.2); rests = λ other. absurd cc };
       longer = tt;
@@ -123,7 +123,7 @@ module _ {S : Type 0} (g : store.Ghosts S)
       memory = λ short. absurd cc;
     }
 
-    appends_nothing : (HasCleanDisk after → IsLeft before after) → AppendsTo entry (err_of (Unit {0}) Memory) was (contents g new new opened)
+    appends_nothing : (HasCleanDisk after → IsLeft before after) → AppendsTo entry (err_of (Unit {0}) Memory) was (connection_contents g new new opened)
     appends_nothing ran =
         let was_open = λ (clean : HasCleanDisk after). left_open before after (ran clean) in
         let made = λ (clean : HasCleanDisk after) (is_open : IsTrue after.is_open) (well : StartsWell (state g opened).now).
@@ -137,11 +137,11 @@ module _ {S : Type 0} (g : store.Ghosts S)
           memory = λ short t. same_committed (was_open t.0 t.1) t.1 (made t.0 t.1 t.2).0 (made t.0 t.1 t.2).1;
         }
 
-    pub appends_to : (result : Result (Unit {0}) KeeperFault) (told : Held S) → (HasCleanDisk after → ExecutesSome insert_text (values_of (row_of entry)) before after result)
-        → told ≡ cond (has_failed result) old new → AppendsTo entry result was (contents g new told opened)
-    appends_to (Ok tt) told ran is = subst (λ t. AppendsTo entry done was (contents g new t opened)) (sym is) (appends_well (λ clean. ran_well _ _ before after (ran clean).0 (ran clean).1 (ran clean).2))
-    appends_to (Err Failed) told ran is = subst (λ t. AppendsTo entry (err_of (Unit {0}) Failed) was (contents g new t opened)) (sym is) appends_badly
-    appends_to (Err Memory) told ran is = subst (λ t. AppendsTo entry (err_of (Unit {0}) Memory) was (contents g new t opened)) (sym is) (appends_nothing (λ clean. ran_badly _ _ before after Memory (ran clean).0 (ran clean).1 (ran clean).2))
+    pub appends_to : (result : Result (Unit {0}) KeeperFault) (told : Held S) → (HasCleanDisk after → ExecutesSome insert_sql (values_of (row_of entry)) before after result)
+        → told ≡ cond (has_failed result) old new → AppendsTo entry result was (connection_contents g new told opened)
+    appends_to (Ok tt) told ran is = subst (λ t. AppendsTo entry done was (connection_contents g new t opened)) (sym is) (appends_well (λ clean. ran_well _ _ before after (ran clean).0 (ran clean).1 (ran clean).2))
+    appends_to (Err Failed) told ran is = subst (λ t. AppendsTo entry (err_of (Unit {0}) Failed) was (connection_contents g new t opened)) (sym is) appends_badly
+    appends_to (Err Memory) told ran is = subst (λ t. AppendsTo entry (err_of (Unit {0}) Memory) was (connection_contents g new t opened)) (sym is) (appends_nothing (λ clean. ran_badly _ _ before after Memory (ran clean).0 (ran clean).1 (ran clean).2))
 
   -- ---- a read
 
@@ -165,7 +165,7 @@ module _ {S : Type 0} (g : store.Ghosts S)
       | inr fails ↦ query_left text params before after fails.0 fails.1
     ]
 
-    looks_on : {A : Type 0} (result : Result A KeeperFault) → has_failed result ≡ false → LooksAt result was (contents g new new opened)
+    looks_on : {A : Type 0} (result : Result A KeeperFault) → has_failed result ≡ false → LooksAtStore result was (connection_contents g new new opened)
     looks_on result other =
         let it = λ (clean : HasCleanDisk after) (is_open : IsTrue after.is_open) (well : StartsWell (state g opened).now). rests (looks_early clean) (look_open clean is_open) well in
         let made = λ (clean : HasCleanDisk after) (is_open : IsTrue after.is_open) (well : StartsWell (state g opened).now).
@@ -175,7 +175,7 @@ module _ {S : Type 0} (g : store.Ghosts S)
           same = λ t. same_committed (look_open t.0 t.1) t.1 (made t.0 t.1 t.2).0 (made t.0 t.1 t.2).1;
         }
 
-    looks_badly : (A : Type 0) → LooksAt (err_of A Failed) was (contents g new old opened)
+    looks_badly : (A : Type 0) → LooksAtStore (err_of A Failed) was (connection_contents g new old opened)
     looks_badly A = record {
       on = record { told = λ t. (looks_early t.0, t.1, t.2); rests = λ other. absurd cc };
       same = λ t.
@@ -183,15 +183,15 @@ module _ {S : Type 0} (g : store.Ghosts S)
           same_as_told t.1 t.0 it (λ trees leaves. elim (survives.crash t.0 trees leaves) [ inl left ↦ left | inr commits ↦ absurd (never_commits text params before trees (plain_so it) commits) ]);
     }
 
-    pub looks_at : {A : Type 0} (result : Result A KeeperFault) (told : Held S) → told ≡ cond (has_failed result) old new → LooksAt result was (contents g new told opened)
-    looks_at {A} (Ok value) told is = subst (λ t. LooksAt (ok_of value) was (contents g new t opened)) (sym is) (looks_on (ok_of value) refl)
-    looks_at {A} (Err Failed) told is = subst (λ t. LooksAt (err_of A Failed) was (contents g new t opened)) (sym is) (looks_badly A)
-    looks_at {A} (Err Memory) told is = subst (λ t. LooksAt (err_of A Memory) was (contents g new t opened)) (sym is) (looks_on (err_of A Memory) refl)
+    pub looks_at : {A : Type 0} (result : Result A KeeperFault) (told : Held S) → told ≡ cond (has_failed result) old new → LooksAtStore result was (connection_contents g new told opened)
+    looks_at {A} (Ok value) told is = subst (λ t. LooksAtStore (ok_of value) was (connection_contents g new t opened)) (sym is) (looks_on (ok_of value) refl)
+    looks_at {A} (Err Failed) told is = subst (λ t. LooksAtStore (err_of A Failed) was (connection_contents g new t opened)) (sym is) (looks_badly A)
+    looks_at {A} (Err Memory) told is = subst (λ t. LooksAtStore (err_of A Memory) was (connection_contents g new t opened)) (sym is) (looks_on (err_of A Memory) refl)
 
   -- ---- a start
 
-  pub is_linked : Survives (state g opened) after (CommitsBy create_text [] (state g opened)) → (HasCleanDisk (state g opened) → Opens (state g opened) × IsLive (state g opened))
-      → (count : HasCleanDisk after → (n : ℕ) × Executes create_text [] (state g opened) after (Ok n)) → IsLinked (state g opened) (contents g new new opened)
+  pub is_linked : Survives (state g opened) after (CommitsBy create_sql [] (state g opened)) → (HasCleanDisk (state g opened) → Opens (state g opened) × IsLive (state g opened))
+      → (count : HasCleanDisk after → (n : ℕ) × Executes create_sql [] (state g opened) after (Ok n)) → IsLinked (state g opened) (connection_contents g new new opened)
   is_linked survives opens ran =
       let falls = λ (clean : HasCleanDisk after). (let low = survives.clean in let early : HasCleanDisk (state g opened) = omega (arith, clean) in early) in
       let made = λ (clean : HasCleanDisk after) (well : StartsWell (state g opened).now).
@@ -216,36 +216,36 @@ module _ {S : Type 0} (g : store.Ghosts S)
     (settled : (s : S) (trees : Trees) → IsTrue (g.view s).is_open → g.recovers s trees → trees ≡ (g.view s).committed)
     (stays : (s : S) → IsTrue (g.view s).is_open → g.recovers s (g.view s).committed)
     (something : (s : S) → IsClean (g.view s) → ∥ ((trees : Trees) × g.recovers s trees) ∥₁)
-    (old new opened told_before told : Held S) (rests : (contents g old told_before opened).rests) where
+    (old new opened told_before told : Held S) (rests : (connection_contents g old told_before opened).rests) where
   pub append_linked : (entry : StoredEntry) (result : Result (Unit {0}) KeeperFault)
-      → ((contents g old told_before opened).tells → entry.seq ≡ next_number (contents g old told_before opened).kept) → entry.seq < 2 ^ 63 → entry.kind < 256
-      → HasExecuted insert_text (values_of (row_of entry)) result (state g old) (state g new) → told ≡ cond (has_failed result) told_before new
-      → AppendsTo entry result (contents g old told_before opened) (contents g new told opened)
+      → ((connection_contents g old told_before opened).tells → entry.seq ≡ next_number (connection_contents g old told_before opened).kept) → entry.seq < 2 ^ 63 → entry.kind < 256
+      → HasExecuted insert_sql (values_of (row_of entry)) result (state g old) (state g new) → told ≡ cond (has_failed result) told_before new
+      → AppendsTo entry result (connection_contents g old told_before opened) (connection_contents g new told opened)
   append_linked entry result next low kind executed is =
-      let next_is = subst (λ t. (contents g old t opened).tells → entry.seq ≡ next_number (contents g old t opened).kept) rests.0 next in
-      subst (λ t. AppendsTo entry result (contents g old t opened) (contents g new told opened)) (sym rests.0)
+      let next_is = subst (λ t. (connection_contents g old t opened).tells → entry.seq ≡ next_number (connection_contents g old t opened).kept) rests.0 next in
+      subst (λ t. AppendsTo entry result (connection_contents g old t opened) (connection_contents g new told opened)) (sym rests.0)
       (appends_to g settled stays something old new opened entry rests.1 (λ tells. record { number = next_is tells; low = low; kind = kind }) executed.survives result told executed.ran
       (is ∙ ap (λ t. cond (has_failed result) t new) rests.0))
 
   pub look_linked : {A : Type 0} (text : List ℕ) (params : Row) (result : Result A KeeperFault) → IsPlain (understood history_schema text)
       → Survives (state g old) (state g new) (CommitsShowing text params (state g old)) → (HasCleanDisk (state g new) → HasLooked text params (state g old) (state g new))
-      → told ≡ cond (has_failed result) told_before new → LooksAt result (contents g old told_before opened) (contents g new told opened)
+      → told ≡ cond (has_failed result) told_before new → LooksAtStore result (connection_contents g old told_before opened) (connection_contents g new told opened)
   look_linked text params result plain survives looked is =
-      subst (λ t. LooksAt result (contents g old t opened) (contents g new told opened)) (sym rests.0)
+      subst (λ t. LooksAtStore result (connection_contents g old t opened) (connection_contents g new told opened)) (sym rests.0)
       (looks_at g settled stays something old new opened text params rests.1 plain survives looked result told (is ∙ ap (λ t. cond (has_failed result) t new) rests.0))
 
   -- where the store is not asked at all
-  pub look_away : {A : Type 0} (value : A) → LooksAt (ok_of value) (contents g old told_before opened) (contents g old told_before opened)
+  pub look_away : {A : Type 0} (value : A) → LooksAtStore (ok_of value) (connection_contents g old told_before opened) (connection_contents g old told_before opened)
   look_away value = record {
     on = record { told = λ t. t; rests = λ _. rests };
     same = λ t.
         let open_now = subst (λ (h : Held S). IsTrue (state g h).is_open) rests.0 t.1 in
         let only = only_kept g settled stays something old old opened open_now (rests.1 t.0 open_now t.2) in
-        record { kept = refl; stop = λ entries it. it; some = ∣ ((contents g old old opened).kept, only.survives_stop) ∣₁ };
+        record { kept = refl; stop = λ entries it. it; some = ∣ ((connection_contents g old old opened).kept, only.survives_stop) ∣₁ };
   }
 
   -- the history that is read is the one that is told
-  pub told_history : (contents g old told_before opened).tells → (has : HasHistory (state g old).now) × ((contents g old told_before opened).kept ≡ entries_in (map stored_row has.rows))
+  pub told_history : (connection_contents g old told_before opened).tells → (has : HasHistory (state g old).now) × ((connection_contents g old told_before opened).kept ≡ entries_in (map stored_row has.rows))
   told_history t =
       let open_now = subst (λ (h : Held S). IsTrue (state g h).is_open) rests.0 t.1 in
       let it = rests.1 t.0 open_now t.2 in

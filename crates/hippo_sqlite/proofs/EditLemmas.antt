@@ -20,7 +20,7 @@ use Rattle.sqlite.specs.Does.{Tally, Does, lacks_sequence}
 use Rattle.sqlite.specs.Rows.{Written}
 use Rattle.sqlite.proofs.Callers.{one_step}
 use Rattle.hippo_sqlite.specs.Tables.{HistoryRow, values_of, stored_row, history_table, history_schema, empty_schema}
-use Rattle.hippo_sqlite.specs.Queries.{create_text}
+use Rattle.hippo_sqlite.specs.Queries.{create_sql}
 use Rattle.hippo_sqlite.proofs.TextLemmas.{create_is, given}
 
 either : (b : Bool) (x : Value) → cond b x x ≡ x
@@ -76,7 +76,7 @@ inserts limit mode old after text tally rows new has are low does =
 
 -- what CREATE TABLE makes of an empty store
 pub creates : (limit : Option ℕ) (mode : Mode) (params : Row) (old after : Database) (tally : Tally)
-    → old.schema ≡ empty_schema → Does limit mode params old create_text None CreateTable (Ok (tally, after))
+    → old.schema ≡ empty_schema → Does limit mode params old create_sql None CreateTable (Ok (tally, after))
     → (after.schema ≡ history_schema) × (after.trees 0 ≡ [])
 creates limit mode params old after tally has does =
     let all = went does in

@@ -27,7 +27,7 @@ use Rattle.hippo_model.specs.declared.stored.StoredEntry.{StoredEntry}
 use Rattle.hippo_keeper.specs.Keeping.{Store, next_number}
 use Rattle.hippo_sqlite.specs.Tables.{values_of, stored_row, row_of, entries_in, history_schema, empty_schema}
 use Rattle.hippo_sqlite.specs.Contents.{entries_of, IsKeptIn, HasHistory, StartsWell, Rests}
-use Rattle.hippo_sqlite.specs.Queries.{create_text, insert_text}
+use Rattle.hippo_sqlite.specs.Queries.{create_sql, insert_sql}
 use Rattle.hippo_sqlite.proofs.TextLemmas.{given, create_is, made_is, insert_is, create_plain, made_plain, insert_plain, statement_is}
 use Rattle.hippo_sqlite.proofs.EditLemmas.{inserts, creates}
 use Rattle.hippo_sqlite.proofs.OrderLemmas.{next_above, in_order_more, entries_more}
@@ -188,12 +188,12 @@ does_more limit mode text tally old new entry has next does =
     fits a b less = grind (arith, nat_tests)
 
 pub appends : (old new : State) (count : ℕ) (entry : StoredEntry) → Rests old → IsNext entry old.committed
-    → Executes insert_text (values_of (row_of entry)) old new (Ok count) → Rests new × (entries_of new.committed.schema new.committed.trees ≡ entries_of old.committed.schema old.committed.trees ++ entry ∷ [])
+    → Executes insert_sql (values_of (row_of entry)) old new (Ok count) → Rests new × (entries_of new.committed.schema new.committed.trees ≡ entries_of old.committed.schema old.committed.trees ++ entry ∷ [])
 appends old new count entry rests next ran =
     let schema = ap (λ (db : Database). db.schema) rests.settled ∙ rests.history.schema in
-    let w = runs_as insert_text (values_of (row_of entry)) old new history_schema schema insert_command insert_is insert_plain count ran in
-    let does = subst (λ db. Does old.step_limit (mode_of old) (values_of (row_of entry)) db (statement_of insert_text (understood history_schema insert_text)) None insert_command (Ok (w.tally, new.now))) rests.settled w.changed in
-    let more = does_more old.step_limit (mode_of old) (statement_of insert_text (understood history_schema insert_text)) w.tally old.committed new.now entry rests.history next does in
+    let w = runs_as insert_sql (values_of (row_of entry)) old new history_schema schema insert_command insert_is insert_plain count ran in
+    let does = subst (λ db. Does old.step_limit (mode_of old) (values_of (row_of entry)) db (statement_of insert_sql (understood history_schema insert_sql)) None insert_command (Ok (w.tally, new.now))) rests.settled w.changed in
+    let more = does_more old.step_limit (mode_of old) (statement_of insert_sql (understood history_schema insert_sql)) w.tally old.committed new.now entry rests.history next does in
     let committed : new.committed ≡ new.now = w.shown.committed_is ∙ ap (λ busy. cond busy old.committed new.now) rests.autocommit in (
       record { autocommit = w.shown.mode ∙ rests.autocommit; settled = sym committed; sound = subst IsDatabase (sym committed) w.sound; history = subst HasHistory (sym committed) more.0 },
       ap (λ (db : Database). entries_of db.schema db.trees) committed ∙ more.1,
@@ -201,29 +201,29 @@ appends old new count entry rests next ran =
 
 -- what the statement may commit, if it fails
 pub may_append : (old : State) (trees : Trees) (entry : StoredEntry) (entries : Store) → Rests old → IsNext entry old.committed
-    → CommitsBy insert_text (values_of (row_of entry)) old trees → IsKeptIn trees entries → entries ≡ entries_of old.committed.schema old.committed.trees ++ entry ∷ []
+    → CommitsBy insert_sql (values_of (row_of entry)) old trees → IsKeptIn trees entries → entries ≡ entries_of old.committed.schema old.committed.trees ++ entry ∷ []
 unfolding CommitsBy
 may_append old trees entry entries rests next commits kept =
     let schema = ap (λ (db : Database). db.schema) rests.settled ∙ rests.history.schema in
-    let known = sym commits.1.is ∙ ap (λ s. understood s insert_text) schema in
+    let known = sym commits.1.is ∙ ap (λ s. understood s insert_sql) schema in
     let bare = subst IsPlain (sym known) insert_plain in
     let command : commits.0.command ≡ insert_command = ap command_of known ∙ insert_is in
     let may = rw (bare.0, bare.1, Rattle.std.proofs.Common.append-nil (values_of (row_of entry)), command) at commits.2 in
     elim may [
       | inl ends ↦ absurd (elim ends.0 [ inl commit ↦ cc | inr release ↦ (let e = release.2 in cc) ])
       | inr write ↦
-          let does = subst (λ db. Does old.step_limit (mode_of old) (values_of (row_of entry)) db (text_of insert_text commits.0) None insert_command (Ok (write.1, write.2))) rests.settled write.3 in
-          let more = does_more old.step_limit (mode_of old) (text_of insert_text commits.0) write.1 old.committed write.2 entry rests.history next does in
+          let does = subst (λ db. Does old.step_limit (mode_of old) (values_of (row_of entry)) db (text_of insert_sql commits.0) None insert_command (Ok (write.1, write.2))) rests.settled write.3 in
+          let more = does_more old.step_limit (mode_of old) (text_of insert_sql commits.0) write.1 old.committed write.2 entry rests.history next does in
           let sound : IsSound write.2.schema trees = subst (IsSound write.2.schema) (sym write.5) write.4 in
           kept.2 ∙ same_entries kept.0 write.2.schema trees kept.1 sound ∙ ap (entries_of write.2.schema) write.5 ∙ more.1
     ]
 
 -- ---- a start
 
-pub prepares : (old new : State) (count : ℕ) → StartsWell old.now → old.now ≡ old.committed → old.in_transaction ≡ false → IsDatabase old.committed → Executes create_text [] old new (Ok count)
+pub prepares : (old new : State) (count : ℕ) → StartsWell old.now → old.now ≡ old.committed → old.in_transaction ≡ false → IsDatabase old.committed → Executes create_sql [] old new (Ok count)
     → Rests new × (entries_of new.committed.schema new.committed.trees ≡ entries_of old.committed.schema old.committed.trees)
 prepares old new count (inl none) clean autocommit sound ran =
-    let w = runs_as create_text [] old new empty_schema none CreateTable create_is.0 create_plain count ran in
+    let w = runs_as create_sql [] old new empty_schema none CreateTable create_is.0 create_plain count ran in
     let does = subst (λ t. Does old.step_limit (mode_of old) [] old.now t None CreateTable (Ok (w.tally, new.now))) statement_is w.changed in
     let made = creates old.step_limit (mode_of old) [] old.now new.now w.tally none does in
     let committed : new.committed ≡ new.now = w.shown.committed_is ∙ ap (λ busy. cond busy old.committed new.now) autocommit in
@@ -233,7 +233,7 @@ prepares old new count (inl none) clean autocommit sound ran =
       ap (λ (db : Database). entries_of db.schema db.trees) committed ∙ kept_is new.now history ∙ sym before,
     )
 prepares old new count (inr has) clean autocommit sound ran =
-    let same = runs_as create_text [] old new history_schema has.schema Nothing made_is made_plain count ran in
+    let same = runs_as create_sql [] old new history_schema has.schema Nothing made_is made_plain count ran in
     let rests : Rests old = record { autocommit = autocommit; settled = clean; sound = sound; history = subst HasHistory clean has } in (
       rests_with old new rests (same.0.0.mode ∙ autocommit) (same.0.0.now_is ∙ clean) same.0.0.committed_is,
       ap (λ (db : Database). entries_of db.schema db.trees) same.0.0.committed_is,

@@ -13,7 +13,7 @@ use Rattle.sqlite_sql.specs.declared.ops.CompareOp.{CompareOp}
 use Rattle.sqlite_sql.specs.declared.ops.CompareOp.TheVariants.{Eq, Ge, Gt, Le}
 use Rattle.sqlite_sql.specs.Ops.{binary, is_true, from_truth, test}
 use Rattle.sqlite_sql.specs.Term.{holds}
-use Rattle.hippo_keeper.specs.Selecting.{is_any, is_version_of, was_asked_in}
+use Rattle.hippo_keeper.specs.Selecting.{is_any, is_stored_version_of, was_asked_in}
 use Rattle.hippo_sqlite.specs.Tables.{HistoryRow, stored_row, kind_in, entry_in}
 use Rattle.hippo_sqlite.proofs.TextLemmas.{all_terms, backlog_terms, asked_terms}
 
@@ -86,7 +86,7 @@ abbrev pub passes_all : ℕ → HistoryRow → Bool
 passes_all after row = nat_lt after (entry_in (stored_row row)).seq && is_any (entry_in (stored_row row))
 
 abbrev pub passes_backlog : List ℕ → ℕ → HistoryRow → Bool
-passes_backlog table after row = nat_lt after (entry_in (stored_row row)).seq && is_version_of table (entry_in (stored_row row))
+passes_backlog table after row = nat_lt after (entry_in (stored_row row)).seq && is_stored_version_of table (entry_in (stored_row row))
 
 abbrev pub passes_asked : ℤ → ℤ → ℕ → HistoryRow → Bool
 passes_asked from to after row = nat_lt after (entry_in (stored_row row)).seq && was_asked_in from to (entry_in (stored_row row))

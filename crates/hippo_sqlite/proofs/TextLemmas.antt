@@ -14,14 +14,14 @@ use Rattle.sqlite_resolve.specs.Compile.{table_defined_by}
 use Rattle.sqlite_tied.specs.Compute.{everything}
 use Rattle.sqlite.specs.Listing.{understood, reads_listing}
 use Rattle.sqlite.proofs.Callers.{IsPlain, command_of, statement_of}
-use Rattle.hippo_sqlite.specs.Queries.{create_text, insert_text, all_text, backlog_text, asked_text}
+use Rattle.hippo_sqlite.specs.Queries.{create_sql, insert_sql, all_sql, versions_sql, questions_sql}
 use Rattle.hippo_sqlite.specs.Tables.{history_table, history_schema, empty_schema}
 
-pub create_is : (command_of (understood empty_schema create_text) ≡ CreateTable) × (table_defined_by create_text ≡ Ok history_table)
+pub create_is : (command_of (understood empty_schema create_sql) ≡ CreateTable) × (table_defined_by create_sql ≡ Ok history_table)
 unfolding understood everything
 create_is = (refl, refl)
 
-pub made_is : command_of (understood history_schema create_text) ≡ Nothing
+pub made_is : command_of (understood history_schema create_sql) ≡ Nothing
 unfolding understood everything
 made_is = refl
 
@@ -50,7 +50,7 @@ select query = Select (record { lets = []; body = query }) names
 abbrev pub compared : BinaryOp → ℕ → ℕ → Term
 compared op place param = op2 op (col 1 place) (col 0 param)
 
-pub insert_is : command_of (understood history_schema insert_text) ≡ Insert 0 (Values given 6)
+pub insert_is : command_of (understood history_schema insert_sql) ≡ Insert 0 (Values given 6)
 unfolding understood everything
 insert_is = refl
 
@@ -67,54 +67,54 @@ asked_terms =
     op2 (Compare Eq Binary) (col 1 3) (lit (Int (pos 13))) ∷ compared (Compare Ge Binary) 2 0 ∷ compared (Compare Le Binary) 2 1
     ∷ compared (Compare Gt Binary) 0 2 ∷ []
 
-pub all_is : command_of (understood history_schema all_text) ≡ select (query all_terms (col 0 1))
+pub all_is : command_of (understood history_schema all_sql) ≡ select (query all_terms (col 0 1))
 unfolding understood everything
 all_is = refl
 
-pub backlog_is : command_of (understood history_schema backlog_text) ≡ select (query backlog_terms (col 0 2))
+pub backlog_is : command_of (understood history_schema versions_sql) ≡ select (query backlog_terms (col 0 2))
 unfolding understood everything
 backlog_is = refl
 
-pub asked_is : command_of (understood history_schema asked_text) ≡ select (query asked_terms (col 0 3))
+pub asked_is : command_of (understood history_schema questions_sql) ≡ select (query asked_terms (col 0 3))
 unfolding understood everything
 asked_is = refl
 
-pub create_plain : IsPlain (understood empty_schema create_text)
+pub create_plain : IsPlain (understood empty_schema create_sql)
 unfolding understood everything
 create_plain = (refl, refl)
 
-pub made_plain : IsPlain (understood history_schema create_text)
+pub made_plain : IsPlain (understood history_schema create_sql)
 unfolding understood everything
 made_plain = (refl, refl)
 
-pub statement_is : statement_of create_text (understood empty_schema create_text) ≡ create_text
+pub statement_is : statement_of create_sql (understood empty_schema create_sql) ≡ create_sql
 unfolding understood everything
 statement_is = refl
 
-pub insert_plain : IsPlain (understood history_schema insert_text)
+pub insert_plain : IsPlain (understood history_schema insert_sql)
 unfolding understood everything
 insert_plain = (refl, refl)
 
-pub all_plain : IsPlain (understood history_schema all_text)
+pub all_plain : IsPlain (understood history_schema all_sql)
 unfolding understood everything
 all_plain = (refl, refl)
 
-pub backlog_plain : IsPlain (understood history_schema backlog_text)
+pub backlog_plain : IsPlain (understood history_schema versions_sql)
 unfolding understood everything
 backlog_plain = (refl, refl)
 
-pub asked_plain : IsPlain (understood history_schema asked_text)
+pub asked_plain : IsPlain (understood history_schema questions_sql)
 unfolding understood everything
 asked_plain = (refl, refl)
 
-pub all_reads : reads_listing history_schema all_text ≡ false
+pub all_reads : reads_listing history_schema all_sql ≡ false
 unfolding understood everything
 all_reads = refl
 
-pub backlog_reads : reads_listing history_schema backlog_text ≡ false
+pub backlog_reads : reads_listing history_schema versions_sql ≡ false
 unfolding understood everything
 backlog_reads = refl
 
-pub asked_reads : reads_listing history_schema asked_text ≡ false
+pub asked_reads : reads_listing history_schema questions_sql ≡ false
 unfolding understood everything
 asked_reads = refl

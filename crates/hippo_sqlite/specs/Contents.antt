@@ -24,9 +24,11 @@ entries_of schema trees =
 
 -- the trees are those of a database with these entries
 abbrev pub IsKeptIn : Trees → Store → Type 0
-IsKeptIn trees entries = (schema : Schema) × IsSound schema trees × (entries ≡ entries_of schema trees)
+IsKeptIn trees entries =
+    (schema : Schema) × IsSound schema trees × (entries ≡ entries_of schema trees)
 
--- the database has the table of the history alone, with rows of its types in the order of their numbers
+-- the database has the table of the history alone, with rows of its types in the order of their
+-- numbers
 pub record HasHistory (db : Database) : Type 0 where
   pub schema : db.schema ≡ history_schema
   pub rows : List HistoryRow
@@ -51,13 +53,16 @@ pub record Contents : Type 1 where
   pub survives : Survivors
   pub rests : Type 0
 
--- of a connection as it is, as it last told, which is before a call that failed, and as it was opened
-abbrev pub contents : {S : Type 0} → store.Ghosts S → Held S → Held S → Held S → Contents
-contents g now told opened = record {
-  tells = HasCleanDisk (state g now) × IsTrue (state g told).is_open × StartsWell (state g opened).now;
+-- of a connection as it is, as it last told, which is before a call that failed, and as it was
+-- opened
+abbrev pub connection_contents : {S : Type 0} → store.Ghosts S → Held S → Held S → Held S → Contents
+connection_contents g now told opened = record {
+  tells = HasCleanDisk (state g now) × IsTrue (state g told).is_open
+      × StartsWell (state g opened).now;
   kept = entries_of (state g told).committed.schema (state g told).committed.trees;
   survives = λ entries. (trees : Trees) × (state g now).may_leave trees × IsKeptIn trees entries;
-  rests = (told ≡ now) × (HasCleanDisk (state g now) → IsTrue (state g now).is_open → StartsWell (state g opened).now
+  rests = (told ≡ now) × (HasCleanDisk (state g now) → IsTrue (state g now).is_open
+      → StartsWell (state g opened).now
       → Rests (state g now));
 }
 
@@ -81,8 +86,8 @@ pub record GoesOn {A : Type 0} (result : Result A KeeperFault) (old new : Conten
   pub told : new.tells → old.tells
   pub rests : has_failed result ≡ false → new.rests
 
--- an append puts one entry behind what is kept; where it fails, a stop may leave it or not, and where memory is short
--- it does nothing
+-- an append puts one entry behind what is kept; where it fails, a stop may leave it or not, and
+-- where memory is short it does nothing
 pub record AppendsTo {A : Type 0} (entry : StoredEntry) (result : Result A KeeperFault)
     (old new : Contents) : Type 0 where
   pub on : GoesOn result old new
@@ -94,7 +99,8 @@ pub record AppendsTo {A : Type 0} (entry : StoredEntry) (result : Result A Keepe
   pub memory : wants_memory result ≡ true → new.tells → IsSame old new
 
 -- a read changes nothing that is kept
-pub record LooksAt {A : Type 0} (result : Result A KeeperFault) (old new : Contents) : Type 0 where
+pub record LooksAtStore {A : Type 0} (result : Result A KeeperFault) (old new : Contents)
+    : Type 0 where
   pub on : GoesOn result old new
   pub same : new.tells → IsSame old new
 
@@ -103,5 +109,5 @@ pub record HasRead (test : StoredEntry → Bool) (after max : ℕ) (result : Res
     (old new : Contents) : Type 0 where
   pub few : IfOk result (λ list. length list ≤ max)
   pub order : IfOk result (RisesAbove after)
-  pub looks : LooksAt result old new
+  pub looks : LooksAtStore result old new
   pub told : IfOk result (λ list. new.tells → list ≡ handed_over test after max old.kept)

@@ -5,10 +5,10 @@ use Rattle.hippo_keeper.specs.MemoryKeeping.{MemoryStore, SurvivesInMemory}
 use Rattle.hippo_sqlite.specs.declared.link.Linked.{Linked}
 use Rattle.hippo_sqlite.specs.declared.link.Link.{Link}
 use Rattle.hippo_sqlite.specs.declared.link.Link.TheVariants.{Absent, InMemory, Opened}
-use Rattle.hippo_sqlite.specs.Contents.{Contents, contents, no_contents}
+use Rattle.hippo_sqlite.specs.Contents.{Contents, connection_contents, no_contents}
 
 abbrev pub linked_contents : {S : Type 0} → Ghosts S → Linked S → Contents
-linked_contents g it = contents g it.connection it.told.value it.opened.value
+linked_contents g it = connection_contents g it.connection it.told.value it.opened.value
 
 -- a keeper in memory tells all, and is at work while no call of it is to fail
 abbrev pub memory_contents : MemoryStore → Contents

@@ -9,21 +9,23 @@ use Rattle.hippo_sqlite.specs.Standings.{fault_named}
 use Rattle.hippo_sqlite.specs.Tables.{empty_schema}
 use Rattle.hippo_sqlite.specs.Contents.{Contents, IsKeptIn, OnlyKept}
 
-abbrev pub answered : Result ℕ Error → Result (Unit {0}) KeeperFault
-answered (Ok count) = Ok tt
-answered (Err e) = Err (fault_named e)
+abbrev pub append_result : Result ℕ Error → Result (Unit {0}) KeeperFault
+append_result (Ok count) = Ok tt
+append_result (Err e) = Err (fault_named e)
 
 -- a statement was run, and its outcome is answered so
 pub record HasExecuted (text : List ℕ) (params : Row) (result : Result (Unit {0}) KeeperFault)
     (old new : State) : Type 0 where
   pub ran : HasCleanDisk new
-      → (outcome : Result ℕ Error) × Executes text params old new outcome × (result ≡ answered outcome)
+      → (outcome : Result ℕ Error) × Executes text params old new outcome
+      × (result ≡ append_result outcome)
   pub survives : Survives old new (CommitsBy text params old)
 
 -- a query showed rows, or failed
 abbrev pub HasLooked : List ℕ → Row → State → State → Type 0
 HasLooked text params old new =
-    ((rows : List Row) × Shown text params old new rows) ⊎ ((e : Error) × FailsToQuery text params old new e)
+    ((rows : List Row) × Shown text params old new rows)
+    ⊎ ((e : Error) × FailsToQuery text params old new e)
 
 -- a connection that was opened so has the table of the history, and keeps what was found
 pub record IsLinked (opened : State) (it : Contents) : Type 0 where

@@ -4,7 +4,7 @@ use Rattle.sqlite_trees.specs.Tree.{Trees}
 use Rattle.sqlite.specs.declared.error.Error.{Error}
 use Rattle.sqlite.specs.declared.error.Error.TheVariants.{SqliteFailure}
 use Rattle.sqlite.specs.declared.error.ErrorCode.TheVariants as code
-use Rattle.hippo_io.specs.Faults.{counted}
+use Rattle.hippo_io.specs.Faults.{next_count}
 use Rattle.hippo_keeper.specs.Answering.{has_failed, wants_memory}
 use Rattle.hippo_keeper.specs.Keeping.{Survivors, KeeperState, RisesAbove}
 use Rattle.hippo_keeper.specs.declared.faults.KeeperFault.{KeeperFault}
@@ -25,7 +25,7 @@ new_standing = record { started = false; closed = false; spent = false; faults =
 abbrev pub after_answer : {A : Type 0} → Result A KeeperFault → Standing → Standing
 after_answer result standing = record standing {
   spent = standing.spent || has_failed result;
-  faults = if has_failed result then counted standing.faults else standing.faults;
+  faults = if has_failed result then next_count standing.faults else standing.faults;
 }
 
 -- the same for a start, which starts the keeper or, for want of memory, closes it
@@ -38,11 +38,12 @@ after_start result standing = record (after_answer result standing) {
 -- what a start with a name may find: for the empty name a new store, and else what an opener finds
 abbrev pub finds_by : (List ℕ → Trees → Type 0) → List ℕ → Survivors
 finds_by Finds [] entries = entries ≡ []
-finds_by Finds (byte ∷ name) entries = (trees : Trees) × Finds (byte ∷ name) trees × IsKeptIn trees entries
+finds_by Finds (byte ∷ name) entries =
+    (trees : Trees) × Finds (byte ∷ name) trees × IsKeptIn trees entries
 
 -- what clauses see of a keeper whose opener was used or not
-abbrev pub seen : Standing → Bool → (List ℕ → Survivors) → Contents → KeeperState
-seen standing used finds contents = record {
+abbrev pub sqlite_keeper_state : Standing → Bool → (List ℕ → Survivors) → Contents → KeeperState
+sqlite_keeper_state standing used finds contents = record {
   tells = contents.tells;
   kept = contents.kept;
   started = standing.started;
@@ -56,7 +57,8 @@ seen standing used finds contents = record {
       × (standing.spent ≡ false → contents.rests);
 }
 
--- what is over a store that was found so: where it tells, it keeps what was found, and only that survives
+-- what is over a store that was found so: where it tells, it keeps what was found, and only that
+-- survives
 pub record IsStarted (Found : Survivors) (it : Contents) : Type 0 where
   pub rests : it.rests
   pub found : it.tells → Found it.kept

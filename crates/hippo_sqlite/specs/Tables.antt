@@ -19,18 +19,25 @@ use Rattle.sqlite_schema.specs.declared.schema.Column.{Column}
 use Rattle.sqlite_schema.specs.declared.schema.Kind.{Kind}
 use Rattle.sqlite_schema.specs.declared.schema.Kind.TheVariants.{Integer, Text, Blob}
 
-abbrev pub needed : List ℕ → Kind → Column
-needed name kind =
-    record { name = name; kind = kind; is_strict = true; not_null = true; default = Null; collation = Binary }
+abbrev pub needed_column : List ℕ → Kind → Column
+needed_column name kind =
+    record {
+      name = name;
+      kind = kind;
+      is_strict = true;
+      not_null = true;
+      default = Null;
+      collation = Binary;
+    }
 
 -- the table that the keeper makes in a store with no other
 abbrev pub history_table : Table
 history_table = record {
   name = codes "history";
   tree = 0;
-  columns = record (needed (codes "seq") Integer) { not_null = false }
-      ∷ needed (codes "moment") Integer ∷ needed (codes "kind") Integer ∷ needed (codes "tbl") Text
-      ∷ needed (codes "body") Blob ∷ [];
+  columns = record (needed_column (codes "seq") Integer) { not_null = false }
+      ∷ needed_column (codes "moment") Integer ∷ needed_column (codes "kind") Integer
+      ∷ needed_column (codes "tbl") Text ∷ needed_column (codes "body") Blob ∷ [];
   key = Some 0;
   primary = 0 ∷ [];
   uniques = [];
@@ -48,9 +55,12 @@ history_schema = record { tables = history_table ∷ []; indexes = []; views = [
 abbrev pub empty_schema : Schema
 empty_schema = record { tables = []; indexes = []; views = [] }
 
--- the database of another program: it has tables, or what `sqlite` lists as views, and no table with the history's name
+-- the database of another program: it has tables, or what `sqlite` lists as views, and no table
+-- with the history's name
 abbrev pub is_foreign : Schema → Bool
-is_foreign schema = not (length schema.tables == 0 && length schema.views == 0) && not (is_some (table_named schema (codes "history")))
+is_foreign schema =
+    not (length schema.tables == 0 && length schema.views == 0)
+    && not (is_some (table_named schema (codes "history")))
 
 -- the values in a row of the table
 pub record HistoryRow : Type 0 where
@@ -62,7 +72,8 @@ pub record HistoryRow : Type 0 where
 
 -- as a query shows it
 abbrev pub shown_row : HistoryRow → Row
-shown_row row = Int row.number ∷ Int row.moment ∷ Int row.kind ∷ Words row.table ∷ Bytes row.body ∷ []
+shown_row row =
+    Int row.number ∷ Int row.moment ∷ Int row.kind ∷ Words row.table ∷ Bytes row.body ∷ []
 
 -- as a statement is given it
 abbrev pub values_of : HistoryRow → Row
@@ -70,7 +81,8 @@ values_of row = shown_row row
 
 -- as the table has it: first its rowid, for which the first column stands
 abbrev pub stored_row : HistoryRow → Row
-stored_row row = Int row.number ∷ Null ∷ Int row.moment ∷ Int row.kind ∷ Words row.table ∷ Bytes row.body ∷ []
+stored_row row =
+    Int row.number ∷ Null ∷ Int row.moment ∷ Int row.kind ∷ Words row.table ∷ Bytes row.body ∷ []
 
 -- the row of an entry
 abbrev pub row_of : StoredEntry → HistoryRow

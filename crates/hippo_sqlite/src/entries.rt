@@ -60,7 +60,8 @@ fn integer_at(row: &Row, place: usize) -> Option<i64>
 }
 
 fn text_at(row: &Row, place: usize) -> Option<&[u8]>
-    ensures { (text : List ℕ) → column row.now place ≡ Text text → option_copied result ≡ Some text }
+    ensures { (text : List ℕ) → column row.now place ≡ Text text
+        → option_copied result ≡ Some text }
 {
     match row.get_ref(place) {
         Ok(ValueRef::Text(text)) => Some(text),
@@ -69,7 +70,8 @@ fn text_at(row: &Row, place: usize) -> Option<&[u8]>
 }
 
 fn bytes_at(row: &Row, place: usize) -> Option<&[u8]>
-    ensures { (bytes : List ℕ) → column row.now place ≡ Blob bytes → option_copied result ≡ Some bytes }
+    ensures { (bytes : List ℕ) → column row.now place ≡ Blob bytes
+        → option_copied result ≡ Some bytes }
 {
     match row.get_ref(place) {
         Ok(ValueRef::Blob(bytes)) => Some(bytes),
@@ -80,7 +82,8 @@ fn bytes_at(row: &Row, place: usize) -> Option<&[u8]>
 // The number of a row above another number.
 fn number_above(row: &Row, last: u64) -> Option<u64>
     ensures above { IfSome result (λ number. last < number) }
-    ensures told { (written : HistoryRow) → row.now ≡ shown_row written → int_cmp (pos last) written.number ≡ Less
+    ensures told { (written : HistoryRow) → row.now ≡ shown_row written
+        → int_cmp (pos last) written.number ≡ Less
         → result ≡ Some (number_in (Int written.number)) }
 {
     let number = u64::try_from(integer_at(row, 0)?).ok()?;
@@ -122,8 +125,8 @@ fn entry_of(alloc: Global, number: u64, row: &Row) -> Result<Option<StoredEntry>
     }))
 }
 
-/// The entries of the first so many rows, up to the first that is bad: whose values are not three integers, a text and
-/// a blob, or whose number is not above this one and those before it.
+/// The entries of the first so many rows, up to the first that is bad: whose values are not three
+/// integers, a text and a blob, or whose number is not above this one and those before it.
 pub(crate) fn entries_of(
     alloc: Global,
     rows: &[Row],
@@ -132,7 +135,8 @@ pub(crate) fn entries_of(
 ) -> Result<StoredList, RowFault>
     ensures few { IfOk result (λ list. length list ≤ max) }
     ensures order { IfOk result (RisesAbove after) }
-    ensures told { IfOk result (λ list. (written : List HistoryRow) → rows.now ≡ map shown_row written
+    ensures told { IfOk result (λ list. (written : List HistoryRow)
+        → rows.now ≡ map shown_row written
         → AreAbove (pos after) written
         → length written ≤ max → list ≡ map (λ row. entry_in (stored_row row)) written) }
 {

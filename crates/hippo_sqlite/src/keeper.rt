@@ -2,7 +2,7 @@
 ghost use Rattle.std.specs.Prelude.{◌≡◌, ◌↔◌, ℕ, List, false, IfOk, OnOk, OnErr};
 ghost use Rattle.hippo_keeper.specs.Keeping.{Store, IsReady};
 ghost use Rattle.hippo_sqlite.specs.Links.{link_contents};
-ghost use Rattle.hippo_sqlite.specs.Standings.{new_standing, finds_by, seen, IsStarted};
+ghost use Rattle.hippo_sqlite.specs.Standings.{new_standing, finds_by, sqlite_keeper_state, IsStarted};
 
 use crate::link::Link;
 use crate::opener::Opener;
@@ -13,8 +13,9 @@ use hippo_values::{Moment, Name};
 use std::alloc::Global;
 use std::sync::ledger::Ledger;
 
-/// A keeper over the store that its opener connects to, where entries stand in the table `history`; or, where the store
-/// has no name, in memory. Each refusal of `sqlite` but for memory is a counted failure.
+/// A keeper over the store that its opener connects to, where entries stand in the table `history`;
+/// or, where the store has no name, in memory. Each refusal of `sqlite` but for memory is a counted
+/// failure.
 #[derive(Drop)]
 pub struct SqliteKeeper<O: Opener> {
     opener: O,
@@ -28,7 +29,8 @@ impl<O: Opener> SqliteKeeper<O> {
         requires { O.used opener ≡ false }
         ensures ready { IsReady false (⟦<SqliteKeeper<O> as Keeper>⟧.state result) }
         ensures finds { (name : List ℕ) (entries : Store)
-            → (⟦<SqliteKeeper<O> as Keeper>⟧.state result).finds name entries ↔ finds_by (O.finds opener) name entries }
+            → (⟦<SqliteKeeper<O> as Keeper>⟧.state result).finds name entries
+            ↔ finds_by (O.finds opener) name entries }
     {
         SqliteKeeper {
             opener,
@@ -42,7 +44,8 @@ impl<O: Opener> SqliteKeeper<O> {
         requires { O.used self.old.opener ≡ false }
         ensures standing { self.new.standing ≡ self.old.standing }
         ensures link { self.new.link ≡ self.old.link }
-        ensures started { IfOk result (λ link. IsStarted (finds_by (O.finds self.old.opener) name.now)
+        ensures started { IfOk result (λ link. IsStarted
+            (finds_by (O.finds self.old.opener) name.now)
             (link_contents O.Base.Store link)) }
     {
         if name.is_empty() {
@@ -66,7 +69,8 @@ impl<O: Opener> SqliteKeeper<O> {
 }
 
 impl<O: Opener> Keeper for SqliteKeeper<O> {
-    ghost state = { λ keeper. seen keeper.standing (O.used keeper.opener) (finds_by (O.finds keeper.opener))
+    ghost state = { λ keeper. sqlite_keeper_state keeper.standing (O.used keeper.opener)
+        (finds_by (O.finds keeper.opener))
         (link_contents O.Base.Store keeper.link) };
 
     fn start(&mut self, alloc: Global, name: &str) -> Result<(), KeeperFault> {

@@ -4,11 +4,11 @@ ghost use Rattle.sqlite.specs.State.{HasCleanDisk, Survives, CommitsShowing, Ope
 ghost use Rattle.sqlite.specs.Held.{state};
 ghost use Rattle.hippo_keeper.specs.Answering.{has_failed};
 ghost use Rattle.hippo_keeper.specs.Keeping.{RisesAbove, next_number};
-ghost use Rattle.hippo_keeper.specs.Selecting.{handed_over, is_any, is_version_of, was_asked_in, versions_read};
-ghost use Rattle.hippo_sqlite.specs.Contents.{AppendsTo, LooksAt, HasRead};
+ghost use Rattle.hippo_keeper.specs.Selecting.{handed_over, is_any, is_stored_version_of, was_asked_in, versions_read};
+ghost use Rattle.hippo_sqlite.specs.Contents.{AppendsTo, LooksAtStore, HasRead};
 ghost use Rattle.hippo_sqlite.specs.Links.{linked_contents, link_contents};
 ghost use Rattle.hippo_sqlite.specs.Outcomes.{HasExecuted, HasLooked, IsLinked};
-ghost use Rattle.hippo_sqlite.specs.Queries.{insert_text, text_of, params_of, test_of};
+ghost use Rattle.hippo_sqlite.specs.Queries.{insert_sql, read_sql, params_of, test_of};
 ghost use Rattle.hippo_sqlite.specs.Standings.{IsStarted};
 ghost use Rattle.hippo_sqlite.specs.Tables.{HistoryRow, row_of, values_of, stored_row, entries_in, AreInOrder, history_schema, is_foreign};
 
@@ -65,7 +65,7 @@ fn counted<L: Ledger>(
 // Keeps one more entry.
 fn keep<S: Alter>(connection: &mut Connection<S>, entry: &StoredEntry) -> Result<(), KeeperFault>
     requires { entry.now.seq < 2 ^ 63 }
-    ensures executed { HasExecuted insert_text (values_of (row_of entry.now)) result
+    ensures executed { HasExecuted insert_sql (values_of (row_of entry.now)) result
         (state S.Store connection.old) (state S.Store connection.new) }
     ensures kind { entry.now.kind < 256 }
 {
@@ -87,11 +87,14 @@ fn find<S: Alter>(
     requires limit { max ≤ 1000 }
     ensures few { IfOk result (λ list. length list ≤ max) }
     ensures order { IfOk result (RisesAbove after) }
-    ensures looked { HasCleanDisk (state S.Store connection.new) → HasLooked (text_of question.now)
-        (params_of question.now after max) (state S.Store connection.old) (state S.Store connection.new) }
+    ensures looked { HasCleanDisk (state S.Store connection.new) → HasLooked (read_sql question.now)
+        (params_of question.now after max) (state S.Store connection.old)
+        (state S.Store connection.new) }
     ensures survives { Survives (state S.Store connection.old) (state S.Store connection.new)
-        (CommitsShowing (text_of question.now) (params_of question.now after max) (state S.Store connection.old)) }
-    ensures told { IfOk result (λ list. HasCleanDisk (state S.Store connection.new) → (rows : List HistoryRow)
+        (CommitsShowing (read_sql question.now) (params_of question.now after max)
+        (state S.Store connection.old)) }
+    ensures told { IfOk result (λ list. HasCleanDisk (state S.Store connection.new)
+        → (rows : List HistoryRow)
         → (state S.Store connection.old).now.schema ≡ history_schema
         → (state S.Store connection.old).now.trees 0 ≡ map stored_row rows → AreInOrder rows
         → list ≡ handed_over (test_of question.now) after max (entries_in (map stored_row rows))) }
@@ -105,7 +108,8 @@ fn find<S: Alter>(
     }
 }
 
-// Whether a database is another program's: it has tables or views, and no table with the name of the history's.
+// Whether a database is another program's: it has tables or views, and no table with the name of
+// the history's.
 fn is_foreign(schema: &Schema) -> bool
     ensures { result ≡ is_foreign schema.now }
 {
@@ -114,14 +118,16 @@ fn is_foreign(schema: &Schema) -> bool
 }
 
 impl<S: Alter + Drop> Linked<S> {
-    /// The store of a new connection, where the table of the history is made if there is none. The database of another
-    /// program is refused, and nothing is written to it.
+    /// The store of a new connection, where the table of the history is made if there is none. The
+    /// database of another program is refused, and nothing is written to it.
     fn new(mut connection: Connection<S>) -> Result<Linked<S>, KeeperFault>
         requires { HasCleanDisk (state S.Store connection)
             → Opens (state S.Store connection) × IsLive (state S.Store connection) }
-        ensures linked { IfOk result (λ it. IsLinked (state S.Store connection) (linked_contents S.Store it)) }
+        ensures linked { IfOk result (λ it. IsLinked (state S.Store connection)
+            (linked_contents S.Store it)) }
         ensures own { IfOk result (λ it. is_foreign (state S.Store connection).now.schema ≡ false) }
-        ensures foreign { is_foreign (state S.Store connection).now.schema ≡ true → result ≡ Err KeeperFault.Failed }
+        ensures foreign { is_foreign (state S.Store connection).now.schema ≡ true
+            → result ≡ Err KeeperFault.Failed }
     {
         if is_foreign(connection.schema()) {
             return Err(KeeperFault::Failed);
@@ -156,7 +162,8 @@ impl<S: Alter + Drop> Linked<S> {
         requires rests { (linked_contents S.Store self.old).rests }
         requires next { (linked_contents S.Store self.old).tells
             → entry.now.seq ≡ next_number (linked_contents S.Store self.old).kept }
-        ensures { AppendsTo entry.now result (linked_contents S.Store self.old) (linked_contents S.Store self.new) }
+        ensures { AppendsTo entry.now result (linked_contents S.Store self.old)
+            (linked_contents S.Store self.new) }
     {
         let answer = keep(&mut self.connection, entry);
         self.note(&answer);
@@ -175,9 +182,11 @@ impl<S: Alter + Drop> Linked<S> {
         requires rests { (linked_contents S.Store self.old).rests }
         ensures few { IfOk result (λ list. length list ≤ max) }
         ensures order { IfOk result (RisesAbove after) }
-        ensures looks { LooksAt result (linked_contents S.Store self.old) (linked_contents S.Store self.new) }
+        ensures looks { LooksAtStore result (linked_contents S.Store self.old)
+            (linked_contents S.Store self.new) }
         ensures told { IfOk result (λ list. (linked_contents S.Store self.new).tells
-            → list ≡ handed_over (test_of question.now) after max (linked_contents S.Store self.old).kept) }
+            → list ≡ handed_over (test_of question.now) after max
+            (linked_contents S.Store self.old).kept) }
     {
         if after >= NUMBERS {
             return Ok(StoredList::new(alloc));
@@ -191,7 +200,8 @@ impl<S: Alter + Drop> Linked<S> {
 impl<S: Alter + Drop> Link<S> {
     /// A new store in memory.
     pub(crate) fn in_memory(alloc: Global) -> Result<Link<S>, KeeperFault>
-        ensures started { IfOk result (λ link. IsStarted (λ entries. entries ≡ []) (link_contents S.Store link)) }
+        ensures started { IfOk result (λ link. IsStarted
+            (λ entries. entries ≡ []) (link_contents S.Store link)) }
     {
         let mut keeper = MemoryKeeper::new(StoredList::new(alloc), KeeperFails::new(alloc));
         match keeper.start(alloc, "") {
@@ -203,14 +213,17 @@ impl<S: Alter + Drop> Link<S> {
         }
     }
 
-    /// The store of a connection, where the table of the history is made if there is none. The database of another
-    /// program is refused.
+    /// The store of a connection, where the table of the history is made if there is none. The
+    /// database of another program is refused.
     pub(crate) fn opened(connection: Connection<S>) -> Result<Link<S>, KeeperFault>
         requires { HasCleanDisk (state S.Store connection)
             → Opens (state S.Store connection) × IsLive (state S.Store connection) }
-        ensures linked { IfOk result (λ link. IsLinked (state S.Store connection) (link_contents S.Store link)) }
-        ensures own { IfOk result (λ link. is_foreign (state S.Store connection).now.schema ≡ false) }
-        ensures foreign { is_foreign (state S.Store connection).now.schema ≡ true → result ≡ Err KeeperFault.Failed }
+        ensures linked { IfOk result (λ link. IsLinked (state S.Store connection)
+            (link_contents S.Store link)) }
+        ensures own { IfOk result (λ link. is_foreign (state S.Store connection).now.schema
+            ≡ false) }
+        ensures foreign { is_foreign (state S.Store connection).now.schema ≡ true
+            → result ≡ Err KeeperFault.Failed }
     {
         match Linked::new(connection) {
             Ok(linked) => Ok(Link::Opened(linked)),
@@ -224,7 +237,8 @@ impl<S: Alter + Drop> Link<S> {
         requires rests { (link_contents S.Store self.old).rests }
         requires next { (link_contents S.Store self.old).tells
             → entry.now.seq ≡ next_number (link_contents S.Store self.old).kept }
-        ensures { AppendsTo entry.now result (link_contents S.Store self.old) (link_contents S.Store self.new) }
+        ensures { AppendsTo entry.now result (link_contents S.Store self.old)
+            (link_contents S.Store self.new) }
     {
         match self {
             Link::Absent => Err(KeeperFault::Failed),
@@ -244,7 +258,8 @@ impl<S: Alter + Drop> Link<S> {
         requires some { 0 < max }
         requires limit { max ≤ 1000 }
         requires rests { (link_contents S.Store self.old).rests }
-        ensures reads { HasRead is_any after max result (link_contents S.Store self.old) (link_contents S.Store self.new) }
+        ensures reads { HasRead is_any after max result (link_contents S.Store self.old)
+            (link_contents S.Store self.new) }
         ensures steps { steps.new ≡ steps.old + versions_read result }
     {
         match self {
@@ -266,7 +281,7 @@ impl<S: Alter + Drop> Link<S> {
         requires some { 0 < max }
         requires limit { max ≤ 1000 }
         requires rests { (link_contents S.Store self.old).rests }
-        ensures reads { HasRead (is_version_of table.now) after max result
+        ensures reads { HasRead (is_stored_version_of table.now) after max result
             (link_contents S.Store self.old) (link_contents S.Store self.new) }
         ensures steps { steps.new ≡ steps.old + versions_read result }
     {

@@ -34,8 +34,9 @@ pub trait Opener {
             → finds self.old name.now (state Self.Base.Store c).committed.trees) };
 }
 
-/// Opens the file with a name, or makes it. Of a disk it is supposed that a write which a power cut breaks off leaves each byte
-/// of its range old or new, and all others as they were; so most commits sync once.
+/// Opens the file with a name, or makes it. Of a disk it is supposed that a write which a power cut
+/// breaks off leaves each byte of its range old or new, and all others as they were; so most
+/// commits sync once.
 #[derive(Debug, Drop)]
 pub struct FileOpener {
     runtime: HostRuntime,
@@ -97,7 +98,8 @@ impl<D: Disk + Drop> Opener for DisksOpener<Files<D>> {
 
     ghost used = { λ opener. not (is_some opener.files) };
 
-    ghost finds = { λ opener name trees. IfSome opener.files (λ files. IsFoundIn (image_of D.Disk files) trees) };
+    ghost finds = { λ opener name trees. IfSome opener.files
+        (λ files. IsFoundIn (image_of D.Disk files) trees) };
 
     fn connect(
         &mut self,

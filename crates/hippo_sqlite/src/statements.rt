@@ -2,7 +2,7 @@
 ghost use Rattle.std.specs.Prelude.{[], ◌^◌, ◌<◌, IfOk, IfErr};
 ghost use Rattle.sqlite.specs.State.{HasCleanDisk, Survives, Executes, CommitsBy, Shown, FailsToQuery, CommitsShowing};
 ghost use Rattle.sqlite.specs.Held.{state};
-ghost use Rattle.hippo_sqlite.specs.Queries.{create_text, insert_text, backlog_text, asked_text, versions_params, asked_params, text_of, params_of};
+ghost use Rattle.hippo_sqlite.specs.Queries.{create_sql, insert_sql, versions_sql, questions_sql, versions_params, asked_params, read_sql, params_of};
 ghost use Rattle.hippo_sqlite.specs.Tables.{row_of, values_of};
 
 use hippo_model::StoredEntry;
@@ -22,9 +22,10 @@ pub(crate) enum Question<'a> {
 /// Makes the table of the history where there is none.
 pub(crate) fn create_history<S: Alter>(connection: &mut Connection<S>) -> Result<usize, Error>
     ensures runs { HasCleanDisk (state S.Store connection.new)
-        → Executes create_text [] (state S.Store connection.old) (state S.Store connection.new) result }
+        → Executes create_sql [] (state S.Store connection.old) (state S.Store connection.new)
+        result }
     ensures survives { Survives (state S.Store connection.old) (state S.Store connection.new)
-        (CommitsBy create_text [] (state S.Store connection.old)) }
+        (CommitsBy create_sql [] (state S.Store connection.old)) }
 {
     connection.execute(
         "CREATE TABLE IF NOT EXISTS history (seq INTEGER PRIMARY KEY, moment INTEGER NOT NULL, kind INTEGER NOT NULL, tbl TEXT NOT NULL, body BLOB NOT NULL) STRICT",
@@ -39,10 +40,10 @@ pub(crate) fn insert<S: Alter>(
 ) -> Result<usize, Error>
     requires { entry.now.seq < 2 ^ 63 }
     ensures runs { HasCleanDisk (state S.Store connection.new)
-        → Executes insert_text (values_of (row_of entry.now))
+        → Executes insert_sql (values_of (row_of entry.now))
         (state S.Store connection.old) (state S.Store connection.new) result }
     ensures survives { Survives (state S.Store connection.old) (state S.Store connection.new)
-        (CommitsBy insert_text (values_of (row_of entry.now)) (state S.Store connection.old)) }
+        (CommitsBy insert_sql (values_of (row_of entry.now)) (state S.Store connection.old)) }
     ensures kind { entry.now.kind < 256 }
 {
     connection.execute(
@@ -66,13 +67,14 @@ fn select_all<S: Alter>(
     requires above { after < 2 ^ 63 }
     requires limit { max < 2 ^ 63 }
     ensures ok { HasCleanDisk (state S.Store connection.new)
-        → IfOk result (λ rows. Shown (text_of Question.All) (params_of Question.All after max)
+        → IfOk result (λ rows. Shown (read_sql Question.All) (params_of Question.All after max)
         (state S.Store connection.old) (state S.Store connection.new) rows.items) }
     ensures err { HasCleanDisk (state S.Store connection.new)
-        → IfErr result (FailsToQuery (text_of Question.All) (params_of Question.All after max)
+        → IfErr result (FailsToQuery (read_sql Question.All) (params_of Question.All after max)
         (state S.Store connection.old) (state S.Store connection.new)) }
     ensures survives { Survives (state S.Store connection.old) (state S.Store connection.new)
-        (CommitsShowing (text_of Question.All) (params_of Question.All after max) (state S.Store connection.old)) }
+        (CommitsShowing (read_sql Question.All) (params_of Question.All after max)
+        (state S.Store connection.old)) }
 {
     connection.query_all(
         "SELECT seq, moment, kind, tbl, body FROM history WHERE seq > ?1 ORDER BY seq LIMIT ?2",
@@ -90,13 +92,14 @@ fn select_backlog<S: Alter>(
     requires above { after < 2 ^ 63 }
     requires limit { max < 2 ^ 63 }
     ensures ok { HasCleanDisk (state S.Store connection.new)
-        → IfOk result (λ rows. Shown backlog_text (versions_params table.now after max)
+        → IfOk result (λ rows. Shown versions_sql (versions_params table.now after max)
         (state S.Store connection.old) (state S.Store connection.new) rows.items) }
     ensures err { HasCleanDisk (state S.Store connection.new)
-        → IfErr result (FailsToQuery backlog_text (versions_params table.now after max)
+        → IfErr result (FailsToQuery versions_sql (versions_params table.now after max)
         (state S.Store connection.old) (state S.Store connection.new)) }
     ensures survives { Survives (state S.Store connection.old) (state S.Store connection.new)
-        (CommitsShowing backlog_text (versions_params table.now after max) (state S.Store connection.old)) }
+        (CommitsShowing versions_sql (versions_params table.now after max)
+        (state S.Store connection.old)) }
 {
     connection.query_all(
         "SELECT seq, moment, kind, tbl, body FROM history WHERE tbl = ?1 AND kind >= 2 AND kind <= 4 AND seq > ?2 ORDER BY seq LIMIT ?3",
@@ -115,13 +118,14 @@ fn select_asked<S: Alter>(
     requires above { after < 2 ^ 63 }
     requires limit { max < 2 ^ 63 }
     ensures ok { HasCleanDisk (state S.Store connection.new)
-        → IfOk result (λ rows. Shown asked_text (asked_params from.now to.now after max)
+        → IfOk result (λ rows. Shown questions_sql (asked_params from.now to.now after max)
         (state S.Store connection.old) (state S.Store connection.new) rows.items) }
     ensures err { HasCleanDisk (state S.Store connection.new)
-        → IfErr result (FailsToQuery asked_text (asked_params from.now to.now after max)
+        → IfErr result (FailsToQuery questions_sql (asked_params from.now to.now after max)
         (state S.Store connection.old) (state S.Store connection.new)) }
     ensures survives { Survives (state S.Store connection.old) (state S.Store connection.new)
-        (CommitsShowing asked_text (asked_params from.now to.now after max) (state S.Store connection.old)) }
+        (CommitsShowing questions_sql (asked_params from.now to.now after max)
+        (state S.Store connection.old)) }
 {
     connection.query_all(
         "SELECT seq, moment, kind, tbl, body FROM history WHERE kind = 13 AND moment >= ?1 AND moment <= ?2 AND seq > ?3 ORDER BY seq LIMIT ?4",
@@ -139,13 +143,14 @@ pub(crate) fn select<S: Alter>(
     requires above { after < 2 ^ 63 }
     requires limit { max < 2 ^ 63 }
     ensures ok { HasCleanDisk (state S.Store connection.new)
-        → IfOk result (λ rows. Shown (text_of question.now) (params_of question.now after max)
+        → IfOk result (λ rows. Shown (read_sql question.now) (params_of question.now after max)
         (state S.Store connection.old) (state S.Store connection.new) rows.items) }
     ensures err { HasCleanDisk (state S.Store connection.new)
-        → IfErr result (FailsToQuery (text_of question.now) (params_of question.now after max)
+        → IfErr result (FailsToQuery (read_sql question.now) (params_of question.now after max)
         (state S.Store connection.old) (state S.Store connection.new)) }
     ensures survives { Survives (state S.Store connection.old) (state S.Store connection.new)
-        (CommitsShowing (text_of question.now) (params_of question.now after max) (state S.Store connection.old)) }
+        (CommitsShowing (read_sql question.now) (params_of question.now after max)
+        (state S.Store connection.old)) }
 {
     match question {
         Question::All => select_all(connection, after, max),

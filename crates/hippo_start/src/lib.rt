@@ -1,4 +1,5 @@
-//! How a program of this house begins and ends: the words behind its name, its standard streams, and its exit status.
+//! How a program of this house begins and ends: the words behind its name, its standard streams,
+//! and its exit status.
 #![tactic(auto)]
 
 ghost use Rattle.std.specs.Prelude.{◌≡◌};
@@ -28,7 +29,8 @@ pub trait Program {
     ) -> u8;
 }
 
-/// How a program ended. Only [`start`] makes one, so a `main` that answers one cannot end with a status of its own.
+/// How a program ended. Only [`start`] makes one, so a `main` that answers one cannot end with a
+/// status of its own.
 #[derive(Debug, Drop)]
 pub struct Ended {
     status: u8,
@@ -57,9 +59,9 @@ fn words(rt: &HostRuntime) -> Result<Words, Memory> {
     }
 }
 
-/// Has a program do what the words behind its name ask for, over standard input and standard output. It ends with the
-/// status that the program answers, or with [`NO_MEMORY`], and nothing is read or written, where memory is short for
-/// the words.
+/// Has a program do what the words behind its name ask for, over standard input and standard
+/// output. It ends with the status that the program answers, or with [`NO_MEMORY`], and nothing is
+/// read or written, where memory is short for the words.
 pub fn start<P: Program + Drop>(rt: HostRuntime, program: P) -> Ended {
     let Ok(words) = words(&rt) else {
         return Ended { status: NO_MEMORY };

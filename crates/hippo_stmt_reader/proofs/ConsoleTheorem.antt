@@ -19,8 +19,8 @@ use Rattle.hippo_audit_reader.specs.AuditGrammar as audits
 use Rattle.hippo_audit_reader.specs.AuditGrammar.{IsAudit}
 use Rattle.hippo_audit_reader.specs.AuditFinder.{leading_audit}
 use Rattle.hippo_audit_reader.proofs.AuditTheorem as auditing
-use Rattle.hippo_stmt_reader.specs.StatementGrammar.{IsColumnDef, IsSubject, AreSettings, IsConsole, create_table, create_purpose, create_recipient, create_opt_in, create_opt_out, authorize, deauthorize, allow, revoke, choice_yes, choice_no, insert, update, delete, explain, audit, begin_audit, watch, IsEnd, nothing, semicolon}
-use Rattle.hippo_stmt_reader.specs.StatementFinder.{end_left, leading_column_def, after_column, leading_names, leading_subject, leading_item, leading_retention, leading_number, leading_assignment, leading_grant, leading_disclosure, create_table_of, create_purpose_of, create_recipient_of, leading_item_kind, create_item_of, create_of, authorize_of, deauthorize_of, allow_of, revoke_of, leading_yes_or_no, choice_of, insert_of, update_of, delete_of, explain_of, audit_of, begin_audit_of, watch_of, console_behind, console_by_keyword, console_of}
+use Rattle.hippo_stmt_reader.specs.StatementGrammar.{IsColumnDef, IsSubject, AreSettings, IsConsole, create_table, create_purpose, create_recipient, create_opt_in, create_opt_out, authorize, deauthorize, allow, revoke, choice_yes, choice_no, insert, update, delete, console_explain, console_audit, console_begin_audit, console_watch, IsEnd, no_semicolon, semicolon}
+use Rattle.hippo_stmt_reader.specs.StatementFinder.{end_left, leading_column_def, after_column, leading_names, leading_subject, leading_with_item, leading_retention, leading_number, leading_assignment, leading_grant, leading_disclosure, create_table_of, create_purpose_of, create_recipient_of, leading_item_kind, create_item_of, create_of, authorize_of, deauthorize_of, allow_of, revoke_of, leading_yes_or_no, choice_of, insert_of, update_of, delete_of, explain_of, audit_statement_of, begin_audit_of, watch_of, console_behind, console_by_keyword, console_of}
 use Rattle.hippo_stmt_reader.proofs.PartTheorem.{end_found, end_complete, number_found, column_defs_found, column_defs_complete, names_then, names_whole, subject_found, subject_complete, with_found, with_complete, retention_found, retention_complete, retention-no_with, settings_found, settings_complete, keys_found, keys_complete, literals_found, literals_complete, grant_then, disclosure_then}
 
 -- the tokens are a statement of the console up to the end
@@ -93,7 +93,7 @@ deauthorize_found tokens s e =
 allow_found : (tokens : List TokenKind) (s : Stmt) → allow_of tokens ≡ Some s → IsRead (Keyword KAllow ∷ tokens) s
 unfolding allow_of
 allow_found tokens s e =
-    found_then (leading_disclosure tokens) _ _ e (λ rule rule_is e. found_then (leading_item rule.1) _ _ e (λ item item_is e.
+    found_then (leading_disclosure tokens) _ _ e (λ rule rule_is e. found_then (leading_with_item rule.1) _ _ e (λ item item_is e.
     found_then (leading_retention item.1) _ _ e (λ days days_is e. found_then (end_left days.1) _ _ e (λ end is_end e.
     disclosure_then tokens rule.0 rule.1 rule_is (λ named is_rule are_names.
     rw (is_rule, ← same_Some _ s e) (days.1, allow are_names (with_found rule.1 item.0 item.1 item_is) (retention_found item.1 days.0 days.1 days_is), end_found days.1 end is_end))))))
@@ -158,7 +158,7 @@ explain_found : (tokens : List TokenKind) (s : Stmt) → explain_of tokens ≡ S
 unfolding explain_of
 explain_found tokens s e =
     found_then (leading_number tokens) _ _ e (λ n n_is e. found_then (end_left n.1) _ _ e (λ end is_end e.
-    rw (number_found tokens n.0 n.1 n_is, ← same_Some _ s e) (n.1, explain, end_found n.1 end is_end)))
+    rw (number_found tokens n.0 n.1 n_is, ← same_Some _ s e) (n.1, console_explain, end_found n.1 end is_end)))
 
 begin_audit_found : (tokens : List TokenKind) (s : Stmt) → begin_audit_of tokens ≡ Some s → IsRead (Keyword KBegin ∷ tokens) s
 unfolding begin_audit_of
@@ -166,13 +166,13 @@ begin_audit_found tokens s e =
     keyword_then KAudit tokens _ _ e (λ behind is_audit e.
     found_then (leading_audit behind) _ _ e (λ a a_is e.
     found_then (end_left a.1) _ _ e (λ end is_end e.
-    rw (is_audit, ← same_Some _ s e) (a.1, begin_audit (auditing.found behind a.0 a.1 a_is), end_found a.1 end is_end))))
+    rw (is_audit, ← same_Some _ s e) (a.1, console_begin_audit (auditing.found behind a.0 a.1 a_is), end_found a.1 end is_end))))
 
 watch_found : (tokens : List TokenKind) (s : Stmt) → watch_of tokens ≡ Some s → IsRead (Word (codes "watch") ∷ tokens) s
 unfolding watch_of
 watch_found tokens s e =
     found_then (leading_audit tokens) _ _ e (λ a a_is e. found_then (end_left a.1) _ _ e (λ end is_end e.
-    rw (← same_Some _ s e) (a.1, watch (auditing.found tokens a.0 a.1 a_is), end_found a.1 end is_end)))
+    rw (← same_Some _ s e) (a.1, console_watch (auditing.found tokens a.0 a.1 a_is), end_found a.1 end is_end)))
 
 console_behind_found : (word : words.Keyword) (tokens : List TokenKind) (s : Stmt) → console_behind word tokens ≡ Some s → IsRead (Keyword word ∷ tokens) s
 unfolding console_behind
@@ -195,11 +195,11 @@ console_by_keyword_found _ s e = absurd (none-some s e)
 
 -- what is found is a statement of the console
 pub console_found : (tokens : List TokenKind) (s : Stmt) → console_of tokens ≡ Some s → IsRead tokens s
-unfolding console_of audit_of
+unfolding console_of audit_statement_of
 console_found tokens s e =
     keyword_choice KDuring tokens _ _ _ e
     (λ _ _ e. found_then (leading_audit tokens) _ _ e (λ a a_is e. found_then (end_left a.1) _ _ e (λ end is_end e.
-    rw (← same_Some _ s e) (a.1, audit (auditing.found tokens a.0 a.1 a_is), end_found a.1 end is_end))))
+    rw (← same_Some _ s e) (a.1, console_audit (auditing.found tokens a.0 a.1 a_is), end_found a.1 end is_end))))
     (λ _ e. word_choice (codes "watch") tokens _ _ _ e
     (λ behind is_watch e. rw is_watch (watch_found behind s e))
     (λ _ e. console_by_keyword_found tokens s e))
@@ -212,15 +212,15 @@ pub record Follows (rest : List TokenKind) : Type 0 where
   pub no_retain : after_word (codes "retain") rest ≡ None
 
 pub end_follows : (rest : List TokenKind) → IsEnd rest → Follows rest
-end_follows rest nothing = record { audit_ends = auditing.ends-nothing; no_and = refl; no_with = refl; no_retain = refl }
+end_follows rest no_semicolon = record { audit_ends = auditing.ends-nothing; no_and = refl; no_with = refl; no_retain = refl }
 end_follows rest semicolon = record { audit_ends = auditing.ends-semicolon []; no_and = refl; no_with = refl; no_retain = refl }
 
 audit_during : (tokens : List TokenKind) (a : RawAudit) (rest : List TokenKind) → IsAudit tokens a rest → (behind : List TokenKind) × (after_keyword KDuring tokens ≡ Some behind)
-audit_during _ a rest (audits.audit e s cs ts w is) = (_, refl)
+audit_during _ a rest (audits.audit_expression e s cs ts w is) = (_, refl)
 
 -- each statement of the console is found
 pub console_complete : (tokens : List TokenKind) (s : Stmt) (rest : List TokenKind) → IsConsole tokens s rest → IsEnd rest → console_of tokens ≡ Some s
-unfolding console_of console_behind create_of create_table_of create_purpose_of create_recipient_of create_item_of authorize_of deauthorize_of leading_grant allow_of revoke_of leading_disclosure choice_of insert_of update_of delete_of explain_of audit_of begin_audit_of watch_of
+unfolding console_of console_behind create_of create_table_of create_purpose_of create_recipient_of create_item_of authorize_of deauthorize_of leading_grant allow_of revoke_of leading_disclosure choice_of insert_of update_of delete_of explain_of audit_statement_of begin_audit_of watch_of
 console_complete _ _ rest (create_table {columns = columns} {key = key} {subject = subject} {defs = defs} {keys = keys} {behind = behind} are_defs are_names is_subject) end =
     rw (column_defs_complete defs columns _ are_defs refl refl, names_whole keys key behind are_names, subject_complete behind subject (Symbol RightParen ∷ rest) is_subject refl, end_complete rest end) refl
 console_complete _ _ rest create_purpose end = rw (end_complete rest end) refl
@@ -240,13 +240,13 @@ console_complete _ _ rest (update {settings = settings} {keys = keys} {tokens = 
     rw (settings_complete tokens settings (Keyword KWhere ∷ behind) are_settings refl, keys_complete behind keys rest are_keys (end_follows rest end).no_and, end_complete rest end, is) refl
 console_complete _ _ rest (delete {keys = keys} {tokens = tokens} are_keys is) end =
     rw (keys_complete tokens keys rest are_keys (end_follows rest end).no_and, end_complete rest end, is) refl
-console_complete _ _ rest explain end = rw (end_complete rest end) refl
-console_complete tokens _ rest (audit {a = a} is_audit) end =
+console_complete _ _ rest console_explain end = rw (end_complete rest end) refl
+console_complete tokens _ rest (console_audit {a = a} is_audit) end =
     let during = audit_during tokens a rest is_audit in
     rw (during.1, auditing.complete tokens a rest is_audit (end_follows rest end).audit_ends, end_complete rest end) refl
-console_complete _ _ rest (begin_audit {a = a} {tokens = tokens} is_audit) end =
+console_complete _ _ rest (console_begin_audit {a = a} {tokens = tokens} is_audit) end =
     rw (auditing.complete tokens a rest is_audit (end_follows rest end).audit_ends, end_complete rest end) refl
-console_complete _ _ rest (watch {a = a} {tokens = tokens} is_audit) end =
+console_complete _ _ rest (console_watch {a = a} {tokens = tokens} is_audit) end =
     rw (auditing.complete tokens a rest is_audit (end_follows rest end).audit_ends, end_complete rest end) refl
 
 -- the tokens begin neither with OPEN nor with SELECT nor with EXTRACT
@@ -255,8 +255,8 @@ pub record NoSelect (tokens : List TokenKind) : Type 0 where
   pub no_select : after_keyword KSelect tokens ≡ None
   pub no_extract : after_word (codes "extract") tokens ≡ None
 
-audit-no_select : (tokens : List TokenKind) (a : RawAudit) (rest : List TokenKind) → IsAudit tokens a rest → NoSelect tokens
-audit-no_select _ a rest (audits.audit e s cs ts w is) = record { no_open = refl; no_select = refl; no_extract = refl }
+console_audit-no_select : (tokens : List TokenKind) (a : RawAudit) (rest : List TokenKind) → IsAudit tokens a rest → NoSelect tokens
+console_audit-no_select _ a rest (audits.audit_expression e s cs ts w is) = record { no_open = refl; no_select = refl; no_extract = refl }
 
 -- no statement of the console begins so
 pub console-no_select : (tokens : List TokenKind) (s : Stmt) (rest : List TokenKind) → IsConsole tokens s rest → NoSelect tokens
@@ -274,7 +274,7 @@ console-no_select _ s rest choice_no = record { no_open = refl; no_select = refl
 console-no_select _ s rest (insert a) = record { no_open = refl; no_select = refl; no_extract = refl }
 console-no_select _ s rest (update a b e) = record { no_open = refl; no_select = refl; no_extract = refl }
 console-no_select _ s rest (delete a e) = record { no_open = refl; no_select = refl; no_extract = refl }
-console-no_select _ s rest explain = record { no_open = refl; no_select = refl; no_extract = refl }
-console-no_select tokens s rest (audit {a = a} is_audit) = audit-no_select tokens a rest is_audit
-console-no_select _ s rest (begin_audit is_audit) = record { no_open = refl; no_select = refl; no_extract = refl }
-console-no_select _ s rest (watch is_audit) = record { no_open = refl; no_select = refl; no_extract = refl }
+console-no_select _ s rest console_explain = record { no_open = refl; no_select = refl; no_extract = refl }
+console-no_select tokens s rest (console_audit {a = a} is_audit) = console_audit-no_select tokens a rest is_audit
+console-no_select _ s rest (console_begin_audit is_audit) = record { no_open = refl; no_select = refl; no_extract = refl }
+console-no_select _ s rest (console_watch is_audit) = record { no_open = refl; no_select = refl; no_extract = refl }

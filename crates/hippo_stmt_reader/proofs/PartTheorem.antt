@@ -22,8 +22,8 @@ use Rattle.hippo_spj_reader.proofs.NameTheorem.{names_found, names_complete}
 use Rattle.hippo_spj_reader.proofs.OperandTheorem.{literal_found, literal_complete, literal_shorter}
 use Rattle.hippo_stmt_reader.specs.declared.policies.Disclosure.{Disclosure}
 use Rattle.hippo_stmt_reader.specs.declared.policies.Grant.{Grant}
-use Rattle.hippo_stmt_reader.specs.StatementGrammar.{IsColumnKind, integer, text, date, IsColumnDef, nullable, not_null, IsSubject, no_subject, subject, IsWith, no_item, with_item, IsRetention, no_retention, retain, IsAssignment, assignment, AreKeys, AreSettings, AreNames, IsEnd, nothing, semicolon}
-use Rattle.hippo_stmt_reader.specs.StatementFinder.{nothing_left, end_left, column_kind_of, leading_column_kind, leading_column_def, after_column, leading_names, leading_subject, leading_item, leading_number, days_of, leading_retention, leading_assignment, leading_grant, leading_disclosure}
+use Rattle.hippo_stmt_reader.specs.StatementGrammar.{IsColumnKind, integer, text, date, IsColumnDef, nullable, not_null, IsSubject, no_subject, subject, IsWith, no_item, with_item, IsRetention, no_retention, retain, IsAssignment, assignment, AreKeys, AreSettings, AreNames, IsEnd, no_semicolon, semicolon}
+use Rattle.hippo_stmt_reader.specs.StatementFinder.{nothing_left, end_left, column_kind_of, leading_column_kind, leading_column_def, after_column, leading_names, leading_subject, leading_with_item, leading_number, days_of, leading_retention, leading_assignment, leading_grant, leading_disclosure}
 
 -- a list that is found is one of the grammar, where its parts are and what leads to the next is a separator
 list_found : {X : Type 0} (leading : List TokenKind → Option (X × List TokenKind)) (after : List TokenKind → Option (List TokenKind)) (IsPart : List TokenKind → X → List TokenKind → Type 0) (separator : TokenKind) →
@@ -42,10 +42,10 @@ pub end_found : (tokens : List TokenKind) (u : Unit {0}) → end_left tokens ≡
 end_found tokens u e =
     symbol_choice Semicolon tokens _ _ _ e
     (λ rest is_semicolon e. rw (is_semicolon, nothing_found rest u e) semicolon)
-    (λ _ e. rw (nothing_found tokens u e) nothing)
+    (λ _ e. rw (nothing_found tokens u e) no_semicolon)
 
 pub end_complete : (tokens : List TokenKind) → IsEnd tokens → end_left tokens ≡ Some tt
-end_complete tokens nothing = refl
+end_complete tokens no_semicolon = refl
 end_complete tokens semicolon = refl
 
 pub number_found : (tokens : List TokenKind) (n : ℤ) (rest : List TokenKind) → leading_number tokens ≡ Some (n, rest) → tokens ≡ Number n ∷ rest
@@ -138,15 +138,15 @@ unfolding leading_subject
 subject_complete tokens s rest no_subject no_comma = rw no_comma refl
 subject_complete tokens s rest subject no_comma = refl
 
-pub with_found : (tokens : List TokenKind) (i : Option (List ℕ)) (rest : List TokenKind) → leading_item tokens ≡ Some (i, rest) → IsWith tokens i rest
-unfolding leading_item
+pub with_found : (tokens : List TokenKind) (i : Option (List ℕ)) (rest : List TokenKind) → leading_with_item tokens ≡ Some (i, rest) → IsWith tokens i rest
+unfolding leading_with_item
 with_found tokens i rest e =
     keyword_choice KWith tokens _ _ _ e
     (λ behind is_with e. name_then behind _ _ e (λ item left is_name e. rw (is_with, is_name) (read_as IsWith _ _ _ _ _ e with_item)))
     (λ _ e. read_as IsWith tokens _ _ _ _ e no_item)
 
-pub with_complete : (tokens : List TokenKind) (i : Option (List ℕ)) (rest : List TokenKind) → IsWith tokens i rest → after_keyword KWith rest ≡ None → leading_item tokens ≡ Some (i, rest)
-unfolding leading_item
+pub with_complete : (tokens : List TokenKind) (i : Option (List ℕ)) (rest : List TokenKind) → IsWith tokens i rest → after_keyword KWith rest ≡ None → leading_with_item tokens ≡ Some (i, rest)
+unfolding leading_with_item
 with_complete tokens i rest no_item no_with = rw no_with refl
 with_complete tokens i rest with_item no_with = refl
 

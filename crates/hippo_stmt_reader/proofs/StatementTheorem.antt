@@ -23,7 +23,7 @@ use Rattle.hippo_spj_reader.specs.SelectFinder.{leading_select}
 use Rattle.hippo_spj_reader.proofs.FrontTheorem.{found_then, keyword_choice, word_choice}
 use Rattle.hippo_spj_reader.proofs.SelectTheorem as selecting
 use Rattle.hippo_spj_reader.proofs.SuffixTheorem.{front_of, select_suffix}
-use Rattle.hippo_stmt_reader.specs.StatementGrammar.{IsEnd, nothing, semicolon, IsPlacedSelect, placed, IsStatement, console, select, open_select, extract_select, IsRefusal}
+use Rattle.hippo_stmt_reader.specs.StatementGrammar.{IsEnd, no_semicolon, semicolon, IsPlacedSelect, placed, IsStatement, console, select, open_select, extract_select, IsRefusal}
 use Rattle.hippo_stmt_reader.specs.StatementFinder.{end_left, placed_select_of, open_of, extract_of, select_of, statement_of}
 use Rattle.hippo_stmt_reader.proofs.ConsoleTheorem.{console_found, console_complete, console-no_select}
 use Rattle.hippo_stmt_reader.proofs.PartTheorem.{end_found, end_complete}
@@ -61,7 +61,7 @@ placed_select_found tokens s start end e =
     (placed text rest (sym (take-append-drop (length tokens - length found.1) tokens)) select_to ends first_is last_is)))))
 
 select_ends : (rest : List TokenKind) → IsEnd rest → selecting.SelectEnds rest
-select_ends rest nothing = selecting.ends-nothing
+select_ends rest no_semicolon = selecting.ends-nothing
 select_ends rest semicolon = selecting.ends-semicolon []
 
 placed_select_complete : (tokens : List Token) (s : RawSelect) (start end : ℕ) → IsPlacedSelect tokens s start end → placed_select_of tokens ≡ Some (s, start, end)
@@ -70,9 +70,9 @@ placed_select_complete tokens s _ _ (placed text rest is_whole is_select is_end 
     rw (selecting.complete (kinds tokens) s (kinds rest) is_select (select_ends (kinds rest) is_end), text_of tokens text rest is_whole, first_is, last_is, end_complete (kinds rest) is_end) refl
 
 select_first : (tokens : List TokenKind) (s : RawSelect) (rest : List TokenKind) → IsSelect tokens s rest → (after_keyword KOpen tokens ≡ None) × ((behind : List TokenKind) × (after_keyword KSelect tokens ≡ Some behind))
-select_first _ s rest (selects.plain a b) = (refl, (_, refl))
+select_first _ s rest (selects.plain_select a b) = (refl, (_, refl))
 select_first _ s rest (selects.distinct a b) = (refl, (_, refl))
-select_first _ s rest (selects.grouped a b c) = (refl, (_, refl))
+select_first _ s rest (selects.grouped_select a b c) = (refl, (_, refl))
 
 placed_select_first : (tokens : List Token) (s : RawSelect) (start end : ℕ) → IsPlacedSelect tokens s start end → (after_keyword KOpen (kinds tokens) ≡ None) × ((behind : List TokenKind) × (after_keyword KSelect (kinds tokens) ≡ Some behind))
 placed_select_first tokens s _ _ (placed text rest is_whole is_select is_end first_is last_is) = select_first (kinds tokens) s (kinds rest) is_select

@@ -18,13 +18,13 @@ use Rattle.hippo_lexer.specs.declared.kinds.Token.{Token}
 use Rattle.hippo_lexer.specs.declared.kinds.TokenKind.TheVariants.{Keyword, Number}
 use Rattle.hippo_spj_reader.specs.Promises.{◌>>=◌, either}
 use Rattle.hippo_spj_reader.specs.ConditionFinder.{begins_with_name}
-use Rattle.hippo_spj_reader.specs.Front.{Kinds, Finds, kinds, after_keyword, after_symbol, after_word, leading_name, leading_literal}
+use Rattle.hippo_spj_reader.specs.Front.{Kinds, Finder, kinds, after_keyword, after_symbol, after_word, leading_name, leading_literal}
 use Rattle.hippo_spj_reader.specs.ListFinder.{leading_list}
 use Rattle.hippo_spj_reader.specs.SelectFinder.{leading_select}
 use Rattle.hippo_audit_reader.specs.AuditFinder.{leading_audit}
 use Rattle.hippo_stmt_reader.specs.declared.policies.Disclosure.{Disclosure}
 use Rattle.hippo_stmt_reader.specs.declared.policies.Grant.{Grant}
-use Rattle.hippo_stmt_reader.specs.StatementGrammar.{columns_of, values_of}
+use Rattle.hippo_stmt_reader.specs.StatementGrammar.{assigned_columns, assigned_values}
 
 abbrev pub nothing_left : Kinds → Option (Unit {0})
 nothing_left [] = Some tt
@@ -43,7 +43,7 @@ abbrev pub of_part : {A : Type 0} → (A → Stmt) → Option (A × Kinds) → O
 of_part statement part = part >>= λ read. with_end (statement read.0) read.1
 
 -- one of two keywords, each with what it says
-abbrev pub one_of : {A : Type 0} → words.Keyword → A → words.Keyword → A → Finds A
+abbrev pub one_of : {A : Type 0} → words.Keyword → A → words.Keyword → A → Finder A
 one_of first a second b tokens =
     either (after_keyword first tokens) (λ rest. Some (a, rest))
     (after_keyword second tokens >>= λ rest. Some (b, rest))
@@ -54,11 +54,11 @@ column_kind_of KText = Some kind.Text
 column_kind_of KDate = Some kind.Date
 column_kind_of keyword = None
 
-abbrev pub leading_column_kind : Finds ColumnKind
+abbrev pub leading_column_kind : Finder ColumnKind
 leading_column_kind (Keyword keyword ∷ rest) = column_kind_of keyword >>= λ k. Some (k, rest)
 leading_column_kind tokens = None
 
-unfoldable pub leading_column_def : Finds Column
+unfoldable pub leading_column_def : Finder Column
 leading_column_def tokens = do
   name ← leading_name tokens
   k ← leading_column_kind name.1
@@ -69,30 +69,32 @@ leading_column_def tokens = do
 
 -- behind a comma that a further column follows
 abbrev pub after_column : Kinds → Option (Kinds)
-after_column tokens = after_symbol Comma tokens >>= λ behind. if begins_with_name behind then Some behind else None
+after_column tokens =
+    after_symbol Comma tokens >>= λ behind. if begins_with_name behind then Some behind else None
 
 -- "(" c {"," c} ")"
-unfoldable pub leading_names : Finds (List Name)
+unfoldable pub leading_names : Finder (List Name)
 leading_names tokens = do
   inside ← after_symbol LeftParen tokens
   names ← leading_list leading_name (after_symbol Comma) inside
   rest ← after_symbol RightParen names.1
   Some (names.0, rest)
 
-unfoldable pub leading_subject : Finds (Option Name)
+unfoldable pub leading_subject : Finder (Option Name)
 leading_subject tokens =
     either (after_symbol Comma tokens) (λ behind. do
       named ← after_keyword KSubject behind
       c ← leading_name named
       Some (Some c.0, c.1)) (Some (None, tokens))
 
-unfoldable pub leading_item : Finds (Option Name)
-leading_item tokens =
-    either (after_keyword KWith tokens) (λ behind. leading_name behind >>= λ i. Some (Some i.0, i.1))
+unfoldable pub leading_with_item : Finder (Option Name)
+leading_with_item tokens =
+    either (after_keyword KWith tokens) (λ behind. leading_name behind >>=
+    λ i. Some (Some i.0, i.1))
     (Some (None, tokens))
 
 -- the number that stands first
-abbrev pub leading_number : Finds ℤ
+abbrev pub leading_number : Finder ℤ
 leading_number (Number n ∷ rest) = Some (n, rest)
 leading_number tokens = None
 
@@ -101,7 +103,7 @@ abbrev pub days_of : ℤ → Option ℕ
 days_of (pos days) = if nat_lt 0 days && nat_le days retention_limit then Some days else None
 days_of number = None
 
-unfoldable pub leading_retention : Finds (Option ℕ)
+unfoldable pub leading_retention : Finder (Option ℕ)
 leading_retention tokens =
     either (after_word (codes "retain") tokens) (λ behind. do
       number ← leading_number behind
@@ -109,7 +111,7 @@ leading_retention tokens =
       rest ← after_word (codes "days") number.1
       Some (Some days, rest)) (Some (None, tokens))
 
-unfoldable pub leading_assignment : Finds (Name × Value)
+unfoldable pub leading_assignment : Finder (Name × Value)
 leading_assignment tokens = do
   c ← leading_name tokens
   behind ← after_symbol Equal c.1
@@ -139,7 +141,7 @@ unfoldable pub create_recipient_of : Kinds → Option Stmt
 create_recipient_of tokens = of_part stmt.CreateRecipient (leading_name tokens)
 
 -- IN | OUT
-abbrev pub leading_item_kind : Finds ItemKind
+abbrev pub leading_item_kind : Finder ItemKind
 leading_item_kind tokens = one_of KIn OptIn KOut OptOut tokens
 
 -- behind CREATE ITEM
@@ -159,7 +161,7 @@ create_of tokens =
     (after_keyword KItem tokens >>= create_item_of)))
 
 -- u FOR p "," r
-unfoldable pub leading_grant : Finds Grant
+unfoldable pub leading_grant : Finder Grant
 leading_grant tokens = do
   user ← leading_name tokens
   a ← after_keyword KFor user.1
@@ -181,7 +183,7 @@ deauthorize_of tokens = do
   with_end (stmt.Deauthorize grant.0.user grant.0.purpose grant.0.recipient) grant.1
 
 -- p TO r ON t "(" c {"," c} ")"
-unfoldable pub leading_disclosure : Finds Disclosure
+unfoldable pub leading_disclosure : Finder Disclosure
 leading_disclosure tokens = do
   purpose ← leading_name tokens
   a ← after_keyword KTo purpose.1
@@ -189,15 +191,24 @@ leading_disclosure tokens = do
   b ← after_keyword KOn recipient.1
   table ← leading_name b
   columns ← leading_names table.1
-  Some (record { purpose = purpose.0; recipient = recipient.0; table = table.0; columns = columns.0 }, columns.1)
+  Some (
+    record {
+      purpose = purpose.0;
+      recipient = recipient.0;
+      table = table.0;
+      columns = columns.0;
+    },
+    columns.1,
+  )
 
 -- behind ALLOW
 unfoldable pub allow_of : Kinds → Option Stmt
 allow_of tokens = do
   rule ← leading_disclosure tokens
-  item ← leading_item rule.1
+  item ← leading_with_item rule.1
   days ← leading_retention item.1
-  with_end (stmt.Allow rule.0.purpose rule.0.recipient rule.0.table rule.0.columns item.0 days.0) days.1
+  with_end (stmt.Allow rule.0.purpose rule.0.recipient rule.0.table rule.0.columns item.0 days.0)
+      days.1
 
 -- behind REVOKE
 unfoldable pub revoke_of : Kinds → Option Stmt
@@ -206,7 +217,7 @@ revoke_of tokens = do
   with_end (stmt.Revoke rule.0.purpose rule.0.recipient rule.0.table rule.0.columns) rule.1
 
 -- YES | NO
-abbrev pub leading_yes_or_no : Finds Bool
+abbrev pub leading_yes_or_no : Finder Bool
 leading_yes_or_no tokens = one_of KYes true KNo false tokens
 
 -- behind CHOICE
@@ -238,7 +249,9 @@ update_of tokens = do
   settings ← leading_list leading_assignment (after_symbol Comma) a
   b ← after_keyword KWhere settings.1
   keys ← leading_list leading_assignment (after_keyword KAnd) b
-  with_end (stmt.Update table.0 (columns_of settings.0) (values_of settings.0) (columns_of keys.0) (values_of keys.0))
+  with_end (stmt.Update table.0 (assigned_columns settings.0) (assigned_values settings.0)
+      (assigned_columns keys.0)
+      (assigned_values keys.0))
       keys.1
 
 -- behind DELETE
@@ -248,18 +261,19 @@ delete_of tokens = do
   table ← leading_name a
   b ← after_keyword KWhere table.1
   keys ← leading_list leading_assignment (after_keyword KAnd) b
-  with_end (stmt.Delete table.0 (columns_of keys.0) (values_of keys.0)) keys.1
+  with_end (stmt.Delete table.0 (assigned_columns keys.0) (assigned_values keys.0)) keys.1
 
 -- behind EXPLAIN
 unfoldable pub explain_of : Kinds → Option Stmt
 explain_of tokens = of_part stmt.Explain (leading_number tokens)
 
-unfoldable pub audit_of : Kinds → Option Stmt
-audit_of tokens = of_part stmt.Audit (leading_audit tokens)
+unfoldable pub audit_statement_of : Kinds → Option Stmt
+audit_statement_of tokens = of_part stmt.Audit (leading_audit tokens)
 
 -- behind BEGIN
 unfoldable pub begin_audit_of : Kinds → Option Stmt
-begin_audit_of tokens = after_keyword KAudit tokens >>= λ behind. of_part stmt.BeginAudit (leading_audit behind)
+begin_audit_of tokens =
+    after_keyword KAudit tokens >>= λ behind. of_part stmt.BeginAudit (leading_audit behind)
 
 -- behind WATCH
 unfoldable pub watch_of : Kinds → Option Stmt
@@ -286,7 +300,7 @@ console_by_keyword tokens = None
 
 unfoldable pub console_of : Kinds → Option Stmt
 console_of tokens =
-    either (after_keyword KDuring tokens) (λ _. audit_of tokens)
+    either (after_keyword KDuring tokens) (λ _. audit_statement_of tokens)
     (either (after_word (codes "watch") tokens) watch_of (console_by_keyword tokens))
 
 -- a select up to the end, with the places where its text begins and ends

@@ -1,4 +1,5 @@
--- The grammar of statements. A relation says that the tokens begin with such a part, how it reads, and what follows it.
+-- The grammar of statements. A relation says that the tokens begin with such a part, how it reads,
+-- and what follows it.
 use Rattle.std.specs.Prelude.{◌≡◌, ℕ, ◌<◌, ◌≤◌, ℤ, pos, ◌-◌, true, false, List, [], ◌∷◌, ◌++◌, length, map, Option, Some, None, Ok, Err, slice_get, codes}
 use Rattle.hippo_values.specs.declared.names.Name.{Name}
 use Rattle.hippo_values.specs.Limits.{retention_limit}
@@ -33,9 +34,12 @@ pub data IsColumnKind : words.Keyword → ColumnKind → Type 0 where
 
 -- coldef = c (INTEGER | TEXT | DATE) [NOT NULL]
 pub data IsColumnDef : Kinds → Column → Kinds → Type 0 where
-  nullable : {c : Name} {k : ColumnKind} {word : words.Keyword} {rest : Kinds} → IsColumnKind word k →
-      IsColumnDef (Word c ∷ Keyword word ∷ rest) (record { name = c; kind = k; not_null = false }) rest
-  not_null : {c : Name} {k : ColumnKind} {word : words.Keyword} {rest : Kinds} → IsColumnKind word k →
+  nullable : {c : Name} {k : ColumnKind} {word : words.Keyword} {rest : Kinds}
+      → IsColumnKind word k →
+      IsColumnDef (Word c ∷ Keyword word ∷ rest) (record { name = c; kind = k; not_null = false })
+      rest
+  not_null : {c : Name} {k : ColumnKind} {word : words.Keyword} {rest : Kinds}
+      → IsColumnKind word k →
       IsColumnDef (Word c ∷ Keyword word ∷ Keyword KNot ∷ Keyword KNull ∷ rest)
       (record { name = c; kind = k; not_null = true }) rest
 
@@ -54,7 +58,8 @@ pub data IsWith : Kinds → Option Name → Kinds → Type 0 where
 pub data IsRetention : Kinds → Option ℕ → Kinds → Type 0 where
   no_retention : {rest : Kinds} → IsRetention rest None rest
   retain : {days : ℕ} {rest : Kinds} → 0 < days → days ≤ retention_limit →
-      IsRetention (Word (codes "retain") ∷ Number (pos days) ∷ Word (codes "days") ∷ rest) (Some days) rest
+      IsRetention (Word (codes "retain") ∷ Number (pos days) ∷ Word (codes "days") ∷ rest)
+      (Some days) rest
 
 -- c "=" literal
 pub data IsAssignment : Kinds → Name × Value → Kinds → Type 0 where
@@ -73,11 +78,11 @@ AreSettings tokens settings rest = IsListOf IsAssignment (Symbol Comma) tokens s
 abbrev pub AreNames : Kinds → List Name → Kinds → Type 0
 AreNames tokens names rest = IsListOf IsName (Symbol Comma) tokens names rest
 
-abbrev pub columns_of : List (Name × Value) → List Name
-columns_of assignments = map (λ (assignment : Name × Value). assignment.0) assignments
+abbrev pub assigned_columns : List (Name × Value) → List Name
+assigned_columns assignments = map (λ (assignment : Name × Value). assignment.0) assignments
 
-abbrev pub values_of : List (Name × Value) → List Value
-values_of assignments = map (λ (assignment : Name × Value). assignment.1) assignments
+abbrev pub assigned_values : List (Name × Value) → List Value
+assigned_values assignments = map (λ (assignment : Name × Value). assignment.1) assignments
 
 -- the statements of the console
 pub data IsConsole : Kinds → Stmt → Kinds → Type 0 where
@@ -92,7 +97,8 @@ pub data IsConsole : Kinds → Stmt → Kinds → Type 0 where
       (stmt.CreateTable table columns key subject) rest
   -- CREATE PURPOSE p | CREATE RECIPIENT r
   create_purpose : {purpose : Name} {rest : Kinds} →
-      IsConsole (Keyword KCreate ∷ Keyword KPurpose ∷ Word purpose ∷ rest) (stmt.CreatePurpose purpose) rest
+      IsConsole (Keyword KCreate ∷ Keyword KPurpose ∷ Word purpose ∷ rest)
+      (stmt.CreatePurpose purpose) rest
   create_recipient : {recipient : Name} {rest : Kinds} →
       IsConsole (Keyword KCreate ∷ Keyword KRecipient ∷ Word recipient ∷ rest)
       (stmt.CreateRecipient recipient) rest
@@ -105,14 +111,16 @@ pub data IsConsole : Kinds → Stmt → Kinds → Type 0 where
       (stmt.CreateItem item OptOut) rest
   -- AUTHORIZE u FOR p "," r | DEAUTHORIZE u FOR p "," r
   authorize : {user purpose recipient : Name} {rest : Kinds} →
-      IsConsole (Keyword KAuthorize ∷ Word user ∷ Keyword KFor ∷ Word purpose ∷ Symbol Comma ∷ Word recipient ∷ rest)
+      IsConsole (Keyword KAuthorize ∷ Word user ∷ Keyword KFor ∷ Word purpose ∷ Symbol Comma
+      ∷ Word recipient ∷ rest)
       (stmt.Authorize user purpose recipient) rest
   deauthorize : {user purpose recipient : Name} {rest : Kinds} →
       IsConsole (Keyword KDeauthorize ∷ Word user ∷ Keyword KFor ∷ Word purpose
       ∷ Symbol Comma ∷ Word recipient ∷ rest)
       (stmt.Deauthorize user purpose recipient) rest
   -- ALLOW p TO r ON t "(" c {"," c} ")" [WITH i] [RETAIN n DAYS]
-  allow : {purpose recipient table : Name} {columns : List Name} {item : Option Name} {days : Option ℕ}
+  allow : {purpose recipient table : Name} {columns : List Name} {item : Option Name}
+      {days : Option ℕ}
       {named behind kept rest : Kinds} →
       AreNames named columns (Symbol RightParen ∷ behind) →
       IsWith behind item kept →
@@ -128,44 +136,54 @@ pub data IsConsole : Kinds → Stmt → Kinds → Type 0 where
       (stmt.Revoke purpose recipient table columns) rest
   -- CHOICE number ON i IS (YES | NO)
   choice_yes : {n : ℤ} {item : Name} {rest : Kinds} →
-      IsConsole (Keyword KChoice ∷ Number n ∷ Keyword KOn ∷ Word item ∷ Keyword KIs ∷ Keyword KYes ∷ rest)
+      IsConsole (Keyword KChoice ∷ Number n ∷ Keyword KOn ∷ Word item ∷ Keyword KIs ∷ Keyword KYes
+      ∷ rest)
       (stmt.Choice n item true) rest
   choice_no : {n : ℤ} {item : Name} {rest : Kinds} →
-      IsConsole (Keyword KChoice ∷ Number n ∷ Keyword KOn ∷ Word item ∷ Keyword KIs ∷ Keyword KNo ∷ rest)
+      IsConsole (Keyword KChoice ∷ Number n ∷ Keyword KOn ∷ Word item ∷ Keyword KIs ∷ Keyword KNo
+      ∷ rest)
       (stmt.Choice n item false) rest
   -- INSERT INTO t VALUES "(" literal {"," literal} ")"
   insert : {table : Name} {values : List Value} {tokens rest : Kinds} →
       IsListOf IsLiteral (Symbol Comma) tokens values (Symbol RightParen ∷ rest) →
-      IsConsole (Keyword KInsert ∷ Keyword KInto ∷ Word table ∷ Keyword KValues ∷ Symbol LeftParen ∷ tokens)
+      IsConsole (Keyword KInsert ∷ Keyword KInto ∷ Word table ∷ Keyword KValues ∷ Symbol LeftParen
+      ∷ tokens)
       (stmt.Insert table values) rest
   -- UPDATE t SET c "=" literal {"," c "=" literal} WHERE keys
-  update : {s : Stmt} {table : Name} {settings keys : List (Name × Value)} {tokens behind rest : Kinds} →
+  update : {s : Stmt} {table : Name} {settings keys : List (Name × Value)}
+      {tokens behind rest : Kinds} →
       AreSettings tokens settings (Keyword KWhere ∷ behind) →
       AreKeys behind keys rest →
-      s ≡ stmt.Update table (columns_of settings) (values_of settings) (columns_of keys) (values_of keys) →
+      s ≡ stmt.Update table (assigned_columns settings) (assigned_values settings)
+      (assigned_columns keys)
+      (assigned_values keys) →
       IsConsole (Keyword KUpdate ∷ Word table ∷ Keyword KSet ∷ tokens) s rest
   -- DELETE FROM t WHERE keys
   delete : {s : Stmt} {table : Name} {keys : List (Name × Value)} {tokens rest : Kinds} →
       AreKeys tokens keys rest →
-      s ≡ stmt.Delete table (columns_of keys) (values_of keys) →
+      s ≡ stmt.Delete table (assigned_columns keys) (assigned_values keys) →
       IsConsole (Keyword KDelete ∷ Keyword KFrom ∷ Word table ∷ Keyword KWhere ∷ tokens) s rest
   -- EXPLAIN number
-  explain : {n : ℤ} {rest : Kinds} → IsConsole (Keyword KExplain ∷ Number n ∷ rest) (stmt.Explain n) rest
+  console_explain : {n : ℤ} {rest : Kinds}
+      → IsConsole (Keyword KExplain ∷ Number n ∷ rest) (stmt.Explain n) rest
   -- audit | BEGIN AUDIT audit | WATCH audit
-  audit : {a : RawAudit} {tokens rest : Kinds} → IsAudit tokens a rest → IsConsole tokens (stmt.Audit a) rest
-  begin_audit : {a : RawAudit} {tokens rest : Kinds} → IsAudit tokens a rest →
+  console_audit : {a : RawAudit} {tokens rest : Kinds} → IsAudit tokens a rest
+      → IsConsole tokens (stmt.Audit a) rest
+  console_begin_audit : {a : RawAudit} {tokens rest : Kinds} → IsAudit tokens a rest →
       IsConsole (Keyword KBegin ∷ Keyword KAudit ∷ tokens) (stmt.BeginAudit a) rest
-  watch : {a : RawAudit} {tokens rest : Kinds} → IsAudit tokens a rest →
+  console_watch : {a : RawAudit} {tokens rest : Kinds} → IsAudit tokens a rest →
       IsConsole (Word (codes "watch") ∷ tokens) (stmt.Watch a) rest
 
 -- [";"], and then nothing
 pub data IsEnd : Kinds → Type 0 where
-  nothing : IsEnd []
+  no_semicolon : IsEnd []
   semicolon : IsEnd (Symbol Semicolon ∷ [])
 
--- a select up to the end; its text goes from the first byte of its first token to the last of its last
+-- a select up to the end; its text goes from the first byte of its first token to the last of its
+-- last
 pub data IsPlacedSelect : List Token → RawSelect → ℕ → ℕ → Type 0 where
-  placed : {select : RawSelect} {tokens : List Token} {first last : Token} (text rest : List Token) →
+  placed : {select : RawSelect} {tokens : List Token} {first last : Token} (text rest : List Token)
+      →
       tokens ≡ text ++ rest →
       IsSelect (kinds tokens) select (kinds rest) →
       IsEnd (kinds rest) →
@@ -186,10 +204,11 @@ pub data IsStatement : List Token → Stmt → Type 0 where
       first.kind ≡ Word (codes "extract") → IsPlacedSelect tokens select start end →
       IsStatement (first ∷ tokens) (stmt.Extract select start end)
 
--- what the words are refused for; else BadSyntax where the tokens are no statement; want of memory at any time
--- where the words are fit to be read
+-- what the words are refused for; else BadSyntax where the tokens are no statement; want of memory
+-- at any time where the words are fit to be read
 abbrev pub IsRefusal : List Token → SyntaxFault → Type 0
 IsRefusal tokens fault.TooDeep = words_check tokens ≡ Err fault.TooDeep
 IsRefusal tokens (fault.Unsupported place) = words_check tokens ≡ Err (fault.Unsupported place)
-IsRefusal tokens fault.BadSyntax = (words_check tokens ≡ Ok tt) × ((s : Stmt) → ¬ IsStatement tokens s)
+IsRefusal tokens fault.BadSyntax =
+    (words_check tokens ≡ Ok tt) × ((s : Stmt) → ¬ IsStatement tokens s)
 IsRefusal tokens fault.Memory = words_check tokens ≡ Ok tt

@@ -2,7 +2,7 @@
 ghost use Rattle.std.specs.Prelude.{◌≡◌, ◌<◌, length, map, IfOk};
 ghost use Rattle.hippo_spj_reader.specs.Promises.{Gives, Reads};
 ghost use Rattle.hippo_spj_reader.specs.Front.{kinds};
-ghost use Rattle.hippo_stmt_reader.specs.StatementGrammar.{columns_of, values_of};
+ghost use Rattle.hippo_stmt_reader.specs.StatementGrammar.{assigned_columns, assigned_values};
 ghost use Rattle.hippo_stmt_reader.specs.StatementFinder.{leading_assignment, insert_of, update_of, delete_of};
 
 use crate::parts::with_end;
@@ -74,8 +74,8 @@ fn columns_and_values(
     alloc: Global,
     assignments: Sequence<Assignment>,
 ) -> Result<(Names, Cells), Memory>
-    ensures columns { IfOk result (λ x. x.0 ≡ columns_of assignments) }
-    ensures values { IfOk result (λ x. x.1 ≡ values_of assignments) }
+    ensures columns { IfOk result (λ x. x.0 ≡ assigned_columns assignments) }
+    ensures values { IfOk result (λ x. x.1 ≡ assigned_values assignments) }
 {
     let mut columns = Sequence::new(alloc);
     let mut values = Sequence::new(alloc);

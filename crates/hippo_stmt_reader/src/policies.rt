@@ -2,7 +2,7 @@
 ghost use Rattle.std.specs.Prelude.{◌≡◌, ◌<◌, ◌≤◌, length, IfOk};
 ghost use Rattle.hippo_spj_reader.specs.Promises.{Gives, Reads};
 ghost use Rattle.hippo_spj_reader.specs.Front.{kinds};
-ghost use Rattle.hippo_stmt_reader.specs.StatementFinder.{leading_grant, authorize_of, deauthorize_of, leading_disclosure, leading_item, days_of, leading_retention, allow_of, revoke_of, leading_yes_or_no, choice_of};
+ghost use Rattle.hippo_stmt_reader.specs.StatementFinder.{leading_grant, authorize_of, deauthorize_of, leading_disclosure, leading_with_item, days_of, leading_retention, allow_of, revoke_of, leading_yes_or_no, choice_of};
 
 use crate::parts::{names, number, with_end};
 use hippo_lexer::{Keyword, Symbol, SyntaxFault, Token};
@@ -102,9 +102,9 @@ fn disclosed(alloc: Global, tokens: &[Token]) -> Result<(Disclosure, &[Token]), 
     ))
 }
 
-#[tactic(auto, unfolding(crate::specs::StatementFinder::leading_item))]
+#[tactic(auto, unfolding(crate::specs::StatementFinder::leading_with_item))]
 fn with_item(alloc: Global, tokens: &[Token]) -> Result<(Option<Name>, &[Token]), SyntaxFault>
-    ensures { Reads leading_item tokens.now result }
+    ensures { Reads leading_with_item tokens.now result }
 {
     let Some(behind) = after_keyword(tokens, Keyword::KWith) else {
         return Ok((None, tokens));

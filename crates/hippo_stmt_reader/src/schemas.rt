@@ -25,7 +25,8 @@ fn column_kind_of(keyword: Keyword) -> Option<ColumnKind>
 }
 
 fn column_kind(tokens: &[Token]) -> Option<(ColumnKind, &[Token])>
-    ensures found { option_map (λ x. (x.0, kinds x.1.now)) result ≡ leading_column_kind (kinds tokens.now) }
+    ensures found { option_map (λ x. (x.0, kinds x.1.now)) result
+        ≡ leading_column_kind (kinds tokens.now) }
     ensures shorter { IfSome result (λ x. length x.1.now < length tokens.now) }
 {
     match split(tokens)? {

@@ -5,7 +5,7 @@ ghost use Rattle.hippo_lexer.specs.Words.{words_check};
 ghost use Rattle.hippo_spj_reader.specs.Promises.{Gives};
 ghost use Rattle.hippo_spj_reader.specs.Front.{kinds, after_keyword, after_word};
 ghost use Rattle.hippo_stmt_reader.specs.StatementGrammar.{IsStatement, IsRefusal};
-ghost use Rattle.hippo_stmt_reader.specs.StatementFinder.{console_behind, console_by_keyword, console_of, audit_of, begin_audit_of, watch_of, explain_of, placed_select_of, open_of, extract_of, select_of, statement_of};
+ghost use Rattle.hippo_stmt_reader.specs.StatementFinder.{console_behind, console_by_keyword, console_of, audit_statement_of, begin_audit_of, watch_of, explain_of, placed_select_of, open_of, extract_of, select_of, statement_of};
 
 use crate::changes::{delete, insert, update};
 use crate::parts::{number, with_end};
@@ -17,9 +17,9 @@ use hippo_model::{RawSelect, Stmt};
 use hippo_spj_reader::{after_keyword, after_word, expect_keyword, select, split};
 use std::alloc::Global;
 
-#[tactic(auto, unfolding(crate::specs::StatementFinder::audit_of))]
+#[tactic(auto, unfolding(crate::specs::StatementFinder::audit_statement_of))]
 fn audit_statement(alloc: Global, tokens: &[Token]) -> Result<Stmt, SyntaxFault>
-    ensures { Gives (λ s. s) result (audit_of (kinds tokens.now)) }
+    ensures { Gives (λ s. s) result (audit_statement_of (kinds tokens.now)) }
 {
     let (audit, rest) = audit(alloc, tokens)?;
     with_end(Stmt::Audit(audit), rest)
@@ -175,8 +175,9 @@ fn statement(alloc: Global, tokens: &[Token]) -> Result<Stmt, SyntaxFault>
     console(alloc, tokens)
 }
 
-/// The statement that the tokens are, with or without a `;` at its end. TooDeep and Unsupported come as check_words
-/// says, BadSyntax exactly where that finds nothing and the tokens are no statement, but for want of memory.
+/// The statement that the tokens are, with or without a `;` at its end. TooDeep and Unsupported
+/// come as check_words says, BadSyntax exactly where that finds nothing and the tokens are no
+/// statement, but for want of memory.
 pub fn read_statement(alloc: Global, t: &Tokens) -> Result<Stmt, SyntaxFault>
     ensures found { IfOk result (IsStatement t.now) }
     ensures only { IfOk result (λ stmt. (other : Stmt) → IsStatement t.now other → other ≡ stmt) }

@@ -13,7 +13,7 @@ use Rattle.hippo_model.specs.RowSets.{find_row}
 use Rattle.hippo_model.proofs.RowsAfter.{row_with-table_rows, key_in-born_row_at}
 use Rattle.hippo_model.proofs.KeptRows.{slice_get-find_row}
 use Rattle.hippo_model.proofs.ChangesOfRows.{is_live-found}
-use Rattle.hippo_tables.specs.KeptTables.{KeptTable, number_of, table_at}
+use Rattle.hippo_tables.specs.KeptTables.{KeptTable, change_number, table_at}
 use Rattle.hippo_tables.specs.Standing.{kept_table}
 use Rattle.hippo_tables.specs.Finished.{live_row, live_number}
 use Rattle.hippo_tables.proofs.HistoryLemmas.{none_from}
@@ -32,19 +32,19 @@ module _ (history : History) (table : Name) (key : Key) where
       ap (option_map (λ (kept : BornRow). kept.row)) (slice_get-find_row schema.key key (table_rows schema history) ∙ row_with-table_rows schema history key)
       ∙ row_alone (row_at schema history key) (λ row. record { row = row; born = born_at schema history key }) (λ row. refl)
 
-  number_at : (schema : Schema) → option_map (λ place. get_or (map (number_of schema history) (table_rows schema history)) place 0) (find_row schema.key key (table_rows schema history)) ≡ option_map (λ (row : Row). unwrap_or (last_at schema history key) 0) (row_at schema history key)
+  number_at : (schema : Schema) → option_map (λ place. get_or (map (change_number schema history) (table_rows schema history)) place 0) (find_row schema.key key (table_rows schema history)) ≡ option_map (λ (row : Row). unwrap_or (last_at schema history key) 0) (row_at schema history key)
   number_at schema =
       let rows : List BornRow = table_rows schema history in
       let live = is_live-found schema history key in
-      elim (find_row schema.key key rows) as (λ found. find_row schema.key key rows ≡ found → option_map (λ place. get_or (map (number_of schema history) rows) place 0) found ≡ option_map (λ (row : Row). unwrap_or (last_at schema history key) 0) (row_at schema history key)) [
+      elim (find_row schema.key key rows) as (λ found. find_row schema.key key rows ≡ found → option_map (λ place. get_or (map (change_number schema history) rows) place 0) found ≡ option_map (λ (row : Row). unwrap_or (last_at schema history key) 0) (row_at schema history key)) [
         | None ↦ λ e. sym (ap (option_map (λ (row : Row). unwrap_or (last_at schema history key) 0)) (none_from (row_at schema history key) (sym live ∙ ap is_some e)))
         | Some place ↦ λ e.
             let old = old_row schema history key (sym live ∙ ap is_some e) in
             let at : slice_get rows place ≡ Some old.0 = row_found schema history key place e ∙ old.1 in
             let within = slice_get_within rows place old.0 at in
-            let number : get_or (map (number_of schema history) rows) place 0 ≡ unwrap_or (last_at schema history key) 0 =
-            get_or-map (number_of schema history) rows place old.0 0 within
-            ∙ ap (number_of schema history) (get_or_from_slice_get rows place old.0 old.0 at)
+            let number : get_or (map (change_number schema history) rows) place 0 ≡ unwrap_or (last_at schema history key) 0 =
+            get_or-map (change_number schema history) rows place old.0 0 within
+            ∙ ap (change_number schema history) (get_or_from_slice_get rows place old.0 old.0 at)
             ∙ ap (λ key. unwrap_or (last_at schema history key) 0) (key_in-born_row_at schema history key old.0 old.1) in
             ap Some number ∙ sym (some_row (row_at schema history key) (sym live ∙ ap is_some e) (unwrap_or (last_at schema history key) 0))
       ] refl

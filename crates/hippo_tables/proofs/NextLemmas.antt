@@ -11,13 +11,13 @@ use Rattle.hippo_model.specs.declared.entry.Entry.{Entry}
 use Rattle.hippo_model.specs.declared.entry.Act.{Act}
 use Rattle.hippo_model.specs.declared.entry.Act.TheVariants.{Create, Insert, Update, Delete}
 use Rattle.hippo_model.specs.Terms.{History, Key, Meaning}
-use Rattle.hippo_model.specs.Histories.{created, schema_at}
+use Rattle.hippo_model.specs.Histories.{schema_created, schema_at}
 use Rattle.hippo_model.specs.Rows.{key_of, key_named, with_key, keys_named}
 use Rattle.hippo_model.specs.Keepable.{is_keepable}
 use Rattle.hippo_model.specs.Versions.{version_fits}
 use Rattle.hippo_model.specs.Validity.{is_acceptable, keeps_order, may_follow, damage_after, damage, is_valid}
 use Rattle.hippo_model.proofs.LastWords.{last_word-append}
-use Rattle.hippo_tables.specs.Standing.{IsNext}
+use Rattle.hippo_tables.specs.Standing.{IsNextAct}
 use Rattle.hippo_tables.proofs.StandingLemmas.{same_name, create_parts}
 
 -- no row of a table is changed before the table is made
@@ -55,7 +55,7 @@ keys_named-other schema (first ∷ later) entry names = ap (with_key (key_named 
 
 MadeFirst-append : (meaning : Meaning) (history : History) (entry : Entry) → MadeFirst history → is_acceptable meaning history entry.act ≡ true → MadeFirst (history ++ entry ∷ [])
 MadeFirst-append meaning history entry made fits schema unmade =
-    let parts = none_of_or (created schema.name entry.act) (schema_at history schema.name) (sym (last_word-append (λ entry. created schema.name entry.act) history entry) ∙ unmade) in
+    let parts = none_of_or (schema_created schema.name entry.act) (schema_at history schema.name) (sym (last_word-append (λ entry. schema_created schema.name entry.act) history entry) ∙ unmade) in
     keys_named-other schema history entry (names_none meaning history schema entry.act parts.1 fits) ∙ made schema parts.1
 
 acts_fit : (meaning : Meaning) (history : History) (entry : Entry) → may_follow meaning history entry ≡ true → is_acceptable meaning history entry.act ≡ true
@@ -76,9 +76,9 @@ pub MadeFirst-valid : (meaning : Meaning) (history : History) → is_valid meani
 MadeFirst-valid meaning history valid = MadeFirst-after meaning [] history (λ schema unmade. refl) (none_found (damage meaning history) valid)
 
 -- what is asked of an act that follows a history holds where the history is valid and the act may follow it
-pub IsNext-valid : (meaning : Meaning) (history : History) (act : Act) → is_valid meaning history ≡ true → is_acceptable meaning history act ≡ true → IsNext history act
-IsNext-valid meaning history (Create schema) valid fits = (fits, MadeFirst-valid meaning history valid schema (none_found (schema_at history schema.name) (create_parts history schema fits)))
-IsNext-valid meaning history (Insert table row) valid fits = fits
-IsNext-valid meaning history (Update table row) valid fits = fits
-IsNext-valid meaning history (Delete table key) valid fits = fits
-IsNext-valid meaning history act valid fits = tt
+pub IsNextAct-valid : (meaning : Meaning) (history : History) (act : Act) → is_valid meaning history ≡ true → is_acceptable meaning history act ≡ true → IsNextAct history act
+IsNextAct-valid meaning history (Create schema) valid fits = (fits, MadeFirst-valid meaning history valid schema (none_found (schema_at history schema.name) (create_parts history schema fits)))
+IsNextAct-valid meaning history (Insert table row) valid fits = fits
+IsNextAct-valid meaning history (Update table row) valid fits = fits
+IsNextAct-valid meaning history (Delete table key) valid fits = fits
+IsNextAct-valid meaning history act valid fits = tt

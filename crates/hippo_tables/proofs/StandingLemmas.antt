@@ -13,7 +13,7 @@ use Rattle.hippo_model.specs.declared.entry.Entry.{Entry}
 use Rattle.hippo_model.specs.declared.entry.Act.{Act}
 use Rattle.hippo_model.specs.declared.entry.Act.TheVariants.{Create, Insert, Update, Delete}
 use Rattle.hippo_model.specs.Terms.{History, Row, Key}
-use Rattle.hippo_model.specs.Histories.{created, schema_at}
+use Rattle.hippo_model.specs.Histories.{schema_created, schema_at}
 use Rattle.hippo_model.specs.Rows.{key_of, key_named, row_at, born_at, born_row_at, table_rows}
 use Rattle.hippo_model.specs.RowSets.{find_row}
 use Rattle.hippo_model.specs.Versions.{row_fits, key_fits, is_live, version_fits}
@@ -27,11 +27,11 @@ use Rattle.hippo_tables.specs.declared.tables.Change.{Change}
 use Rattle.hippo_tables.specs.declared.tables.Change.TheVariants.{Inserted, Updated}
 use Rattle.hippo_tables.specs.declared.tables.Tables.{Tables}
 use Rattle.hippo_tables.specs.declared.table.Before.{Before}
-use Rattle.hippo_tables.specs.KeptTables.{KeptTable, number_of, table_at, empty_table, grown, inserted, updated, deleted}
+use Rattle.hippo_tables.specs.KeptTables.{KeptTable, change_number, table_at, empty_table, grown_table, after_insert, after_update, after_delete}
 use Rattle.hippo_tables.specs.Before.{before_of, renewed_table}
-use Rattle.hippo_tables.specs.Standing.{kept_table, table_of, StandsFor, undone, Remembers, IsNext, is_silent, with_change, Makes, Inserts, Updates, Deletes}
-use Rattle.hippo_tables.proofs.KeptLemmas.{deleted-grown, updated-updated}
-use Rattle.hippo_tables.proofs.HistoryLemmas.{none_from, some_from, table_at-other, table_at-grown, table_at-updated, table_at-deleted}
+use Rattle.hippo_tables.specs.Standing.{kept_table, held_table, TablesStandFor, table_before, RemembersTables, IsNextAct, leaves_tables, with_change, Makes, InsertsIntoTable, Updates, Deletes}
+use Rattle.hippo_tables.proofs.KeptLemmas.{after_delete-grown_table, after_update-after_update}
+use Rattle.hippo_tables.proofs.HistoryLemmas.{none_from, some_from, table_at-other, table_at-grown_table, table_at-after_update, table_at-after_delete}
 
 pub same_name : (a b : Name) → bytes_eq a b ≡ true → a ≡ b
 same_name a b same = (bytes_eq-Decides a b).0 same
@@ -40,7 +40,7 @@ then_some_parts : {A : Type 0} (test : Bool) (x y : A) → then_some test x ≡ 
 then_some_parts true x y e = (refl, cc)
 then_some_parts false x y e = absurd cc
 
-created_named : (name : Name) (act : Act) (schema : Schema) → created name act ≡ Some schema → bytes_eq schema.name name ≡ true
+created_named : (name : Name) (act : Act) (schema : Schema) → schema_created name act ≡ Some schema → bytes_eq schema.name name ≡ true
 created_named name (Create made) schema is = let parts = then_some_parts (bytes_eq made.name name) made schema is in subst (λ (schema : Schema). bytes_eq schema.name name ≡ true) parts.1 parts.0
 created_named name act schema is = absurd cc
 
@@ -48,19 +48,19 @@ created_named name act schema is = absurd cc
 pub schema_at-named : (history : History) (name : Name) (schema : Schema) → schema_at history name ≡ Some schema → bytes_eq schema.name name ≡ true
 schema_at-named [] name schema at = absurd cc
 schema_at-named (entry ∷ later) name schema at =
-    elim (schema_at later name) as (λ found. schema_at later name ≡ found → option_or found (created name entry.act) ≡ Some schema → bytes_eq schema.name name ≡ true) [
+    elim (schema_at later name) as (λ found. schema_at later name ≡ found → option_or found (schema_created name entry.act) ≡ Some schema → bytes_eq schema.name name ≡ true) [
       | None ↦ λ e at. created_named name entry.act schema at
       | Some other ↦ λ e at. schema_at-named later name schema (e ∙ at)
     ] refl at
 
-schema_at-plain : (history : History) (entry : Entry) (name : Name) → created name entry.act ≡ None → schema_at (history ++ entry ∷ []) name ≡ schema_at history name
-schema_at-plain history entry name plain = last_word-append (λ entry. created name entry.act) history entry ∙ ap (λ word. option_or word (schema_at history name)) plain
+schema_at-plain : (history : History) (entry : Entry) (name : Name) → schema_created name entry.act ≡ None → schema_at (history ++ entry ∷ []) name ≡ schema_at history name
+schema_at-plain history entry name plain = last_word-append (λ entry. schema_created name entry.act) history entry ∙ ap (λ word. option_or word (schema_at history name)) plain
 
-silent_created : (act : Act) → is_silent act ≡ true → (name : Name) → created name act ≡ None
+silent_created : (act : Act) → leaves_tables act ≡ true → (name : Name) → schema_created name act ≡ None
 silent_created (Create schema) silent name = absurd (false≢true silent)
 silent_created act silent name = refl
 
-silent_named : (act : Act) → is_silent act ≡ true → (schema : Schema) → key_named schema act ≡ None
+silent_named : (act : Act) → leaves_tables act ≡ true → (schema : Schema) → key_named schema act ≡ None
 silent_named (Insert table row) silent schema = absurd (false≢true silent)
 silent_named (Update table row) silent schema = absurd (false≢true silent)
 silent_named (Delete table key) silent schema = absurd (false≢true silent)
@@ -68,7 +68,7 @@ silent_named act silent schema = refl
 
 module _ (history : History) (entry : Entry) where
   -- what is said of a table that is not changed
-  kept_table-other : (name : Name) → created name entry.act ≡ None → ((schema : Schema) → bytes_eq schema.name name ≡ true → key_named schema entry.act ≡ None) → kept_table (history ++ entry ∷ []) name ≡ kept_table history name
+  kept_table-other : (name : Name) → schema_created name entry.act ≡ None → ((schema : Schema) → bytes_eq schema.name name ≡ true → key_named schema entry.act ≡ None) → kept_table (history ++ entry ∷ []) name ≡ kept_table history name
   kept_table-other name plain names =
       ap (option_map (table_at (history ++ entry ∷ []))) (schema_at-plain history entry name plain)
       ∙ (elim (schema_at history name) as (λ found. schema_at history name ≡ found → option_map (table_at (history ++ entry ∷ [])) found ≡ option_map (table_at history) found) [
@@ -76,26 +76,26 @@ module _ (history : History) (entry : Entry) where
         | Some schema ↦ λ e. ap Some (table_at-other schema history entry (names schema (schema_at-named history name schema e)))
       ] refl)
 
-  pub stands-silent : (old new : Tables) → is_silent entry.act ≡ true → ((name : Name) → table_of new name ≡ table_of old name) → StandsFor old history → StandsFor new (history ++ entry ∷ [])
+  pub stands-silent : (old new : Tables) → leaves_tables entry.act ≡ true → ((name : Name) → held_table new name ≡ held_table old name) → TablesStandFor old history → TablesStandFor new (history ++ entry ∷ [])
   stands-silent old new silent same stands = record {
     kept = λ name. same name ∙ stands.kept name ∙ sym (kept_table-other name (silent_created entry.act silent name) (λ schema has. silent_named entry.act silent schema));
   }
 
   -- one table is changed
-  module _ (table : Name) (schema : Schema) (at : schema_at history table ≡ Some schema) (change : KeptTable → KeptTable) (becomes : table_at (history ++ entry ∷ []) schema ≡ change (table_at history schema)) (plain : (name : Name) → created name entry.act ≡ None) (others : (other : Schema) → bytes_eq table other.name ≡ false → key_named other entry.act ≡ None) (old new : Tables) (is : (other : Name) → table_of new other ≡ with_change table change (table_of old) other) (stands : StandsFor old history) where
+  module _ (table : Name) (schema : Schema) (at : schema_at history table ≡ Some schema) (change : KeptTable → KeptTable) (becomes : table_at (history ++ entry ∷ []) schema ≡ change (table_at history schema)) (plain : (name : Name) → schema_created name entry.act ≡ None) (others : (other : Schema) → bytes_eq table other.name ≡ false → key_named other entry.act ≡ None) (old new : Tables) (is : (other : Name) → held_table new other ≡ with_change table change (held_table old) other) (stands : TablesStandFor old history) where
     here : kept_table history table ≡ Some (table_at history schema)
     here = ap (option_map (table_at history)) at
 
-    is_here : (name : Name) → bytes_eq table name ≡ true → table_of new name ≡ Some (change (table_at history schema))
+    is_here : (name : Name) → bytes_eq table name ≡ true → held_table new name ≡ Some (change (table_at history schema))
     is_here name same =
         is name ∙ rw same (ap (option_map change) (stands.kept name ∙ ap (kept_table history) (sym (same_name table name same)) ∙ here))
 
-    is_there : (name : Name) → bytes_eq table name ≡ false → table_of new name ≡ kept_table history name
+    is_there : (name : Name) → bytes_eq table name ≡ false → held_table new name ≡ kept_table history name
     is_there name other = is name ∙ rw other (stands.kept name)
 
-    pub stands-changed : StandsFor new (history ++ entry ∷ [])
+    pub stands-changed : TablesStandFor new (history ++ entry ∷ [])
     stands-changed = record {
-      kept = λ name. elim (bytes_eq table name) as (λ same. bytes_eq table name ≡ same → table_of new name ≡ kept_table (history ++ entry ∷ []) name) [
+      kept = λ name. elim (bytes_eq table name) as (λ same. bytes_eq table name ≡ same → held_table new name ≡ kept_table (history ++ entry ∷ []) name) [
         | true ↦ λ e.
             let found : schema_at (history ++ entry ∷ []) name ≡ Some schema = schema_at-plain history entry name (plain name) ∙ ap (schema_at history) (sym (same_name table name e)) ∙ at in
             is_here name e ∙ ap Some (sym becomes) ∙ sym (ap (option_map (table_at (history ++ entry ∷ []))) found)
@@ -105,9 +105,9 @@ module _ (history : History) (entry : Entry) where
     }
 
     -- and changed back
-    pub changed_back : (back : KeptTable → KeptTable) → back (change (table_at history schema)) ≡ table_at history schema → (name : Name) → (if bytes_eq table name then option_map back (table_of new name) else table_of new name) ≡ kept_table history name
+    pub changed_back : (back : KeptTable → KeptTable) → back (change (table_at history schema)) ≡ table_at history schema → (name : Name) → (if bytes_eq table name then option_map back (held_table new name) else held_table new name) ≡ kept_table history name
     changed_back back again name =
-        elim (bytes_eq table name) as (λ same. bytes_eq table name ≡ same → (if same then option_map back (table_of new name) else table_of new name) ≡ kept_table history name) [
+        elim (bytes_eq table name) as (λ same. bytes_eq table name ≡ same → (if same then option_map back (held_table new name) else held_table new name) ≡ kept_table history name) [
           | true ↦ λ e. ap (option_map back) (is_here name e) ∙ ap Some again ∙ sym (ap (kept_table history) (sym (same_name table name e)) ∙ here)
           | false ↦ λ e. is_there name e
         ] refl
@@ -143,7 +143,7 @@ old_row schema history key lives =
     (record { row = live.0; born = born_at schema history key }, ap (option_map (λ row. record { row = row; born = born_at schema history key })) live.1, refl)
 
 module _ (history : History) (entry : Entry) (old new : Tables) where
-  pub Adds-insert : (table : Name) (row : Row) → entry.act ≡ Insert table row → Inserts old new table (record { row = row; born = entry.moment }) entry.seq → IsNext history (Insert table row) → StandsFor old history → StandsFor new (history ++ entry ∷ []) × Remembers new history
+  pub Adds-insert : (table : Name) (row : Row) → entry.act ≡ Insert table row → InsertsIntoTable old new table (record { row = row; born = entry.moment }) entry.seq → IsNextAct history (Insert table row) → TablesStandFor old history → TablesStandFor new (history ++ entry ∷ []) × RemembersTables new history
   Adds-insert table row is inserts next stands =
       let kept : BornRow = record { row = row; born = entry.moment } in
       let passed = table_passed (schema_at history table) (λ schema. version_fits schema history (Insert table row)) next in
@@ -153,18 +153,18 @@ module _ (history : History) (entry : Entry) (old new : Tables) where
       let same = (and_parts (bytes_eq table schema.name) (row_fits schema row) parts.0).0 in
       let gone = not_true (is_live schema history key) parts.1 in
       let names : key_named schema entry.act ≡ Some key = ap (key_named schema) is ∙ rw same in
-      let becomes = table_at-grown schema history entry key names kept refl (table_rows-Insert schema history entry table row is same) gone in
+      let becomes = table_at-grown_table schema history entry key names kept refl (table_rows-Insert schema history entry table row is same) gone in
       let missing : find_row schema.key key (table_rows schema history) ≡ None = none_from (find_row schema.key key (table_rows schema history)) (is_live-found schema history key ∙ gone) in
-      let new_is : inserted kept entry.seq (table_at history schema) ≡ grown kept entry.seq (table_at history schema) = ap (λ found. option_map_or (λ place. table_at history schema) found (grown kept entry.seq (table_at history schema))) missing in
-      let again : deleted key (inserted kept entry.seq (table_at history schema)) ≡ table_at history schema = ap (deleted key) new_is ∙ deleted-grown (table_at history schema) kept missing entry.seq (length-map (table_rows schema history) (number_of schema history)) in
-      let plain : (name : Name) → created name entry.act ≡ None = λ name. ap (created name) is in
+      let new_is : after_insert kept entry.seq (table_at history schema) ≡ grown_table kept entry.seq (table_at history schema) = ap (λ found. option_map_or (λ place. table_at history schema) found (grown_table kept entry.seq (table_at history schema))) missing in
+      let again : after_delete key (after_insert kept entry.seq (table_at history schema)) ≡ table_at history schema = ap (after_delete key) new_is ∙ after_delete-grown_table (table_at history schema) kept missing entry.seq (length-map (table_rows schema history) (change_number schema history)) in
+      let plain : (name : Name) → schema_created name entry.act ≡ None = λ name. ap (schema_created name) is in
       let others : (other : Schema) → bytes_eq table other.name ≡ false → key_named other entry.act ≡ None = λ other differs. ap (key_named other) is ∙ rw differs in
       let last : new.last ≡ Inserted table key = inserts.remembered (table_at history schema) (stands.kept table ∙ ap (option_map (table_at history)) passed.1) in (
-        stands-changed history entry table schema passed.1 (inserted kept entry.seq) becomes plain others old new inserts.tables stands,
-        record { before = λ name. ap (λ (last : Change). undone last name (table_of new name)) last ∙ changed_back history entry table schema passed.1 (inserted kept entry.seq) becomes plain others old new inserts.tables stands (deleted key) again name },
+        stands-changed history entry table schema passed.1 (after_insert kept entry.seq) becomes plain others old new inserts.tables stands,
+        record { before = λ name. ap (λ (last : Change). table_before last name (held_table new name)) last ∙ changed_back history entry table schema passed.1 (after_insert kept entry.seq) becomes plain others old new inserts.tables stands (after_delete key) again name },
       )
 
-  pub Adds-update : (table : Name) (row : Row) → entry.act ≡ Update table row → Updates old new table row entry.seq → IsNext history (Update table row) → StandsFor old history → StandsFor new (history ++ entry ∷ []) × Remembers new history
+  pub Adds-update : (table : Name) (row : Row) → entry.act ≡ Update table row → Updates old new table row entry.seq → IsNextAct history (Update table row) → TablesStandFor old history → TablesStandFor new (history ++ entry ∷ []) × RemembersTables new history
   Adds-update table row is updates next stands =
       let passed = table_passed (schema_at history table) (λ schema. version_fits schema history (Update table row)) next in
       let schema : Schema = passed.0 in
@@ -183,47 +183,47 @@ module _ (history : History) (entry : Entry) (old new : Tables) where
       ap (option_and_then (λ place. option_map (λ (other : BornRow). record { row = other.row; born = other.born; number = get_or kept_table.numbers place 0 }) (slice_get kept_table.rows.rows place))) found.1
       ∙ ap (option_map (λ (other : BornRow). record { row = other.row; born = other.born; number = get_or kept_table.numbers found.0 0 })) at_place in
       let born : live.0.born ≡ born_at schema history key = live.2 in
-      let renewed_is : renewed_table row entry.seq kept_table ≡ updated kept entry.seq kept_table =
-      ap (λ (other : Option Before). option_map_or (λ (before : Before). updated (record { row = row; born = before.born }) entry.seq kept_table) other kept_table) before_is
-      ∙ ap (λ born. updated (record { row = row; born = born }) entry.seq kept_table) born in
-      let becomes = table_at-updated schema history entry key names kept refl (table_rows-Update schema history entry table row is same) lives ∙ sym renewed_is in
-      let again : updated (record { row = before.row; born = before.born }) before.number (renewed_table row entry.seq kept_table) ≡ kept_table =
-      ap (updated live.0 before.number) renewed_is
-      ∙ updated-updated kept_table (IsAscending-table_rows schema history) kept found.0 found.1 entry.seq before.number live.0 (length-map (table_rows schema history) (number_of schema history)) at_place refl (key_in-born_row_at schema history key live.0 live.1) in
-      let plain : (name : Name) → created name entry.act ≡ None = λ name. ap (created name) is in
+      let renewed_is : renewed_table row entry.seq kept_table ≡ after_update kept entry.seq kept_table =
+      ap (λ (other : Option Before). option_map_or (λ (before : Before). after_update (record { row = row; born = before.born }) entry.seq kept_table) other kept_table) before_is
+      ∙ ap (λ born. after_update (record { row = row; born = born }) entry.seq kept_table) born in
+      let becomes = table_at-after_update schema history entry key names kept refl (table_rows-Update schema history entry table row is same) lives ∙ sym renewed_is in
+      let again : after_update (record { row = before.row; born = before.born }) before.number (renewed_table row entry.seq kept_table) ≡ kept_table =
+      ap (after_update live.0 before.number) renewed_is
+      ∙ after_update-after_update kept_table (IsAscending-table_rows schema history) kept found.0 found.1 entry.seq before.number live.0 (length-map (table_rows schema history) (change_number schema history)) at_place refl (key_in-born_row_at schema history key live.0 live.1) in
+      let plain : (name : Name) → schema_created name entry.act ≡ None = λ name. ap (schema_created name) is in
       let others : (other : Schema) → bytes_eq table other.name ≡ false → key_named other entry.act ≡ None = λ other differs. ap (key_named other) is ∙ rw differs in
       let last : new.last ≡ Updated table before = updates.remembered kept_table before (stands.kept table ∙ ap (option_map (table_at history)) passed.1) before_is in (
         stands-changed history entry table schema passed.1 (renewed_table row entry.seq) becomes plain others old new updates.tables stands,
-        record { before = λ name. ap (λ (last : Change). undone last name (table_of new name)) last ∙ changed_back history entry table schema passed.1 (renewed_table row entry.seq) becomes plain others old new updates.tables stands (updated (record { row = before.row; born = before.born }) before.number) again name },
+        record { before = λ name. ap (λ (last : Change). table_before last name (held_table new name)) last ∙ changed_back history entry table schema passed.1 (renewed_table row entry.seq) becomes plain others old new updates.tables stands (after_update (record { row = before.row; born = before.born }) before.number) again name },
       )
 
-  pub Adds-delete : (table : Name) (key : Key) → entry.act ≡ Delete table key → Deletes old new table key → IsNext history (Delete table key) → StandsFor old history → StandsFor new (history ++ entry ∷ [])
+  pub Adds-delete : (table : Name) (key : Key) → entry.act ≡ Delete table key → Deletes old new table key → IsNextAct history (Delete table key) → TablesStandFor old history → TablesStandFor new (history ++ entry ∷ [])
   Adds-delete table key is deletes next stands =
       let passed = table_passed (schema_at history table) (λ schema. version_fits schema history (Delete table key)) next in
       let schema : Schema = passed.0 in
       let parts = and_parts (bytes_eq table schema.name && key_fits schema key) (is_live schema history key) passed.2 in
       let same = (and_parts (bytes_eq table schema.name) (key_fits schema key) parts.0).0 in
       let names : key_named schema entry.act ≡ Some key = ap (key_named schema) is ∙ rw same in
-      let becomes = table_at-deleted schema history entry key names (table_rows-Delete schema history entry table key is same) parts.1 in
-      let plain : (name : Name) → created name entry.act ≡ None = λ name. ap (created name) is in
+      let becomes = table_at-after_delete schema history entry key names (table_rows-Delete schema history entry table key is same) parts.1 in
+      let plain : (name : Name) → schema_created name entry.act ≡ None = λ name. ap (schema_created name) is in
       let others : (other : Schema) → bytes_eq table other.name ≡ false → key_named other entry.act ≡ None = λ other differs. ap (key_named other) is ∙ rw differs in
-      stands-changed history entry table schema passed.1 (deleted key) becomes plain others old new deletes.tables stands
+      stands-changed history entry table schema passed.1 (after_delete key) becomes plain others old new deletes.tables stands
 
-  pub Adds-make : (schema : Schema) → entry.act ≡ Create schema → Makes old new schema → IsNext history (Create schema) → StandsFor old history → StandsFor new (history ++ entry ∷ []) × Remembers new history
+  pub Adds-make : (schema : Schema) → entry.act ≡ Create schema → Makes old new schema → IsNextAct history (Create schema) → TablesStandFor old history → TablesStandFor new (history ++ entry ∷ []) × RemembersTables new history
   Adds-make schema is makes next stands =
       let unmade : schema_at history schema.name ≡ None = none_here (schema_at history schema.name) (create_parts history schema next.0) in
       let rows : table_rows schema history ≡ [] = ap (filter_map (born_row_at schema history)) next.1 in
       let names : (other : Schema) → key_named other entry.act ≡ None = λ other. ap (key_named other) is in
-      let empty : table_at (history ++ entry ∷ []) schema ≡ empty_table schema = table_at-other schema history entry (names schema) ∙ ap (λ rows. record { schema = schema; rows = record { key = schema.key; rows = rows }; numbers = map (number_of schema history) rows }) rows in
-      let word : (name : Name) → schema_at (history ++ entry ∷ []) name ≡ option_or (then_some (bytes_eq schema.name name) schema) (schema_at history name) = λ name. last_word-append (λ entry. created name entry.act) history entry ∙ ap (λ act. option_or (created name act) (schema_at history name)) is in (
+      let empty : table_at (history ++ entry ∷ []) schema ≡ empty_table schema = table_at-other schema history entry (names schema) ∙ ap (λ rows. record { schema = schema; rows = record { key = schema.key; rows = rows }; numbers = map (change_number schema history) rows }) rows in
+      let word : (name : Name) → schema_at (history ++ entry ∷ []) name ≡ option_or (then_some (bytes_eq schema.name name) schema) (schema_at history name) = λ name. last_word-append (λ entry. schema_created name entry.act) history entry ∙ ap (λ act. option_or (schema_created name act) (schema_at history name)) is in (
         record {
-          kept = λ name. elim (bytes_eq schema.name name) as (λ same. bytes_eq schema.name name ≡ same → table_of new name ≡ kept_table (history ++ entry ∷ []) name) [
+          kept = λ name. elim (bytes_eq schema.name name) as (λ same. bytes_eq schema.name name ≡ same → held_table new name ≡ kept_table (history ++ entry ∷ []) name) [
             | true ↦ λ e. let found : schema_at (history ++ entry ∷ []) name ≡ Some schema = word name ∙ rw e in makes.kept name ∙ rw e (ap Some (sym empty) ∙ sym (ap (option_map (table_at (history ++ entry ∷ []))) found))
-            | false ↦ λ e. makes.kept name ∙ rw e (stands.kept name ∙ sym (kept_table-other history entry name (ap (created name) is ∙ rw e) (λ other has. names other)))
+            | false ↦ λ e. makes.kept name ∙ rw e (stands.kept name ∙ sym (kept_table-other history entry name (ap (schema_created name) is ∙ rw e) (λ other has. names other)))
           ] refl;
         },
         record {
-          before = λ name. ap (λ (last : Change). undone last name (table_of new name)) makes.remembered ∙ (elim (bytes_eq schema.name name) as (λ same. bytes_eq schema.name name ≡ same → (if same then None else table_of new name) ≡ kept_table history name) [
+          before = λ name. ap (λ (last : Change). table_before last name (held_table new name)) makes.remembered ∙ (elim (bytes_eq schema.name name) as (λ same. bytes_eq schema.name name ≡ same → (if same then None else held_table new name) ≡ kept_table history name) [
             | true ↦ λ e. sym (ap (option_map (table_at history)) (ap (schema_at history) (sym (same_name schema.name name e)) ∙ unmade))
             | false ↦ λ e. makes.kept name ∙ rw e (stands.kept name)
           ] refl);

@@ -6,7 +6,7 @@ use Rattle.hippo_model.specs.Terms.{Key, Row}
 use Rattle.hippo_model.specs.Rows.{key_of}
 use Rattle.hippo_model.specs.RowSets.{find_row}
 use Rattle.hippo_tables.specs.declared.table.Before.{Before}
-use Rattle.hippo_tables.specs.KeptTables.{KeptTable, updated}
+use Rattle.hippo_tables.specs.KeptTables.{KeptTable, after_update}
 
 abbrev pub before_with : ℕ → BornRow → Before
 before_with number kept = record { row = kept.row; born = kept.born; number = number }
@@ -15,15 +15,18 @@ before_with number kept = record { row = kept.row; born = kept.born; number = nu
 abbrev pub before_of : Key → KeptTable → Option Before
 before_of key table =
     option_and_then
-    (λ place. option_map (before_with (slice_index_or table.numbers place 0)) (slice_get table.rows.rows place))
+    (λ place. option_map (before_with (slice_index_or table.numbers place 0))
+    (slice_get table.rows.rows place))
     (find_row table.rows.key key table.rows.rows)
 
 -- a table with a row in the place of the one that has its key, and with its birth
 abbrev pub renewed_table : Row → ℕ → KeptTable → KeptTable
 renewed_table row number table =
-    option_map_or (λ (before : Before). updated (record { row = row; born = before.born }) number table)
+    option_map_or (λ (before : Before). after_update (record { row = row; born = before.born })
+    number table)
     (before_of (key_of table.rows.key row) table) table
 
 -- a table with the row put back
-abbrev pub restored : Before → KeptTable → KeptTable
-restored before table = updated (record { row = before.row; born = before.born }) before.number table
+abbrev pub restored_table : Before → KeptTable → KeptTable
+restored_table before table =
+    after_update (record { row = before.row; born = before.born }) before.number table

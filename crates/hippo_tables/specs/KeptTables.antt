@@ -14,52 +14,56 @@ pub record KeptTable : Type 0 where
   pub rows : KeyedRows
   pub numbers : List ℕ
 
-abbrev pub number_of : Schema → History → BornRow → ℕ
-number_of schema history kept = unwrap_or (last_at schema history (key_in schema.key kept)) 0
+abbrev pub change_number : Schema → History → BornRow → ℕ
+change_number schema history kept = unwrap_or (last_at schema history (key_in schema.key kept)) 0
 
 -- a table after some entries
 abbrev pub table_at : History → Schema → KeptTable
 table_at history schema = record {
   schema = schema;
   rows = kept_at schema history;
-  numbers = map (number_of schema history) (table_rows schema history);
+  numbers = map (change_number schema history) (table_rows schema history);
 }
 
 -- the table with no rows
 abbrev pub empty_table : Schema → KeptTable
-empty_table schema = record { schema = schema; rows = record { key = schema.key; rows = [] }; numbers = [] }
+empty_table schema =
+    record { schema = schema; rows = record { key = schema.key; rows = [] }; numbers = [] }
 
-abbrev pub place_in : Key → KeyedRows → Place
-place_in key set = unwrap_or (find_row set.key key set.rows) 0
+abbrev pub place_of_key : Key → KeyedRows → Place
+place_of_key key set = unwrap_or (find_row set.key key set.rows) 0
 
 -- with a new row, and its number beside it
-abbrev pub grown : BornRow → ℕ → KeptTable → KeptTable
-grown kept number table =
+abbrev pub grown_table : BornRow → ℕ → KeptTable → KeptTable
+grown_table kept number table =
     let rows = with_row kept table.rows in
     record {
       schema = table.schema;
       rows = rows;
-      numbers = insert table.numbers (place_in (key_in table.rows.key kept) rows) number;
+      numbers = insert table.numbers (place_of_key (key_in table.rows.key kept) rows) number;
     }
 
 -- with a row more, where no row has its key
-abbrev pub inserted : BornRow → ℕ → KeptTable → KeptTable
-inserted kept number table =
-    option_map_or (λ place. table) (find_row table.rows.key (key_in table.rows.key kept) table.rows.rows)
-    (grown kept number table)
+abbrev pub after_insert : BornRow → ℕ → KeptTable → KeptTable
+after_insert kept number table =
+    option_map_or (λ place. table) (find_row table.rows.key (key_in table.rows.key kept)
+    table.rows.rows)
+    (grown_table kept number table)
 
 -- with other rows and numbers
 abbrev pub kept_with : KeptTable → KeyedRows → List ℕ → KeptTable
 kept_with table rows numbers = record { schema = table.schema; rows = rows; numbers = numbers }
 
 -- with a row instead of the one that has its key, if there is one
-abbrev pub updated : BornRow → ℕ → KeptTable → KeptTable
-updated kept number table =
-    option_map_or (λ place. kept_with table (with_row kept table.rows) (slice_set table.numbers place number))
+abbrev pub after_update : BornRow → ℕ → KeptTable → KeptTable
+after_update kept number table =
+    option_map_or (λ place. kept_with table (with_row kept table.rows)
+    (slice_set table.numbers place number))
     (find_row table.rows.key (key_in table.rows.key kept) table.rows.rows) table
 
 -- without the row that has a key, if there is one
-abbrev pub deleted : Key → KeptTable → KeptTable
-deleted key table =
-    option_map_or (λ place. kept_with table (without_row key table.rows) (remove table.numbers place))
+abbrev pub after_delete : Key → KeptTable → KeptTable
+after_delete key table =
+    option_map_or (λ place. kept_with table (without_row key table.rows)
+    (remove table.numbers place))
     (find_row table.rows.key key table.rows.rows) table

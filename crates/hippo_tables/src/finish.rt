@@ -3,8 +3,8 @@ ghost use Rattle.std.specs.Prelude.{◌≡◌, slice_set, IfOk, Ok as Good};
 ghost use Rattle.hippo_model.specs.Terms.{History};
 ghost use Rattle.hippo_model.specs.declared.entry.Act.TheVariants.{Insert, Update, Delete};
 ghost use Rattle.hippo_model.specs.declared.statement.Wanted.TheVariants.{Add, Set, Remove};
-ghost use Rattle.hippo_tables.specs.Standing.{StandsFor};
-ghost use Rattle.hippo_tables.specs.Finished.{written, finished, IsFinished};
+ghost use Rattle.hippo_tables.specs.Standing.{TablesStandFor};
+ghost use Rattle.hippo_tables.specs.Finished.{written_row, finished_act, IsFinishedAct};
 
 use crate::tables::Tables;
 use hippo_model::{Act, Cells, Places, TableFault, Wanted};
@@ -22,7 +22,7 @@ fn put(cells: &mut Vec<Value>, place: usize, value: Value)
 
 // Moves values to some places.
 fn write_values(cells: &mut Vec<Value>, places: &[usize], values: Vec<Value>)
-    ensures { cells.new.items ≡ written places.now values.items cells.old.items }
+    ensures { cells.new.items ≡ written_row places.now values.items cells.old.items }
 {
     let mut left = values.into_iter();
     for place in places {
@@ -35,7 +35,7 @@ fn write_values(cells: &mut Vec<Value>, places: &[usize], values: Vec<Value>)
 
 // A row with values at some places.
 fn with_values(row: Cells, places: &[usize], values: Cells) -> Cells
-    ensures { result ≡ written places.now values row }
+    ensures { result ≡ written_row places.now values row }
 {
     let mut cells = row.into_vec();
     write_values(&mut cells, places, values.into_vec());
@@ -44,7 +44,7 @@ fn with_values(row: Cells, places: &[usize], values: Cells) -> Cells
 
 // A copy of a row, with values at some places.
 fn written_row(alloc: Global, row: &Cells, places: &[usize], values: Cells) -> Result<Cells, Memory>
-    ensures { IfOk result (λ made. made ≡ written places.now values row.now) }
+    ensures { IfOk result (λ made. made ≡ written_row places.now values row.now) }
 {
     match row.copy(alloc) {
         Ok(row) => Ok(with_values(row, places, values)),
@@ -59,7 +59,7 @@ fn update_act(
     places: &[usize],
     values: Cells,
 ) -> Result<Act, TableFault>
-    ensures { IsFinished (Good (Update table (written places.now values row.now))) result }
+    ensures { IsFinishedAct (Good (Update table (written_row places.now values row.now))) result }
 {
     match written_row(alloc, row, places, values) {
         Ok(row) => Ok(Act::Update { table, row }),
@@ -69,8 +69,8 @@ fn update_act(
 
 impl Tables {
     fn finish_add(&self, table: Name, row: Cells, key: Cells) -> Result<Act, TableFault>
-        ensures { (history : History) → StandsFor self.now history
-            → IsFinished (finished history (Add table row key)) result }
+        ensures { (history : History) → TablesStandFor self.now history
+            → IsFinishedAct (finished_act history (Add table row key)) result }
     {
         match self.number(&table, &key) {
             Some(number) => Err(TableFault::KeyThere(number)),
@@ -86,8 +86,8 @@ impl Tables {
         places: Places,
         values: Cells,
     ) -> Result<Act, TableFault>
-        ensures { (history : History) → StandsFor self.now history
-            → IsFinished (finished history (Set table key places values)) result }
+        ensures { (history : History) → TablesStandFor self.now history
+            → IsFinishedAct (finished_act history (Set table key places values)) result }
     {
         match self.row(&table, &key) {
             Some(row) => update_act(alloc, table, row, places.as_slice(), values),
@@ -96,8 +96,8 @@ impl Tables {
     }
 
     fn finish_remove(&self, table: Name, key: Cells) -> Result<Act, TableFault>
-        ensures { (history : History) → StandsFor self.now history
-            → IsFinished (finished history (Remove table key)) result }
+        ensures { (history : History) → TablesStandFor self.now history
+            → IsFinishedAct (finished_act history (Remove table key)) result }
     {
         match self.row(&table, &key) {
             Some(_) => Ok(Act::Delete { table, key }),
@@ -105,11 +105,13 @@ impl Tables {
         }
     }
 
-    /// The act that a change which is wanted comes to, made of its parts: an UPDATE's is the whole new row. Answers
-    /// `KeyThere`, with the number of the last entry that names the key, exactly where an INSERT's key is live, and
-    /// `KeyMissing` exactly where an UPDATE's or a DELETE's is not; else `Memory` where memory is short.
+    /// The act that a change which is wanted comes to, made of its parts: an UPDATE's is the whole
+    /// new row. Answers `KeyThere`, with the number of the last entry that names the key, exactly
+    /// where an INSERT's key is live, and `KeyMissing` exactly where an UPDATE's or a DELETE's is
+    /// not; else `Memory` where memory is short.
     pub fn finish(&self, alloc: Global, wanted: Wanted) -> Result<Act, TableFault>
-        ensures { (history : History) → StandsFor self.now history → IsFinished (finished history wanted) result }
+        ensures { (history : History) → TablesStandFor self.now history
+            → IsFinishedAct (finished_act history wanted) result }
     {
         match wanted {
             Wanted::Ready(act) => Ok(act),

@@ -1,5 +1,5 @@
 //! Orders that tables keep of their rows, for the columns by which a query seeks them.
-ghost use Rattle.hippo_tables.specs.Standing.{IsAsBefore};
+ghost use Rattle.hippo_tables.specs.Standing.{TablesAreAsBefore};
 
 use crate::tables::Tables;
 use hippo_model::{CondOf, Names, Operand, Query, Ref};
@@ -14,7 +14,8 @@ fn outer_parts(condition: &CondOf<Operand>) -> &[CondOf<Operand>] {
     }
 }
 
-// Whether an operand says a value where rows of a table are sought: a literal does, and a column of another table.
+// Whether an operand says a value where rows of a table are sought: a literal does, and a column of
+// another table.
 fn says_value(operand: &Operand, table: usize) -> bool {
     match operand {
         Operand::Column(column) => column.table != table,
@@ -38,14 +39,15 @@ fn says_some(op: CompareOp, operand: &Operand, table: usize) -> bool {
 impl Tables {
     // Keeps an order by the column that an operand is.
     fn order_of(&mut self, alloc: Global, names: &Names, column: Ref)
-        ensures { IsAsBefore self.old self.new }
+        ensures { TablesAreAsBefore self.old self.new }
     {
         if let Some(table) = names.as_slice().get(column.table) {
             self.order_by(alloc, table, column.column);
         }
     }
 
-    // Keeps an order by the column on one side of a comparison, where the other side says its value or bounds it.
+    // Keeps an order by the column on one side of a comparison, where the other side says its value
+    // or bounds it.
     fn order_beside(
         &mut self,
         alloc: Global,
@@ -54,7 +56,7 @@ impl Tables {
         operand: &Operand,
         other: &Operand,
     )
-        ensures { IsAsBefore self.old self.new }
+        ensures { TablesAreAsBefore self.old self.new }
     {
         if let Operand::Column(column) = operand {
             if says_some(op, other, column.table) {
@@ -72,7 +74,7 @@ impl Tables {
         low: &Operand,
         high: &Operand,
     )
-        ensures { IsAsBefore self.old self.new }
+        ensures { TablesAreAsBefore self.old self.new }
     {
         if let Operand::Column(column) = operand {
             if is_literal(low) || is_literal(high) {
@@ -83,7 +85,7 @@ impl Tables {
 
     // Keeps an order by a column that is to be in a list of literals.
     fn order_among(&mut self, alloc: Global, names: &Names, operand: &Operand, list: &[Operand])
-        ensures { IsAsBefore self.old self.new }
+        ensures { TablesAreAsBefore self.old self.new }
     {
         if let Operand::Column(column) = operand {
             if list.iter().all(|item| is_literal(item)) {
@@ -94,7 +96,7 @@ impl Tables {
 
     // Keeps orders by the columns of which a part of a condition says the value, or what bounds it.
     fn order_for_part(&mut self, alloc: Global, names: &Names, part: &CondOf<Operand>)
-        ensures { IsAsBefore self.old self.new }
+        ensures { TablesAreAsBefore self.old self.new }
     {
         match part {
             CondOf::Compare { op, left, right } => {
@@ -111,12 +113,13 @@ impl Tables {
         }
     }
 
-    /// Keeps, from now on, orders of the rows of a query's tables by the columns that it compares with `=`, with a
-    /// literal or with a column of another table, that it bounds by a literal, or that are to be in a list of literals,
-    /// so that such rows are found by halves. Of a table that has no more than 256 rows none is kept. The tables stay
-    /// what they are, and so does every answer.
+    /// Keeps, from now on, orders of the rows of a query's tables by the columns that it compares
+    /// with `=`, with a literal or with a column of another table, that it bounds by a literal, or
+    /// that are to be in a list of literals, so that such rows are found by halves. Of a table that
+    /// has no more than 256 rows none is kept. The tables stay what they are, and so does every
+    /// answer.
     pub fn order_for(&mut self, alloc: Global, query: &Query)
-        ensures { IsAsBefore self.old self.new }
+        ensures { TablesAreAsBefore self.old self.new }
     {
         for part in outer_parts(&query.cond) {
             self.order_for_part(alloc, &query.tables, part);

@@ -3,7 +3,7 @@ ghost use Rattle.std.specs.Prelude.{◌≡◌, ◌∷◌, [], ◌++◌, map, opt
 ghost use Rattle.hippo_model.specs.Rows.{cell_at, key_of};
 ghost use Rattle.hippo_model.specs.RowSets.{find_row};
 ghost use Rattle.hippo_tables.specs.Before.{before_of, renewed_table};
-ghost use Rattle.hippo_tables.specs.KeptTables.{KeptTable, empty_table, grown, inserted, updated, deleted};
+ghost use Rattle.hippo_tables.specs.KeptTables.{KeptTable, empty_table, grown_table, after_insert, after_update, after_delete};
 
 use hippo_model::{Cells, Pieces, RowSet, Schema};
 use hippo_values::{Duplicate, Memory, Moment, Sequence, Value};
@@ -85,7 +85,8 @@ impl Table {
     /// The row with a key, none exactly where no row has it.
     pub fn row(&self, key: &Cells) -> Option<&Cells>
         ensures { option_copied result ≡ option_map (λ kept. kept.row)
-            (option_and_then (slice_get self.now.rows.rows) (find_row self.now.rows.key key.now self.now.rows.rows)) }
+            (option_and_then (slice_get self.now.rows.rows)
+            (find_row self.now.rows.key key.now self.now.rows.rows)) }
     {
         match self.rows.find(key) {
             None => None,
@@ -127,7 +128,8 @@ impl Table {
         number: u64,
     ) -> Result<(), Memory>
         requires { key.now ≡ key_of self.old.rows.key row }
-        ensures ok { OnOk result (self.new ≡ inserted (record { row = row; born = born }) number self.old) }
+        ensures ok { OnOk result (self.new
+            ≡ after_insert (record { row = row; born = born }) number self.old) }
         ensures err { OnErr result (self.new ≡ self.old) }
     {
         let found = self.rows.insert(row, born)?;
@@ -143,7 +145,7 @@ impl Table {
 
     /// Puts a row in the place of the one that has its key, if there is one; takes no memory.
     pub fn update(&mut self, row: Cells, born: Moment, number: u64)
-        ensures { self.new ≡ updated (record { row = row; born = born }) number self.old }
+        ensures { self.new ≡ after_update (record { row = row; born = born }) number self.old }
     {
         if let Some(place) = self.rows.find_like(&row) {
             let count = self.rows.len();
@@ -155,7 +157,7 @@ impl Table {
 
     /// Takes away the row with a key, if there is one; takes no memory.
     pub fn delete(&mut self, key: &Cells)
-        ensures { self.new ≡ deleted key.now self.old }
+        ensures { self.new ≡ after_delete key.now self.old }
     {
         if let Some(place) = self.rows.find(key) {
             self.rows.take(key);
@@ -171,7 +173,8 @@ impl Table {
         born: Moment,
         number: u64,
     ) -> Result<Cells, Memory>
-        ensures ok { OnOk result (self.new ≡ inserted (record { row = row.now; born = born }) number self.old) }
+        ensures ok { OnOk result (self.new
+            ≡ after_insert (record { row = row.now; born = born }) number self.old) }
         ensures key { IfOk result (λ key. key ≡ key_of self.old.rows.key row.now) }
         ensures err { OnErr result (self.new ≡ self.old) }
     {
@@ -181,9 +184,11 @@ impl Table {
         Ok(key)
     }
 
-    // Puts a row in the place of the one that has its key, with that one's birth; that one is handed out.
+    // Puts a row in the place of the one that has its key, with that one's birth; that one is
+    // handed out.
     fn renew(&mut self, place: usize, row: Cells, number: u64) -> Before
-        requires { find_row self.old.rows.key (key_of self.old.rows.key row) self.old.rows.rows ≡ Some place }
+        requires { find_row self.old.rows.key (key_of self.old.rows.key row) self.old.rows.rows
+            ≡ Some place }
         ensures renewed { self.new ≡ renewed_table row number self.old }
         ensures before { before_of (key_of self.old.rows.key row) self.old ≡ Some result }
     {
@@ -198,8 +203,8 @@ impl Table {
         }
     }
 
-    /// Puts a copy of a row in the place of the one that has its key, if there is one, with that one's birth; the old
-    /// row is handed out.
+    /// Puts a copy of a row in the place of the one that has its key, if there is one, with that
+    /// one's birth; the old row is handed out.
     pub fn update_copy(
         &mut self,
         alloc: Global,
@@ -207,7 +212,8 @@ impl Table {
         number: u64,
     ) -> Result<Option<Before>, Memory>
         ensures ok { OnOk result (self.new ≡ renewed_table row.now number self.old) }
-        ensures before { IfOk result (λ before. before ≡ before_of (key_of self.old.rows.key row.now) self.old) }
+        ensures before { IfOk result (λ before. before
+            ≡ before_of (key_of self.old.rows.key row.now) self.old) }
         ensures err { OnErr result (self.new ≡ self.old) }
     {
         let Some(place) = self.rows.find_like(row) else {

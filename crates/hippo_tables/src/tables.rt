@@ -7,10 +7,10 @@ ghost use Rattle.hippo_model.specs.declared.entry.Entry.{Entry as HistoryEntry};
 ghost use Rattle.hippo_model.specs.Histories.{schema_at};
 ghost use Rattle.hippo_model.specs.Rows.{key_of};
 ghost use Rattle.hippo_model.specs.RowSets.{kept_at};
-ghost use Rattle.hippo_tables.specs.KeptTables.{KeptTable, inserted, updated, deleted};
+ghost use Rattle.hippo_tables.specs.KeptTables.{KeptTable, after_insert, after_update, after_delete};
 ghost use Rattle.hippo_tables.specs.Before.{before_of, renewed_table};
 ghost use Rattle.hippo_tables.specs.Finished.{live_row, live_number};
-ghost use Rattle.hippo_tables.specs.Standing.{StandsFor, Remembers, Adds, IsAsBefore, Makes, Inserts, Updates, Deletes, is_delete, is_silent, kept_table, with_change};
+ghost use Rattle.hippo_tables.specs.Standing.{TablesStandFor, RemembersTables, TablesAdd, TablesAreAsBefore, Makes, InsertsIntoTable, Updates, Deletes, is_delete, leaves_tables, kept_table, with_change};
 
 use crate::table::{Before, Table};
 use hippo_model::{Act, Cells, Entry, RowSet, Schema};
@@ -45,11 +45,12 @@ fn insert_into(
     number: u64,
 ) -> Result<Option<Cells>, Memory>
     ensures ok { OnOk result ((other : TableName) → get bytes_eq tables.new other
-        ≡ with_change table.now (inserted (record { row = row.now; born = born }) number)
+        ≡ with_change table.now (after_insert (record { row = row.now; born = born }) number)
         (get bytes_eq tables.old) other) }
     ensures key { IfOk result (λ key. key
         ≡ option_map (λ kept. key_of kept.rows.key row.now) (get bytes_eq tables.old table.now)) }
-    ensures err { OnErr result ((other : TableName) → get bytes_eq tables.new other ≡ get bytes_eq tables.old other) }
+    ensures err { OnErr result ((other : TableName)
+        → get bytes_eq tables.new other ≡ get bytes_eq tables.old other) }
 {
     match tables.get_mut(table) {
         None => Ok(None),
@@ -63,14 +64,15 @@ fn insert_into(
 // Takes a row out of a table, if both are there.
 fn delete_from(tables: &mut HashMap<Name, Table>, table: &Name, key: &Cells)
     ensures { (other : TableName) → get bytes_eq tables.new other
-        ≡ with_change table.now (deleted key.now) (get bytes_eq tables.old) other }
+        ≡ with_change table.now (after_delete key.now) (get bytes_eq tables.old) other }
 {
     if let Some(kept) = tables.get_mut(table) {
         kept.delete(key);
     }
 }
 
-// Puts a row in the place of the one that has its key, if both the table and it are there; the old row is handed out.
+// Puts a row in the place of the one that has its key, if both the table and it are there; the old
+// row is handed out.
 fn update_in(
     tables: &mut HashMap<Name, Table>,
     alloc: Global,
@@ -83,7 +85,8 @@ fn update_in(
     ensures before { IfOk result (λ before. before
         ≡ option_and_then (λ kept. before_of (key_of kept.rows.key row.now) kept)
         (get bytes_eq tables.old table.now)) }
-    ensures err { OnErr result ((other : TableName) → get bytes_eq tables.new other ≡ get bytes_eq tables.old other) }
+    ensures err { OnErr result ((other : TableName)
+        → get bytes_eq tables.new other ≡ get bytes_eq tables.old other) }
 {
     match tables.get_mut(table) {
         None => Ok(None),
@@ -97,7 +100,8 @@ fn update_in(
 // Puts back a row that was updated, if the table and a row with its key are there.
 fn restore_in(tables: &mut HashMap<Name, Table>, table: &Name, before: Before)
     ensures { (other : TableName) → get bytes_eq tables.new other
-        ≡ with_change table.now (updated (record { row = before.row; born = before.born }) before.number)
+        ≡ with_change table.now (after_update (record { row = before.row; born = before.born })
+        before.number)
         (get bytes_eq tables.old) other }
 {
     if let Some(kept) = tables.get_mut(table) {
@@ -108,7 +112,7 @@ fn restore_in(tables: &mut HashMap<Name, Table>, table: &Name, before: Before)
 impl Tables {
     /// The tables of the empty history: none. Takes no memory.
     pub fn new(alloc: Global) -> Tables
-        ensures { StandsFor result [] }
+        ensures { TablesStandFor result [] }
     {
         Tables {
             tables: HashMap::new(alloc),
@@ -118,7 +122,7 @@ impl Tables {
 
     /// A table's schema, none where there is no such table.
     pub fn schema(&self, table: &Name) -> Option<&Schema>
-        ensures { (history : History) → StandsFor self.now history
+        ensures { (history : History) → TablesStandFor self.now history
             → option_copied result ≡ schema_at history table.now }
     {
         match self.tables.get(table) {
@@ -127,10 +131,12 @@ impl Tables {
         }
     }
 
-    /// A table's rows with their births, in the order of their keys; none where there is no such table.
+    /// A table's rows with their births, in the order of their keys; none where there is no such
+    /// table.
     pub fn rows(&self, table: &Name) -> Option<&RowSet>
-        ensures { (history : History) → StandsFor self.now history
-            → option_copied result ≡ option_map (λ schema. kept_at schema history) (schema_at history table.now) }
+        ensures { (history : History) → TablesStandFor self.now history
+            → option_copied result ≡ option_map
+            (λ schema. kept_at schema history) (schema_at history table.now) }
     {
         match self.tables.get(table) {
             None => None,
@@ -140,7 +146,7 @@ impl Tables {
 
     /// The row of a table with a key; none exactly where the table or the row is not there.
     pub fn row(&self, table: &Name, key: &Cells) -> Option<&Cells>
-        ensures { (history : History) → StandsFor self.now history
+        ensures { (history : History) → TablesStandFor self.now history
             → option_copied result ≡ live_row history table.now key.now }
     {
         match self.tables.get(table) {
@@ -149,10 +155,10 @@ impl Tables {
         }
     }
 
-    // Keeps, from now on, an order of a table's rows by a column, where the table is there and has rows enough; the tables
-    // stay what they are.
+    // Keeps, from now on, an order of a table's rows by a column, where the table is there and has
+    // rows enough; the tables stay what they are.
     pub(crate) fn order_by(&mut self, alloc: Global, table: &Name, column: usize)
-        ensures { IsAsBefore self.old self.new }
+        ensures { TablesAreAsBefore self.old self.new }
     {
         if let Some(kept) = self.tables.get_mut(table) {
             kept.order_by(alloc, column);
@@ -161,7 +167,8 @@ impl Tables {
 
     // The number of the last entry that names a live key.
     pub(crate) fn number(&self, table: &Name, key: &Cells) -> Option<u64>
-        ensures { (history : History) → StandsFor self.now history → result ≡ live_number history table.now key.now }
+        ensures { (history : History) → TablesStandFor self.now history → result
+            ≡ live_number history table.now key.now }
     {
         match self.tables.get(table) {
             None => None,
@@ -178,7 +185,7 @@ impl Tables {
 
     fn make(&mut self, alloc: Global, schema: &Schema) -> Result<(), Memory>
         ensures ok { OnOk result (Makes self.old self.new schema.now) }
-        ensures err { OnErr result (IsAsBefore self.old self.new) }
+        ensures err { OnErr result (TablesAreAsBefore self.old self.new) }
     {
         let made = schema.name.copy(alloc)?;
         let name = schema.name.copy(alloc)?;
@@ -197,8 +204,9 @@ impl Tables {
         number: u64,
     ) -> Result<(), Memory>
         ensures ok { OnOk result
-            (Inserts self.old self.new table.now (record { row = row.now; born = born.now }) number) }
-        ensures err { OnErr result (IsAsBefore self.old self.new) }
+            (InsertsIntoTable self.old self.new table.now
+            (record { row = row.now; born = born.now }) number) }
+        ensures err { OnErr result (TablesAreAsBefore self.old self.new) }
     {
         let name = table.copy(alloc)?;
         let key = insert_into(&mut self.tables, alloc, table, row, *born, number)?;
@@ -217,7 +225,7 @@ impl Tables {
         number: u64,
     ) -> Result<(), Memory>
         ensures ok { OnOk result (Updates self.old self.new table.now row.now number) }
-        ensures err { OnErr result (IsAsBefore self.old self.new) }
+        ensures err { OnErr result (TablesAreAsBefore self.old self.new) }
     {
         let name = table.copy(alloc)?;
         let before = update_in(&mut self.tables, alloc, table, row, number)?;
@@ -240,18 +248,20 @@ impl Tables {
 
     // An entry that changes no row and makes no table.
     fn pass_over(&mut self)
-        ensures { (entry : HistoryEntry) → is_silent entry.act ≡ true → Adds self.old self.new entry }
+        ensures { (entry : HistoryEntry) → leaves_tables entry.act ≡ true
+            → TablesAdd self.old self.new entry }
     {
         self.remember(Change::Nothing);
     }
 
-    /// Takes in the entry that comes next: the tables then stand for the history with the entry behind. They are
-    /// unchanged where memory is short, which it never is for a Delete, nor for what changes no row and makes no table.
+    /// Takes in the entry that comes next: the tables then stand for the history with the entry
+    /// behind. They are unchanged where memory is short, which it never is for a Delete, nor for
+    /// what changes no row and makes no table.
     pub fn apply(&mut self, alloc: Global, entry: &Entry) -> Result<(), Memory>
-        ensures ok { OnOk result (Adds self.old self.new entry.now) }
-        ensures err { OnErr result (IsAsBefore self.old self.new) }
+        ensures ok { OnOk result (TablesAdd self.old self.new entry.now) }
+        ensures err { OnErr result (TablesAreAsBefore self.old self.new) }
         ensures deletes { is_delete entry.now.act ≡ true → IsOk result }
-        ensures silent { is_silent entry.now.act ≡ true → IsOk result }
+        ensures silent { leaves_tables entry.now.act ≡ true → IsOk result }
     {
         match &entry.act {
             Act::Create(schema) => self.make(alloc, schema),
@@ -272,10 +282,11 @@ impl Tables {
         }
     }
 
-    /// Takes back the entry that was applied last, which must be no Delete: the tables then stand for the history
-    /// before it. Takes no memory.
+    /// Takes back the entry that was applied last, which must be no Delete: the tables then stand
+    /// for the history before it. Takes no memory.
     pub fn take_back(&mut self)
-        ensures { (history : History) → Remembers self.old history → StandsFor self.new history }
+        ensures { (history : History) → RemembersTables self.old history
+            → TablesStandFor self.new history }
     {
         match mem::replace(&mut self.last, Change::Nothing) {
             Change::Nothing => {}

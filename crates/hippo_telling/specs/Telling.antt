@@ -4,7 +4,7 @@ use Rattle.std.specs.Fmt.{signed_decimal}
 use Rattle.std.specs.List.{list_any, range_with_len, zip}
 use Rattle.std.specs.Option.{option_map_or}
 use Rattle.hippo_values.specs.Dates.{day_text, moment_text}
-use Rattle.hippo_values.specs.Quoting.{quoted}
+use Rattle.hippo_values.specs.Quoting.{quoted_text}
 use Rattle.hippo_values.specs.Texts.{Txt}
 use Rattle.hippo_values.specs.declared.names.Name.{Name}
 use Rattle.hippo_values.specs.declared.values.Value.{Value}
@@ -21,17 +21,17 @@ use Rattle.hippo_model.specs.declared.schema.Schema.{Schema}
 use Rattle.hippo_model.specs.Histories.{before_entry, schema_at}
 use Rattle.hippo_model.specs.Rows.{cell_at}
 use Rattle.hippo_model.specs.Terms.{History, Key, Place, Row}
-use Rattle.hippo_report.specs.Cells.{joined, comma}
+use Rattle.hippo_report.specs.Cells.{separated_text, comma}
 
 -- a value as a literal
 abbrev pub literal_text : Value → Txt
 literal_text values.Null = codes "NULL"
 literal_text (values.Int number) = signed_decimal number
-literal_text (values.Text text) = quoted text
+literal_text (values.Text text) = quoted_text text
 literal_text (values.Day day) = codes "DATE '" ++ (day_text day ++ codes "'")
 
 abbrev pub literals_text : List Value → Txt
-literals_text literals = joined literal_text comma literals
+literals_text literals = separated_text literal_text comma literals
 
 -- a column as CREATE TABLE has it
 abbrev pub kind_text : ColumnKind → Txt
@@ -43,15 +43,15 @@ abbrev pub not_null_text : Bool → Txt
 not_null_text true = codes " NOT NULL"
 not_null_text false = []
 
-abbrev pub column_text : Column → Txt
-column_text column = column.name ++ (kind_text column.kind ++ not_null_text column.not_null)
+abbrev pub column_definition : Column → Txt
+column_definition column = column.name ++ (kind_text column.kind ++ not_null_text column.not_null)
 
 -- the name of the column at a place, and the names of those at some places
 abbrev pub name_at : List Column → Place → Txt
 name_at columns place = option_map_or (λ column. column.name) (slice_get columns place) []
 
 abbrev pub names_text : List Column → List Place → Txt
-names_text columns places = joined (name_at columns) comma places
+names_text columns places = separated_text (name_at columns) comma places
 
 -- a column with a value: one that is set, or one of a key
 abbrev pub assigned_text : List Column → Place → Value → Txt
@@ -60,12 +60,13 @@ assigned_text columns place value = name_at columns place ++ (codes " = " ++ lit
 -- columns with the values that a row has there
 abbrev pub row_text : List Column → Row → Txt → List Place → Txt
 row_text columns row separator places =
-    joined (λ place. assigned_text columns place (cell_at row place)) separator places
+    separated_text (λ place. assigned_text columns place (cell_at row place)) separator places
 
 -- the columns of a key with their values
 abbrev pub key_text : List Column → List Place → Key → Txt
 key_text columns places key =
-    joined (λ (place, value). assigned_text columns place value) (codes " AND ") (zip places key)
+    separated_text (λ (place, value). assigned_text columns place value) (codes " AND ")
+    (zip places key)
 
 -- the places of the columns that are none of the key's
 abbrev pub is_set : List Place → Place → Bool
@@ -81,17 +82,21 @@ subject_text columns (Some place) = codes ", SUBJECT " ++ name_at columns place
 -- columns, PRIMARY KEY and SUBJECT
 abbrev pub create_text : Schema → Txt
 create_text schema =
-    codes "CREATE TABLE " ++ (schema.name ++ (codes " (" ++ (joined column_text comma schema.columns
+    codes "CREATE TABLE " ++ (schema.name
+    ++ (codes " (" ++ (separated_text column_definition comma schema.columns
     ++ (codes ", PRIMARY KEY (" ++ (names_text schema.columns schema.key
     ++ (codes ")" ++ (subject_text schema.columns schema.subject ++ codes ")")))))))
 
 abbrev pub insert_text : Name → Row → Txt
-insert_text table row = codes "INSERT INTO " ++ (table ++ (codes " VALUES (" ++ (literals_text row ++ codes ")")))
+insert_text table row =
+    codes "INSERT INTO " ++ (table ++ (codes " VALUES (" ++ (literals_text row ++ codes ")")))
 
--- Every column is set that is none of the key's. Where there is none, the text is no statement: none makes such an act.
+-- Every column is set that is none of the key's. Where there is none, the text is no statement:
+-- none makes such an act.
 abbrev pub update_text : List Column → List Place → Name → Row → Txt
 update_text columns key table row =
-    codes "UPDATE " ++ (table ++ (codes " SET " ++ (row_text columns row comma (set_places columns key)
+    codes "UPDATE " ++ (table ++ (codes " SET "
+    ++ (row_text columns row comma (set_places columns key)
     ++ (codes " WHERE " ++ row_text columns row (codes " AND ") key))))
 
 abbrev pub delete_text : List Column → List Place → Name → Key → Txt
@@ -107,7 +112,8 @@ item_text item kind = codes "CREATE ITEM " ++ (item ++ item_kind_text kind)
 
 -- behind AUTHORIZE or DEAUTHORIZE
 abbrev pub grant_text : Name → Name → Name → Txt
-grant_text user purpose recipient = user ++ (codes " FOR " ++ (purpose ++ (codes ", " ++ recipient)))
+grant_text user purpose recipient =
+    user ++ (codes " FOR " ++ (purpose ++ (codes ", " ++ recipient)))
 
 -- behind ALLOW or REVOKE
 abbrev pub rule_text : List Column → Name → Name → Name → List Place → Txt
@@ -125,7 +131,8 @@ retention_text (Some days) = codes " RETAIN " ++ (decimal days ++ codes " DAYS")
 
 abbrev pub allow_text : List Column → Name → Name → Name → List Place → Option Name → Option ℕ → Txt
 allow_text columns purpose recipient table places item days =
-    codes "ALLOW " ++ (rule_text columns purpose recipient table places ++ (with_text item ++ retention_text days))
+    codes "ALLOW " ++ (rule_text columns purpose recipient table places
+    ++ (with_text item ++ retention_text days))
 
 abbrev pub agreed_text : Bool → Txt
 agreed_text true = codes " IS YES"
@@ -147,8 +154,8 @@ columns_of schema = option_map_or (λ known. known.columns) schema []
 abbrev pub key_places : Option Schema → List Place
 key_places schema = option_map_or (λ known. known.key) schema []
 
--- the statement that an act came of, where this is the schema of the table that it names; a question by its user,
--- purpose, recipient and text
+-- the statement that an act came of, where this is the schema of the table that it names; a
+-- question by its user, purpose, recipient and text
 abbrev pub told_act : Option Schema → Act → Txt
 told_act schema (Create made) = create_text made
 told_act schema (Insert table row) = insert_text table row
@@ -157,8 +164,10 @@ told_act schema (Delete table key) = delete_text (columns_of schema) (key_places
 told_act schema (Purpose purpose) = codes "CREATE PURPOSE " ++ purpose
 told_act schema (Recipient recipient) = codes "CREATE RECIPIENT " ++ recipient
 told_act schema (Item item kind) = item_text item kind
-told_act schema (Authorize user purpose recipient) = codes "AUTHORIZE " ++ grant_text user purpose recipient
-told_act schema (Deauthorize user purpose recipient) = codes "DEAUTHORIZE " ++ grant_text user purpose recipient
+told_act schema (Authorize user purpose recipient) =
+    codes "AUTHORIZE " ++ grant_text user purpose recipient
+told_act schema (Deauthorize user purpose recipient) =
+    codes "DEAUTHORIZE " ++ grant_text user purpose recipient
 told_act schema (Allow purpose recipient table places item days) =
     allow_text (columns_of schema) purpose recipient table places item days
 told_act schema (Revoke purpose recipient table places) =
@@ -177,7 +186,8 @@ table_named act = None
 
 -- its schema, as the entry found it
 abbrev pub schema_before : History → Entry → Option Schema
-schema_before history entry = option_and_then (schema_at (before_entry entry history)) (table_named entry.act)
+schema_before history entry =
+    option_and_then (schema_at (before_entry entry history)) (table_named entry.act)
 
 -- an entry by its number and moment, and the statement
 abbrev pub entry_line : Option Schema → Entry → Txt

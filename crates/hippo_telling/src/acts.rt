@@ -31,7 +31,8 @@ fn key_places(schema: Option<&Schema>) -> &[usize]
     }
 }
 
-/// The table whose columns an act names by their places, or whose rows it changes: `tell_act` needs its schema.
+/// The table whose columns an act names by their places, or whose rows it changes: `tell_act` needs
+/// its schema.
 pub fn table_named(act: &Act) -> Option<&Name>
     ensures { option_copied result ≡ table_named act.now }
 {
@@ -116,10 +117,11 @@ fn append_act<const ROOM: usize>(
     }
 }
 
-/// Adds the statement that an act came of, in the language's own spelling: the schema is that of the table that the act
-/// names (`table_named`), as the act found it. An UPDATE sets every column that is none of the key's, so its text may be
-/// longer than the line that made it, and than a line may be. A question is told by its user, purpose, recipient and
-/// text. The text is unchanged where memory is short.
+/// Adds the statement that an act came of, in the language's own spelling: the schema is that of
+/// the table that the act names (`table_named`), as the act found it. An UPDATE sets every column
+/// that is none of the key's, so its text may be longer than the line that made it, and than a line
+/// may be. A question is told by its user, purpose, recipient and text. The text is unchanged where
+/// memory is short.
 pub fn tell_act<const ROOM: usize>(
     alloc: Global,
     schema: Option<&Schema>,

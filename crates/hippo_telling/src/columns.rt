@@ -64,7 +64,8 @@ fn append_names<const ROOM: usize>(
     append_joined(&ColumnNames { columns }, ", ", places, out)
 }
 
-/// Adds the names of the columns at some places, with commas between them, and what stands before and behind them.
+/// Adds the names of the columns at some places, with commas between them, and what stands before
+/// and behind them.
 pub fn append_listed<const ROOM: usize>(
     before: &str,
     columns: &[Column],
@@ -72,7 +73,8 @@ pub fn append_listed<const ROOM: usize>(
     behind: &str,
     out: &mut RoomyTxt<ROOM>,
 ) -> Result<(), Memory>
-    ensures ok { OnOk result (out.new ≡ out.old ++ (before.now ++ (names_text columns.now places.now ++ behind.now))) }
+    ensures ok { OnOk result (out.new ≡ out.old
+        ++ (before.now ++ (names_text columns.now places.now ++ behind.now))) }
     ensures err { OnErr result (KeepsFront out.old out.new) }
 {
     out.append(before)?;

@@ -26,7 +26,8 @@ fn append_entry<const ROOM: usize>(
     entry: &Entry,
     out: &mut RoomyTxt<ROOM>,
 ) -> Result<(), Memory>
-    ensures ok { OnOk result (out.new ≡ out.old ++ entry_line (option_copied schema.entry) entry.now) }
+    ensures ok { OnOk result (out.new ≡ out.old
+        ++ entry_line (option_copied schema.entry) entry.now) }
     ensures err { OnErr result (KeepsFront out.old out.new) }
 {
     out.append(Buffer::new().format(entry.seq))?;
@@ -37,16 +38,18 @@ fn append_entry<const ROOM: usize>(
     out.append("\n")
 }
 
-/// Adds an entry as a line: its number, its moment, and the statement that it came of as `tell_act` tells it. For an
-/// entry of a history this is `told_entry`, where the schema is that of the table that the act names, as the entries
-/// before it have it. The text is unchanged where memory is short.
+/// Adds an entry as a line: its number, its moment, and the statement that it came of as `tell_act`
+/// tells it. For an entry of a history this is `told_entry`, where the schema is that of the table
+/// that the act names, as the entries before it have it. The text is unchanged where memory is
+/// short.
 pub fn entry_line<const ROOM: usize>(
     alloc: Global,
     schema: Option<&Schema>,
     entry: &Entry,
     out: &mut RoomyTxt<ROOM>,
 ) -> Result<(), Memory>
-    ensures ok { OnOk result (out.new ≡ out.old ++ entry_line (option_copied schema.entry) entry.now) }
+    ensures ok { OnOk result (out.new ≡ out.old
+        ++ entry_line (option_copied schema.entry) entry.now) }
     ensures err { OnErr result (out.new ≡ out.old) }
 {
     let length = out.as_str().len();

@@ -1,7 +1,7 @@
 //! Lists with a separator between their members.
 ghost use Rattle.std.specs.Prelude.{◌≡◌, ◌++◌, flat_map, OnOk, OnErr};
 ghost use Rattle.hippo_values.specs.Printing.{KeepsFront};
-ghost use Rattle.hippo_report.specs.Cells.{joined};
+ghost use Rattle.hippo_report.specs.Cells.{separated_text};
 
 use hippo_values::{Memory, RoomyTxt};
 
@@ -25,7 +25,8 @@ fn append_later<const ROOM: usize, T, S: Spelling<T, ROOM>>(
     out: &mut RoomyTxt<ROOM>,
 ) -> Result<(), Memory>
     ensures ok { OnOk result
-        (out.new ≡ out.old ++ flat_map (λ member. separator.now ++ S.text spelling.now member) rest.now) }
+        (out.new ≡ out.old ++ flat_map (λ member. separator.now ++ S.text spelling.now member)
+        rest.now) }
     ensures err { OnErr result (KeepsFront out.old out.new) }
 {
     for member in rest {
@@ -42,7 +43,8 @@ pub fn append_joined<const ROOM: usize, T, S: Spelling<T, ROOM>>(
     members: &[T],
     out: &mut RoomyTxt<ROOM>,
 ) -> Result<(), Memory>
-    ensures ok { OnOk result (out.new ≡ out.old ++ joined (S.text spelling.now) separator.now members.now) }
+    ensures ok { OnOk result (out.new ≡ out.old
+        ++ separated_text (S.text spelling.now) separator.now members.now) }
     ensures err { OnErr result (KeepsFront out.old out.new) }
 {
     let Some((first, rest)) = members.split_first() else {

@@ -8,7 +8,8 @@ use crate::joining::{Spelling, append_joined};
 use hippo_values::{DayNumber, Memory, RoomyTxt, Value, day_text, print_value};
 
 fn append_day<const ROOM: usize>(day: DayNumber, out: &mut RoomyTxt<ROOM>) -> Result<(), Memory>
-    ensures ok { OnOk result (out.new ≡ out.old ++ (codes "DATE '" ++ (day_text day ++ codes "'"))) }
+    ensures ok { OnOk result (out.new ≡ out.old
+        ++ (codes "DATE '" ++ (day_text day ++ codes "'"))) }
     ensures err { OnErr result (KeepsFront out.old out.new) }
 {
     match str::from_utf8(&day_text(day)) {
@@ -21,8 +22,8 @@ fn append_day<const ROOM: usize>(day: DayNumber, out: &mut RoomyTxt<ROOM>) -> Re
     }
 }
 
-/// Adds a value as a literal: `NULL`, a decimal number, a text between quotes with each quote in it doubled, or a day as
-/// `DATE 'YYYY-MM-DD'`.
+/// Adds a value as a literal: `NULL`, a decimal number, a text between quotes with each quote in it
+/// doubled, or a day as `DATE 'YYYY-MM-DD'`.
 pub fn append_literal<const ROOM: usize>(
     value: &Value,
     out: &mut RoomyTxt<ROOM>,

@@ -19,7 +19,8 @@ fn append_cell<const ROOM: usize>(
     place: usize,
     out: &mut RoomyTxt<ROOM>,
 ) -> Result<(), Memory>
-    ensures ok { OnOk result (out.new ≡ out.old ++ assigned_text columns.now place (cell_at row.now place)) }
+    ensures ok { OnOk result (out.new ≡ out.old
+        ++ assigned_text columns.now place (cell_at row.now place)) }
     ensures err { OnErr result (KeepsFront out.old out.new) }
 {
     match row.get(place) {
@@ -39,7 +40,8 @@ impl<'a, const ROOM: usize> Spelling<usize, ROOM> for RowCells<'a> {
     ghost use Rattle.hippo_model.specs.Rows.{cell_at};
     ghost use Rattle.hippo_telling.specs.Telling.{assigned_text};
 
-    ghost text = { λ cells place. assigned_text cells.columns.now place (cell_at cells.row.now place) };
+    ghost text = { λ cells place. assigned_text cells.columns.now place
+        (cell_at cells.row.now place) };
 
     fn spell(&self, place: &usize, out: &mut RoomyTxt<ROOM>) -> Result<(), Memory> {
         append_cell(self.columns, self.row, *place, out)
@@ -53,7 +55,8 @@ fn append_cells<const ROOM: usize>(
     places: &[usize],
     out: &mut RoomyTxt<ROOM>,
 ) -> Result<(), Memory>
-    ensures ok { OnOk result (out.new ≡ out.old ++ row_text columns.now row.now separator.now places.now) }
+    ensures ok { OnOk result (out.new ≡ out.old
+        ++ row_text columns.now row.now separator.now places.now) }
     ensures err { OnErr result (KeepsFront out.old out.new) }
 {
     append_joined(&RowCells { columns, row }, separator, places, out)
@@ -66,7 +69,8 @@ fn append_pair<const ROOM: usize>(
     value: &Value,
     out: &mut RoomyTxt<ROOM>,
 ) -> Result<(), Memory>
-    ensures ok { OnOk result (out.new ≡ out.old ++ (separator.now ++ assigned_text columns.now place value.now)) }
+    ensures ok { OnOk result (out.new ≡ out.old
+        ++ (separator.now ++ assigned_text columns.now place value.now)) }
     ensures err { OnErr result (KeepsFront out.old out.new) }
 {
     out.append(separator)?;
@@ -81,7 +85,8 @@ fn append_key_later<const ROOM: usize>(
     out: &mut RoomyTxt<ROOM>,
 ) -> Result<(), Memory>
     ensures ok { OnOk result (out.new ≡ out.old ++ flat_map
-        (λ pair. separator.now ++ assigned_text columns.now pair.0 pair.1) (zip places.now values.now)) }
+        (λ pair. separator.now ++ assigned_text columns.now pair.0 pair.1)
+        (zip places.now values.now)) }
     ensures err { OnErr result (KeepsFront out.old out.new) }
 {
     for (place, value) in places.iter().zip(values) {
@@ -141,7 +146,8 @@ fn append_values<const ROOM: usize>(
     behind: &str,
     out: &mut RoomyTxt<ROOM>,
 ) -> Result<(), Memory>
-    ensures ok { OnOk result (out.new ≡ out.old ++ (before.now ++ (literals_text row.now ++ behind.now))) }
+    ensures ok { OnOk result (out.new ≡ out.old
+        ++ (before.now ++ (literals_text row.now ++ behind.now))) }
     ensures err { OnErr result (KeepsFront out.old out.new) }
 {
     out.append(before)?;
@@ -158,7 +164,8 @@ fn append_inserted<const ROOM: usize>(
     out: &mut RoomyTxt<ROOM>,
 ) -> Result<(), Memory>
     ensures ok { OnOk result (out.new
-        ≡ out.old ++ (words.now ++ (table.now ++ (before.now ++ (literals_text row.now ++ behind.now))))) }
+        ≡ out.old ++ (words.now ++ (table.now
+        ++ (before.now ++ (literals_text row.now ++ behind.now))))) }
     ensures err { OnErr result (KeepsFront out.old out.new) }
 {
     append_named(words, table, out)?;
@@ -214,7 +221,8 @@ pub fn append_update<const ROOM: usize>(
     row: &Cells,
     out: &mut RoomyTxt<ROOM>,
 ) -> Result<(), Memory>
-    ensures ok { OnOk result (out.new ≡ out.old ++ update_text columns.now key.now table.now row.now) }
+    ensures ok { OnOk result (out.new ≡ out.old
+        ++ update_text columns.now key.now table.now row.now) }
     ensures err { OnErr result (KeepsFront out.old out.new) }
 {
     let places = set_places(alloc, columns.len(), key)?;
@@ -230,7 +238,8 @@ fn append_keyed<const ROOM: usize>(
     key: &[Value],
     out: &mut RoomyTxt<ROOM>,
 ) -> Result<(), Memory>
-    ensures ok { OnOk result (out.new ≡ out.old ++ (before.now ++ key_text columns.now places.now key.now)) }
+    ensures ok { OnOk result (out.new ≡ out.old
+        ++ (before.now ++ key_text columns.now places.now key.now)) }
     ensures err { OnErr result (KeepsFront out.old out.new) }
 {
     out.append(before)?;
@@ -247,7 +256,8 @@ fn append_deleted<const ROOM: usize>(
     out: &mut RoomyTxt<ROOM>,
 ) -> Result<(), Memory>
     ensures ok { OnOk result (out.new
-        ≡ out.old ++ (words.now ++ (table.now ++ (before.now ++ key_text columns.now places.now key.now)))) }
+        ≡ out.old ++ (words.now ++ (table.now
+        ++ (before.now ++ key_text columns.now places.now key.now)))) }
     ensures err { OnErr result (KeepsFront out.old out.new) }
 {
     append_named(words, table, out)?;
@@ -262,7 +272,8 @@ pub fn append_delete<const ROOM: usize>(
     key: &Cells,
     out: &mut RoomyTxt<ROOM>,
 ) -> Result<(), Memory>
-    ensures ok { OnOk result (out.new ≡ out.old ++ delete_text columns.now places.now table.now key.now) }
+    ensures ok { OnOk result (out.new ≡ out.old
+        ++ delete_text columns.now places.now table.now key.now) }
     ensures err { OnErr result (KeepsFront out.old out.new) }
 {
     append_deleted(

@@ -50,7 +50,8 @@ pub fn append_grant<const ROOM: usize>(
     recipient: &Name,
     out: &mut RoomyTxt<ROOM>,
 ) -> Result<(), Memory>
-    ensures ok { OnOk result (out.new ≡ out.old ++ (word.now ++ grant_text user.now purpose.now recipient.now)) }
+    ensures ok { OnOk result (out.new ≡ out.old
+        ++ (word.now ++ grant_text user.now purpose.now recipient.now)) }
     ensures err { OnErr result (KeepsFront out.old out.new) }
 {
     append_named(word, user, out)?;
@@ -74,7 +75,8 @@ pub fn append_rule<const ROOM: usize>(
     rule: &Rule<'_>,
     out: &mut RoomyTxt<ROOM>,
 ) -> Result<(), Memory>
-    ensures ok { OnOk result (out.new ≡ out.old ++ (word.now ++ rule_text columns.now rule.now.purpose.now
+    ensures ok { OnOk result (out.new ≡ out.old
+        ++ (word.now ++ rule_text columns.now rule.now.purpose.now
         rule.now.recipient.now rule.now.table.now rule.now.places.now)) }
     ensures err { OnErr result (KeepsFront out.old out.new) }
 {
@@ -125,7 +127,8 @@ pub fn append_allow<const ROOM: usize>(
     out: &mut RoomyTxt<ROOM>,
 ) -> Result<(), Memory>
     ensures ok { OnOk result (out.new ≡ out.old ++ allow_text columns.now rule.now.purpose.now
-        rule.now.recipient.now rule.now.table.now rule.now.places.now (option_copied item.entry) days) }
+        rule.now.recipient.now rule.now.table.now rule.now.places.now (option_copied item.entry)
+        days) }
     ensures err { OnErr result (KeepsFront out.old out.new) }
 {
     append_rule("ALLOW ", columns, rule, out)?;
@@ -163,7 +166,8 @@ pub fn append_asked<const ROOM: usize>(
     text: &Txt,
     out: &mut RoomyTxt<ROOM>,
 ) -> Result<(), Memory>
-    ensures ok { OnOk result (out.new ≡ out.old ++ asked_text user.now purpose.now recipient.now text.now) }
+    ensures ok { OnOk result (out.new ≡ out.old
+        ++ asked_text user.now purpose.now recipient.now text.now) }
     ensures err { OnErr result (KeepsFront out.old out.new) }
 {
     append_named("", user, out)?;

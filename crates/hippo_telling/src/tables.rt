@@ -1,8 +1,8 @@
 //! Tables that are created.
 ghost use Rattle.std.specs.Prelude.{◌≡◌, ◌++◌, OnOk, OnErr};
 ghost use Rattle.hippo_values.specs.Printing.{KeepsFront};
-ghost use Rattle.hippo_report.specs.Cells.{joined, comma};
-ghost use Rattle.hippo_telling.specs.Telling.{kind_text, not_null_text, column_text, names_text, subject_text, create_text};
+ghost use Rattle.hippo_report.specs.Cells.{separated_text, comma};
+ghost use Rattle.hippo_telling.specs.Telling.{kind_text, not_null_text, column_definition, names_text, subject_text, create_text};
 
 use crate::columns::{append_listed, append_name, append_named};
 use crate::joining::{Spelling, append_joined};
@@ -26,7 +26,7 @@ fn not_null_text(not_null: bool) -> &'static str
 }
 
 fn append_column<const ROOM: usize>(column: &Column, out: &mut RoomyTxt<ROOM>) -> Result<(), Memory>
-    ensures ok { OnOk result (out.new ≡ out.old ++ column_text column.now) }
+    ensures ok { OnOk result (out.new ≡ out.old ++ column_definition column.now) }
     ensures err { OnErr result (KeepsFront out.old out.new) }
 {
     out.append(column.name.as_str())?;
@@ -39,9 +39,9 @@ fn append_column<const ROOM: usize>(column: &Column, out: &mut RoomyTxt<ROOM>) -
 struct ColumnDefinitions;
 
 impl<const ROOM: usize> Spelling<Column, ROOM> for ColumnDefinitions {
-    ghost use Rattle.hippo_telling.specs.Telling.{column_text};
+    ghost use Rattle.hippo_telling.specs.Telling.{column_definition};
 
-    ghost text = { λ definitions column. column_text column };
+    ghost text = { λ definitions column. column_definition column };
 
     fn spell(&self, column: &Column, out: &mut RoomyTxt<ROOM>) -> Result<(), Memory> {
         append_column(column, out)
@@ -52,7 +52,8 @@ fn append_definitions<const ROOM: usize>(
     columns: &[Column],
     out: &mut RoomyTxt<ROOM>,
 ) -> Result<(), Memory>
-    ensures ok { OnOk result (out.new ≡ out.old ++ joined column_text comma columns.now) }
+    ensures ok { OnOk result (out.new ≡ out.old
+        ++ separated_text column_definition comma columns.now) }
     ensures err { OnErr result (KeepsFront out.old out.new) }
 {
     append_joined(&ColumnDefinitions, ", ", columns, out)
@@ -83,7 +84,8 @@ fn append_head<const ROOM: usize>(
     out: &mut RoomyTxt<ROOM>,
 ) -> Result<(), Memory>
     ensures ok { OnOk result (out.new
-        ≡ out.old ++ (words.now ++ (table.now ++ (before.now ++ joined column_text comma columns.now)))) }
+        ≡ out.old ++ (words.now ++ (table.now
+        ++ (before.now ++ separated_text column_definition comma columns.now)))) }
     ensures err { OnErr result (KeepsFront out.old out.new) }
 {
     append_named(words, table, out)?;
@@ -112,8 +114,9 @@ fn append_created<const ROOM: usize>(
     end: &str,
     out: &mut RoomyTxt<ROOM>,
 ) -> Result<(), Memory>
-    ensures ok { OnOk result (out.new ≡ out.old ++ (words.now ++ (schema.now.name ++ (before_columns.now
-        ++ (joined column_text comma schema.now.columns ++ (before_key.now
+    ensures ok { OnOk result (out.new ≡ out.old
+        ++ (words.now ++ (schema.now.name ++ (before_columns.now
+        ++ (separated_text column_definition comma schema.now.columns ++ (before_key.now
         ++ (names_text schema.now.columns schema.now.key ++ (end.now
         ++ (subject_text schema.now.columns schema.now.subject ++ end.now))))))))) }
     ensures err { OnErr result (KeepsFront out.old out.new) }

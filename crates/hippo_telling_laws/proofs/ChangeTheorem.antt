@@ -23,14 +23,14 @@ use Rattle.hippo_model.specs.Rows.{cell_at, key_of}
 use Rattle.hippo_model.specs.Terms.{Key, Place, Row}
 use Rattle.hippo_spj_reader.specs.Front.{Kinds}
 use Rattle.hippo_spj_reader.specs.ListGrammar.{IsListOf}
-use Rattle.hippo_stmt_reader.specs.StatementGrammar.{IsAssignment, columns_of, values_of, update}
-use Rattle.hippo_tables.specs.Finished.{written}
+use Rattle.hippo_stmt_reader.specs.StatementGrammar.{IsAssignment, assigned_columns, assigned_values, update}
+use Rattle.hippo_tables.specs.Finished.{written_row}
 use Rattle.hippo_report.specs.Cells.{comma}
 use Rattle.hippo_telling.specs.Telling.{name_at, assigned_text, row_text, is_set, set_places}
 use Rattle.hippo_telling_laws.specs.TellingLaws.{ReadsAs, UpdatesReadBack}
 use Rattle.hippo_telling_laws.proofs.SayingLemmas.{Says, says-blank, says-word, says-name_first, says-nothing}
 use Rattle.hippo_telling_laws.proofs.SpellingLemmas.{EndsLiteral, says-comma, and-word, set-word, update-word, where-word}
-use Rattle.hippo_telling_laws.proofs.ListLemmas.{SaysSeparator, later_said, says-joined, list-read}
+use Rattle.hippo_telling_laws.proofs.ListLemmas.{SaysSeparator, later_said, says-separated_text, list-read}
 use Rattle.hippo_telling_laws.proofs.FitLemmas.{is_calm, front-fit}
 use Rattle.hippo_telling_laws.proofs.NamePlaces.{all_within, places_again, names_folded}
 use Rattle.hippo_telling_laws.proofs.ReadingTheorem.{console-reads}
@@ -62,12 +62,12 @@ module _ (columns : List Column) (row : Row) where
       and_from _ _ (and_from _ _ names.0 (kept place)) (cells-fit places names.1 kept)
 
   names-are : (places : List Place) → map (name_at columns) places
-      ≡ columns_of (map cell_meant places)
+      ≡ assigned_columns (map cell_meant places)
   names-are [] = refl
   names-are (place ∷ places) =
       ap (λ (names : List Name). name_at columns place ∷ names) (names-are places)
 
-  cells-are : (places : List Place) → map (cell_at row) places ≡ values_of (map cell_meant places)
+  cells-are : (places : List Place) → map (cell_at row) places ≡ assigned_values (map cell_meant places)
   cells-are [] = refl
   cells-are (place ∷ places) = ap (λ (cells : Row). cell_at row place ∷ cells) (cells-are places)
 
@@ -83,7 +83,7 @@ module _ (columns : List Column) (row : Row) where
         → Says (row_text columns row separator (place ∷ places) ++ rest)
         (cell_said place ++ cells_later places said)
     cells-say says-separator ends-separator place places rest said fit ends more =
-        says-joined cell_text cell_said cell_meant cell_fits EndsLiteral separator kind
+        says-separated_text cell_text cell_said cell_meant cell_fits EndsLiteral separator kind
         (λ one behind said fit ends more. pair-says columns (one, cell_at row one) behind said fit
         ends more) says-separator ends-separator
         place places rest said fit ends more
@@ -228,13 +228,13 @@ same_cells_at (first ∷ key) old row place same there = elim (cases_Bool (nat_e
 ]
 
 -- a row is again what it was made of by setting values
-pub written-again : (places : List Place) (row old : Row) → length old ≡ length row
+pub written_row-again : (places : List Place) (row old : Row) → length old ≡ length row
     → ((place : Place) → place < length row → list_any (nat_eq place) places ≡ false
-    → cell_at old place ≡ cell_at row place) → written places (map (cell_at row) places) old ≡ row
-written-again [] row old size same =
+    → cell_at old place ≡ cell_at row place) → written_row places (map (cell_at row) places) old ≡ row
+written_row-again [] row old size same =
     ext_get_or Null old row size (λ place small. same place (omega (arith, size, small)) refl)
-written-again (place ∷ places) row old size same =
-    written-again places row (slice_set old place (cell_at row place))
+written_row-again (place ∷ places) row old size same =
+    written_row-again places row (slice_set old place (cell_at row place))
     (length-set old place (cell_at row place) ∙ size)
     (λ other small none. elim (cases_Bool (nat_eq other place)) [
       | inl is ↦
@@ -271,8 +271,8 @@ updates_read_back history schema table row old rule differ some is kept there =
     let again =
     key-again schema key key_places differ (sym (length-map schema.key (cell_at row))) in
     let set_again = places_again schema sets rule.differ within in
-    let made : written sets (map (cell_at row) sets) old ≡ row =
-    written-again sets row old (there.old_size ∙ sym there.size)
+    let made : written_row sets (map (cell_at row) sets) old ≡ row =
+    written_row-again sets row old (there.old_size ∙ sym there.size)
     (λ place small none. same_cells_at schema.key old row place there.same
     (unset columns schema.key place (omega (arith, small, there.size)) none)) in
     record {

@@ -27,8 +27,8 @@ use Rattle.hippo_model.specs.Versions.{is_live, key_fits, row_fits, version_fits
 use Rattle.hippo_model.proofs.Orders.{same_exact}
 use Rattle.hippo_laws.proofs.ValidFronts.{entries_before, front_is_valid}
 use Rattle.hippo_catalog.specs.Catalogs.{KnownNames, known_at, table_of}
-use Rattle.hippo_catalog.specs.ChangesRefused.{count_refused, create_refused, delete_refused, in_table, insert_refused, item_refused, kind_refused, null_refused, rule_refused, subject_refused, text_refused, unknown_columns, unknown_item_if_any, update_refused}
-use Rattle.hippo_catalog.specs.Refusals.{refused, unknown_item, unknown_pair, unknown_table}
+use Rattle.hippo_catalog.specs.ChangesRefused.{count_refused, create_refused, delete_refused, in_table, insert_refused, rule_item_refused, kind_refused, null_refused, rule_refused, subject_refused, text_refused, unknown_columns, unknown_item_if_any, update_refused}
+use Rattle.hippo_catalog.specs.Refusals.{fault_if, unknown_item, unknown_pair, unknown_table}
 use Rattle.hippo_tables.specs.Finished.{live_number, live_row}
 use Rattle.hippo_telling.specs.Telling.{is_set, name_at, schema_before, set_places, table_named}
 use Rattle.hippo_typing.specs.ResolutionLaws.{NamesAreThoseOf}
@@ -335,7 +335,7 @@ module _ (meaning : Meaning) (before : History) (valid : is_valid meaning before
         (none_unknown schema sound.differ places outer.1)
 
     item-passes : (item : Option Name) → item_fits before table item ≡ true
-        → item_refused item schema ≡ []
+        → rule_item_refused item schema ≡ []
     item-passes None fit = refl
     item-passes (Some item) fit =
         let named =
@@ -376,7 +376,7 @@ module _ (meaning : Meaning) (before : History) (valid : is_valid meaning before
         ∙ fit in
         let integer = (and_parts found.column.not_null (is_integer found.column.kind) passes).1 in
         none_and (in_column_none (draft schema sound) sound.differ place found.column
-        (λ (column : Column). refused (not (is_integer column.kind)) TypeMismatch) small found.at
+        (λ (column : Column). fault_if (not (is_integer column.kind)) TypeMismatch) small found.at
         (refused_not _ TypeMismatch (not_from_true _ integer))) refl
 
     create-passes : create_fits before schema ≡ true → length schema.columns ≤ 64
@@ -473,7 +473,7 @@ module _ (meaning : Meaning) (before : History) (valid : is_valid meaning before
             (none-in_table table made.what made.is
             (rule_refused (names_at made.what (sound table made.what made.is).differ places))
             (rule-passes table made.what made.is places made.fits)))
-            (none-in_table table made.what made.is (item_refused item)
+            (none-in_table table made.what made.is (rule_item_refused item)
             (item-passes table made.what made.is item with_item));
       })
   act-again (Revoke purpose recipient table places) kept fit stated =

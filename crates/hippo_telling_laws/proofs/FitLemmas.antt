@@ -6,34 +6,34 @@ use Rattle.std.proofs.lemmas.Bool.{and_parts, and_from}
 use Rattle.std.proofs.lemmas.List.{take-append-drop}
 use Rattle.std.proofs.lemmas.List.Folds.{list_any-append}
 use Rattle.std.proofs.lemmas.List.Sums.{sum_by-cons, sum_by-append}
-use Rattle.hippo_lexer.specs.Words.{opens, negates, is_unsupported}
+use Rattle.hippo_lexer.specs.Words.{is_left_paren, negates, is_unsupported}
 use Rattle.hippo_lexer.specs.declared.kinds.TokenKind.{TokenKind}
 use Rattle.hippo_spj_reader.specs.Front.{Kinds}
 use Rattle.hippo_reading_laws.proofs.FitWords.{AreFit}
 
 -- words with few parentheses and few NOT are fit to be read
-pub few-fit : (said : Kinds) → count_by opens said ≤ 64 → count_by negates said ≤ 64
+pub few-fit : (said : Kinds) → count_by is_left_paren said ≤ 64 → count_by negates said ≤ 64
     → list_any is_unsupported said ≡ false → AreFit said
 few-fit said opened negated supported = record {
   level = λ n small.
-      let parts : count_by opens said ≡ count_by opens (take n said) + count_by opens
+      let parts : count_by is_left_paren said ≡ count_by is_left_paren (take n said) + count_by is_left_paren
       (drop n said) =
-      ap (count_by opens) (sym (take-append-drop n said))
-      ∙ sum_by-append (λ (k : TokenKind). cond (opens k) 1 0) (take n said) (drop n said) in
+      ap (count_by is_left_paren) (sym (take-append-drop n said))
+      ∙ sum_by-append (λ (k : TokenKind). cond (is_left_paren k) 1 0) (take n said) (drop n said) in
       omega (arith, parts, opened);
   few = negated;
   supported = supported;
 }
 
 -- words without any
-pub flat-fit : (said : Kinds) → count_by opens said ≡ 0 → count_by negates said ≡ 0
+pub flat-fit : (said : Kinds) → count_by is_left_paren said ≡ 0 → count_by negates said ≡ 0
     → list_any is_unsupported said ≡ false → AreFit said
 flat-fit said opened negated supported =
     few-fit said (omega (arith, opened)) (omega (arith, negated)) supported
 
 -- neither `(` nor NOT, and no word that is refused
 abbrev pub is_calm : TokenKind → Bool
-is_calm kind = not (opens kind) && not (negates kind) && not (is_unsupported kind)
+is_calm kind = not (is_left_paren kind) && not (negates kind) && not (is_unsupported kind)
 
 pub passed : (test : TokenKind → Bool) (kind : TokenKind) → test kind ≡ false → (said : Kinds)
     → count_by test (kind ∷ said) ≡ count_by test said
@@ -46,22 +46,22 @@ fails true is = absurd cc
 fails false is = refl
 
 pub calm-fits : (said : Kinds) → list_all is_calm said ≡ true
-    → (count_by opens said ≡ 0) × (count_by negates said ≡ 0) × (list_any is_unsupported said
+    → (count_by is_left_paren said ≡ 0) × (count_by negates said ≡ 0) × (list_any is_unsupported said
     ≡ false)
 calm-fits [] calm = (refl, refl, refl)
 calm-fits (kind ∷ said) calm =
     let both = and_parts (is_calm kind) (list_all is_calm said) calm in
-    let two = and_parts (not (opens kind) && not (negates kind)) (not (is_unsupported kind))
+    let two = and_parts (not (is_left_paren kind) && not (negates kind)) (not (is_unsupported kind))
     both.0 in
-    let one = and_parts (not (opens kind)) (not (negates kind)) two.0 in
+    let one = and_parts (not (is_left_paren kind)) (not (negates kind)) two.0 in
     let later = calm-fits said both.1 in (
-      passed opens kind (fails (opens kind) one.0) said ∙ later.0,
+      passed is_left_paren kind (fails (is_left_paren kind) one.0) said ∙ later.0,
       passed negates kind (fails (negates kind) one.1) said ∙ later.1,
       rw (fails (is_unsupported kind) two.1) later.2,
     )
 
 -- a front with few of them, and then none
-pub front-fit : (front said : Kinds) (opened : ℕ) → count_by opens front ≡ opened → opened ≤ 64
+pub front-fit : (front said : Kinds) (opened : ℕ) → count_by is_left_paren front ≡ opened → opened ≤ 64
     → count_by negates front ≡ 0 → list_any is_unsupported front ≡ false → list_all is_calm said
     ≡ true → AreFit (front ++ said)
 front-fit front said opened count few negated supported calm =
@@ -69,7 +69,7 @@ front-fit front said opened count few negated supported calm =
     few-fit (front ++ said)
     (omega (
       arith,
-      sum_by-append (λ (k : TokenKind). cond (opens k) 1 0) front said,
+      sum_by-append (λ (k : TokenKind). cond (is_left_paren k) 1 0) front said,
       none.0,
       count,
       few,

@@ -20,15 +20,15 @@ use Rattle.hippo_model.specs.Keepable.{is_folded_name, value_is_keepable}
 use Rattle.hippo_model.specs.Terms.{Key, Place}
 use Rattle.hippo_model.specs.Validity.{all_differ}
 use Rattle.hippo_spj_reader.specs.Front.{Kinds}
-use Rattle.hippo_stmt_reader.specs.StatementGrammar.{IsAssignment, AreKeys, assignment, columns_of, values_of, delete}
-use Rattle.hippo_catalog.specs.ChangesRefused.{places_of}
+use Rattle.hippo_stmt_reader.specs.StatementGrammar.{IsAssignment, AreKeys, assignment, assigned_columns, assigned_values, delete}
+use Rattle.hippo_catalog.specs.ChangesRefused.{places_named}
 use Rattle.hippo_catalog.specs.ChangesWanted.{key_written}
-use Rattle.hippo_report.specs.Cells.{joined}
+use Rattle.hippo_report.specs.Cells.{separated_text}
 use Rattle.hippo_telling.specs.Telling.{name_at, assigned_text, key_text, delete_text, literal_text}
 use Rattle.hippo_telling_laws.specs.TellingLaws.{ReadsAs, DeletesReadBack}
 use Rattle.hippo_telling_laws.proofs.SayingLemmas.{Says, says-blank, says-word, says-name_first, says-nothing}
 use Rattle.hippo_telling_laws.proofs.SpellingLemmas.{EndsLiteral, literal_said, says-literal, literal-is, says-equal, and-word, delete-word, from-word, where-word}
-use Rattle.hippo_telling_laws.proofs.ListLemmas.{later_said, says-joined, list-read}
+use Rattle.hippo_telling_laws.proofs.ListLemmas.{later_said, says-separated_text, list-read}
 use Rattle.hippo_telling_laws.proofs.FitLemmas.{is_calm, calm-append, front-fit}
 use Rattle.hippo_telling_laws.proofs.NamePlaces.{places_again, names_folded}
 use Rattle.hippo_telling_laws.proofs.ReadingTheorem.{console-reads}
@@ -73,10 +73,10 @@ module _ (columns : List Column) where
 
   pub pairs-say : (pair : Assigned) (pairs : List Assigned) (rest : Txt) (said : Kinds)
       → list_all pair_fits (pair ∷ pairs) ≡ true → EndsLiteral rest → Says rest said →
-      Says (joined pair_text conjunction (pair ∷ pairs) ++ rest)
+      Says (separated_text pair_text conjunction (pair ∷ pairs) ++ rest)
       (pair_said pair ++ pairs_later pairs said)
   pairs-say pair pairs rest said fit ends more =
-      says-joined pair_text pair_said pair_meant pair_fits EndsLiteral conjunction
+      says-separated_text pair_text pair_said pair_meant pair_fits EndsLiteral conjunction
       (Keyword KAnd) pair-says
       (λ behind said more. says-blank (codes "AND " ++ behind) _
       (says-word (codes "AND") behind KAnd said and-word more)) (λ behind. (refl, refl))
@@ -103,7 +103,7 @@ module _ (columns : List Column) where
 
   -- the names and the values of a key
   pub names-of : (places : List Place) (key : Key) → length places ≡ length key
-      → columns_of (map pair_meant (zip places key)) ≡ map (name_at columns) places
+      → assigned_columns (map pair_meant (zip places key)) ≡ map (name_at columns) places
   names-of [] key size = refl
   names-of (place ∷ places) [] size = absurd (omega (arith, size))
   names-of (place ∷ places) (value ∷ key) size =
@@ -111,7 +111,7 @@ module _ (columns : List Column) where
       (names-of places key (omega (arith, size)))
 
   pub values-of : (places : List Place) (key : Key) → length places ≡ length key
-      → values_of (map pair_meant (zip places key)) ≡ key
+      → assigned_values (map pair_meant (zip places key)) ≡ key
   values-of [] [] size = refl
   values-of [] (value ∷ key) size = absurd (omega (arith, size))
   values-of (place ∷ places) [] size = absurd (omega (arith, size))
@@ -160,7 +160,7 @@ looked-up (place ∷ places) (value ∷ key) differ size =
     ∙ looked-up places key parts.1 (omega (arith, size))))
 
 pub key-again : (schema : Schema) (key : Key)
-    → places_of schema (map (name_at schema.columns) schema.key) ≡ schema.key
+    → places_named schema (map (name_at schema.columns) schema.key) ≡ schema.key
     → all_differ nat_eq schema.key ≡ true → length schema.key ≡ length key
     → key_written schema (map (name_at schema.columns) schema.key) key ≡ key
 key-again schema key again differ size =
@@ -198,7 +198,7 @@ delete-reads columns (place ∷ places) table (value ∷ key) is some size fit =
     (front-fit front tail 0 refl (omega arith) refl refl calm)
     (delete (pairs-read columns pair pairs [])
     (ap (λ (n : List Name). stmt.Delete table n (value ∷ key)) (sym names)
-    ∙ ap (λ (v : Key). stmt.Delete table (columns_of (map (pair_meant columns) (pair ∷ pairs))) v)
+    ∙ ap (λ (v : Key). stmt.Delete table (assigned_columns (map (pair_meant columns) (pair ∷ pairs))) v)
     (sym kept)))
 
 abbrev pub deletes_read_back : DeletesReadBack

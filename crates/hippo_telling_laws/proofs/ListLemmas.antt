@@ -5,7 +5,7 @@ use Rattle.std.proofs.lemmas.Bool.{and_parts}
 use Rattle.std.proofs.lemmas.List.{append_assoc}
 use Rattle.hippo_values.specs.Texts.{Txt}
 use Rattle.hippo_lexer.specs.declared.kinds.TokenKind.{TokenKind}
-use Rattle.hippo_report.specs.Cells.{joined}
+use Rattle.hippo_report.specs.Cells.{separated_text}
 use Rattle.hippo_spj_reader.specs.Front.{Kinds}
 use Rattle.hippo_spj_reader.specs.ListGrammar.{IsListOf, last_part, more_parts}
 use Rattle.hippo_telling_laws.proofs.SayingLemmas.{Says}
@@ -57,11 +57,11 @@ module _ {A X : Type 0} (text : A → Txt) (said_by : A → Kinds) (meant : A �
         (says-separator (text part ++ (later_text parts ++ rest))
         (said_by part ++ later_said parts said) first)
 
-    pub says-joined : (part : A) (parts : List A) (rest : Txt) (said : Kinds)
+    pub says-separated_text : (part : A) (parts : List A) (rest : Txt) (said : Kinds)
         → list_all fits (part ∷ parts) ≡ true → Ends rest → Says rest said
-        → Says (joined text separator (part ∷ parts) ++ rest)
+        → Says (separated_text text separator (part ∷ parts) ++ rest)
         (said_by part ++ later_said parts said)
-    says-joined part parts rest said fit ends more =
+    says-separated_text part parts rest said fit ends more =
         let each = and_parts (fits part) (list_all fits parts) fit in
         let later = says-later parts rest said each.1 ends more in
         subst (λ (t : Txt). Says t (said_by part ++ later_said parts said))

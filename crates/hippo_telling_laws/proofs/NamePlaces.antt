@@ -10,7 +10,7 @@ use Rattle.hippo_model.specs.declared.schema.Schema.{Schema}
 use Rattle.hippo_model.specs.Keepable.{is_folded_name}
 use Rattle.hippo_model.specs.Terms.{Place}
 use Rattle.hippo_model.specs.Validity.{all_differ}
-use Rattle.hippo_catalog.specs.ChangesRefused.{places_of}
+use Rattle.hippo_catalog.specs.ChangesRefused.{places_named}
 use Rattle.hippo_catalog.specs.WrittenColumns.{place_of}
 use Rattle.hippo_telling.specs.Telling.{name_at}
 
@@ -57,13 +57,13 @@ all_within columns places = list_all (λ (place : Place). nat_lt place (length c
 
 pub places_again : (schema : Schema) (places : List Place)
     → all_differ bytes_eq (column_names schema.columns) ≡ true → all_within schema.columns places
-    ≡ true → places_of schema (map (name_at schema.columns) places) ≡ places
+    ≡ true → places_named schema (map (name_at schema.columns) places) ≡ places
 places_again schema [] differ within = refl
 places_again schema (place ∷ places) differ within =
     let parts =
     and_parts (nat_lt place (length schema.columns)) (all_within schema.columns places) within in
     ap (λ (found : Option Place). cons_option found
-    (places_of schema (map (name_at schema.columns) places)))
+    (places_named schema (map (name_at schema.columns) places)))
     (place_at schema place differ (ltb-true _ _ parts.0))
     ∙ ap (λ (rest : List Place). place ∷ rest) (places_again schema places differ parts.1)
 

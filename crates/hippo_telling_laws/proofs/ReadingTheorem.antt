@@ -21,7 +21,7 @@ use Rattle.hippo_model.specs.declared.statement.Wanted.TheVariants.{Ready}
 use Rattle.hippo_model.specs.Keepable.{is_folded_name}
 use Rattle.hippo_model.specs.Terms.{History}
 use Rattle.hippo_spj_reader.specs.Front.{Kinds}
-use Rattle.hippo_stmt_reader.specs.StatementGrammar.{IsConsole, create_purpose, create_recipient, create_opt_in, create_opt_out, authorize, deauthorize, choice_yes, choice_no, nothing, console}
+use Rattle.hippo_stmt_reader.specs.StatementGrammar.{IsConsole, create_purpose, create_recipient, create_opt_in, create_opt_out, authorize, deauthorize, choice_yes, choice_no, no_semicolon, console}
 use Rattle.hippo_stmt_reader.proofs.StatementTheorem.{complete}
 use Rattle.hippo_catalog.specs.Catalogs.{known_at}
 use Rattle.hippo_catalog.specs.ChangesWanted.{wanted_by}
@@ -43,7 +43,7 @@ console-reads text said s says fit is =
       cut = cut-is 0 text (Ok cut.0) cut.1;
       words = words-fit cut.0 (subst AreFit (sym cut.2) fit);
       found = complete cut.0 s
-          (console (subst (λ (k : Kinds). IsConsole k s []) (sym cut.2) is) nothing);
+          (console (subst (λ (k : Kinds). IsConsole k s []) (sym cut.2) is) no_semicolon);
     }
 
 -- CREATE, what is created and its name

@@ -22,7 +22,7 @@ use Rattle.hippo_telling.specs.Telling.{literal_text, literals_text, insert_text
 use Rattle.hippo_telling_laws.specs.TellingLaws.{ReadsAs, InsertsReadBack}
 use Rattle.hippo_telling_laws.proofs.SayingLemmas.{Says, says-blank, says-word, says-name_first, says-nothing}
 use Rattle.hippo_telling_laws.proofs.SpellingLemmas.{EndsLiteral, literal_said, says-literal, literal-is, says-comma, says-opening, says-closing, insert-word, into-word, values-word}
-use Rattle.hippo_telling_laws.proofs.ListLemmas.{later_said, says-joined, list-read}
+use Rattle.hippo_telling_laws.proofs.ListLemmas.{later_said, says-separated_text, list-read}
 use Rattle.hippo_telling_laws.proofs.FitLemmas.{is_calm, calm-append, front-fit}
 use Rattle.hippo_telling_laws.proofs.ReadingTheorem.{console-reads}
 
@@ -53,7 +53,7 @@ others-calm (value ∷ row) =
 row-says : (value : Value) (row : Row) → list_all value_is_keepable (value ∷ row) ≡ true
     → Says (literals_text (value ∷ row) ++ codes ")") (literal_said value ++ others row)
 row-says value row kept =
-    says-joined literal_text literal_said same value_is_keepable EndsLiteral comma (Symbol Comma)
+    says-separated_text literal_text literal_said same value_is_keepable EndsLiteral comma (Symbol Comma)
     says-literal (λ rest said more. says-comma (32 ∷ rest) said (says-blank rest said more))
     (λ rest. (refl, refl))
     value row (codes ")") (Symbol RightParen ∷ []) kept (refl, refl)

@@ -30,7 +30,7 @@ use Rattle.hippo_telling.specs.Telling.{name_at, names_text, rule_text, with_tex
 use Rattle.hippo_telling_laws.specs.TellingLaws.{ReadsAs, RevokesReadBack, AllowsReadBack}
 use Rattle.hippo_telling_laws.proofs.SayingLemmas.{Says, EndsWord, says-blank, says-word, says-name, says-name_first, says-plain_word, says-nothing}
 use Rattle.hippo_telling_laws.proofs.SpellingLemmas.{says-number_first, says-comma, says-opening, says-closing, allow-word, on-word, revoke-word, to-word, with-word}
-use Rattle.hippo_telling_laws.proofs.ListLemmas.{later_said, says-joined, list-read}
+use Rattle.hippo_telling_laws.proofs.ListLemmas.{later_said, says-separated_text, list-read}
 use Rattle.hippo_telling_laws.proofs.FitLemmas.{is_calm, front-fit}
 use Rattle.hippo_telling_laws.proofs.NamePlaces.{places_again, names_folded}
 use Rattle.hippo_telling_laws.proofs.ReadingTheorem.{console-reads, three-names}
@@ -53,7 +53,7 @@ module _ (columns : List Column) where
       Says (names_text columns (place ∷ places) ++ rest)
       (name_said place ++ names_later places said)
   names-say place places rest said fit ends more =
-      says-joined (name_at columns) name_said (name_at columns) is_named EndsWord comma
+      says-separated_text (name_at columns) name_said (name_at columns) is_named EndsWord comma
       (Symbol Comma)
       (λ part behind said is ends more. says-name (name_at columns part) behind said is ends more)
       (λ behind said more. says-comma (32 ∷ behind) said (says-blank behind said more))

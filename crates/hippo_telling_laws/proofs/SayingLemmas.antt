@@ -4,8 +4,8 @@ use Rattle.std.proofs.lemmas.Bool.{and_parts, both_ways}
 use Rattle.std.proofs.lemmas.List.{append-nil}
 use Rattle.std.proofs.lemmas.Slice.Eq.{bytes_eq-Decides}
 use Rattle.std.specs.Prelude.{bytes_eq}
-use Rattle.hippo_values.specs.Names.{folded, is_name, is_word, is_word_byte, keyword_of}
-use Rattle.hippo_values.specs.Quoting.{quoted}
+use Rattle.hippo_values.specs.Names.{lower_case, is_name, is_word, is_word_byte, keyword_of}
+use Rattle.hippo_values.specs.Quoting.{quoted_text}
 use Rattle.hippo_values.specs.Texts.{Txt}
 use Rattle.hippo_values.specs.declared.keywords.Keyword as words
 use Rattle.hippo_values.specs.declared.keywords.Keyword.TheVariants.{KDate}
@@ -82,10 +82,10 @@ says-last_word word keyword spells =
 pub says-name : (name rest : Txt) (said : Kinds) → is_folded_name name ≡ true → EndsWord rest
     → Says rest said → Says (name ++ rest) (Word name ∷ said)
 says-name name rest said is ends more =
-    let parts = and_parts (is_name name) (bytes_eq (folded name) name) is in
+    let parts = and_parts (is_name name) (bytes_eq (lower_case name) name) is in
     let form = (and_parts _ _ (and_parts _ _ parts.0).0).0 in
     let whole : IsWholeWord name rest = record { form = form; ends = ends } in
-    let same : folded name ≡ name = (bytes_eq-Decides (folded name) name).0 parts.1 in
+    let same : lower_case name ≡ name = (bytes_eq-Decides (lower_case name) name).0 parts.1 in
     says-token name rest (Word name) said
     (subst (λ (word : Txt). IsToken name (Word word) rest) same (a_name name rest whole parts.0))
     more
@@ -107,16 +107,16 @@ says-sign text rest sign said is longest more =
     says-token text rest (Symbol sign) said (a_sign text rest sign is longest) more
 
 -- a text between quotes
-pub says-quoted : (text rest : Txt) (said : Kinds) → begins_with is_quote rest ≡ false
-    → Says rest said → Says (quoted text ++ rest) (Quoted text ∷ said)
-says-quoted text rest said ends more =
-    says-token (quoted text) rest (Quoted text) said
-    (a_quoted_text (quoted text) text rest refl ends) more
+pub says-quoted_text : (text rest : Txt) (said : Kinds) → begins_with is_quote rest ≡ false
+    → Says rest said → Says (quoted_text text ++ rest) (Quoted text ∷ said)
+says-quoted_text text rest said ends more =
+    says-token (quoted_text text) rest (Quoted text) said
+    (a_quoted_text (quoted_text text) text rest refl ends) more
 
 -- a word in whatever case that is no word of the language
 pub says-plain_word : (word rest : Txt) (said : Kinds) → is_name word ≡ true → EndsWord rest
-    → Says rest said → Says (word ++ rest) (Word (folded word) ∷ said)
+    → Says rest said → Says (word ++ rest) (Word (lower_case word) ∷ said)
 says-plain_word word rest said is ends more =
     let form = (and_parts _ _ (and_parts _ _ is).0).0 in
-    says-token word rest (Word (folded word)) said
+    says-token word rest (Word (lower_case word)) said
     (a_name word rest (record { form = form; ends = ends }) is) more

@@ -12,7 +12,7 @@ use Rattle.std.proofs.lemmas.Str.Parse.{digit_at}
 use Rattle.hippo_values.specs.Dates.{year_of, month_of, day_of_month, date_text, day_text}
 use Rattle.hippo_values.specs.Moments.{first_day, last_day, is_day, is_signed_number, IsSignedNumber, IsDayNumber}
 use Rattle.hippo_values.specs.Names.{keywords}
-use Rattle.hippo_values.specs.Quoting.{is_quote, doubled, quoted}
+use Rattle.hippo_values.specs.Quoting.{is_quote, doubled_quotes, quoted_text}
 use Rattle.hippo_values.specs.Texts.{Txt}
 use Rattle.hippo_values.specs.declared.values.Value.{Value}
 use Rattle.hippo_values.specs.declared.values.Value.TheVariants as values
@@ -27,7 +27,7 @@ use Rattle.hippo_spj_reader.specs.ConditionGrammar.{IsLiteral}
 use Rattle.hippo_spj_reader.specs.ConditionGrammar as literals
 use Rattle.hippo_spj_reader.specs.Front.{Kinds}
 use Rattle.hippo_telling.specs.Telling.{literal_text}
-use Rattle.hippo_telling_laws.proofs.SayingLemmas.{Says, EndsWord, Spells, says-token, says-keyword, says-quoted, says-sign, says-blank}
+use Rattle.hippo_telling_laws.proofs.SayingLemmas.{Says, EndsWord, Spells, says-token, says-keyword, says-quoted_text, says-sign, says-blank}
 
 digits_pass : (digits : List ℕ) → AllDigits 10 digits → list_all is_ascii_digit digits ≡ true
 digits_pass [] are = refl
@@ -89,7 +89,7 @@ says-closing rest said more =
 unquoted : (n : ℕ) → is_quote (48 + n) ≡ false
 unquoted n = ne_eqb (48 + n) 39 (λ same. absurd (omega arith))
 
-date-plain : (y m d : ℕ) → doubled (date_text y m d) ≡ date_text y m d
+date-plain : (y m d : ℕ) → doubled_quotes (date_text y m d) ≡ date_text y m d
 date-plain y m d =
     rw (
       unquoted (y / 100 / 10),
@@ -104,7 +104,7 @@ date-plain y m d =
     )
     refl
 
-day-plain : (day : ℤ) → doubled (day_text day) ≡ day_text day
+day-plain : (day : ℤ) → doubled_quotes (day_text day) ≡ day_text day
 unfolding day_text
 day-plain day = date-plain (year_of day) (month_of day) (day_of_month day)
 
@@ -119,13 +119,13 @@ unfolding keywords
 says-day day rest said fits ends more =
     let text : Txt = day_text day in
     let written : Txt = codes "DATE '" ++ (text ++ codes "'") in
-    let behind : Txt = 32 ∷ (quoted text ++ rest) in
+    let behind : Txt = 32 ∷ (quoted_text text ++ rest) in
     let opens : OpensDay (codes "DATE") behind (32 ∷ []) text rest = record {
       whole = record { form = refl; ends = refl };
       date = refl;
       quotation = record { gap = refl; parts = refl; ends = ends };
     } in
-    let spelled : written ≡ codes "DATE" ++ (32 ∷ quoted text) =
+    let spelled : written ≡ codes "DATE" ++ (32 ∷ quoted_text text) =
     ap (λ (t : Txt). codes "DATE '" ++ (t ++ codes "'")) (sym (day-plain day)) in
     says-token written rest (Day day) said
     (a_day written (codes "DATE") behind (32 ∷ []) text rest day opens (day-fits day fits, refl)
@@ -293,11 +293,11 @@ says-literal values.Null rest said fits ends more =
     says-keyword (codes "NULL") rest KNull said null-word ends.0 more
 says-literal (values.Int number) rest said fits ends more =
     says-number number rest said fits ends.0 more
-says-literal (values.Text text) rest said fits ends more = says-quoted text rest said ends.1 more
+says-literal (values.Text text) rest said fits ends more = says-quoted_text text rest said ends.1 more
 says-literal (values.Day day) rest said fits ends more = says-day day rest said fits ends.1 more
 
 pub literal-is : (value : Value) (rest : Kinds) → IsLiteral (literal_said value ++ rest) value rest
 literal-is values.Null rest = literals.null
 literal-is (values.Int number) rest = literals.number
-literal-is (values.Text text) rest = literals.quoted
+literal-is (values.Text text) rest = literals.quoted_literal
 literal-is (values.Day day) rest = literals.day

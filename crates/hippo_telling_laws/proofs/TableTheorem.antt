@@ -31,15 +31,15 @@ use Rattle.hippo_spj_reader.specs.Front.{Kinds}
 use Rattle.hippo_spj_reader.specs.ListGrammar.{IsListOf}
 use Rattle.hippo_stmt_reader.specs.StatementGrammar.{IsColumnKind, IsColumnDef, IsSubject, nullable, not_null, no_subject, subject, create_table}
 use Rattle.hippo_stmt_reader.specs.StatementGrammar as grammar
-use Rattle.hippo_catalog.specs.ChangesRefused.{draft_of, places_of}
+use Rattle.hippo_catalog.specs.ChangesRefused.{keyless_table, places_named}
 use Rattle.hippo_catalog.specs.ChangesWanted.{with_not_null, table_made}
 use Rattle.hippo_catalog.specs.WrittenColumns.{place_of}
-use Rattle.hippo_report.specs.Cells.{joined, comma}
-use Rattle.hippo_telling.specs.Telling.{kind_text, not_null_text, column_text, name_at, names_text, subject_text, create_text}
+use Rattle.hippo_report.specs.Cells.{separated_text, comma}
+use Rattle.hippo_telling.specs.Telling.{kind_text, not_null_text, column_definition, name_at, names_text, subject_text, create_text}
 use Rattle.hippo_telling_laws.specs.TellingLaws.{ReadsAs, CreatesReadBack}
 use Rattle.hippo_telling_laws.proofs.SayingLemmas.{Says, EndsWord, says-blank, says-token, says-keyword, says-word, says-name, says-name_first, says-nothing}
 use Rattle.hippo_telling_laws.proofs.SpellingLemmas.{says-comma, says-opening, says-closing, create-word, integer-word, key-word, not-word, null-word, primary-word, subject-word, table-word, text-word}
-use Rattle.hippo_telling_laws.proofs.ListLemmas.{later_said, says-joined, list-read}
+use Rattle.hippo_telling_laws.proofs.ListLemmas.{later_said, says-separated_text, list-read}
 use Rattle.hippo_telling_laws.proofs.WeightLemmas.{Weighs, weighs-calm, weighs-opening, weighs-not, weighs-more, weighs-front, weighs-fit}
 use Rattle.hippo_telling_laws.proofs.FitLemmas.{is_calm}
 use Rattle.hippo_telling_laws.proofs.NamePlaces.{column_names, all_within, place_at, places_again, names_folded, name_folded}
@@ -152,11 +152,11 @@ form-says kind false rest said ends more = kind-says kind rest said ends more
 
 column-says : (column : Column) (rest : Txt) (said : Kinds) → column_named column ≡ true
     → EndsColumn rest → Says rest said
-    → Says (column_text column ++ rest) (column_said column ++ said)
+    → Says (column_definition column ++ rest) (column_said column ++ said)
 column-says column rest said named ends more =
     let form : Txt = kind_text column.kind ++ not_null_text column.not_null in
     let behind : Txt = kind_text column.kind ++ (not_null_text column.not_null ++ rest) in
-    let grouped : column_text column ++ rest ≡ column.name ++ behind =
+    let grouped : column_definition column ++ rest ≡ column.name ++ behind =
     append_assoc column.name form rest
     ∙ ap (λ (t : Txt). column.name ++ t)
     (append_assoc (kind_text column.kind) (not_null_text column.not_null) rest) in
@@ -183,15 +183,15 @@ column-is column rest = form-is column.name column.kind column.not_null rest
 -- columns, one after the other
 abbrev columns_later : List Column → Kinds → Kinds
 columns_later columns said =
-    later_said column_text column_said same_column column_named EndsColumn comma
+    later_said column_definition column_said same_column column_named EndsColumn comma
     (Symbol Comma) columns said
 
 columns-say : (column : Column) (columns : List Column) (rest : Txt) (said : Kinds)
     → list_all column_named (column ∷ columns) ≡ true → EndsColumn rest → Says rest said →
-    Says (joined column_text comma (column ∷ columns) ++ rest)
+    Says (separated_text column_definition comma (column ∷ columns) ++ rest)
     (column_said column ++ columns_later columns said)
 columns-say column columns rest said fit ends more =
-    says-joined column_text column_said same_column column_named EndsColumn comma
+    says-separated_text column_definition column_said same_column column_named EndsColumn comma
     (Symbol Comma) column-says
     (λ behind said more. says-comma (32 ∷ behind) said (says-blank behind said more))
     (λ behind. ends-comma (32 ∷ behind))
@@ -207,7 +207,7 @@ columns-read : (column : Column) (columns : List Column) (rest : Kinds)
 columns-read column columns rest =
     subst (λ (c : List Column). IsListOf IsColumnDef (Symbol Comma)
     (column_said column ++ columns_later columns rest) c rest) (map-same (column ∷ columns))
-    (list-read column_text column_said same_column column_named EndsColumn comma
+    (list-read column_definition column_said same_column column_named EndsColumn comma
     (Symbol Comma) IsColumnDef column-is column columns rest)
 
 kind-calm : (kind : ColumnKind) → is_calm (Keyword (kind_word kind)) ≡ true
@@ -295,7 +295,7 @@ table-reads name (column ∷ others) (first ∷ key) place has =
     let columns : List Column = column ∷ others in
     let end : Txt = codes ")" ++ (subject_text columns place ++ codes ")") in
     let keys : Txt = names_text columns (first ∷ key) ++ end in
-    let defs : Txt = joined column_text comma columns ++ (codes ", PRIMARY KEY (" ++ keys) in
+    let defs : Txt = separated_text column_definition comma columns ++ (codes ", PRIMARY KEY (" ++ keys) in
     let end_said : Kinds = Symbol RightParen ∷ subject_said columns place in
     let keys_said : Kinds = name_said columns first ++ names_later columns key end_said in
     let primary : Kinds =
@@ -450,9 +450,9 @@ module _ (schema : Schema) (is : IsTable schema) where
       λ i. record column { not_null = required i })
 
   abbrev pub draft : Schema
-  draft = draft_of schema.name schema.columns
+  draft = keyless_table schema.name schema.columns
 
-  key-stays : places_of draft key_names ≡ schema.key
+  key-stays : places_named draft key_names ≡ schema.key
   key-stays =
       places_again draft schema.key is.differ
       (all_there key_column_fits schema schema.key is.key_fits)

@@ -21,7 +21,7 @@ use Rattle.hippo_model.specs.Terms.{Key, Place, Row}
 use Rattle.hippo_model.specs.Validity.{all_differ}
 use Rattle.hippo_model.specs.Values.{fits, has_kind}
 use Rattle.hippo_catalog.specs.ChangesRefused.{unknown_columns, in_column, kind_refused, null_refused, text_refused, row_refused, assigned_refused, assignments_refused, key_refused, key_changed, is_the_key, is_of_key}
-use Rattle.hippo_catalog.specs.Refusals.{refused, repeated_after, repeated_names}
+use Rattle.hippo_catalog.specs.Refusals.{fault_if, repeated_after, repeated_names}
 use Rattle.hippo_catalog.specs.WrittenColumns.{place_of}
 use Rattle.hippo_telling.specs.Telling.{name_at, is_set}
 use Rattle.hippo_telling_laws.proofs.KeyTheorem.{same_place}
@@ -35,7 +35,7 @@ both_none {A} first second none nothing =
 pub none_and : {first second : List NameFault} → first ≡ [] → second ≡ [] → first ++ second ≡ []
 none_and {first} {second} none nothing = both_none first second none nothing
 
-pub refused_not : (test : Bool) (fault : NameFault) → test ≡ false → refused test fault ≡ []
+pub refused_not : (test : Bool) (fault : NameFault) → test ≡ false → fault_if test fault ≡ []
 refused_not true fault fails = absurd cc
 refused_not false fault fails = refl
 
@@ -66,7 +66,7 @@ not_after before (name ∷ names) differ new =
     let parts =
     and_parts (not (list_any (bytes_eq name) names)) (all_differ bytes_eq names) differ in
     let both = and_parts (not (list_any (bytes_eq name) before)) (are_new before names) new in
-    both_none (refused (list_any (bytes_eq name) before) (RepeatedName name))
+    both_none (fault_if (list_any (bytes_eq name) before) (RepeatedName name))
     (repeated_after (before ++ name ∷ []) names)
     (refused_not _ (RepeatedName name) (not-true _ both.0))
     (not_after (before ++ name ∷ []) names parts.1
@@ -227,7 +227,7 @@ module _ (schema : Schema) (differ : all_differ bytes_eq (column_names schema.co
       let parts =
       and_parts (nat_lt place (length schema.columns)) (all_within schema.columns places) within in
       let found = place_at schema place differ (ltb-true place (length schema.columns) parts.0) in
-      both_none (refused (is_none (place_of schema (name_at schema.columns place)))
+      both_none (fault_if (is_none (place_of schema (name_at schema.columns place)))
       (UnknownColumn (name_at schema.columns place))) (unknown_columns schema (names_at places))
       (refused_not _ (UnknownColumn (name_at schema.columns place)) (ap is_none found))
       (none_unknown places parts.1)
@@ -236,7 +236,7 @@ module _ (schema : Schema) (differ : all_differ bytes_eq (column_names schema.co
       → unknown_columns schema second ≡ [] → unknown_columns schema (first ++ second) ≡ []
   none_unknown_in first second none nothing =
       flat_map-append
-      (λ (name : Name). refused (is_none (place_of schema name)) (UnknownColumn name)) first second
+      (λ (name : Name). fault_if (is_none (place_of schema name)) (UnknownColumn name)) first second
       ∙ both_none (unknown_columns schema first) (unknown_columns schema second) none nothing
 
   -- what is refused of a column that is found
@@ -334,7 +334,7 @@ module _ (schema : Schema) (differ : all_differ bytes_eq (column_names schema.co
       and_parts (nat_lt place (length schema.columns)) (all_within schema.columns places) within in
       let both = and_parts (is_set schema.key place) (list_all (is_set schema.key) places) are in
       let found = place_at schema place differ (ltb-true place (length schema.columns) parts.0) in
-      both_none (refused (is_of_key schema (name_at schema.columns place))
+      both_none (fault_if (is_of_key schema (name_at schema.columns place))
       (KeyChanged (name_at schema.columns place))) (key_changed schema (names_at places))
       (refused_not _ (KeyChanged (name_at schema.columns place))
       (ap (λ (p : Option Place). option_map_or

@@ -5,7 +5,7 @@ use Rattle.std.specs.List.{list_any, list_all}
 use Rattle.std.proofs.lemmas.Bool.{and_parts}
 use Rattle.std.proofs.lemmas.List.Sums.{sum_by-cons}
 use Rattle.hippo_values.specs.declared.keywords.Keyword.TheVariants.{KNot}
-use Rattle.hippo_lexer.specs.Words.{opens, negates, is_unsupported}
+use Rattle.hippo_lexer.specs.Words.{is_left_paren, negates, is_unsupported}
 use Rattle.hippo_lexer.specs.declared.kinds.Symbol.TheVariants.{LeftParen}
 use Rattle.hippo_lexer.specs.declared.kinds.TokenKind.{TokenKind}
 use Rattle.hippo_lexer.specs.declared.kinds.TokenKind.TheVariants.{Keyword, Symbol}
@@ -15,7 +15,7 @@ use Rattle.hippo_telling_laws.proofs.FitLemmas.{is_calm, few-fit, passed, fails,
 
 -- words with at most so many `(` and NOT, and none that is refused
 pub record Weighs (said : Kinds) (opened negated : ℕ) : Type 0 where
-  pub open_few : count_by opens said ≤ opened
+  pub open_few : count_by is_left_paren said ≤ opened
   pub not_few : count_by negates said ≤ negated
   pub supported : list_any is_unsupported said ≡ false
 
@@ -27,9 +27,9 @@ weighs-front said calm =
 pub weighs-calm : (kind : TokenKind) (said : Kinds) (opened negated : ℕ) → is_calm kind ≡ true
     → Weighs said opened negated → Weighs (kind ∷ said) opened negated
 weighs-calm kind said opened negated calm light =
-    let two = and_parts (not (opens kind) && not (negates kind)) (not (is_unsupported kind)) calm in
-    let one = and_parts (not (opens kind)) (not (negates kind)) two.0 in
-    let same_opened = passed opens kind (fails (opens kind) one.0) said in
+    let two = and_parts (not (is_left_paren kind) && not (negates kind)) (not (is_unsupported kind)) calm in
+    let one = and_parts (not (is_left_paren kind)) (not (negates kind)) two.0 in
+    let same_opened = passed is_left_paren kind (fails (is_left_paren kind) one.0) said in
     let same_negated = passed negates kind (fails (negates kind) one.1) said in
     record {
       open_few = (let few = light.open_few in omega (arith, same_opened, few));
@@ -40,8 +40,8 @@ weighs-calm kind said opened negated calm light =
 pub weighs-opening : (said : Kinds) (opened negated : ℕ) → Weighs said opened negated
     → Weighs (Symbol LeftParen ∷ said) (opened + 1) negated
 weighs-opening said opened negated light =
-    let one_more : count_by opens (Symbol LeftParen ∷ said) ≡ 1 + count_by opens said =
-    sum_by-cons (λ (k : TokenKind). cond (opens k) 1 0) (Symbol LeftParen) said in
+    let one_more : count_by is_left_paren (Symbol LeftParen ∷ said) ≡ 1 + count_by is_left_paren said =
+    sum_by-cons (λ (k : TokenKind). cond (is_left_paren k) 1 0) (Symbol LeftParen) said in
     let same_negated = passed negates (Symbol LeftParen) refl said in
     record {
       open_few = (let few = light.open_few in omega (arith, one_more, few));
@@ -52,7 +52,7 @@ weighs-opening said opened negated light =
 pub weighs-not : (said : Kinds) (opened negated : ℕ) → Weighs said opened negated
     → Weighs (Keyword KNot ∷ said) opened (negated + 1)
 weighs-not said opened negated light =
-    let same_opened = passed opens (Keyword KNot) refl said in
+    let same_opened = passed is_left_paren (Keyword KNot) refl said in
     let one_more : count_by negates (Keyword KNot ∷ said) ≡ 1 + count_by negates said =
     sum_by-cons (λ (k : TokenKind). cond (negates k) 1 0) (Keyword KNot) said in
     record {

@@ -18,7 +18,7 @@ use Rattle.hippo_model.specs.declared.entry.Act.TheVariants.{Create, Purpose, Re
 use Rattle.hippo_model.specs.declared.entry.Entry.{Entry}
 use Rattle.hippo_model.specs.declared.entry.ItemKind.{ItemKind}
 use Rattle.hippo_model.specs.declared.schema.Schema.{Schema}
-use Rattle.hippo_model.specs.Histories.{last_word, created, item_created, schema_at, item_at}
+use Rattle.hippo_model.specs.Histories.{last_word, schema_created, item_created, schema_at, item_at}
 use Rattle.hippo_model.specs.Keepable.{is_keepable}
 use Rattle.hippo_model.specs.Terms.{History, Meaning}
 use Rattle.hippo_model.specs.Validity.{creates_purpose, creates_recipient, is_purpose, is_recipient, creates_table, keeps_order, is_acceptable, is_well_formed, may_follow, is_valid}
@@ -69,7 +69,7 @@ module _ {A : Type 0} (value : A) where
   by_test true at fresh = ap (λ o. option_or o (Some value)) (fresh refl)
   by_test false at fresh = option_or-None at
 
-table_step : (table : Name) (act : Act) (at : Option Schema) → ((schema : Schema) → act ≡ Create schema → bytes_eq schema.name table ≡ true → at ≡ None) → option_or at (lookup (bytes_eq table) (cons_option (table_in act) [])) ≡ option_or (created table act) at
+table_step : (table : Name) (act : Act) (at : Option Schema) → ((schema : Schema) → act ≡ Create schema → bytes_eq schema.name table ≡ true → at ≡ None) → option_or at (lookup (bytes_eq table) (cons_option (table_in act) [])) ≡ option_or (schema_created table act) at
 table_step table (Create schema) at fresh =
     ap (λ t. option_or at (cond t (Some schema) None)) (swapped table schema.name) ∙ by_test schema (bytes_eq schema.name table) at (fresh schema refl)
 table_step table act at fresh = option_or-None at
@@ -138,7 +138,7 @@ module _ (meaning : Meaning) (history : History) (entry : Entry) (may : may_foll
 
   kept : NamesAreThoseOf history → NamesAreThoseOf (history ++ entry ∷ [])
   kept so_far = record {
-    tables = λ table. named_after table table_in (created table) (so_far.tables table) (table_step table entry.act (schema_at history table) (new_table table));
+    tables = λ table. named_after table table_in (schema_created table) (so_far.tables table) (table_step table entry.act (schema_at history table) (new_table table));
     purposes = purposes_are (history ++ entry ∷ []);
     recipients = recipients_are (history ++ entry ∷ []);
     items = λ item. named_after item item_in (item_created item) (so_far.items item) (item_step item entry.act (item_at history item) (new_item item));

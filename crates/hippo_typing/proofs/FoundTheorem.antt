@@ -24,7 +24,7 @@ use Rattle.hippo_model.specs.declared.statement.RawSelect.{RawSelect}
 use Rattle.hippo_model.specs.Terms.{Place}
 use Rattle.hippo_catalog.specs.Comparisons.{condition_of, kinds_refused, texts_refused}
 use Rattle.hippo_catalog.specs.Catalogs.{KnownNames, schemas_of}
-use Rattle.hippo_catalog.specs.Refusals.{refused, unknown_table, repeated_names, IsFirstOf}
+use Rattle.hippo_catalog.specs.Refusals.{fault_if, unknown_table, repeated_names, IsFirstOf}
 use Rattle.hippo_catalog.proofs.Refused.{first_after, with_four}
 use Rattle.hippo_values.specs.Limits.{from_limit, item_limit}
 use Rattle.hippo_catalog.specs.StatementLimits.{too_many}
@@ -45,7 +45,7 @@ few limit count none = by (nat_lt limit count) refl
   where
     by : (test : Bool) → nat_lt limit count ≡ test → count ≤ limit
     by true e =
-        let some : TooManyParts limit ∷ [] ≡ [] = sym (ap (λ t. refused t (TooManyParts limit)) e) ∙ none in
+        let some : TooManyParts limit ∷ [] ≡ [] = sym (ap (λ t. fault_if t (TooManyParts limit)) e) ∙ none in
         absurd cc
     by false e = ltb-false limit count e
 
@@ -69,7 +69,7 @@ module _ (schemas : List Schema) where
   lone_of : (others written : List RawColumn) → flat_map (lone_found (map (with_column schemas) others)) (map (with_column schemas) written) ≡ flat_map (lone_column schemas others) written
   lone_of others [] = refl
   lone_of others (first ∷ rest) =
-      ap (λ t. refused (not t) (NotGrouped first.column) ++ flat_map (lone_found (map (with_column schemas) others)) (map (with_column schemas) rest)) (any_of (column_of schemas first) others)
+      ap (λ t. fault_if (not t) (NotGrouped first.column) ++ flat_map (lone_found (map (with_column schemas) others)) (map (with_column schemas) rest)) (any_of (column_of schemas first) others)
       ∙ ap (λ l. lone_column schemas others first ++ l) (lone_of others rest)
 
   groups_of : (outs : List RawOut) (by : List RawColumn) → groups_found_refused (map (with_out schemas) outs) (map (with_column schemas) by) ≡ groups_refused schemas outs by

@@ -18,7 +18,7 @@ use Rattle.hippo_catalog.specs.declared.period.Period.{Period}
 use Rattle.hippo_catalog.specs.AuditExpressions.{audit_parts_refused, period_refused, audit_refused, audit_of}
 use Rattle.hippo_catalog.specs.Catalogs.{KnownNames, table_in, purpose_in, recipient_in, known_at, table_of, has_purpose, has_recipient, schemas_of}
 use Rattle.hippo_catalog.specs.Comparisons.{operands_refused, condition_of, kinds_refused, texts_refused}
-use Rattle.hippo_catalog.specs.Refusals.{refused, unknown_table, unknown_purpose, unknown_recipient, unknown_pair, repeated_names}
+use Rattle.hippo_catalog.specs.Refusals.{fault_if, unknown_table, unknown_purpose, unknown_recipient, unknown_pair, repeated_names}
 use Rattle.hippo_catalog.specs.Selects.{columns_refused, groups_refused, outs_of, by_of, select_parts_refused, select_refused, listed_columns, form_of, query_of}
 use Rattle.hippo_catalog.specs.WrittenColumns.{column_refused, column_of}
 
@@ -73,11 +73,11 @@ module _ (known more : KnownNames) (extends : Extends known more) where
     where
       by : (found : Option Schema) → table_of known table ≡ found → (unknown_table more table ≡ []) × (table_of more table ≡ table_of known table)
       by None e =
-          let some : UnknownTable table ∷ [] ≡ [] = sym (ap (λ o. refused (is_none o) (UnknownTable table)) e) ∙ none in
+          let some : UnknownTable table ∷ [] ≡ [] = sym (ap (λ o. fault_if (is_none o) (UnknownTable table)) e) ∙ none in
           absurd cc
       by (Some schema) e =
           let still = extends.tables table schema e in
-          (ap (λ o. refused (is_none o) (UnknownTable table)) still, still ∙ sym e)
+          (ap (λ o. fault_if (is_none o) (UnknownTable table)) still, still ∙ sym e)
 
   pub tables_last : (tables : List Name) → flat_map (unknown_table known) tables ≡ [] → (flat_map (unknown_table more) tables ≡ []) × (schemas_of more tables ≡ schemas_of known tables)
   tables_last [] none = (refl, refl)
@@ -89,7 +89,7 @@ module _ (known more : KnownNames) (extends : Extends known more) where
         ap (λ o. cons_option o (schemas_of more rest)) first.1 ∙ ap (cons_option (table_of known table)) behind.1,
       )
 
-  there : (test : Bool) (fault : NameFault) → refused (not test) fault ≡ [] → test ≡ true
+  there : (test : Bool) (fault : NameFault) → fault_if (not test) fault ≡ [] → test ≡ true
   there true fault none = refl
   there false fault none = absurd cc
 
@@ -98,7 +98,7 @@ module _ (known more : KnownNames) (extends : Extends known more) where
       let both = both_none (unknown_purpose known purpose) (unknown_recipient known recipient) none in
       let purpose_there = extends.purposes purpose (there (has_purpose known purpose) (UnknownPurpose purpose) both.0) in
       let recipient_there = extends.recipients recipient (there (has_recipient known recipient) (UnknownRecipient recipient) both.1) in
-      ap (λ t. refused (not t) (UnknownPurpose purpose) ++ unknown_recipient more recipient) purpose_there ∙ ap (λ t. refused (not t) (UnknownRecipient recipient)) recipient_there
+      ap (λ t. fault_if (not t) (UnknownPurpose purpose) ++ unknown_recipient more recipient) purpose_there ∙ ap (λ t. fault_if (not t) (UnknownRecipient recipient)) recipient_there
 
   pub pairs_last : (pairs : List Pair) → flat_map (λ (pair : Pair). unknown_pair known pair.purpose pair.recipient) pairs ≡ [] → flat_map (λ (pair : Pair). unknown_pair more pair.purpose pair.recipient) pairs ≡ []
   pairs_last [] none = refl

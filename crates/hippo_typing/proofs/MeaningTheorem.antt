@@ -18,20 +18,20 @@ use Rattle.hippo_model.specs.declared.name_fault.NameFault.{NameFault}
 use Rattle.hippo_model.specs.declared.query.Query.{Query}
 use Rattle.hippo_model.specs.declared.statement.RawSelect.{RawSelect}
 use Rattle.hippo_spj_reader.specs.Front.{Kinds, kinds, kinds_between}
-use Rattle.hippo_spj_reader.specs.Promises.{whole_of, ended, ReadsAll, IsFaultOnlyWhere}
+use Rattle.hippo_spj_reader.specs.Promises.{whole_of, part_at_end, ReadsAll, IsFaultOnlyWhere}
 use Rattle.hippo_spj_reader.specs.SelectFinder.{leading_select}
 use Rattle.hippo_spj_reader.specs.SelectGrammar.{IsSelect}
 use Rattle.hippo_spj_reader.proofs.SelectTheorem.{found, complete, ends-nothing}
 use Rattle.hippo_catalog.specs.Catalogs.{KnownNames, known_at}
 use Rattle.hippo_catalog.specs.Selects.{select_refused, query_of}
-use Rattle.hippo_typing.specs.Meanings.{IsSelectText, Means, select_in, unrefused, query_in, meaning_in, meaning}
+use Rattle.hippo_typing.specs.Meanings.{IsSelectText, Means, select_in, query_unless_refused, query_in, meaning_in, meaning}
 use Rattle.hippo_typing.specs.MeaningLaws.{SaysWhatTextsMean, AtMostOneMeaning}
 
 -- the select that all tokens are is found
 pub whole-IsSelect : (tokens : Kinds) (select : RawSelect) → IsSelect tokens select [] → whole_of (leading_select tokens) ≡ Some select
 whole-IsSelect tokens select reading = rw (complete tokens select [] reading ends-nothing) refl
 
-whole_ended : (tokens : Kinds) (one : RawSelect × Kinds) (select : RawSelect) → leading_select tokens ≡ Some one → ended one ≡ Some select → IsSelect tokens select []
+whole_ended : (tokens : Kinds) (one : RawSelect × Kinds) (select : RawSelect) → leading_select tokens ≡ Some one → part_at_end one ≡ Some select → IsSelect tokens select []
 whole_ended tokens (first, []) select is e = found tokens select [] (is ∙ ap (λ (s : RawSelect). Some (s, [])) (same_Some first select e))
 whole_ended tokens (first, token ∷ rest) select is e = absurd (none-some select e)
 
@@ -69,7 +69,7 @@ found-IsSelectText text select read =
     let found_in : select_in (Ok read.tokens) ≡ Some select = rw (read.words, whole-IsSelect (kinds read.tokens) select read.reading) refl in
     subst (λ (outcome : Result (List Token) LexFault). select_in outcome ≡ Some select) cut found_in
 
-none_refused : (refusals : List NameFault) (right query : Query) → unrefused refusals right ≡ Some query → (refusals ≡ []) × (query ≡ right)
+none_refused : (refusals : List NameFault) (right query : Query) → query_unless_refused refusals right ≡ Some query → (refusals ≡ []) × (query ≡ right)
 none_refused [] right query e = (refl, sym (same_Some right query e))
 none_refused (refusal ∷ more) right query e = absurd (none-some query e)
 
@@ -141,6 +141,6 @@ passed (Ok tt) e = refl
 passed (Err fault) e = absurd cc
 
 -- a refused select means nothing
-pub unrefused-first : (refusals : List NameFault) (query : Query) (fault : NameFault) → slice_get refusals 0 ≡ Some fault → unrefused refusals query ≡ None
-unrefused-first [] query fault e = absurd (none-some fault e)
-unrefused-first (refusal ∷ more) query fault e = refl
+pub query_unless_refused-first : (refusals : List NameFault) (query : Query) (fault : NameFault) → slice_get refusals 0 ≡ Some fault → query_unless_refused refusals query ≡ None
+query_unless_refused-first [] query fault e = absurd (none-some fault e)
+query_unless_refused-first (refusal ∷ more) query fault e = refl

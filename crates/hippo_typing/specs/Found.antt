@@ -11,7 +11,7 @@ use Rattle.hippo_model.specs.declared.statement.RawColumn.{RawColumn}
 use Rattle.hippo_model.specs.declared.statement.RawOut.{RawOut}
 use Rattle.hippo_model.specs.declared.statement.RawOut.TheVariants.{Column, Min, Max}
 use Rattle.hippo_model.specs.Terms.{Place}
-use Rattle.hippo_catalog.specs.Refusals.{refused}
+use Rattle.hippo_catalog.specs.Refusals.{fault_if}
 use Rattle.hippo_catalog.specs.WrittenColumns.{column_of}
 use Rattle.hippo_catalog.specs.Selects.{column_in, same_reference}
 
@@ -35,14 +35,17 @@ argument_found (Max argument, column) = Some column
 -- a column that is not among others
 abbrev pub lone_found : List (RawColumn × Ref) → RawColumn × Ref → List NameFault
 lone_found others (written, column) =
-    refused (not (list_any (λ other. same_reference column other.1) others)) (NotGrouped written.column)
+    fault_if (not (list_any (λ other. same_reference column other.1) others))
+    (NotGrouped written.column)
 
 abbrev pub groups_found_refused : List (RawOut × Ref) → List (RawColumn × Ref) → List NameFault
 groups_found_refused outs by =
-    flat_map (lone_found by) (filter_map plain_found outs) ++ flat_map (lone_found (filter_map plain_found outs)) by
+    flat_map (lone_found by) (filter_map plain_found outs)
+    ++ flat_map (lone_found (filter_map plain_found outs)) by
 
 abbrev pub out_found : List (RawColumn × Ref) → Place → RawOut × Ref → Out
-out_found by next (Column written, column) = shown.Column (position_or_len (λ found. same_reference column found.1) by)
+out_found by next (Column written, column) =
+    shown.Column (position_or_len (λ found. same_reference column found.1) by)
 out_found by next (Min argument, column) = shown.Min next
 out_found by next (Max argument, column) = shown.Max next
 
@@ -52,4 +55,5 @@ next_place next found = if is_some (argument_found found) then next + 1 else nex
 
 abbrev pub shown_found : List (RawColumn × Ref) → Place → List (RawOut × Ref) → List Out
 shown_found by next [] = []
-shown_found by next (found ∷ rest) = out_found by next found ∷ shown_found by (next_place next found) rest
+shown_found by next (found ∷ rest) =
+    out_found by next found ∷ shown_found by (next_place next found) rest

@@ -19,7 +19,8 @@ use Rattle.hippo_typing.specs.declared.audits.AuditHead.{AuditHead}
 abbrev pub tables_refused : KnownNames → RawAudit → List NameFault
 tables_refused known audit =
     flat_map (unknown_table known) audit.tables
-    ++ flat_map (λ pair. unknown_pair known pair.purpose pair.recipient) audit.exempt ++ repeated_names audit.tables
+    ++ flat_map (λ pair. unknown_pair known pair.purpose pair.recipient) audit.exempt
+    ++ repeated_names audit.tables
 
 abbrev pub audit_columns_refused : List Schema → RawAudit → List NameFault
 audit_columns_refused schemas audit =
@@ -27,12 +28,17 @@ audit_columns_refused schemas audit =
 
 abbrev pub audit_found : List Schema → RawAudit → FoundAudit
 audit_found schemas audit =
-    record { columns = map (column_of schemas) audit.columns; cond = condition_of schemas audit.cond }
+    record {
+      columns = map (column_of schemas) audit.columns;
+      cond = condition_of schemas
+          audit.cond;
+    }
 
 -- kinds; texts; the number of parts; the period
 abbrev pub judged_refused : List Schema → RawAudit → CondOf Operand → Period → List NameFault
 judged_refused schemas audit condition period =
-    kinds_refused schemas condition ++ texts_refused condition ++ audit_parts_refused audit ++ period_refused period
+    kinds_refused schemas condition ++ texts_refused condition ++ audit_parts_refused audit
+    ++ period_refused period
 
 abbrev pub head_of_audit : RawAudit → Period → AuditHead
 head_of_audit audit period =

@@ -17,7 +17,8 @@ use Rattle.hippo_typing.specs.declared.selects.QueryHead.{QueryHead}
 use Rattle.hippo_typing.specs.Found.{with_column, with_out, argument_found, groups_found_refused, shown_found}
 
 abbrev pub list_found : List Schema → List RawItem → RawForm → FoundList
-list_found schemas items (forms.Grouped outs by) = record { items = []; outs = map (with_out schemas) outs }
+list_found schemas items (forms.Grouped outs by) =
+    record { items = []; outs = map (with_out schemas) outs }
 list_found schemas items form = record { items = flat_map (item_columns schemas) items; outs = [] }
 
 abbrev pub select_found : List Schema → RawSelect → FoundSelect
@@ -31,8 +32,8 @@ select_found schemas select =
 -- grouping; kinds; texts; the number of parts
 abbrev pub head_refused : List Schema → RawSelect → FoundSelect → List NameFault
 head_refused schemas select found =
-    groups_found_refused found.list.outs found.by ++ kinds_refused schemas found.cond ++ texts_refused found.cond
-    ++ select_parts_refused select
+    groups_found_refused found.list.outs found.by ++ kinds_refused schemas found.cond
+    ++ texts_refused found.cond ++ select_parts_refused select
 
 abbrev pub items_of : RawForm → FoundSelect → List Ref
 items_of (forms.Grouped outs by) found =
@@ -43,8 +44,17 @@ abbrev pub form_found : RawForm → FoundSelect → Form
 form_found forms.Plain found = Plain
 form_found forms.Distinct found = Distinct
 form_found (forms.Grouped outs by) found =
-    Grouped (record { keys = length found.by; outs = shown_found found.by (length found.by) found.list.outs })
+    Grouped (record {
+      keys = length found.by;
+      outs = shown_found found.by (length found.by)
+          found.list.outs;
+    })
 
 abbrev pub head_of : RawSelect → FoundSelect → QueryHead
 head_of select found =
-    record { items = items_of select.form found; tables = select.tables; form = form_found select.form found }
+    record {
+      items = items_of select.form found;
+      tables = select.tables;
+      form = form_found
+          select.form found;
+    }

@@ -18,4 +18,5 @@ MeaningIsThatOfTexts = SaysWhatTextsMean meaning
 -- a text has one meaning, if any
 abbrev pub AtMostOneMeaning : Type 0
 AtMostOneMeaning =
-    (known : KnownNames) (text : Txt) (one other : Query) → Means known text one → Means known text other → one ≡ other
+    (known : KnownNames) (text : Txt) (one other : Query) → Means known text one
+    → Means known text other → one ≡ other

@@ -22,25 +22,33 @@ SelectsLast =
 -- and so does an audit expression
 abbrev pub AuditsLast : Type 0
 AuditsLast =
-    (history later : History) (period : Period) (audit : RawAudit) → audit_refused (known_at history) period audit ≡ []
+    (history later : History) (period : Period) (audit : RawAudit)
+    → audit_refused (known_at history) period audit ≡ []
     → (audit_refused (known_at (history ++ later)) period audit ≡ [])
-    × (audit_of (known_at (history ++ later)) period audit ≡ audit_of (known_at history) period audit)
+    × (audit_of (known_at (history ++ later)) period audit
+    ≡ audit_of (known_at history) period audit)
 
--- the names of a history are those of the history before its last entry, and what that entry creates
+-- the names of a history are those of the history before its last entry, and what that entry
+-- creates
 abbrev pub NamesGrow : Type 0
 NamesGrow =
-    (history : History) (entry : Entry) → known_at (history ++ entry ∷ []) ≡ known_after (known_at history) entry.act
+    (history : History) (entry : Entry) → known_at (history ++ entry ∷ [])
+    ≡ known_after (known_at history) entry.act
 
 -- what is found among the names of a valid history is what the history says
 pub record NamesAreThoseOf (history : History) : Type 0 where
   pub tables : (table : Name) → table_of (known_at history) table ≡ schema_at history table
-  pub purposes : (purpose : Name) → has_purpose (known_at history) purpose ≡ is_purpose history purpose
-  pub recipients : (recipient : Name) → has_recipient (known_at history) recipient ≡ is_recipient history recipient
+  pub purposes : (purpose : Name) → has_purpose (known_at history) purpose
+      ≡ is_purpose history purpose
+  pub recipients : (recipient : Name) → has_recipient (known_at history) recipient
+      ≡ is_recipient history recipient
   pub items : (item : Name) → item_of (known_at history) item ≡ item_at history item
   pub count : length (known_at history).tables ≡ count_by (λ entry. creates_table entry.act) history
 
 abbrev pub ValidNames : Type 0
-ValidNames = (meaning : Meaning) (history : History) → is_valid meaning history ≡ true → NamesAreThoseOf history
+ValidNames =
+    (meaning : Meaning) (history : History) → is_valid meaning history ≡ true
+    → NamesAreThoseOf history
 
 -- an entry that may follow a valid history creates nothing whose name is taken
 abbrev pub EntriesCreateAnew : Type 0

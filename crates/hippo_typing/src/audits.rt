@@ -5,7 +5,7 @@ ghost use Rattle.hippo_values.specs.declared.moments.Moment.{Moment as Second};
 ghost use Rattle.hippo_model.specs.declared.name_fault.NameFault.TheVariants.{PeriodBack};
 ghost use Rattle.hippo_catalog.specs.declared.period.Period.{Period as PeriodEnds};
 ghost use Rattle.hippo_catalog.specs.Catalogs.{schemas_of};
-ghost use Rattle.hippo_catalog.specs.Refusals.{Resolves, refused, unknown_pair};
+ghost use Rattle.hippo_catalog.specs.Refusals.{Resolves, fault_if, unknown_pair};
 ghost use Rattle.hippo_catalog.specs.AuditExpressions.{goes_back, IsMomentIn, IsPeriodOf};
 ghost use Rattle.hippo_catalog.specs.AuditExpressions.{audit_parts_refused, period_refused, audit_refused, audit_of};
 ghost use Rattle.hippo_typing.specs.FoundAudits.{tables_refused, audit_columns_refused, audit_found};
@@ -60,7 +60,7 @@ fn read_period(audit: &RawAudit) -> Period
 
 // The two ends of a period, the end not before the beginning.
 fn check_ends(from: Moment, to: Moment) -> Result<(Moment, Moment), NameFault>
-    ensures { Resolves (refused (goes_back from to) PeriodBack) (from, to) result }
+    ensures { Resolves (fault_if (goes_back from to) PeriodBack) (from, to) result }
 {
     if from <= to {
         return Ok((from, to));
@@ -89,7 +89,8 @@ fn check_parts(audit: &RawAudit) -> Result<(), NameFault>
 
 // The purposes and recipients of exempt pairs have to be there.
 fn check_pairs(alloc: Global, catalog: &Catalog, pairs: &Pairs) -> Result<(), NameFault>
-    ensures { Resolves (flat_map (λ pair. unknown_pair catalog.now.names pair.purpose pair.recipient) pairs.now)
+    ensures { Resolves (flat_map (λ pair. unknown_pair catalog.now.names pair.purpose
+        pair.recipient) pairs.now)
         tt result }
 {
     for pair in pairs.as_slice() {
@@ -119,7 +120,8 @@ fn found_audit(
     tables: &StatementTables<'_>,
     audit: &RawAudit,
 ) -> Result<FoundAudit, NameFault>
-    ensures { Resolves (audit_columns_refused tables.now audit.now) (audit_found tables.now audit.now) result }
+    ensures { Resolves (audit_columns_refused tables.now audit.now)
+        (audit_found tables.now audit.now) result }
 {
     let columns = found_references(alloc, tables, audit.columns.as_slice())?;
     let cond = found_condition(alloc, tables, &audit.cond)?;
@@ -190,8 +192,8 @@ fn resolve_over(
     Ok(audit_of(found, head, audit.shown))
 }
 
-/// The audit expression that is meant, each of whose columns is found in one table of its FROM list, or why it is
-/// refused. The ends of its period are the moments that its texts write.
+/// The audit expression that is meant, each of whose columns is found in one table of its FROM
+/// list, or why it is refused. The ends of its period are the moments that its texts write.
 pub fn resolve_audit(alloc: Global, catalog: &Catalog, audit: &RawAudit) -> Result<Audit, NameFault>
     ensures period { (period : PeriodEnds) × IsPeriodOf audit.now period }
     ensures resolved { (period : PeriodEnds) → IsPeriodOf audit.now period

@@ -46,7 +46,8 @@ fn one_home(
     ensures { MatchResult result
         (λ made. option_to_list home ++ option_to_list found ≡ option_to_list made)
         (λ fault. (more : List Reference)
-        → IsFirstOf (homes_refused written.now (option_to_list home ++ option_to_list found ++ more)) fault) }
+        → IsFirstOf (homes_refused written.now
+        (option_to_list home ++ option_to_list found ++ more)) fault) }
 {
     match (home, found) {
         (None, found) => Ok(found),
@@ -72,7 +73,8 @@ pub fn found_column(
     tables: &StatementTables<'_>,
     written: &RawColumn,
 ) -> Result<Ref, NameFault>
-    ensures { Resolves (column_refused tables.now written.now) (column_of tables.now written.now) result }
+    ensures { Resolves (column_refused tables.now written.now) (column_of tables.now written.now)
+        result }
 {
     let mut home = None;
     for place in 0..tables.len() {
@@ -82,7 +84,8 @@ pub fn found_column(
     some_home(alloc, written, home)
 }
 
-/// Written columns with the columns that they are, each of which has to be one of the statement's tables, and only one.
+/// Written columns with the columns that they are, each of which has to be one of the statement's
+/// tables, and only one.
 pub fn found_columns<'a>(
     alloc: Global,
     tables: &StatementTables<'_>,
@@ -99,7 +102,8 @@ pub fn found_columns<'a>(
     Ok(found)
 }
 
-/// The columns that written columns are, each of which has to be one of the statement's tables, and only one.
+/// The columns that written columns are, each of which has to be one of the statement's tables, and
+/// only one.
 pub fn found_references(
     alloc: Global,
     tables: &StatementTables<'_>,

@@ -19,7 +19,8 @@ fn column_operand(
     tables: &StatementTables<'_>,
     written: &RawColumn,
 ) -> Result<Operand, NameFault>
-    ensures { Resolves (column_refused tables.now written.now) (Column (column_of tables.now written.now)) result }
+    ensures { Resolves (column_refused tables.now written.now)
+        (Column (column_of tables.now written.now)) result }
 {
     Ok(Operand::Column(found_column(alloc, tables, written)?))
 }
@@ -35,7 +36,8 @@ fn found_operand(
     tables: &StatementTables<'_>,
     operand: &RawOperand,
 ) -> Result<Operand, NameFault>
-    ensures { Resolves (operand_refused tables.now operand.now) (operand_of tables.now operand.now) result }
+    ensures { Resolves (operand_refused tables.now operand.now) (operand_of tables.now operand.now)
+        result }
 {
     match operand {
         RawOperand::Column(written) => column_operand(alloc, tables, written.get()),
@@ -48,7 +50,8 @@ fn found_list(
     tables: &StatementTables<'_>,
     list: &RawOperands,
 ) -> Result<Operands, NameFault>
-    ensures { Resolves (flat_map (operand_refused tables.now) list.now) (map (operand_of tables.now) list.now) result }
+    ensures { Resolves (flat_map (operand_refused tables.now) list.now)
+        (map (operand_of tables.now) list.now) result }
 {
     let mut found = Sequence::new(alloc);
     for operand in list.as_slice() {
@@ -80,7 +83,8 @@ fn found_between(
     high: &RawOperand,
 ) -> Result<CondOf<Operand>, NameFault>
     ensures { Resolves (flat_map (operand_refused tables.now) (value.now ∷ low.now ∷ high.now ∷ []))
-        (Between (operand_of tables.now value.now) (operand_of tables.now low.now) (operand_of tables.now high.now))
+        (Between (operand_of tables.now value.now) (operand_of tables.now low.now)
+        (operand_of tables.now high.now))
         result }
 {
     let value = found_operand(alloc, tables, value)?;
@@ -115,7 +119,8 @@ fn found_missing(
     Ok(CondOf::Missing { value })
 }
 
-/// A condition with its columns found, each of which has to be one of the statement's tables, and only one.
+/// A condition with its columns found, each of which has to be one of the statement's tables, and
+/// only one.
 #[cycle(found_condition)]
 #[tactic(auto, using(hippo_catalog::proofs::ComparedOperands::gathered, hippo_model::proofs::ChangedOperands::changes_of_operands))]
 pub fn found_condition(
@@ -123,7 +128,8 @@ pub fn found_condition(
     tables: &StatementTables<'_>,
     condition: &RawCond,
 ) -> Result<CondOf<Operand>, NameFault>
-    ensures { Resolves (operands_refused tables.now condition.now) (condition_of tables.now condition.now) result }
+    ensures { Resolves (operands_refused tables.now condition.now)
+        (condition_of tables.now condition.now) result }
 {
     match condition {
         CondOf::All(parts) => found_junction(alloc, tables, true, parts),
@@ -177,7 +183,8 @@ fn found_not(
     tables: &StatementTables<'_>,
     part: &Boxed<RawCond>,
 ) -> Result<CondOf<Operand>, NameFault>
-    ensures { Resolves (operands_refused tables.now part.now) (Not (condition_of tables.now part.now)) result }
+    ensures { Resolves (operands_refused tables.now part.now)
+        (Not (condition_of tables.now part.now)) result }
 {
     let part = found_condition(alloc, tables, part.get())?;
     Ok(CondOf::Not(Boxed::new(alloc, part)?))

@@ -23,7 +23,8 @@ pub type FoundColumn<'a> = Found<'a, RawColumn>;
 
 pub type FoundColumns<'a> = Sequence<FoundColumn<'a>>;
 
-/// A member of a grouped select's list with the column that it shows, or whose least or greatest value.
+/// A member of a grouped select's list with the column that it shows, or whose least or greatest
+/// value.
 pub type FoundOut<'a> = Found<'a, RawOut>;
 
 pub type FoundOuts<'a> = Sequence<FoundOut<'a>>;

@@ -26,7 +26,8 @@ fn column_in(out: &RawOut) -> &RawColumn
     }
 }
 
-/// The members of a list with their columns, each of which has to be one of the statement's tables, and only one.
+/// The members of a list with their columns, each of which has to be one of the statement's tables,
+/// and only one.
 pub fn found_outs<'a>(
     alloc: Global,
     tables: &StatementTables<'_>,
@@ -176,7 +177,8 @@ pub fn grouped_items(
     outs: &FoundOuts<'_>,
     by: &FoundColumns<'_>,
 ) -> Result<Refs, Memory>
-    ensures { IfOk result (λ items. items ≡ map (λ found. found.1) by.now ++ filter_map argument_found outs.now) }
+    ensures { IfOk result (λ items. items
+        ≡ map (λ found. found.1) by.now ++ filter_map argument_found outs.now) }
 {
     let mut columns = Sequence::new(alloc);
     push_by(&mut columns, by)?;
@@ -205,7 +207,8 @@ fn is_argument(found: &FoundOut<'_>) -> bool
     }
 }
 
-/// What the members show, by the places of their columns among the GROUP BY columns and the arguments behind them.
+/// What the members show, by the places of their columns among the GROUP BY columns and the
+/// arguments behind them.
 pub fn shown_outs(
     alloc: Global,
     outs: &FoundOuts<'_>,

@@ -50,7 +50,8 @@ fn push_star(
     qualifier: Option<&Name>,
     columns: &mut Refs,
 ) -> Result<(), Memory>
-    ensures { OnOk result (columns.new ≡ columns.old ++ star_columns tables.now (option_copied qualifier.entry)) }
+    ensures { OnOk result (columns.new ≡ columns.old
+        ++ star_columns tables.now (option_copied qualifier.entry)) }
 {
     for place in 0..tables.len() {
         push_starred(tables.get(place), place, qualifier, columns)?;
@@ -122,7 +123,8 @@ fn push_item(
     columns: &mut Refs,
 ) -> Result<(), NameFault>
     ensures { MatchResult result
-        (λ _. (item_refused tables.now item.now ≡ []) × (columns.new ≡ columns.old ++ item_columns tables.now item.now))
+        (λ _. (item_refused tables.now item.now ≡ [])
+        × (columns.new ≡ columns.old ++ item_columns tables.now item.now))
         (λ fault. IsFirstOf (item_refused tables.now item.now) fault) }
 {
     match item {
@@ -132,7 +134,8 @@ fn push_item(
     }
 }
 
-/// The columns of the items, in their order, each of which has to be one of the statement's tables, and only one.
+/// The columns of the items, in their order, each of which has to be one of the statement's tables,
+/// and only one.
 pub fn found_items(
     alloc: Global,
     tables: &StatementTables<'_>,

@@ -1,5 +1,5 @@
-//! Laws on the names of a history, and on what statements mean after some entries: each is the contract of a function
-//! that does nothing.
+//! Laws on the names of a history, and on what statements mean after some entries: each is the
+//! contract of a function that does nothing.
 ghost use Rattle.hippo_typing.specs.ResolutionLaws.{SelectsLast, AuditsLast, NamesGrow, ValidNames, EntriesCreateAnew};
 
 /// A select that is not refused means the same query after more entries.
@@ -12,7 +12,8 @@ pub fn audits_last()
     ensures { AuditsLast }
 {}
 
-/// The names of a history are those of the history before its last entry, and what that entry creates.
+/// The names of a history are those of the history before its last entry, and what that entry
+/// creates.
 pub fn names_grow()
     ensures { NamesGrow }
 {}

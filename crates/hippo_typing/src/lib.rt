@@ -1,5 +1,5 @@
-//! From selects and audit expressions as they are written to what they mean in a history, or to the first refusal that
-//! holds.
+//! From selects and audit expressions as they are written to what they mean in a history, or to the
+//! first refusal that holds.
 #![tactic(auto)]
 
 mod audits;

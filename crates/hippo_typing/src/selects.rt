@@ -26,7 +26,8 @@ use hippo_model::{
 use hippo_values::{Duplicate, FROM_LIMIT, ITEM_LIMIT, Memory, Sequence};
 use std::alloc::Global;
 
-/// The columns of a select's list: those of its items or, where it is grouped, its members with theirs.
+/// The columns of a select's list: those of its items or, where it is grouped, its members with
+/// theirs.
 #[derive(Drop)]
 pub struct FoundList<'a> {
     items: Refs,
@@ -110,7 +111,8 @@ fn found_select<'a>(
     tables: &StatementTables<'_>,
     select: &'a RawSelect,
 ) -> Result<FoundSelect<'a>, NameFault>
-    ensures { Resolves (columns_refused tables.now select.now) (select_found tables.now select.now) result }
+    ensures { Resolves (columns_refused tables.now select.now) (select_found tables.now select.now)
+        result }
 {
     let list = found_list(alloc, tables, select)?;
     let cond = found_condition(alloc, tables, &select.cond)?;
@@ -138,7 +140,8 @@ fn check_parts(select: &RawSelect) -> Result<(), NameFault>
     check_count(ITEM_LIMIT, by_of(&select.form).len())
 }
 
-// Refuses a select whose columns are found, for what its columns are, its texts or the number of its parts.
+// Refuses a select whose columns are found, for what its columns are, its texts or the number of
+// its parts.
 fn check_select(
     alloc: Global,
     tables: &StatementTables<'_>,
@@ -214,14 +217,20 @@ fn checked_head(
     found: &FoundSelect<'_>,
 ) -> Result<QueryHead, NameFault>
     requires { found.now ≡ select_found tables.now select.now }
-    ensures { Resolves (head_refused tables.now select.now found.now) (head_of select.now found.now) result }
+    ensures { Resolves (head_refused tables.now select.now found.now) (head_of select.now found.now)
+        result }
 {
     check_select(alloc, tables, select, found)?;
     Ok(query_head(alloc, select, found)?)
 }
 
 fn query(found: FoundSelect<'_>, head: QueryHead) -> Query
-    ensures { result ≡ record { items = head.items; tables = head.tables; cond = found.entry.cond; form = head.form } }
+    ensures { result ≡ record {
+      items = head.items;
+      tables = head.tables;
+      cond = found.entry.cond;
+      form = head.form;
+    } }
 {
     let FoundSelect {
         list: _,
@@ -241,7 +250,8 @@ fn query(found: FoundSelect<'_>, head: QueryHead) -> Query
     }
 }
 
-/// The query that a select means, each of whose columns is found in one table of its FROM list, or why it is refused.
+/// The query that a select means, each of whose columns is found in one table of its FROM list, or
+/// why it is refused.
 ///
 /// Over `patient (pid, name)` and `visit (vno, pid)`:
 ///
@@ -256,7 +266,8 @@ pub fn resolve_select(
     catalog: &Catalog,
     select: &RawSelect,
 ) -> Result<Query, NameFault>
-    ensures { Resolves (select_refused catalog.now.names select.now) (query_of catalog.now.names select.now) result }
+    ensures { Resolves (select_refused catalog.now.names select.now)
+        (query_of catalog.now.names select.now) result }
 {
     let tables = found_tables(alloc, catalog, &select.tables)?;
     let found = found_select(alloc, &tables, select)?;

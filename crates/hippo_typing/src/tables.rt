@@ -33,7 +33,8 @@ pub fn found_tables<'a>(
     catalog: &'a Catalog,
     names: &Names,
 ) -> Result<StatementTables<'a>, NameFault>
-    ensures { Resolves (flat_map (unknown_table catalog.now.names) names.now ++ repeated_names names.now)
+    ensures { Resolves (flat_map (unknown_table catalog.now.names) names.now
+        ++ repeated_names names.now)
         (schemas_of catalog.now.names names.now) result }
 {
     let tables = tables_of(alloc, catalog, names.as_slice())?;

@@ -89,10 +89,11 @@ fn meaning_in(alloc: Global, catalog: &Catalog, text: &str) -> Result<Option<Que
     }
 }
 
-/// The query that a text means where a catalog's names stand: the text is a select by the grammar, and nothing of it is
-/// refused. None exactly where it means none; the error is want of memory.
+/// The query that a text means where a catalog's names stand: the text is a select by the grammar,
+/// and nothing of it is refused. None exactly where it means none; the error is want of memory.
 pub fn read_meaning(alloc: Global, catalog: &Catalog, text: &str) -> Result<Option<Query>, Memory>
-    ensures found { IfOk result (λ found. IfSome found (λ query. Means catalog.now.names text.now query)) }
+    ensures found { IfOk result (λ found. IfSome found
+        (λ query. Means catalog.now.names text.now query)) }
     ensures none { IfOk result
         (λ found. IfNone found ((query : MeantQuery) → ¬ Means catalog.now.names text.now query)) }
     ensures meaning { IfOk result (λ found. found ≡ meaning_in catalog.now.names text.now) }
@@ -100,8 +101,8 @@ pub fn read_meaning(alloc: Global, catalog: &Catalog, text: &str) -> Result<Opti
     meaning_in(alloc, catalog, text)
 }
 
-/// A text's meaning after some entries is the query that it means by the grammar and the names that those entries make
-/// known, where it means one.
+/// A text's meaning after some entries is the query that it means by the grammar and the names that
+/// those entries make known, where it means one.
 pub fn meaning_is_that_of_texts()
     ensures { MeaningIsThatOfTexts }
 {}

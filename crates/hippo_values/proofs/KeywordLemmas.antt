@@ -15,7 +15,7 @@ use Rattle.std.proofs.lemmas.Slice.Eq.{bytes_eq-Decides}
 use Rattle.hippo_values.specs.declared.keywords.Reserved.{Reserved}
 use Rattle.hippo_values.specs.declared.keywords.Reserved.TheVariants as reserved
 use Rattle.hippo_values.specs.declared.keywords.TheConstants.{WORDS, STARTS}
-use Rattle.hippo_values.specs.Names.{folded, keywords, unsupported_words, letter_of, reserved_of}
+use Rattle.hippo_values.specs.Names.{lower_case, keywords, unsupported_words, letter_of, reserved_of}
 
 abbrev Entries : Type 0
 Entries = List (List ℕ × Reserved)
@@ -39,9 +39,9 @@ lookup-marked test mark (word ∷ words) = elim (cases_Bool (test word)) [
   | inr failed ↦ rw failed (lookup-marked test mark words)
 ]
 
-lookup-entries : (word : List ℕ) → lookup (λ known. bytes_eq known (folded word)) entries ≡ reserved_of word
+lookup-entries : (word : List ℕ) → lookup (λ known. bytes_eq known (lower_case word)) entries ≡ reserved_of word
 lookup-entries word =
-    let test : List ℕ → Bool = λ known. bytes_eq known (folded word) in
+    let test : List ℕ → Bool = λ known. bytes_eq known (lower_case word) in
     lookup-append test (map (λ e. (e.0, reserved.Keyword e.1)) keywords) (map (λ w. (w, reserved.Unsupported)) unsupported_words)
     ∙ (ap (λ o. option_or o (lookup test (map (λ w. (w, reserved.Unsupported)) unsupported_words))) (lookup-map_values reserved.Keyword test keywords)
     ∙ ap (option_or _) (lookup-marked test reserved.Unsupported unsupported_words))
@@ -59,7 +59,7 @@ start_of k = slice_index_or STARTS k 0
 
 -- the code's table
 abbrev words : Entries
-words = map (λ e. (folded e.0.now, e.1)) WORDS
+words = map (λ e. (lower_case e.0.now, e.1)) WORDS
 
 abbrev part_of : ℕ → Entries
 part_of k = take (start_of (k + 1) - start_of k) (drop (start_of k) words)
@@ -88,13 +88,13 @@ bounds k small =
 
 -- a look-up that folds the words of a table
 abbrev plain : List (Bor (List ℕ) × Reserved) → Entries
-plain table = map (λ e. (folded e.0.now, e.1)) table
+plain table = map (λ e. (lower_case e.0.now, e.1)) table
 
-lookup-plain : (word : List ℕ) (table : List (Bor (List ℕ) × Reserved)) → lookup (λ known. bytes_eq (folded known.now) word) table ≡ lookup (λ known. bytes_eq known word) (plain table)
+lookup-plain : (word : List ℕ) (table : List (Bor (List ℕ) × Reserved)) → lookup (λ known. bytes_eq (lower_case known.now) word) table ≡ lookup (λ known. bytes_eq known word) (plain table)
 lookup-plain word [] = refl
-lookup-plain word (entry ∷ table) = ap (cond (bytes_eq (folded entry.0.now) word) (Some entry.1)) (lookup-plain word table)
+lookup-plain word (entry ∷ table) = ap (cond (bytes_eq (lower_case entry.0.now) word) (Some entry.1)) (lookup-plain word table)
 
-pub lookup-part : (word : List ℕ) (table : List (Bor (List ℕ) × Reserved)) (start count : ℕ) → lookup (λ known. bytes_eq (folded known.now) word) (take count (drop start table)) ≡ lookup (λ known. bytes_eq known word) (take count (drop start (plain table)))
+pub lookup-part : (word : List ℕ) (table : List (Bor (List ℕ) × Reserved)) (start count : ℕ) → lookup (λ known. bytes_eq (lower_case known.now) word) (take count (drop start table)) ≡ lookup (λ known. bytes_eq known word) (take count (drop start (plain table)))
 lookup-part word table start count =
     lookup-plain word (take count (drop start table))
     ∙ ap (lookup (λ known. bytes_eq known word)) (sym (ap (take count) (drop-map _ start table) ∙ take-map _ count (drop start table)))
@@ -106,13 +106,13 @@ letter_first first k letter = elim (cases_Bool (is_ascii_alphabetic first)) [
   | inr other ↦ let none : None ≡ Some k = rw other at letter in (cc)
 ]
 
-begins_alike : (word : List ℕ) (k : ℕ) → letter_of word ≡ Some k → (known : List ℕ) → bytes_eq known (folded word) ≡ true → begins (97 + k) known ≡ true
+begins_alike : (word : List ℕ) (k : ℕ) → letter_of word ≡ Some k → (known : List ℕ) → bytes_eq known (lower_case word) ≡ true → begins (97 + k) known ≡ true
 begins_alike [] k letter known same = (cc)
-begins_alike (first ∷ rest) k letter known same = rw ((bytes_eq-Decides known (folded (first ∷ rest))).0 same) (letter_first first k letter)
+begins_alike (first ∷ rest) k letter known same = rw ((bytes_eq-Decides known (lower_case (first ∷ rest))).0 same) (letter_first first k letter)
 
-pub found_by_letter : (word : List ℕ) (k : ℕ) → letter_of word ≡ Some k → k < 26 → lookup (λ known. bytes_eq known (folded word)) (part_of k) ≡ reserved_of word
+pub found_by_letter : (word : List ℕ) (k : ℕ) → letter_of word ≡ Some k → k < 26 → lookup (λ known. bytes_eq known (lower_case word)) (part_of k) ≡ reserved_of word
 found_by_letter word k letter small =
-    let test : List ℕ → Bool = λ known. bytes_eq known (folded word) in
+    let test : List ℕ → Bool = λ known. bytes_eq known (lower_case word) in
     ap (lookup test) (part_is k small)
     ∙ (lookup-filter-keys test (begins (97 + k)) true (begins_alike word k letter) entries ∙ lookup-entries word)
 
@@ -131,11 +131,11 @@ no_small first none = elim (cases_Bool (is_ascii_alphabetic first)) [
   | inr other ↦ grind (arith, nat_tests)
 ]
 
-no_letter : (word : List ℕ) → letter_of word ≡ None → (known : List ℕ) → bytes_eq known (folded word) ≡ true → begins_small known ≡ false
+no_letter : (word : List ℕ) → letter_of word ≡ None → (known : List ℕ) → bytes_eq known (lower_case word) ≡ true → begins_small known ≡ false
 no_letter [] none known same = rw ((bytes_eq-Decides known []).0 same) refl
-no_letter (first ∷ rest) none known same = rw ((bytes_eq-Decides known (folded (first ∷ rest))).0 same) (no_small first none)
+no_letter (first ∷ rest) none known same = rw ((bytes_eq-Decides known (lower_case (first ∷ rest))).0 same) (no_small first none)
 
 pub none_without_letter : (word : List ℕ) → letter_of word ≡ None → reserved_of word ≡ None
 none_without_letter word none =
-    let test : List ℕ → Bool = λ known. bytes_eq known (folded word) in
+    let test : List ℕ → Bool = λ known. bytes_eq known (lower_case word) in
     sym (lookup-entries word) ∙ (sym (ap (lookup test) all_small) ∙ lookup-filter-keys test begins_small false (no_letter word none) entries)

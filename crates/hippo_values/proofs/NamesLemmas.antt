@@ -12,7 +12,7 @@ use Rattle.std.proofs.lemmas.Str.Ascii.{lowercase-lowercase}
 use Rattle.std.specs.Str.{IsAscii}
 use Rattle.std.proofs.lemmas.Bool.{and_parts}
 use Rattle.hippo_values.proofs.AsciiLemmas.{AreAscii, IsAscii-of_bytes, IsAscii-same}
-use Rattle.hippo_values.specs.Names.{keywords, unsupported_words, folded, reserved_of, is_word_byte, begins_with_letter, is_word, is_name}
+use Rattle.hippo_values.specs.Names.{keywords, unsupported_words, lower_case, reserved_of, is_word_byte, begins_with_letter, is_word, is_name}
 
 is_ascii_alphabetic-lowercase : (b : ℕ) → is_ascii_alphabetic (to_ascii_lowercase b) ≡ is_ascii_alphabetic b
 is_ascii_alphabetic-lowercase b = grind (arith, nat_tests)
@@ -20,17 +20,17 @@ is_ascii_alphabetic-lowercase b = grind (arith, nat_tests)
 is_word_byte-lowercase : (b : ℕ) → is_word_byte (to_ascii_lowercase b) ≡ is_word_byte b
 is_word_byte-lowercase b = grind (arith, nat_tests)
 
-pub folded-folded : (word : List ℕ) → folded (folded word) ≡ folded word
-folded-folded [] = refl
-folded-folded (b ∷ bs) = rw (lowercase-lowercase b, folded-folded bs)
+pub lower_case-lower_case : (word : List ℕ) → lower_case (lower_case word) ≡ lower_case word
+lower_case-lower_case [] = refl
+lower_case-lower_case (b ∷ bs) = rw (lowercase-lowercase b, lower_case-lower_case bs)
 
-all_word_bytes-folded : (word : List ℕ) → list_all is_word_byte (folded word) ≡ list_all is_word_byte word
-all_word_bytes-folded [] = refl
-all_word_bytes-folded (b ∷ bs) = rw (is_word_byte-lowercase b, all_word_bytes-folded bs)
+all_word_bytes-lower_case : (word : List ℕ) → list_all is_word_byte (lower_case word) ≡ list_all is_word_byte word
+all_word_bytes-lower_case [] = refl
+all_word_bytes-lower_case (b ∷ bs) = rw (is_word_byte-lowercase b, all_word_bytes-lower_case bs)
 
-begins_with_letter-folded : (word : List ℕ) → begins_with_letter (folded word) ≡ begins_with_letter word
-begins_with_letter-folded [] = refl
-begins_with_letter-folded (b ∷ bs) = is_ascii_alphabetic-lowercase b
+begins_with_letter-lower_case : (word : List ℕ) → begins_with_letter (lower_case word) ≡ begins_with_letter word
+begins_with_letter-lower_case [] = refl
+begins_with_letter-lower_case (b ∷ bs) = is_ascii_alphabetic-lowercase b
 
 -- why a word in lower case is no name
 abbrev reserved_in : List ℕ → Option Reserved
@@ -38,17 +38,17 @@ reserved_in word =
     option_or (option_map reserved.Keyword (lookup (λ known. bytes_eq known word) keywords))
     (if list_any (λ known. bytes_eq known word) unsupported_words then Some reserved.Unsupported else None)
 
-reserved_of-folded : (word : List ℕ) → reserved_of (folded word) ≡ reserved_of word
-reserved_of-folded word = ap reserved_in (folded-folded word)
+reserved_of-lower_case : (word : List ℕ) → reserved_of (lower_case word) ≡ reserved_of word
+reserved_of-lower_case word = ap reserved_in (lower_case-lower_case word)
 
 -- A word in lower case is a name just where the word is.
-pub is_name-folded : (word : List ℕ) → is_name (folded word) ≡ is_name word
-is_name-folded word =
+pub is_name-lower_case : (word : List ℕ) → is_name (lower_case word) ≡ is_name word
+is_name-lower_case word =
     cc (
-      begins_with_letter-folded word,
-      all_word_bytes-folded word,
+      begins_with_letter-lower_case word,
+      all_word_bytes-lower_case word,
       length-map word to_ascii_lowercase,
-      reserved_of-folded word,
+      reserved_of-lower_case word,
     )
 
 -- A word of a name's form that is not reserved is a name.

@@ -8,7 +8,7 @@ use Rattle.std.proofs.lemmas.List.{length-append, length-take, take-append-le}
 use Rattle.std.proofs.lemmas.Bool.{cases_Bool}
 use Rattle.std.proofs.lemmas.Bool.Decides.{nat_tests}
 use Rattle.hippo_values.specs.Printing.{KeepsFront}
-use Rattle.hippo_values.specs.Quoting.{is_quote, doubled}
+use Rattle.hippo_values.specs.Quoting.{is_quote, doubled_quotes}
 
 -- the text has no quote
 abbrev pub HasNoQuote : List ℕ → Type 0
@@ -17,21 +17,21 @@ HasNoQuote text = (i : ℕ) → i < length text → get_or text i 0 ≢ 39
 is_quote-other : (byte : ℕ) → byte ≢ 39 → is_quote byte ≡ false
 is_quote-other byte h = grind (arith, nat_tests)
 
-pub doubled-without : (text : List ℕ) → HasNoQuote text → doubled text ≡ text
-doubled-without [] h = refl
-doubled-without (b ∷ bs) h =
-    rw (is_quote-other b (h 0 (omega arith))) (ap (λ t. b ∷ t) (doubled-without bs (λ i lt. h (suc i) (omega arith))))
+pub doubled_quotes-without : (text : List ℕ) → HasNoQuote text → doubled_quotes text ≡ text
+doubled_quotes-without [] h = refl
+doubled_quotes-without (b ∷ bs) h =
+    rw (is_quote-other b (h 0 (omega arith))) (ap (λ t. b ∷ t) (doubled_quotes-without bs (λ i lt. h (suc i) (omega arith))))
 
-doubled-append : (xs ys : List ℕ) → doubled (xs ++ ys) ≡ doubled xs ++ doubled ys
-doubled-append [] ys = refl
-doubled-append (b ∷ bs) ys = elim (cases_Bool (is_quote b)) [
-  | inl quote ↦ rw quote (ap (λ t. 39 ∷ 39 ∷ t) (doubled-append bs ys))
-  | inr other ↦ rw other (ap (λ t. b ∷ t) (doubled-append bs ys))
+doubled_quotes-append : (xs ys : List ℕ) → doubled_quotes (xs ++ ys) ≡ doubled_quotes xs ++ doubled_quotes ys
+doubled_quotes-append [] ys = refl
+doubled_quotes-append (b ∷ bs) ys = elim (cases_Bool (is_quote b)) [
+  | inl quote ↦ rw quote (ap (λ t. 39 ∷ 39 ∷ t) (doubled_quotes-append bs ys))
+  | inr other ↦ rw other (ap (λ t. b ∷ t) (doubled_quotes-append bs ys))
 ]
 
-pub doubled-split : (text before after : List ℕ) → text ≡ before ++ (39 ∷ after) → HasNoQuote before → doubled text ≡ before ++ (39 ∷ 39 ∷ doubled after)
-doubled-split text before after e none =
-    rw (e, doubled-append, doubled-without before none) refl
+pub doubled_quotes-split : (text before after : List ℕ) → text ≡ before ++ (39 ∷ after) → HasNoQuote before → doubled_quotes text ≡ before ++ (39 ∷ 39 ∷ doubled_quotes after)
+doubled_quotes-split text before after e none =
+    rw (e, doubled_quotes-append, doubled_quotes-without before none) refl
 
 -- what is added at the end keeps the front
 pub KeepsFront-append : (old new more : List ℕ) → KeepsFront old new → KeepsFront old (new ++ more)
@@ -40,14 +40,14 @@ KeepsFront-append old new more h =
     take-append-le (length old) new more within ∙ h
 
 -- one more quote is printed
-pub doubled-step : (initial text out rest before after first second : List ℕ) → out ++ doubled rest ≡ initial ++ doubled text → (rest ≡ before ++ (39 ∷ after)) × HasNoQuote before → first ≡ out ++ before → second ≡ first ++ (39 ∷ 39 ∷ []) → second ++ doubled after ≡ initial ++ doubled text
-doubled-step initial text out rest before after first second whole split ef es =
-    let e = doubled-split rest before after split.0 split.1 in
+pub doubled_quotes-step : (initial text out rest before after first second : List ℕ) → out ++ doubled_quotes rest ≡ initial ++ doubled_quotes text → (rest ≡ before ++ (39 ∷ after)) × HasNoQuote before → first ≡ out ++ before → second ≡ first ++ (39 ∷ 39 ∷ []) → second ++ doubled_quotes after ≡ initial ++ doubled_quotes text
+doubled_quotes-step initial text out rest before after first second whole split ef es =
+    let e = doubled_quotes-split rest before after split.0 split.1 in
     rw (es, ef, ← whole, e) (simp append_assoc)
 
 -- and the rest, which has none
-pub doubled-last : (initial text out rest new : List ℕ) → out ++ doubled rest ≡ initial ++ doubled text → HasNoQuote rest → new ≡ out ++ rest → new ≡ initial ++ doubled text
-doubled-last initial text out rest new whole none e = e ∙ rw (← whole, doubled-without rest none) refl
+pub doubled_quotes-last : (initial text out rest new : List ℕ) → out ++ doubled_quotes rest ≡ initial ++ doubled_quotes text → HasNoQuote rest → new ≡ out ++ rest → new ≡ initial ++ doubled_quotes text
+doubled_quotes-last initial text out rest new whole none e = e ∙ rw (← whole, doubled_quotes-without rest none) refl
 
 -- the last digit after those before it
 pub decimal-last : (old front new : List ℕ) (n digit : ℕ) → n < 2 ^ 64 → 10 ≤ n → digit ≡ 48 + n % 10 → front ≡ old ++ decimal (n / 10) → new ≡ front ++ encode_utf8 digit → new ≡ old ++ decimal n
@@ -67,14 +67,14 @@ KeepsFront-step old out before first second h ef es =
     rw (es, ef) (KeepsFront-append old (out ++ before) (39 ∷ 39 ∷ []) (KeepsFront-append old out before h))
 
 -- What is printed so far and what is left are as long as the whole.
-pub doubled-room : (initial text out rest : List ℕ) (room : ℕ) → out ++ doubled rest ≡ initial ++ doubled text → length initial + length (doubled text) ≤ room → length out + length (doubled rest) ≤ room
-doubled-room initial text out rest room whole fits =
-    omega (arith, ap length whole, length-append out (doubled rest), length-append initial (doubled text))
+pub doubled_quotes-room : (initial text out rest : List ℕ) (room : ℕ) → out ++ doubled_quotes rest ≡ initial ++ doubled_quotes text → length initial + length (doubled_quotes text) ≤ room → length out + length (doubled_quotes rest) ≤ room
+doubled_quotes-room initial text out rest room whole fits =
+    omega (arith, ap length whole, length-append out (doubled_quotes rest), length-append initial (doubled_quotes text))
 
 -- the text before a quote takes less room than the rest
-pub doubled-longer : (rest before after : List ℕ) → (rest ≡ before ++ (39 ∷ after)) × HasNoQuote before → length before + 2 ≤ length (doubled rest)
-doubled-longer rest before after split =
-    omega (arith, ap length (doubled-split rest before after split.0 split.1), length-append before (39 ∷ 39 ∷ doubled after))
+pub doubled_quotes-longer : (rest before after : List ℕ) → (rest ≡ before ++ (39 ∷ after)) × HasNoQuote before → length before + 2 ≤ length (doubled_quotes rest)
+doubled_quotes-longer rest before after split =
+    omega (arith, ap length (doubled_quotes-split rest before after split.0 split.1), length-append before (39 ∷ 39 ∷ doubled_quotes after))
 
 decimal-longer : (n : ℕ) → n < 2 ^ 64 → 10 ≤ n → length (decimal n) ≡ length (decimal (n / 10)) + 1
 decimal-longer n small h =

@@ -41,12 +41,14 @@ four_digits n = two_digits (n / 100) ++ two_digits (n % 100)
 
 -- a date as YYYY-MM-DD
 abbrev pub date_text : ℕ → ℕ → ℕ → List ℕ
-date_text year month day = four_digits year ++ codes "-" ++ two_digits month ++ codes "-" ++ two_digits day
+date_text year month day =
+    four_digits year ++ codes "-" ++ two_digits month ++ codes "-" ++ two_digits day
 
 -- a time of the day as Thh:mm:ssZ
 abbrev pub clock_text : ℕ → ℕ → ℕ → List ℕ
 clock_text hour minute second =
-    codes "T" ++ two_digits hour ++ codes ":" ++ two_digits minute ++ codes ":" ++ two_digits second ++ codes "Z"
+    codes "T" ++ two_digits hour ++ codes ":" ++ two_digits minute ++ codes ":" ++ two_digits second
+    ++ codes "Z"
 
 -- a second of the day in this form
 unfoldable pub time_text : ℕ → List ℕ

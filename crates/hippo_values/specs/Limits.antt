@@ -1,5 +1,5 @@
--- The limits of the language: how long its parts may be, in bytes, how many of them there may be, how deep a statement
--- may be nested, and the largest numbers that a line may name.
+-- The limits of the language: how long its parts may be, in bytes, how many of them there may be,
+-- how deep a statement may be nested, and the largest numbers that a line may name.
 use Rattle.std.specs.Prelude.{ℕ}
 
 -- a text in a cell

@@ -11,42 +11,46 @@ use Rattle.hippo_values.specs.declared.keywords.Reserved.{Reserved}
 use Rattle.hippo_values.specs.declared.keywords.Reserved.TheVariants as reserved
 
 -- the word in lower case
-abbrev pub folded : List ℕ → List ℕ
-folded word = map to_ascii_lowercase word
+abbrev pub lower_case : List ℕ → List ℕ
+lower_case word = map to_ascii_lowercase word
 
 -- the words that stand in the grammar, each with its keyword
 unfoldable pub keywords : List (List ℕ × Keyword)
 keywords =
-    (codes "and", KAnd) ∷ (codes "allow", KAllow) ∷ (codes "audit", KAudit) ∷ (codes "authorize", KAuthorize)
-    ∷ (codes "begin", KBegin) ∷ (codes "between", KBetween) ∷ (codes "choice", KChoice) ∷ (codes "create", KCreate)
-    ∷ (codes "date", KDate) ∷ (codes "deauthorize", KDeauthorize) ∷ (codes "delete", KDelete)
-    ∷ (codes "distinct", KDistinct) ∷ (codes "during", KDuring) ∷ (codes "explain", KExplain) ∷ (codes "for", KFor)
-    ∷ (codes "from", KFrom) ∷ (codes "group", KGroup) ∷ (codes "in", KIn) ∷ (codes "inner", KInner)
-    ∷ (codes "insert", KInsert) ∷ (codes "integer", KInteger) ∷ (codes "into", KInto) ∷ (codes "is", KIs)
-    ∷ (codes "item", KItem) ∷ (codes "join", KJoin) ∷ (codes "key", KKey) ∷ (codes "max", KMax) ∷ (codes "min", KMin)
-    ∷ (codes "no", KNo) ∷ (codes "not", KNot) ∷ (codes "null", KNull) ∷ (codes "on", KOn) ∷ (codes "open", KOpen)
-    ∷ (codes "opt", KOpt) ∷ (codes "otherthan", KOtherthan) ∷ (codes "out", KOut) ∷ (codes "primary", KPrimary)
-    ∷ (codes "purpose", KPurpose) ∷ (codes "recipient", KRecipient) ∷ (codes "revoke", KRevoke)
-    ∷ (codes "select", KSelect) ∷ (codes "set", KSet) ∷ (codes "shown", KShown) ∷ (codes "subject", KSubject)
-    ∷ (codes "table", KTable) ∷ (codes "text", KText) ∷ (codes "to", KTo) ∷ (codes "update", KUpdate)
-    ∷ (codes "values", KValues) ∷ (codes "where", KWhere) ∷ (codes "with", KWith) ∷ (codes "yes", KYes)
-    ∷ (codes "or", KOr) ∷ []
+    (codes "and", KAnd) ∷ (codes "allow", KAllow) ∷ (codes "audit", KAudit)
+    ∷ (codes "authorize", KAuthorize) ∷ (codes "begin", KBegin) ∷ (codes "between", KBetween)
+    ∷ (codes "choice", KChoice) ∷ (codes "create", KCreate) ∷ (codes "date", KDate)
+    ∷ (codes "deauthorize", KDeauthorize) ∷ (codes "delete", KDelete)
+    ∷ (codes "distinct", KDistinct) ∷ (codes "during", KDuring) ∷ (codes "explain", KExplain)
+    ∷ (codes "for", KFor) ∷ (codes "from", KFrom) ∷ (codes "group", KGroup) ∷ (codes "in", KIn)
+    ∷ (codes "inner", KInner) ∷ (codes "insert", KInsert) ∷ (codes "integer", KInteger)
+    ∷ (codes "into", KInto) ∷ (codes "is", KIs) ∷ (codes "item", KItem) ∷ (codes "join", KJoin)
+    ∷ (codes "key", KKey) ∷ (codes "max", KMax) ∷ (codes "min", KMin) ∷ (codes "no", KNo)
+    ∷ (codes "not", KNot) ∷ (codes "null", KNull) ∷ (codes "on", KOn) ∷ (codes "open", KOpen)
+    ∷ (codes "opt", KOpt) ∷ (codes "otherthan", KOtherthan) ∷ (codes "out", KOut)
+    ∷ (codes "primary", KPrimary) ∷ (codes "purpose", KPurpose) ∷ (codes "recipient", KRecipient)
+    ∷ (codes "revoke", KRevoke) ∷ (codes "select", KSelect) ∷ (codes "set", KSet)
+    ∷ (codes "shown", KShown) ∷ (codes "subject", KSubject) ∷ (codes "table", KTable)
+    ∷ (codes "text", KText) ∷ (codes "to", KTo) ∷ (codes "update", KUpdate)
+    ∷ (codes "values", KValues) ∷ (codes "where", KWhere) ∷ (codes "with", KWith)
+    ∷ (codes "yes", KYes) ∷ (codes "or", KOr) ∷ []
 
 -- words of SQL that are refused wherever they stand
 unfoldable pub unsupported_words : List (List ℕ)
 unsupported_words =
-    codes "all" ∷ codes "alter" ∷ codes "any" ∷ codes "as" ∷ codes "avg" ∷ codes "case" ∷ codes "cast" ∷ codes "count"
-    ∷ codes "cross" ∷ codes "drop" ∷ codes "except" ∷ codes "exists" ∷ codes "full" ∷ codes "having"
-    ∷ codes "intersect" ∷ codes "left" ∷ codes "like" ∷ codes "limit" ∷ codes "natural" ∷ codes "offset"
-    ∷ codes "order" ∷ codes "outer" ∷ codes "right" ∷ codes "sum" ∷ codes "union" ∷ codes "using" ∷ codes "window" ∷ []
+    codes "all" ∷ codes "alter" ∷ codes "any" ∷ codes "as" ∷ codes "avg" ∷ codes "case"
+    ∷ codes "cast" ∷ codes "count" ∷ codes "cross" ∷ codes "drop" ∷ codes "except" ∷ codes "exists"
+    ∷ codes "full" ∷ codes "having" ∷ codes "intersect" ∷ codes "left" ∷ codes "like"
+    ∷ codes "limit" ∷ codes "natural" ∷ codes "offset" ∷ codes "order" ∷ codes "outer"
+    ∷ codes "right" ∷ codes "sum" ∷ codes "union" ∷ codes "using" ∷ codes "window" ∷ []
 
 -- the keyword that a word writes, in whatever case
 abbrev pub keyword_of : List ℕ → Option Keyword
-keyword_of word = lookup (λ known. bytes_eq known (folded word)) keywords
+keyword_of word = lookup (λ known. bytes_eq known (lower_case word)) keywords
 
 -- whether the word is one of these, in whatever case
 abbrev pub is_among : List (List ℕ) → List ℕ → Bool
-is_among words word = list_any (λ known. bytes_eq known (folded word)) words
+is_among words word = list_any (λ known. bytes_eq known (lower_case word)) words
 
 -- why a word is no name, if it is reserved
 abbrev pub reserved_of : List ℕ → Option Reserved
@@ -68,7 +72,8 @@ begins_with_letter (first ∷ rest) = is_ascii_alphabetic first
 -- the place of the first letter in the alphabet, from 0
 abbrev pub letter_of : List ℕ → Option ℕ
 letter_of [] = None
-letter_of (first ∷ rest) = if is_ascii_alphabetic first then Some (to_ascii_lowercase first - 97) else None
+letter_of (first ∷ rest) =
+    if is_ascii_alphabetic first then Some (to_ascii_lowercase first - 97) else None
 
 -- a letter, and then letters, digits and `_`
 abbrev pub is_word : List ℕ → Bool
@@ -80,4 +85,4 @@ is_name word = is_word word && nat_le (length word) name_limit && not (is_reserv
 
 -- the name that a word writes
 abbrev pub name_of : List ℕ → Option (List ℕ)
-name_of word = if is_name word then Some (folded word) else None
+name_of word = if is_name word then Some (lower_case word) else None

@@ -1,4 +1,5 @@
--- The order of values is total, and equal at no two different ones: what the `Ord` of `Value` cites.
+-- The order of values is total, and equal at no two different ones: what the `Ord` of `Value`
+-- cites.
 use Rattle.std.proofs.Common.{◌≡◌, ℕ, ℤ, pos, List, [], Some, refl}
 use Rattle.std.specs.Ordering.{eq_by_cmp, int_cmp, nat_cmp, ordering_then}
 use Rattle.std.specs.Cmp.{IsPartialOrder, IsTotalOrder, int_cmp_total, nat_cmp_total, on_total, po, then_total}
@@ -26,7 +27,8 @@ text_in (Day day) = []
 -- the order by kind, number and text
 abbrev by_parts : Value → Value → Ordering
 by_parts a b = ordering_then (nat_cmp (kind_rank a) (kind_rank b))
-    (ordering_then (int_cmp (number_in a) (number_in b)) (slice_cmp nat_cmp (text_in a) (text_in b)))
+    (ordering_then (int_cmp (number_in a) (number_in b))
+    (slice_cmp nat_cmp (text_in a) (text_in b)))
 
 by_parts_total : IsTotalOrder by_parts
 by_parts_total = then_total (on_total kind_rank nat_cmp_total)
@@ -46,11 +48,14 @@ value_cmp-by_parts a b = refl
 
 pub value_total : IsTotalOrder value_cmp
 value_total = record {
-  antisymm = λ x y. rw (value_cmp-by_parts x y, value_cmp-by_parts y x) (by_parts_total.antisymm x y);
+  antisymm = λ x y. rw (value_cmp-by_parts x y, value_cmp-by_parts y x)
+      (by_parts_total.antisymm x y);
   trans =
-      λ x y z. rw (value_cmp-by_parts x y, value_cmp-by_parts y z, value_cmp-by_parts x z) (by_parts_total.trans x y z);
+      λ x y z. rw (value_cmp-by_parts x y, value_cmp-by_parts y z, value_cmp-by_parts x z)
+      (by_parts_total.trans x y z);
   congr =
-      λ x y z. rw (value_cmp-by_parts x y, value_cmp-by_parts y z, value_cmp-by_parts x z) (by_parts_total.congr x y z);
+      λ x y z. rw (value_cmp-by_parts x y, value_cmp-by_parts y z, value_cmp-by_parts x z)
+      (by_parts_total.congr x y z);
 }
 
 -- `==` holds of the values that the order does not tell apart

@@ -2,7 +2,7 @@
 use Rattle.std.specs.Prelude.{◌≡◌, ℕ, List, length, take, codes}
 use Rattle.std.specs.Fmt.{signed_decimal}
 use Rattle.hippo_values.specs.Dates.{day_text}
-use Rattle.hippo_values.specs.Quoting.{quoted}
+use Rattle.hippo_values.specs.Quoting.{quoted_text}
 use Rattle.hippo_values.specs.declared.values.Value.{Value}
 use Rattle.hippo_values.specs.declared.values.Value.TheVariants.{Null, Int, Text, Day}
 
@@ -10,7 +10,7 @@ use Rattle.hippo_values.specs.declared.values.Value.TheVariants.{Null, Int, Text
 abbrev pub value_text : Value → List ℕ
 value_text Null = codes "NULL"
 value_text (Int number) = signed_decimal number
-value_text (Text text) = quoted text
+value_text (Text text) = quoted_text text
 value_text (Day day) = day_text day
 
 -- the new text begins with the old one

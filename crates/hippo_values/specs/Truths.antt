@@ -45,7 +45,8 @@ is_allowed Le order = is_le order
 is_allowed Gt order = is_gt order
 is_allowed Ge order = is_ge order
 
--- what a comparison of two values says: unknown where one is null or their kinds differ, else by their order
+-- what a comparison of two values says: unknown where one is null or their kinds differ, else by
+-- their order
 abbrev pub comparison : CompareOp → Value → Value → Truth
 comparison op (Int a) (Int b) = truth_of (is_allowed op (value_cmp (Int a) (Int b)))
 comparison op (Text a) (Text b) = truth_of (is_allowed op (value_cmp (Text a) (Text b)))

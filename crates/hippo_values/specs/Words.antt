@@ -1,6 +1,6 @@
 -- What a word of a text says.
 use Rattle.std.specs.Prelude.{ℕ, List, Option, Some, None, option_map}
-use Rattle.hippo_values.specs.Names.{folded, reserved_of, name_of}
+use Rattle.hippo_values.specs.Names.{lower_case, reserved_of, name_of}
 use Rattle.hippo_values.specs.declared.keywords.Reserved.{Reserved}
 use Rattle.hippo_values.specs.declared.keywords.Reserved.TheVariants as reserved
 use Rattle.hippo_values.specs.declared.words.Word.{Word}
@@ -9,7 +9,7 @@ use Rattle.hippo_values.specs.declared.words.Word.TheVariants as words
 -- what a word says that is reserved so; another one says its name, or nothing
 abbrev pub said_by : List ℕ → Option Reserved → Option Word
 said_by word (Some (reserved.Keyword keyword)) = Some (words.Keyword keyword)
-said_by word (Some reserved.Unsupported) = Some (words.Unsupported (folded word))
+said_by word (Some reserved.Unsupported) = Some (words.Unsupported (lower_case word))
 said_by word None = option_map words.Name (name_of word)
 
 -- what a word says: a keyword, a word that is refused, or a name

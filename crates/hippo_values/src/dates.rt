@@ -33,7 +33,8 @@ fn two_digits(tens: u8, ones: u8) -> Option<u8>
     }
 }
 
-// The year, the month and the day that a text writes as YYYY-MM-DD, whether or not there is such a date.
+// The year, the month and the day that a text writes as YYYY-MM-DD, whether or not there is such a
+// date.
 fn date_parts(bytes: &[u8]) -> Option<(u16, u8, u8)>
     ensures some { IfSome result
         (λ p. (p.0 < 10000) × (p.1 < 100) × (p.2 < 100) × (bytes.now ≡ date_text p.0 p.1 p.2)) }
@@ -75,7 +76,8 @@ fn day_of_bytes(bytes: &[u8]) -> Option<DayNumber>
     day_of_date(year, month, day)
 }
 
-/// The day that a text writes as `YYYY-MM-DD`; none where it is no day of the years 0001 to 9999 written so.
+/// The day that a text writes as `YYYY-MM-DD`; none where it is no day of the years 0001 to 9999
+/// written so.
 pub fn read_day(text: &str) -> Option<DayNumber>
     ensures some { IfSome result (IsDayText text.now) }
     ensures none { IfNone result ((day : ℤ) → ¬ (IsDayText text.now day)) }
@@ -84,7 +86,8 @@ pub fn read_day(text: &str) -> Option<DayNumber>
     day_of_bytes(text.as_bytes())
 }
 
-// The hour, the minute and the second that a text writes as Thh:mm:ssZ, whether or not there is such a time.
+// The hour, the minute and the second that a text writes as Thh:mm:ssZ, whether or not there is
+// such a time.
 fn clock_parts(bytes: &[u8]) -> Option<(u8, u8, u8)>
     ensures some { IfSome result
         (λ p. (p.0 < 100) × (p.1 < 100) × (p.2 < 100) × (bytes.now ≡ clock_text p.0 p.1 p.2)) }
@@ -134,8 +137,8 @@ fn moment_of_bytes(bytes: &[u8]) -> Option<Moment>
     moment_at(day, second)
 }
 
-/// The moment that a text writes as `YYYY-MM-DDThh:mm:ssZ`; none where it is no moment of the years 0001 to 9999
-/// written so.
+/// The moment that a text writes as `YYYY-MM-DDThh:mm:ssZ`; none where it is no moment of the years
+/// 0001 to 9999 written so.
 pub fn read_moment(text: &str) -> Option<Moment>
     ensures some { IfSome result (IsMomentText text.now) }
     ensures none { IfNone result ((second : ℤ) → ¬ (IsMomentText text.now second)) }

@@ -2,7 +2,7 @@
 
 ghost use Rattle.std.specs.Prelude.{◌≡◌, ◌-◌, ◌<◌, ◌≤◌, length, map, take, drop, IfSome, bytes_eq};
 ghost use Rattle.std.specs.Map.{lookup};
-ghost use Rattle.hippo_values.specs.Names.{folded, letter_of, reserved_of};
+ghost use Rattle.hippo_values.specs.Names.{lower_case, letter_of, reserved_of};
 
 /// A word that stands in the grammar, written in whatever case.
 #[derive(Clone, Copy, Debug, PartialEq, Eq)]
@@ -62,7 +62,8 @@ pub enum Keyword {
     KOr,
 }
 
-/// Why a word is no name: it stands in the grammar, or it is one of SQL's that are refused wherever they stand.
+/// Why a word is no name: it stands in the grammar, or it is one of SQL's that are refused wherever
+/// they stand.
 #[derive(Clone, Copy, Debug, PartialEq, Eq)]
 pub enum Reserved {
     Keyword(Keyword),
@@ -160,13 +161,14 @@ const STARTS: [usize; 27] = [
 ];
 
 fn equals_folded(known: &str, word: &str) -> bool
-    ensures { result ≡ bytes_eq (folded known.now) (folded word.now) }
+    ensures { result ≡ bytes_eq (lower_case known.now) (lower_case word.now) }
 {
     known.eq_ignore_ascii_case(word)
 }
 
 fn find_word(table: &[(&str, Reserved)], word: &str) -> Option<Reserved>
-    ensures { result ≡ lookup (λ known. bytes_eq (folded known.now) (folded word.now)) table.now }
+    ensures { result ≡ lookup (λ known. bytes_eq (lower_case known.now) (lower_case word.now))
+        table.now }
 {
     for (known, reserved) in table {
         if equals_folded(known, word) {
@@ -184,8 +186,8 @@ fn find_between(
 ) -> Option<Reserved>
     requires order { start ≤ end }
     requires within { end ≤ length table.now }
-    ensures { result ≡ lookup (λ known. bytes_eq known (folded word.now))
-        (take (end - start) (drop start (map (λ e. (folded e.0.now, e.1)) table.now))) }
+    ensures { result ≡ lookup (λ known. bytes_eq known (lower_case word.now))
+        (take (end - start) (drop start (map (λ e. (lower_case e.0.now, e.1)) table.now))) }
 {
     find_word(&table[start..end], word)
 }

@@ -7,7 +7,7 @@ ghost use Rattle.std.specs.Cmp.Rules.{hashing};
 ghost use Rattle.std.specs.Hash as fed;
 ghost use Rattle.std.proofs.Common.{rules};
 ghost use Rattle.std.specs.List.{list_all};
-ghost use Rattle.hippo_values.specs.Names.{folded, is_word_byte, begins_with_letter, is_word, reserved_of, is_name, name_of};
+ghost use Rattle.hippo_values.specs.Names.{lower_case, is_word_byte, begins_with_letter, is_word, reserved_of, is_name, name_of};
 
 use crate::keywords::reserved_of;
 use crate::limits::NAME_LIMIT;
@@ -47,8 +47,8 @@ fn is_word(word: &str) -> bool
     begins_with_letter(bytes) && has_word_bytes(bytes)
 }
 
-/// Whether a word has a name's form: a letter, then letters, digits and `_`, at most 63 bytes in all, in whatever
-/// case, and none of the reserved words.
+/// Whether a word has a name's form: a letter, then letters, digits and `_`, at most 63 bytes in
+/// all, in whatever case, and none of the reserved words.
 pub fn is_name(word: &str) -> bool
     ensures { result ≡ is_name word.now }
 {
@@ -57,7 +57,7 @@ pub fn is_name(word: &str) -> bool
 
 /// The word in lower case.
 pub fn folded(alloc: Global, word: &str) -> Result<Txt, Memory>
-    ensures { IfOk result (λ text. text ≡ folded word.now) }
+    ensures { IfOk result (λ text. text ≡ lower_case word.now) }
 {
     Ok(Txt::from_string(word.to_ascii_lowercase(alloc)?))
 }
@@ -65,7 +65,7 @@ pub fn folded(alloc: Global, word: &str) -> Result<Txt, Memory>
 // The bytes of a short word in lower case, in front of zeros.
 fn folded_bytes(word: &str) -> [u8; NAME_LIMIT]
     requires { length word.now ≤ NAME_LIMIT }
-    ensures front { take (length word.now) result ≡ folded word.now }
+    ensures front { take (length word.now) result ≡ lower_case word.now }
     ensures len { length result ≡ NAME_LIMIT }
 {
     let mut bytes = [0; NAME_LIMIT];
@@ -75,8 +75,8 @@ fn folded_bytes(word: &str) -> [u8; NAME_LIMIT]
     bytes
 }
 
-/// The name of a table, column, purpose, recipient, item or user: 1 to 63 bytes in lower case, which lie in the value
-/// itself.
+/// The name of a table, column, purpose, recipient, item or user: 1 to 63 bytes in lower case,
+/// which lie in the value itself.
 #[derive(Drop)]
 pub struct Name {
     bytes: [u8; NAME_LIMIT],
@@ -85,14 +85,15 @@ pub struct Name {
 
 impl Model for Name {
     ghost use Rattle.std.specs.Prelude.{◌≡◌, ◌≤◌, List, ℕ, IsTrue, length, take};
-    ghost use Rattle.hippo_values.specs.Names.{folded, is_name};
+    ghost use Rattle.hippo_values.specs.Names.{lower_case, is_name};
 
     ghost Value = { List ℕ };
 
     ghost view = { λ name. take name.len name.bytes };
 
-    ghost invariant = { λ name. (name.len ≤ length name.bytes) × IsTrue (is_name (take name.len name.bytes))
-        × (folded (take name.len name.bytes) ≡ take name.len name.bytes) };
+    ghost invariant = { λ name. (name.len ≤ length name.bytes)
+        × IsTrue (is_name (take name.len name.bytes))
+        × (lower_case (take name.len name.bytes) ≡ take name.len name.bytes) };
 }
 
 impl Name {
@@ -110,7 +111,8 @@ impl Name {
         Some(Name { bytes, len })
     }
 
-    /// The name that a word writes, in lower case; none where the word has no name's form or is reserved.
+    /// The name that a word writes, in lower case; none where the word has no name's form or is
+    /// reserved.
     pub fn from_word(_alloc: Global, word: &str) -> Result<Option<Name>, Memory>
         ensures { IfOk result (λ made. made ≡ name_of word.now) }
     {
@@ -123,7 +125,7 @@ impl Name {
     fn as_bytes(&self) -> &[u8]
         ensures bytes { result.now ≡ self.now }
         ensures form { IsTrue (is_name self.now) }
-        ensures case { folded self.now ≡ self.now }
+        ensures case { lower_case self.now ≡ self.now }
     {
         &self.bytes[..usize::from(self.len)]
     }
@@ -132,7 +134,7 @@ impl Name {
     pub fn as_str(&self) -> &str
         ensures bytes { result.now ≡ self.now }
         ensures form { IsTrue (is_name self.now) }
-        ensures case { folded self.now ≡ self.now }
+        ensures case { lower_case self.now ≡ self.now }
     {
         // SAFETY: A name is ASCII.
         unsafe { str::from_utf8_unchecked(self.as_bytes()) }

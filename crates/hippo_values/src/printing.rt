@@ -3,7 +3,7 @@ ghost use Rattle.std.specs.Prelude.{◌≡◌, ◌+◌, ◌<◌, ◌≤◌, [], 
 ghost use Rattle.std.specs.Fmt.{signed_decimal};
 ghost use Rattle.hippo_values.specs.Dates.{day_text};
 ghost use Rattle.hippo_values.specs.Printing.{value_text, KeepsFront};
-ghost use Rattle.hippo_values.specs.Quoting.{doubled, quoted};
+ghost use Rattle.hippo_values.specs.Quoting.{doubled_quotes, quoted_text};
 
 use crate::dates;
 use crate::memory::Memory;
@@ -34,9 +34,9 @@ fn append_integer<const ROOM: usize>(number: i64, out: &mut RoomyTxt<ROOM>) -> R
 }
 
 fn append_doubled<const ROOM: usize>(text: &str, out: &mut RoomyTxt<ROOM>) -> Result<(), Memory>
-    ensures ok { OnOk result (out.new ≡ out.old ++ doubled text.now) }
+    ensures ok { OnOk result (out.new ≡ out.old ++ doubled_quotes text.now) }
     ensures err { OnErr result (KeepsFront out.old out.new) }
-    ensures room { length out.old + length (doubled text.now) ≤ ROOM → IsOk result }
+    ensures room { length out.old + length (doubled_quotes text.now) ≤ ROOM → IsOk result }
 {
     let mut rest = text;
     while let Some((before, after)) = rest.split_once('\'') {
@@ -48,9 +48,9 @@ fn append_doubled<const ROOM: usize>(text: &str, out: &mut RoomyTxt<ROOM>) -> Re
 }
 
 fn append_quoted<const ROOM: usize>(text: &str, out: &mut RoomyTxt<ROOM>) -> Result<(), Memory>
-    ensures ok { OnOk result (out.new ≡ out.old ++ quoted text.now) }
+    ensures ok { OnOk result (out.new ≡ out.old ++ quoted_text text.now) }
     ensures err { OnErr result (KeepsFront out.old out.new) }
-    ensures room { length out.old + length (quoted text.now) ≤ ROOM → IsOk result }
+    ensures room { length out.old + length (quoted_text text.now) ≤ ROOM → IsOk result }
 {
     out.push('\'')?;
     append_doubled(text, out)?;
@@ -81,8 +81,9 @@ fn append_value<const ROOM: usize>(value: &Value, out: &mut RoomyTxt<ROOM>) -> R
     }
 }
 
-/// Adds the printed form of a value at the end: `NULL`, a decimal number, a text between quotes with each quote in it
-/// doubled, or a day as `YYYY-MM-DD`. Within the text's room it takes no memory.
+/// Adds the printed form of a value at the end: `NULL`, a decimal number, a text between quotes
+/// with each quote in it doubled, or a day as `YYYY-MM-DD`. Within the text's room it takes no
+/// memory.
 pub fn print_value<const ROOM: usize>(value: &Value, out: &mut RoomyTxt<ROOM>) -> Result<(), Memory>
     ensures ok { OnOk result (out.new ≡ out.old ++ value_text value.now) }
     ensures err { OnErr result (out.new ≡ out.old) }

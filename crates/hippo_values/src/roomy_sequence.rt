@@ -5,7 +5,8 @@ use crate::memory::Memory;
 use std::alloc::Global;
 use std::marker::Model;
 
-/// A `Vec` that contracts see as the list of its members. Its memory has room for at least `ROOM` members, for ever.
+/// A `Vec` that contracts see as the list of its members. Its memory has room for at least `ROOM`
+/// members, for ever.
 #[derive(Drop)]
 pub struct RoomySequence<T, const ROOM: usize> {
     members: Vec<T>,

@@ -9,7 +9,8 @@ use std::cmp::Ordering;
 use std::fmt::{self, Debug, Formatter, Write};
 use std::marker::Model;
 
-/// A `Vec` that contracts see as the list of its members; of its room they say nothing (`RoomySequence`).
+/// A `Vec` that contracts see as the list of its members; of its room they say nothing
+/// (`RoomySequence`).
 #[derive(Drop)]
 pub struct Sequence<T> {
     members: Vec<T>,

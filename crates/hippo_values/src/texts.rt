@@ -15,8 +15,8 @@ use std::cmp::Ordering;
 use std::fmt::{self, Debug, Formatter, Write};
 use std::marker::Model;
 
-/// A text that contracts see as the list of its bytes. Its memory has room for at least `ROOM` bytes, for ever: while a
-/// text stays within its room, nothing that is added to it takes memory.
+/// A text that contracts see as the list of its bytes. Its memory has room for at least `ROOM`
+/// bytes, for ever: while a text stays within its room, nothing that is added to it takes memory.
 #[derive(Drop)]
 pub struct RoomyTxt<const ROOM: usize> {
     text: String,
@@ -182,7 +182,8 @@ fn are_plain(bytes: &[u8]) -> bool
     bytes.iter().all(|byte| is_plain(*byte))
 }
 
-/// Whether a text may stand in a cell: at most 4096 bytes, and no character U+0000 to U+001F or U+007F.
+/// Whether a text may stand in a cell: at most 4096 bytes, and no character U+0000 to U+001F or
+/// U+007F.
 pub fn keeps_text_rule(text: &str) -> bool
     ensures { result ≡ keeps_text_rule text.now }
 {

@@ -10,8 +10,8 @@ use crate::texts::Txt;
 use std::alloc::Global;
 use std::cmp::Ordering;
 
-/// What a cell of a table holds. Values are ordered by kind, in the order of the variants, and then within it: numbers
-/// and days by size, texts by their bytes.
+/// What a cell of a table holds. Values are ordered by kind, in the order of the variants, and then
+/// within it: numbers and days by size, texts by their bytes.
 #[derive(Debug, Drop, PartialEq, Eq)]
 pub enum Value {
     Null,

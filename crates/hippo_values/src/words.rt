@@ -19,7 +19,8 @@ pub enum Word {
     Unsupported(Txt),
 }
 
-/// What a word says, in whatever case, that is a letter and then letters, digits and `_`; none where it is too long.
+/// What a word says, in whatever case, that is a letter and then letters, digits and `_`; none
+/// where it is too long.
 #[tactic(auto, unfolding(crate::specs::Words::word_of))]
 pub fn read_word(alloc: Global, word: &str) -> Result<Option<Word>, Memory>
     requires { is_word word.now ≡ true }

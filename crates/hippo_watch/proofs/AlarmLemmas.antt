@@ -13,7 +13,7 @@ use Rattle.hippo_model.specs.declared.entry.Entry.{Entry}
 use Rattle.hippo_model.specs.declared.policy.TableRules.{TableRules}
 use Rattle.hippo_model.specs.declared.query.Query.{Query}
 use Rattle.hippo_model.specs.declared.schema.Schema.{Schema}
-use Rattle.hippo_model.specs.Audits.{is_candidate, shared_by, shared, first_serving}
+use Rattle.hippo_model.specs.Audits.{is_candidate, shared_by, shared_tuple, first_serving}
 use Rattle.hippo_model.specs.Columns.{names_all}
 use Rattle.hippo_model.specs.Histories.{schema_at}
 use Rattle.hippo_model.specs.Masking.{Choices}
@@ -22,15 +22,15 @@ use Rattle.hippo_model.specs.Rules.{choice_at}
 use Rattle.hippo_model.specs.Terms.{History}
 use Rattle.hippo_model.specs.Verdicts.{Context}
 use Rattle.hippo_tables.specs.declared.tables.Tables.{Tables}
-use Rattle.hippo_tables.specs.Standing.{StandsFor}
+use Rattle.hippo_tables.specs.Standing.{TablesStandFor}
 use Rattle.hippo_typing.specs.Meanings.{meaning}
 use Rattle.hippo_rewrite.specs.RewritingLaws.{rules_at}
-use Rattle.hippo_answering.specs.States.{AreKept, are_created, schemas_at, context_of}
-use Rattle.hippo_answering.proofs.AnswerLemmas.{are_created-AreKept, schemas_are}
+use Rattle.hippo_answering.specs.States.{AreKeptTables, are_created, schemas_at, context_of}
+use Rattle.hippo_answering.proofs.AnswerLemmas.{are_created-AreKeptTables, schemas_are}
 use Rattle.hippo_shared.specs.Sharing.{HaveSameRows}
 use Rattle.hippo_shared.specs.HistoryLaws.{sets_at}
 use Rattle.hippo_examining.specs.Examining.{AreOfHistory}
-use Rattle.hippo_examining.specs.Seen.{AreCommon}
+use Rattle.hippo_examining.specs.Seen.{AreCommonColumns}
 use Rattle.hippo_examining.proofs.RowLemmas.{same_rows}
 use Rattle.hippo_audit_job.specs.declared.past.Past.{Past}
 use Rattle.hippo_audit_job.specs.Examining.{IsAuditOf}
@@ -61,14 +61,14 @@ sets_named history (name ∷ names) all =
     let both = and_parts (is_some (schema_at history name)) (are_created history names) all in
     first_set history (schema_at history name) (schemas_at history names) (sets_at history names) both.0 (sets_named history names both.1)
 
-module _ (tables : Tables) (query audit : List Name) (query_sets audit_sets : List KeyedRows) (query_kept : AreKept tables query) (audit_kept : AreKept tables audit)
-    (query_is : (history : History) → StandsFor tables history → query_sets ≡ map (λ schema. kept_at schema history) (schemas_at history query))
-    (audit_is : (history : History) → StandsFor tables history → audit_sets ≡ map (λ schema. kept_at schema history) (schemas_at history audit)) where
-  query_at : (history : History) → StandsFor tables history → query_sets ≡ sets_at history query
-  query_at history stands = query_is history stands ∙ sets_named history query (are_created-AreKept tables query history query_kept stands)
+module _ (tables : Tables) (query audit : List Name) (query_sets audit_sets : List KeyedRows) (query_kept : AreKeptTables tables query) (audit_kept : AreKeptTables tables audit)
+    (query_is : (history : History) → TablesStandFor tables history → query_sets ≡ map (λ schema. kept_at schema history) (schemas_at history query))
+    (audit_is : (history : History) → TablesStandFor tables history → audit_sets ≡ map (λ schema. kept_at schema history) (schemas_at history audit)) where
+  query_at : (history : History) → TablesStandFor tables history → query_sets ≡ sets_at history query
+  query_at history stands = query_is history stands ∙ sets_named history query (are_created-AreKeptTables tables query history query_kept stands)
 
-  audit_at : (history : History) → StandsFor tables history → audit_sets ≡ sets_at history audit
-  audit_at history stands = audit_is history stands ∙ sets_named history audit (are_created-AreKept tables audit history audit_kept stands)
+  audit_at : (history : History) → TablesStandFor tables history → audit_sets ≡ sets_at history audit
+  audit_at history stands = audit_is history stands ∙ sets_named history audit (are_created-AreKeptTables tables audit history audit_kept stands)
 
   -- both sides have the same rows, since each table's stand under its name
   pub rows_same : HaveSameRows query query_sets audit audit_sets
@@ -79,9 +79,9 @@ module _ (tables : Tables) (query audit : List Name) (query_sets audit_sets : Li
       (same_rows (λ table. set_of history (schema_at history table)) query audit))
 
 -- rules, rows and choices of tables that are there are those of the history
-pub those_of : (past : Past) (tables : Tables) (query : Query) (audit : Audit) (query_sets audit_sets : List KeyedRows) → AreKept tables query.tables → AreKept tables audit.tables
-    → ((history : History) → StandsFor tables history → query_sets ≡ map (λ schema. kept_at schema history) (schemas_at history query.tables))
-    → ((history : History) → StandsFor tables history → audit_sets ≡ map (λ schema. kept_at schema history) (schemas_at history audit.tables))
+pub those_of : (past : Past) (tables : Tables) (query : Query) (audit : Audit) (query_sets audit_sets : List KeyedRows) → AreKeptTables tables query.tables → AreKeptTables tables audit.tables
+    → ((history : History) → TablesStandFor tables history → query_sets ≡ map (λ schema. kept_at schema history) (schemas_at history query.tables))
+    → ((history : History) → TablesStandFor tables history → audit_sets ≡ map (λ schema. kept_at schema history) (schemas_at history audit.tables))
     → (history : History) → IsPresentOf past tables history → IsAuditOf history audit → names_all query audit ≡ true → (context : Context) (schemas : List Schema) → schemas ≡ schemas_at history query.tables
     → (rules : List TableRules) → rules ≡ rules_at (take past.count history) context schemas
     → (choices : Choices) → ((subject : ℤ) (item : Name) → choices subject item ≡ choice_at (take past.count history) subject item)
@@ -89,12 +89,12 @@ pub those_of : (past : Past) (tables : Tables) (query : Query) (audit : Audit) (
 those_of past tables query audit query_sets audit_sets query_kept audit_kept query_is audit_is history present its names context schemas schemas_is rules rules_are choices choices_are =
     let count = present.past_is.count in
     let whole : take past.count history ≡ history = take_all past.count history (omega (arith, count)) in
-    let created = are_created-AreKept tables query.tables history query_kept present.tables_are in
+    let created = are_created-AreKeptTables tables query.tables history query_kept present.tables_are in
     let chosen : choices ≡ choice_at (take past.count history) = λ i subject item. choices_are subject item i in
     record {
       schemas = schemas_at history query.tables;
       tables = record { valid = present.past_is.valid; schemas_are = schemas_are history query.tables created };
-      columns = subst (λ (h : History). AreCommon h query audit) whole (are_common history past.count present.past_is.valid query audit its names);
+      columns = subst (λ (h : History). AreCommonColumns h query audit) whole (are_common history past.count present.past_is.valid query audit its names);
       rules_are = rules_are ∙ (λ i. rules_at (whole i) context (schemas_is i));
       query_rows = query_at tables query.tables audit.tables query_sets audit_sets query_kept audit_kept query_is audit_is history present.tables_are;
       audit_rows = audit_at tables query.tables audit.tables query_sets audit_sets query_kept audit_kept query_is audit_is history present.tables_are;
@@ -103,15 +103,15 @@ those_of past tables query audit query_sets audit_sets query_kept audit_kept que
 
 -- ---- whether all tables are at hand
 module _ (asked : AskedNow) (audit : Audit) (answer : Bool)
-    (at_hand : (history : History) → StandsFor asked.tables.now history → answer ≡ (are_created history audit.tables && are_created history asked.query.now.tables)) where
+    (at_hand : (history : History) → TablesStandFor asked.tables.now history → answer ≡ (are_created history audit.tables && are_created history asked.query.now.tables)) where
   module _ (some : AreOfSome asked.tables.now) (is : answer ≡ true) where
     both : (are_created some.history audit.tables ≡ true) × (are_created some.history asked.query.now.tables ≡ true)
     both = and_parts (are_created some.history audit.tables) (are_created some.history asked.query.now.tables) (sym (at_hand some.history some.stands) ∙ is)
 
-    pub audit_kept : AreKept asked.tables.now audit.tables
+    pub audit_kept : AreKeptTables asked.tables.now audit.tables
     audit_kept = record { history = some.history; stands = some.stands; created = both.0 }
 
-    pub query_kept : AreKept asked.tables.now asked.query.now.tables
+    pub query_kept : AreKeptTables asked.tables.now asked.query.now.tables
     query_kept = record { history = some.history; stands = some.stands; created = both.1 }
 
   -- they are, where the history has created them
@@ -131,7 +131,7 @@ module _ (asked : AskedNow) (audit : Audit) where
   abbrev pub context : Context
   context = context_of asked.pair.now asked.moment
 
-  shared_next : (history : History) (user : Name) (text : Txt) → meaning history text ≡ Some query → shared meaning history audit (asked_next history asked.moment user asked.pair.now text) ≡ shared_by history context query audit
+  shared_next : (history : History) (user : Name) (text : Txt) → meaning history text ≡ Some query → shared_tuple meaning history audit (asked_next history asked.moment user asked.pair.now text) ≡ shared_by history context query audit
   shared_next history user text means =
       ap (λ (h : History). option_and_then (λ q. shared_by h context q audit) (meaning h text)) (front_is history)
       ∙ ap (option_and_then (λ q. shared_by history context q audit)) means
@@ -139,8 +139,8 @@ module _ (asked : AskedNow) (audit : Audit) where
   abbrev where_candidate : History → Bool → Option (List SharedRow)
   where_candidate history test = if test then first_serving history context query audit else None
 
-  pub shared_then : (history : History) (entry : Entry) → IsAskedNext asked history entry → shared meaning history audit entry ≡ shared_by history context query audit
-  shared_then history entry next = ap (shared meaning history audit) next.is ∙ shared_next history next.user next.text next.means
+  pub shared_then : (history : History) (entry : Entry) → IsAskedNext asked history entry → shared_tuple meaning history audit entry ≡ shared_by history context query audit
+  shared_then history entry next = ap (shared_tuple meaning history audit) next.is ∙ shared_next history next.user next.text next.means
 
   -- a candidate shares what serves first
   pub shares_first : is_candidate context query audit ≡ true → (found : Option (List SharedRow)) → ServesNow asked audit found → SharesNext asked audit found

@@ -9,7 +9,7 @@ use Rattle.hippo_model.specs.declared.schema.Schema.{Schema}
 use Rattle.hippo_model.specs.Terms.{History}
 use Rattle.hippo_model.specs.Histories.{schema_at}
 use Rattle.hippo_tables.specs.declared.tables.Tables.{Tables}
-use Rattle.hippo_tables.specs.Standing.{StandsFor}
+use Rattle.hippo_tables.specs.Standing.{TablesStandFor}
 use Rattle.hippo_typing.specs.Meanings.{meaning}
 use Rattle.hippo_laws.specs.Hits.{HasNoHits}
 use Rattle.hippo_laws.proofs.HitsTheorem.{shares_none}
@@ -21,7 +21,7 @@ use Rattle.hippo_hits.specs.Counts.{AreHits, HasNone, taken_in, taken_back}
 use Rattle.hippo_hits.proofs.ChangedCounts.{AreHits-no_version, AreHits-taken_in, AreHits-taken_back, audit_stays}
 use Rattle.hippo_watch.specs.declared.alarms.AskedNow.{AskedNow}
 use Rattle.hippo_watch.specs.Alarms.{SharesNext}
-use Rattle.hippo_watch.specs.Watches.{IsWatchOf, Follows, GoesBack, SharesWatched}
+use Rattle.hippo_watch.specs.Watches.{IsWatchOf, WatchFollows, WatchGoesBack, SharesWatched}
 use Rattle.hippo_watch.proofs.AlarmLemmas.{query, context, shared_then}
 use Rattle.hippo_model.specs.Validity.{is_valid}
 use Rattle.hippo_model.specs.Versions.{is_version}
@@ -39,7 +39,7 @@ module _ (history : History) (entry : Entry) (valid : is_valid meaning (history 
 
 module _ (tables : Tables) (act : Act) (old new : AuditHits) where
   -- what takes an act in follows
-  pub follows_so : ((history : History) → StandsFor tables history → new ≡ taken_in history act old) → Follows tables act old new
+  pub follows_so : ((history : History) → TablesStandFor tables history → new ≡ taken_in history act old) → WatchFollows tables act old new
   follows_so takes = λ history entry is next watches.
       let audit = old.audit in
       let stays = (audit_stays history entry.act old).0 in
@@ -51,7 +51,7 @@ module _ (tables : Tables) (act : Act) (old new : AuditHits) where
       })
 
   -- and what takes it back goes back
-  pub goes_back_so : ((history : History) → StandsFor tables history → new ≡ taken_back history act old) → GoesBack tables act old new
+  pub goes_back_so : ((history : History) → TablesStandFor tables history → new ≡ taken_back history act old) → WatchGoesBack tables act old new
   goes_back_so takes = λ history entry is next was.
       let stays = (audit_stays history entry.act old).1 in
       let takes_so : new ≡ taken_back history entry.act old = takes history next.stands ∙ ap (λ (a : Act). taken_back history a old) (sym is) in

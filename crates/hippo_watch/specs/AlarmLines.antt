@@ -7,4 +7,5 @@ use Rattle.hippo_report.specs.Cells.{tuple_text}
 -- the watch's number, that of the question, and what they share
 abbrev pub alarm_text : ℕ → ℕ → List SharedRow → Txt
 alarm_text watch question shared =
-    codes "0 alarm " ++ (decimal watch ++ (codes " " ++ decimal question) ++ (tuple_text shared ++ codes "\n"))
+    codes "0 alarm " ++ (decimal watch ++ (codes " " ++ decimal question)
+    ++ (tuple_text shared ++ codes "\n"))

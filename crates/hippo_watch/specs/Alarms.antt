@@ -10,9 +10,9 @@ use Rattle.hippo_model.specs.declared.entry.Act.TheVariants.{Asked}
 use Rattle.hippo_model.specs.declared.entry.Entry.{Entry}
 use Rattle.hippo_model.specs.Columns.{names_all}
 use Rattle.hippo_model.specs.Terms.{History}
-use Rattle.hippo_model.specs.Audits.{shared, first_serving}
+use Rattle.hippo_model.specs.Audits.{shared_tuple, first_serving}
 use Rattle.hippo_tables.specs.declared.tables.Tables.{Tables}
-use Rattle.hippo_tables.specs.Standing.{StandsFor}
+use Rattle.hippo_tables.specs.Standing.{TablesStandFor}
 use Rattle.hippo_typing.specs.Meanings.{meaning}
 use Rattle.hippo_answering.specs.States.{are_created, context_of}
 use Rattle.hippo_audit_job.specs.declared.past.Past.{Past}
@@ -22,12 +22,12 @@ use Rattle.hippo_watch.specs.declared.alarms.AskedNow.{AskedNow}
 -- tables are those of some history
 pub record AreOfSome (tables : Tables) : Type 0 where
   pub history : History
-  pub stands : StandsFor tables history
+  pub stands : TablesStandFor tables history
 
 -- names, policy, length and tables are those of a valid history
 pub record IsPresentOf (past : Past) (tables : Tables) (history : History) : Type 0 where
   pub past_is : IsPastOf past history
-  pub tables_are : StandsFor tables history
+  pub tables_are : TablesStandFor tables history
 
 -- a question as the next entry
 abbrev pub asked_next : History → Moment → Name → Pair → Txt → Entry
@@ -37,7 +37,8 @@ asked_next history moment user pair text = record {
   act = Asked user pair.purpose pair.recipient text;
 }
 
--- the first virtual tuple that serves is found, of a query that names each audited column and whose tables are created
+-- the first virtual tuple that serves is found, of a query that names each audited column and whose
+-- tables are created
 abbrev pub ServesNow : AskedNow → Audit → Option (List SharedRow) → Type 0
 ServesNow asked audit found =
     (history : History) → IsPresentOf asked.past asked.tables.now history → IsAuditOf history audit
@@ -56,4 +57,4 @@ pub record IsAskedNext (asked : AskedNow) (history : History) (entry : Entry) : 
 abbrev pub SharesNext : AskedNow → Audit → Option (List SharedRow) → Type 0
 SharesNext asked audit found =
     (history : History) (entry : Entry) → IsAskedNext asked history entry
-    → IsAuditOf history audit → found ≡ shared meaning history audit entry
+    → IsAuditOf history audit → found ≡ shared_tuple meaning history audit entry

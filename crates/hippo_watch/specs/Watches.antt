@@ -1,13 +1,14 @@
--- What a watch has to do with a history: before and after one entry more, and what it shares with a question.
+-- What a watch has to do with a history: before and after one entry more, and what it shares with a
+-- question.
 use Rattle.std.specs.Prelude.{◌≡◌, ◌<◌, true, List, [], ◌∷◌, ◌++◌, length, Option}
 use Rattle.hippo_model.specs.declared.audit.SharedRow.{SharedRow}
 use Rattle.hippo_model.specs.declared.entry.Act.{Act}
 use Rattle.hippo_model.specs.declared.entry.Entry.{Entry}
 use Rattle.hippo_model.specs.Terms.{History}
-use Rattle.hippo_model.specs.Audits.{shared}
+use Rattle.hippo_model.specs.Audits.{shared_tuple}
 use Rattle.hippo_model.specs.Validity.{is_valid}
 use Rattle.hippo_tables.specs.declared.tables.Tables.{Tables}
-use Rattle.hippo_tables.specs.Standing.{StandsFor}
+use Rattle.hippo_tables.specs.Standing.{TablesStandFor}
 use Rattle.hippo_typing.specs.Meanings.{meaning}
 use Rattle.hippo_audit_job.specs.Examining.{IsAuditOf}
 use Rattle.hippo_hits.specs.declared.counts.AuditHits.{AuditHits}
@@ -22,7 +23,7 @@ pub record IsWatchOf (history : History) (watch : AuditHits) : Type 0 where
 
 -- an entry may come next after a history, whose tables these are
 pub record ComesNext (tables : Tables) (history : History) (entry : Entry) : Type 0 where
-  pub stands : StandsFor tables history
+  pub stands : TablesStandFor tables history
   pub valid : is_valid meaning (history ++ entry ∷ []) ≡ true
   pub few : length history < 9223372036854775808
 
@@ -32,14 +33,14 @@ pub record WasWatchOf (history : History) (entry : Entry) (watch : AuditHits) : 
   pub is_now : IsWatchOf (history ++ entry ∷ []) watch
 
 -- a watch of a history is one of it with an entry more
-abbrev pub Follows : Tables → Act → AuditHits → AuditHits → Type 0
-Follows tables act old new =
+abbrev pub WatchFollows : Tables → Act → AuditHits → AuditHits → Type 0
+WatchFollows tables act old new =
     (history : History) (entry : Entry) → entry.act ≡ act → ComesNext tables history entry
     → IsWatchOf history old → IsWatchOf (history ++ entry ∷ []) new
 
 -- and one with an entry more is one without
-abbrev pub GoesBack : Tables → Act → AuditHits → AuditHits → Type 0
-GoesBack tables act old new =
+abbrev pub WatchGoesBack : Tables → Act → AuditHits → AuditHits → Type 0
+WatchGoesBack tables act old new =
     (history : History) (entry : Entry) → entry.act ≡ act → ComesNext tables history entry
     → WasWatchOf history entry old → IsWatchOf history new
 
@@ -47,4 +48,4 @@ GoesBack tables act old new =
 abbrev pub SharesWatched : AskedNow → AuditHits → Option (List SharedRow) → Type 0
 SharesWatched asked watch found =
     (history : History) (entry : Entry) → IsAskedNext asked history entry
-    → IsWatchOf history watch → found ≡ shared meaning history watch.audit entry
+    → IsWatchOf history watch → found ≡ shared_tuple meaning history watch.audit entry

@@ -2,7 +2,7 @@
 ghost use Rattle.std.specs.Prelude.{◌≡◌, bytes_eq, IfOk};
 ghost use Rattle.std.specs.List.{IsDistinct};
 ghost use Rattle.hippo_model.specs.Audits.{is_candidate};
-ghost use Rattle.hippo_answering.specs.States.{AreKept, context_of};
+ghost use Rattle.hippo_answering.specs.States.{AreKeptTables, context_of};
 ghost use Rattle.hippo_watch.specs.Alarms.{AreOfSome, ServesNow, SharesNext};
 
 use crate::present::are_at_hand;
@@ -14,8 +14,8 @@ use hippo_tables::Tables;
 use hippo_values::{Memory, Moment};
 use std::alloc::Global;
 
-/// A question that is asked now, as the next entry: what is known of the entries before it, the tables that they make,
-/// the moment, what the question is asked for, and the query that it means.
+/// A question that is asked now, as the next entry: what is known of the entries before it, the
+/// tables that they make, the moment, what the question is asked for, and the query that it means.
 #[derive(Clone, Copy)]
 pub struct AskedNow<'a> {
     pub past: Past<'a>,
@@ -27,7 +27,8 @@ pub struct AskedNow<'a> {
 
 // Whether a question is asked in an audit's period, is not exempt, and names every audited column.
 fn is_candidate(asked: &AskedNow<'_>, audit: &Audit) -> bool
-    ensures { result ≡ is_candidate (context_of asked.now.pair.now asked.now.moment) asked.now.query.now audit.now }
+    ensures { result ≡ is_candidate (context_of asked.now.pair.now asked.now.moment)
+        asked.now.query.now audit.now }
 {
     in_period(audit, asked.moment)
         && !is_exempt(audit, &asked.pair.purpose, &asked.pair.recipient)
@@ -41,8 +42,8 @@ fn first_kept(
     audit: &Audit,
 ) -> Result<Option<SharedTuple>, Memory>
     requires differ { IsDistinct bytes_eq audit.now.tables }
-    requires query { AreKept asked.now.tables.now asked.now.query.now.tables }
-    requires audit { AreKept asked.now.tables.now audit.now.tables }
+    requires query { AreKeptTables asked.now.tables.now asked.now.query.now.tables }
+    requires audit { AreKeptTables asked.now.tables.now audit.now.tables }
     ensures { IfOk result (ServesNow asked.now audit.now) }
 {
     let schemas = schemas_of(alloc, asked.tables, &asked.query.tables)?;
@@ -68,7 +69,8 @@ fn first_kept(
     )
 }
 
-// The first virtual tuple that serves; none where a table of the question or of the audit is not there.
+// The first virtual tuple that serves; none where a table of the question or of the audit is not
+// there.
 fn first_now(
     alloc: Global,
     asked: &AskedNow<'_>,
@@ -85,9 +87,9 @@ fn first_now(
     }
 }
 
-/// What an audit shares with a question that is asked now: the first virtual tuple that serves, where the query is a
-/// candidate; none exactly where the audit does not flag the question. Wants an audit that names no table twice. The
-/// error is want of memory.
+/// What an audit shares with a question that is asked now: the first virtual tuple that serves,
+/// where the query is a candidate; none exactly where the audit does not flag the question. Wants
+/// an audit that names no table twice. The error is want of memory.
 pub(crate) fn alarm(
     alloc: Global,
     asked: &AskedNow<'_>,

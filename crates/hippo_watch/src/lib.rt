@@ -1,5 +1,5 @@
-//! Standing audits: how many rows their own conditions find, what a question that is asked now shares with one, and the
-//! line that says so.
+//! Standing audits: how many rows their own conditions find, what a question that is asked now
+//! shares with one, and the line that says so.
 #![tactic(auto)]
 
 mod alarms;

@@ -2,7 +2,7 @@
 ghost use Rattle.std.specs.Prelude.{◌≡◌, ◌&&◌, is_some};
 ghost use Rattle.hippo_model.specs.Terms.{History};
 ghost use Rattle.hippo_model.specs.Histories.{schema_at};
-ghost use Rattle.hippo_tables.specs.Standing.{StandsFor};
+ghost use Rattle.hippo_tables.specs.Standing.{TablesStandFor};
 ghost use Rattle.hippo_answering.specs.States.{are_created};
 
 use hippo_model::{Audit, Query};
@@ -10,14 +10,16 @@ use hippo_tables::Tables;
 use hippo_values::Name;
 
 fn is_kept(tables: &Tables, name: &Name) -> bool
-    ensures { (history : History) → StandsFor tables.now history → result ≡ is_some (schema_at history name.now) }
+    ensures { (history : History) → TablesStandFor tables.now history
+        → result ≡ is_some (schema_at history name.now) }
 {
     tables.schema(name).is_some()
 }
 
 // Whether each of these tables is there.
 fn are_kept(tables: &Tables, names: &[Name]) -> bool
-    ensures { (history : History) → StandsFor tables.now history → result ≡ are_created history names.now }
+    ensures { (history : History) → TablesStandFor tables.now history
+        → result ≡ are_created history names.now }
 {
     for name in names {
         if !is_kept(tables, name) {
@@ -29,7 +31,7 @@ fn are_kept(tables: &Tables, names: &[Name]) -> bool
 
 /// Whether the tables of an audit and of a query are there.
 pub(crate) fn are_at_hand(tables: &Tables, query: &Query, audit: &Audit) -> bool
-    ensures { (history : History) → StandsFor tables.now history
+    ensures { (history : History) → TablesStandFor tables.now history
         → result ≡ (are_created history audit.now.tables && are_created history query.now.tables) }
 {
     are_kept(tables, audit.tables.as_slice()) && are_kept(tables, query.tables.as_slice())

@@ -1,7 +1,7 @@
 //! The line by which a watch says what it flags.
 ghost use Rattle.std.specs.Prelude.{◌≡◌, ◌++◌, flat_map, codes, decimal, OnOk};
 ghost use Rattle.hippo_values.specs.Printing.{value_text};
-ghost use Rattle.hippo_report.specs.Cells.{comma, joined, shared_text, tuple_text};
+ghost use Rattle.hippo_report.specs.Cells.{comma, separated_text, shared_text, tuple_text};
 ghost use Rattle.hippo_watch.specs.AlarmLines.{alarm_text};
 
 use hippo_model::{SharedRow, SharedTuple};
@@ -10,7 +10,8 @@ use itoa::Buffer;
 
 // The values, each behind a comma.
 fn append_later<const ROOM: usize>(values: &[Value], out: &mut RoomyTxt<ROOM>) -> Result<(), Memory>
-    ensures { OnOk result (out.new ≡ out.old ++ flat_map (λ value. comma ++ value_text value) values.now) }
+    ensures { OnOk result (out.new ≡ out.old
+        ++ flat_map (λ value. comma ++ value_text value) values.now) }
 {
     for value in values {
         out.append(", ")?;
@@ -23,7 +24,7 @@ fn append_values<const ROOM: usize>(
     values: &[Value],
     out: &mut RoomyTxt<ROOM>,
 ) -> Result<(), Memory>
-    ensures { OnOk result (out.new ≡ out.old ++ joined value_text comma values.now) }
+    ensures { OnOk result (out.new ≡ out.old ++ separated_text value_text comma values.now) }
 {
     if values.is_empty() {
         return Ok(());
@@ -62,15 +63,17 @@ fn append_numbers<const ROOM: usize>(
     question: u64,
     out: &mut RoomyTxt<ROOM>,
 ) -> Result<(), Memory>
-    ensures { OnOk result (out.new ≡ out.old ++ (decimal watch ++ (codes " " ++ decimal question))) }
+    ensures { OnOk result (out.new ≡ out.old
+        ++ (decimal watch ++ (codes " " ++ decimal question))) }
 {
     out.append(Buffer::new().format(watch))?;
     out.append(" ")?;
     out.append(Buffer::new().format(question))
 }
 
-/// Adds the line by which a watch says that it flags a question: `0 alarm`, the watch's number, the question's, and the
-/// rows that they share, each behind a space. The error is want of memory; a front of the line may then stand there.
+/// Adds the line by which a watch says that it flags a question: `0 alarm`, the watch's number, the
+/// question's, and the rows that they share, each behind a space. The error is want of memory; a
+/// front of the line may then stand there.
 pub fn alarm_line<const ROOM: usize>(
     watch: u64,
     question: u64,

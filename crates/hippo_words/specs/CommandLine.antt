@@ -15,17 +15,20 @@ use Rattle.hippo_words.specs.declared.calls.Job.TheVariants.{Run, Load, Check, D
 abbrev pub command_line : App
 command_line = command_with (codes "hippo")
     (word (codes "job") ∷ text_option (codes "store") ∷ number_option (codes "history") 1 4000000
-    ∷ number_option (codes "size") 2 20000 ∷ number_option (codes "number") 0 999 ∷ text_option (codes "format")
+    ∷ number_option (codes "size") 2 20000 ∷ number_option (codes "number") 0 999
+    ∷ text_option (codes "format")
     ∷ text_option (codes "table") ∷ text_option (codes "moment") ∷ [])
 
 -- what a run begins with, in a format
 abbrev pub setting_with : List Row → Format → Setting
-setting_with rows format = record { limit = number_or 4000000 (first_of (codes "history") rows); format = format }
+setting_with rows format =
+    record { limit = number_or 4000000 (first_of (codes "history") rows); format = format }
 
 -- a load wants a table's name and a moment
 abbrev pub load_with : List Row → Format → Option Job
 load_with rows format =
-    option_and_then (λ table. option_and_then (λ moment. Some (Load (setting_with rows format) table moment))
+    option_and_then (λ table. option_and_then
+    (λ moment. Some (Load (setting_with rows format) table moment))
     (option_and_then moment_in (first_of (codes "moment") rows)))
     (option_and_then name_of (first_of (codes "table") rows))
 
@@ -36,19 +39,24 @@ job_named rows format name =
     else if bytes_eq name (codes "load") then load_with rows format
     else if bytes_eq name (codes "check") then Some Check
     else if bytes_eq name (codes "drill") then
-    Some (Drill (number_or 2000 (first_of (codes "size") rows)) (number_or 7 (first_of (codes "number") rows)))
+    Some (Drill (number_or 2000 (first_of (codes "size") rows))
+    (number_or 7 (first_of (codes "number") rows)))
     else None
 
 abbrev pub job_in : List Row → Option Job
-job_in rows = option_and_then (λ format. option_and_then (job_named rows format) (first_of (codes "job") rows))
+job_in rows =
+    option_and_then (λ format. option_and_then (job_named rows format)
+    (first_of (codes "job") rows))
     (format_in rows)
 
 -- what is asked for by words that the command takes; the store without a name is one in memory
 abbrev pub call_in : List Row → Option Call
 call_in rows =
-    option_and_then (λ job. Some (record { store = unwrap_or (first_of (codes "store") rows) []; job = job }))
+    option_and_then (λ job. Some (record
+    { store = unwrap_or (first_of (codes "store") rows) []; job = job }))
     (job_in rows)
 
 -- what the words of a call ask for, if anything
 unfoldable pub call_of : List Txt → Option Call
-call_of words = if is_taken command_line words then call_in (matches_of command_line words) else None
+call_of words =
+    if is_taken command_line words then call_in (matches_of command_line words) else None

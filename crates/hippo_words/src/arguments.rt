@@ -1,7 +1,7 @@
 //! The command's arguments, and what they find in words.
 ghost use Rattle.std.specs.Prelude.{◌≡◌, map, IfOk};
 ghost use Rattle.clap.specs.Words.{rows_of, found_of, first_of};
-ghost use Rattle.hippo_programs.specs.Arguments.{Finds, number_or};
+ghost use Rattle.hippo_programs.specs.Arguments.{FindsMatches, number_or};
 ghost use Rattle.hippo_words.specs.CommandLine.{command_line};
 
 use clap::ArgMatches;
@@ -25,13 +25,13 @@ pub(crate) fn found_in<'w>(
     alloc: Global,
     words: &'w [&'w str],
 ) -> Result<Option<ArgMatches<'w>>, Memory>
-    ensures { IfOk result (Finds command_line (map (λ word. word.now) words.now)) }
+    ensures { IfOk result (FindsMatches command_line (map (λ word. word.now) words.now)) }
 {
     matches_in(alloc, "hippo", &ARGUMENTS, words)
 }
 
-/// The number that is written behind a name, or another one where none is. One of more than 32 bits has been refused
-/// before.
+/// The number that is written behind a name, or another one where none is. One of more than 32 bits
+/// has been refused before.
 pub(crate) fn short_or(matches: &ArgMatches<'_>, name: &str, otherwise: u32) -> Result<u32, Memory>
     ensures { IfOk result (λ number.
         number ≡ number_or otherwise (first_of name.now (rows_of (found_of matches.now)))) }

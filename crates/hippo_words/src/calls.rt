@@ -29,7 +29,8 @@ pub enum Job {
     },
 }
 
-/// A job, and the name of the store that it is done over: the empty name is that of a store in memory.
+/// A job, and the name of the store that it is done over: the empty name is that of a store in
+/// memory.
 #[derive(Debug, Drop)]
 pub struct Call {
     pub store: Txt,

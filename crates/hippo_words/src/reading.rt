@@ -16,7 +16,8 @@ use hippo_values::{Memory, Moment, Name, Txt, read_moment};
 use std::alloc::Global;
 
 fn setting_with(matches: &ArgMatches<'_>, format: Format) -> Result<Setting, Memory>
-    ensures { IfOk result (λ setting. setting ≡ setting_with (rows_of (found_of matches.now)) format) }
+    ensures { IfOk result (λ setting. setting
+        ≡ setting_with (rows_of (found_of matches.now)) format) }
 {
     Ok(Setting {
         limit: short_or(matches, "history", 4_000_000)?,
@@ -31,14 +32,16 @@ fn moment_in(text: &str) -> Option<Moment>
 }
 
 fn moment_of(matches: &ArgMatches<'_>) -> Option<Moment>
-    ensures { result ≡ option_and_then moment_in (first_of (codes "moment") (rows_of (found_of matches.now))) }
+    ensures { result ≡ option_and_then moment_in
+        (first_of (codes "moment") (rows_of (found_of matches.now))) }
 {
     moment_in(text_of(matches, "moment")?)
 }
 
 fn table_of(alloc: Global, matches: &ArgMatches<'_>) -> Result<Option<Name>, Memory>
     ensures { IfOk result (λ table.
-        table ≡ option_and_then name_of (first_of (codes "table") (rows_of (found_of matches.now)))) }
+        table ≡ option_and_then name_of (first_of (codes "table")
+        (rows_of (found_of matches.now)))) }
 {
     match text_of(matches, "table") {
         None => Ok(None),
@@ -64,7 +67,8 @@ fn load_of(alloc: Global, matches: &ArgMatches<'_>, format: Format) -> Result<Op
 }
 
 fn run_of(matches: &ArgMatches<'_>, format: Format) -> Result<Job, Memory>
-    ensures { IfOk result (λ job. job ≡ Run (setting_with (rows_of (found_of matches.now)) format)) }
+    ensures { IfOk result (λ job. job ≡ Run
+        (setting_with (rows_of (found_of matches.now)) format)) }
 {
     Ok(Job::Run(setting_with(matches, format)?))
 }
@@ -86,7 +90,8 @@ fn job_named(
     format: Format,
     name: &str,
 ) -> Result<Option<Job>, Memory>
-    ensures { IfOk result (λ job. job ≡ job_named (rows_of (found_of matches.now)) format name.now) }
+    ensures { IfOk result (λ job. job ≡ job_named (rows_of (found_of matches.now)) format
+        name.now) }
 {
     match name {
         "run" => Ok(Some(run_of(matches, format)?)),
@@ -129,10 +134,11 @@ fn call_in(alloc: Global, words: &[&str]) -> Result<Option<Call>, Memory>
     }
 }
 
-/// What the words of a call ask for: the job, in front of, between or behind the options, `--NAME VALUE` or
-/// `--NAME=VALUE`. Nothing where they are not those of a job: where a word is unknown or an option stands twice, a
-/// number is out of its bounds, a format is none of the three, or a load lacks its table or its moment. An option that
-/// the job does not use has no effect. Or want of memory.
+/// What the words of a call ask for: the job, in front of, between or behind the options, `--NAME
+/// VALUE` or `--NAME=VALUE`. Nothing where they are not those of a job: where a word is unknown or
+/// an option stands twice, a number is out of its bounds, a format is none of the three, or a load
+/// lacks its table or its moment. An option that the job does not use has no effect. Or want of
+/// memory.
 ///
 /// ```text
 /// run --store clinic.db --format json

@@ -14,7 +14,7 @@ use Rattle.hippo_report.specs.declared.format.Format.{Format}
 use Rattle.hippo_typing.specs.Meanings.{meaning}
 use Rattle.hippo_audit_job.specs.Examining.{IsAuditOf}
 use Rattle.hippo_audit_job.specs.Jobs.{open_audit}
-use Rattle.hippo_audit_job.proofs.JobLemmas.{IsSound-new, JobFits-new, JobFits-grown}
+use Rattle.hippo_audit_job.proofs.JobLemmas.{IsSoundJob-new, JobFits-new, JobFits-grown}
 use Rattle.hippo_combine.specs.Combining.{combine_terms}
 use Rattle.hippo_model.specs.declared.entry.Act.{Act}
 use Rattle.hippo_tables.specs.declared.tables.Tables.{Tables}
@@ -22,7 +22,7 @@ use Rattle.hippo_hits.specs.declared.counts.AuditHits.{AuditHits}
 use Rattle.hippo_watch.specs.Watches.{IsWatchOf, WasWatchOf}
 use Rattle.hippo_watch.proofs.WatchLemmas.{IsWatchOf-no_version}
 use Rattle.hippo_world.specs.declared.worlds.World.{World as HeldWorld}
-use Rattle.hippo_world.specs.Auditing.{HeldJob, taken_by, HasBegun, LooksAt, AreLooking, watched, AreWatching, AreAudits, EachFollows, EachGoesBack, all_handed}
+use Rattle.hippo_world.specs.Auditing.{HeldJob, taken_by_job, HasBegun, IsLooking, AreLooking, watched, AreWatching, AreAudits, EachFollows, EachGoesBack, all_handed}
 use Rattle.hippo_world.specs.Holding.{world_of, KeepsAudits, JobsFit, WatchesFit, WatchesFollow, WatchesGoBack, taken_of}
 use Rattle.hippo_world.specs.Worlds.{World, with_at, none_held, opening}
 use Rattle.hippo_world.proofs.HeldLemmas.{StandsAt}
@@ -55,12 +55,12 @@ module _ {A : Type 0} (P : A → Type 0) where
       one_of there.front there.behind held (subst (AllByRecursion (λ (held : Option A). IfSome held P)) there.whole all)
 
 module _ (history : History) (entry : Entry) (valid : is_valid meaning (history ++ entry ∷ []) ≡ true) where
-  looks_on : (job : HeldJob) → LooksAt history job → LooksAt (history ++ entry ∷ []) job
+  looks_on : (job : HeldJob) → IsLooking history job → IsLooking (history ++ entry ∷ []) job
   looks_on job looks = record { sound = looks.sound; fits = JobFits-grown combine_terms job history entry valid looks.sound looks.fits }
 
   -- jobs that fit a history fit it with one entry more
   pub JobsFit-more : (held : HeldWorld) → JobsFit history held → JobsFit (history ++ entry ∷ []) held
-  JobsFit-more held fit = each_held (LooksAt history) (LooksAt (history ++ entry ∷ [])) looks_on held.jobs fit
+  JobsFit-more held fit = each_held (IsLooking history) (IsLooking (history ++ entry ∷ [])) looks_on held.jobs fit
 
   -- and so do watches, where it changes no row
   pub WatchesFit-more : (held : HeldWorld) → is_version entry.act ≡ false → WatchesFit history held → WatchesFit (history ++ entry ∷ []) held
@@ -126,25 +126,25 @@ module _ (held : HeldWorld) (clock : Moment) (limit : ℕ) (format : Format) (op
 module _ (jobs : List (Option HeldJob)) (number : ℕ) (held : Option HeldJob) (there : StandsAt jobs number held) where
   -- what was handed to the jobs before a number, to the one there, and to those behind it
   pub handed-parted : all_handed jobs ≡ all_handed there.front ++ all_handed (held ∷ there.behind)
-  handed-parted = ap all_handed there.whole ∙ filter_map-append (option_map taken_by) there.front (held ∷ there.behind)
+  handed-parted = ap all_handed there.whole ∙ filter_map-append (option_map taken_by_job) there.front (held ∷ there.behind)
 
   pub handed-with : (other : Option HeldJob) → all_handed (with_at jobs number other) ≡ all_handed there.front ++ all_handed (other ∷ there.behind)
-  handed-with other = ap all_handed (there.put other) ∙ filter_map-append (option_map taken_by) there.front (other ∷ there.behind)
+  handed-with other = ap all_handed (there.put other) ∙ filter_map-append (option_map taken_by_job) there.front (other ∷ there.behind)
 
 -- a job that has just begun over a valid history looks at it
-pub LooksAt-begun : (history : History) (audit : Audit) (job : HeldJob) → is_valid meaning history ≡ true → IsAuditOf history audit → HasBegun audit (length history) job → LooksAt history job
-LooksAt-begun history audit job valid is_audit begun = subst (LooksAt history) (sym begun.is) (record {
-  sound = IsSound-new combine_terms audit (length history) job.examiner is_audit.differ begun.unasked;
+pub IsLooking-begun : (history : History) (audit : Audit) (job : HeldJob) → is_valid meaning history ≡ true → IsAuditOf history audit → HasBegun audit (length history) job → IsLooking history job
+IsLooking-begun history audit job valid is_audit begun = subst (IsLooking history) (sym begun.is) (record {
+  sound = IsSoundJob-new combine_terms audit (length history) job.examiner is_audit.differ begun.unasked;
   fits = JobFits-new combine_terms history audit job.examiner valid is_audit begun.unasked;
 })
 
 -- and was handed nothing
-pub none_taken_yet : (audit : Audit) (number : ℕ) (job : HeldJob) → HasBegun audit number job → taken_by job ≡ 0
-none_taken_yet audit number job begun = begun.unasked.none_handed (taken_by job) refl
+pub none_taken_yet : (audit : Audit) (number : ℕ) (job : HeldJob) → HasBegun audit number job → taken_by_job job ≡ 0
+none_taken_yet audit number job begun = begun.unasked.none_handed (taken_by_job job) refl
 
 -- a job whose flags are written looks at the same history
-pub LooksAt-written : (history : History) (job : HeldJob) → LooksAt history job → LooksAt history (record job { waiting = [] })
-LooksAt-written history job looks = record {
+pub IsLooking-written : (history : History) (job : HeldJob) → IsLooking history job → IsLooking history (record job { waiting = [] })
+IsLooking-written history job looks = record {
   sound = record {
     tables = looks.sound.tables;
     within = looks.sound.within;

@@ -10,7 +10,7 @@ use Rattle.hippo_hits.specs.declared.counts.AuditHits.{AuditHits}
 use Rattle.hippo_watch.specs.Watches.{IsWatchOf, WasWatchOf, ComesNext}
 use Rattle.hippo_audit_job.specs.declared.jobs.Job.{Job}
 use Rattle.hippo_audit_job.specs.Examining.{IsAuditOf, IsNew}
-use Rattle.hippo_audit_job.specs.Jobs.{IsSound, JobFits, new_job}
+use Rattle.hippo_audit_job.specs.Jobs.{IsSoundJob, JobFits, new_job}
 use Rattle.hippo_combine.specs.declared.combine.Combine.{Combine}
 use Rattle.hippo_combine.specs.Combining.{combine_terms}
 use Rattle.hippo_combine.specs.Held.{all_taken}
@@ -20,8 +20,8 @@ abbrev pub HeldJob : Type 0
 HeldJob = Job Combine
 
 -- how many versions a job was handed
-abbrev pub taken_by : HeldJob → ℕ
-taken_by job = all_taken job.examiner.tables.items
+abbrev pub taken_by_job : HeldJob → ℕ
+taken_by_job job = all_taken job.examiner.tables.items
 
 -- a job at its beginning, over so many entries
 pub record HasBegun (audit : Audit) (length : ℕ) (job : HeldJob) : Type 0 where
@@ -29,13 +29,13 @@ pub record HasBegun (audit : Audit) (length : ℕ) (job : HeldJob) : Type 0 wher
   pub unasked : IsNew combine_terms job.examiner
 
 -- a job is sound, and looks at a history
-pub record LooksAt (history : History) (job : HeldJob) : Type 0 where
-  pub sound : IsSound combine_terms job
+pub record IsLooking (history : History) (job : HeldJob) : Type 0 where
+  pub sound : IsSoundJob combine_terms job
   pub fits : JobFits combine_terms job history
 
 -- each job that is held looks at a history
 abbrev pub AreLooking : History → List (Option HeldJob) → Type 0
-AreLooking history jobs = AllByRecursion (λ held. IfSome held (LooksAt history)) jobs
+AreLooking history jobs = AllByRecursion (λ held. IfSome held (IsLooking history)) jobs
 
 -- what a watch watches
 abbrev pub watched : AuditHits → Audit
@@ -75,4 +75,4 @@ EachGoesBack tables act old new =
 
 -- how many versions each job that is held was handed, in the order of their numbers
 abbrev pub all_handed : List (Option HeldJob) → List ℕ
-all_handed jobs = filter_map (option_map taken_by) jobs
+all_handed jobs = filter_map (option_map taken_by_job) jobs

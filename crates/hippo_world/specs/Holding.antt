@@ -43,7 +43,8 @@ WatchesFollow tables act old new =
 abbrev pub WatchesGoBack : Tables → Act → HeldWorld → HeldWorld → Type 0
 WatchesGoBack tables act old new =
     (history : History) (entry : Entry) → entry.act ≡ act → ComesNext tables history entry
-    → AreAudits history (world_of old).watches → WatchesFit (history ++ entry ∷ []) old → WatchesFit history new
+    → AreAudits history (world_of old).watches → WatchesFit (history ++ entry ∷ []) old
+    → WatchesFit history new
 
 -- how many steps each open job has taken, in the order of their numbers
 abbrev pub taken_of : HeldWorld → List ℕ

@@ -1,4 +1,5 @@
--- What a run holds beside the history: the clock, open sessions with their cursors, audit jobs and watches.
+-- What a run holds beside the history: the clock, open sessions with their cursors, audit jobs and
+-- watches.
 use Rattle.std.specs.Prelude.{ℕ, zero, suc, ◌+◌, List, slice_get, slice_set, replicate, Option, None, is_none, option_map, position, take, drop, length, min}
 use Rattle.std.specs.Option.{option_flatten}
 use Rattle.hippo_values.specs.declared.moments.Moment.{Moment}
@@ -55,7 +56,8 @@ abbrev pub session_at : World → ℕ → Option Session
 session_at world number = at_number world.sessions number
 
 abbrev pub with_session : World → ℕ → Option Session → World
-with_session world number session = record world { sessions = with_at world.sessions number session }
+with_session world number session =
+    record world { sessions = with_at world.sessions number session }
 
 -- a session that nothing was asked in
 abbrev pub new_session : Name → Pair → Session
@@ -74,4 +76,5 @@ moved_on cursor count = record cursor { given = min (cursor.given + count) (leng
 
 -- a session with a cursor at a number, or with none there
 abbrev pub with_cursor : Session → ℕ → Option Cursor → Session
-with_cursor session number cursor = record session { cursors = with_at session.cursors number cursor }
+with_cursor session number cursor =
+    record session { cursors = with_at session.cursors number cursor }

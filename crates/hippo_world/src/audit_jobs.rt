@@ -15,15 +15,15 @@ use std::alloc::Global;
 use std::marker::Model;
 use std::sync::ledger::Ledger;
 
-/// An audit of the first entries of a history, which looks at the questions of its period in steps, however they are
-/// cut. Whatever a keeper handed over, it may be stepped.
+/// An audit of the first entries of a history, which looks at the questions of its period in steps,
+/// however they are cut. Whatever a keeper handed over, it may be stepped.
 #[derive(Drop)]
 pub struct AuditJob {
     job: Job<Combine>,
 }
 
 impl Model for AuditJob {
-    ghost use Rattle.hippo_audit_job.specs.Jobs.{IsSound};
+    ghost use Rattle.hippo_audit_job.specs.Jobs.{IsSoundJob};
     ghost use Rattle.hippo_audit_job.specs.contracts.jobs.Job as jobs;
     ghost use Rattle.hippo_combine.specs.Combining.{combine_terms};
     ghost use Rattle.hippo_combine.specs.contracts.combine.Combine as combine;
@@ -35,7 +35,7 @@ impl Model for AuditJob {
 
     ghost view = { λ audit. audit.job };
 
-    ghost invariant = { λ audit. IsSound combine_terms audit.job };
+    ghost invariant = { λ audit. IsSoundJob combine_terms audit.job };
 }
 
 impl AuditJob {
@@ -84,8 +84,8 @@ impl AuditJob {
         self.job.written();
     }
 
-    /// Looks at the next `count` numbers, up to the job's end; the flags that it finds wait behind the others. Errors
-    /// are those of `Job::step`.
+    /// Looks at the next `count` numbers, up to the job's end; the flags that it finds wait behind
+    /// the others. Errors are those of `Job::step`.
     pub fn step<P: Keeper, L: Ledger>(
         &mut self,
         keeper: &mut P,

@@ -9,7 +9,8 @@ use std::fmt::{self, Debug, Formatter, Write};
 use std::marker::Model;
 use std::mem;
 
-/// Numbers from 1 on, so many as there were when it was made, each of which holds something or nothing.
+/// Numbers from 1 on, so many as there were when it was made, each of which holds something or
+/// nothing.
 #[derive(Drop)]
 pub struct Numbered<T> {
     pub(crate) places: Vec<Option<T>>,

@@ -44,8 +44,8 @@ fn take_back_each(watches: &mut [Option<Watch>], tables: &Tables, act: &Act)
 }
 
 impl Numbered<Watch> {
-    /// Changes the counts of each watch as the act of the next entry changes them, over the tables as they are before
-    /// it. Takes no memory.
+    /// Changes the counts of each watch as the act of the next entry changes them, over the tables
+    /// as they are before it. Takes no memory.
     pub(crate) fn take_in(&mut self, tables: &Tables, act: &Act)
         ensures audits { map (option_map watched) self.new ≡ map (option_map watched) self.old }
         ensures follow { EachFollows tables.now act.now self.old self.new }
@@ -53,7 +53,8 @@ impl Numbered<Watch> {
         take_in_each(&mut self.places, tables, act);
     }
 
-    /// Changes them back where the act that was taken in last does not come, over the same tables. Takes no memory.
+    /// Changes them back where the act that was taken in last does not come, over the same tables.
+    /// Takes no memory.
     pub(crate) fn take_back(&mut self, tables: &Tables, act: &Act)
         ensures audits { map (option_map watched) self.new ≡ map (option_map watched) self.old }
         ensures go_back { EachGoesBack tables.now act.now self.old self.new }

@@ -16,7 +16,8 @@ use hippo_values::{JOB_LIMIT, Memory, Moment, Name, SESSION_LIMIT, WATCH_LIMIT};
 use hippo_watch::Watch;
 use std::alloc::Global;
 
-/// The clock, how many entries the history may have, the format of flags, and the open sessions, audit jobs and watches.
+/// The clock, how many entries the history may have, the format of flags, and the open sessions,
+/// audit jobs and watches.
 #[derive(Drop)]
 pub struct World {
     pub clock: Moment,
@@ -52,7 +53,8 @@ impl World {
         self.sessions.at(usize::from(number))
     }
 
-    /// Opens the session with a number anew, without cursors; or want of memory, and nothing changes.
+    /// Opens the session with a number anew, without cursors; or want of memory, and nothing
+    /// changes.
     pub fn log_in(
         &mut self,
         alloc: Global,
@@ -81,8 +83,10 @@ impl World {
     // Lets a cursor's number of an open session hold this, or nothing.
     #[tactic(auto, using(crate::proofs::NumberLemmas::put_back, crate::proofs::NumberLemmas::put_again))]
     fn put_cursor(&mut self, number: u8, cursor: u8, held: Option<Cursor>)
-        ensures open { (session : KeptSession) → session_at (world_of self.old) number ≡ Some session
-            → world_of self.new ≡ with_session (world_of self.old) number (Some (with_cursor session cursor held)) }
+        ensures open { (session : KeptSession)
+            → session_at (world_of self.old) number ≡ Some session
+            → world_of self.new ≡ with_session (world_of self.old) number
+            (Some (with_cursor session cursor held)) }
         ensures closed { session_at (world_of self.old) number ≡ None → self.new ≡ self.old }
         ensures audits { KeepsAudits self.old self.new }
     {
@@ -92,11 +96,14 @@ impl World {
         }
     }
 
-    /// Lets a cursor of an open session hold an answer, of which no row was handed out. Takes no memory.
+    /// Lets a cursor of an open session hold an answer, of which no row was handed out. Takes no
+    /// memory.
     pub fn open_cursor(&mut self, number: u8, cursor: u8, answer: Answer)
-        ensures open { (session : KeptSession) → session_at (world_of self.old) number ≡ Some session
+        ensures open { (session : KeptSession)
+            → session_at (world_of self.old) number ≡ Some session
             → world_of self.new
-            ≡ with_session (world_of self.old) number (Some (with_cursor session cursor (Some (new_cursor answer)))) }
+            ≡ with_session (world_of self.old) number
+            (Some (with_cursor session cursor (Some (new_cursor answer)))) }
         ensures closed { session_at (world_of self.old) number ≡ None → self.new ≡ self.old }
         ensures audits { KeepsAudits self.old self.new }
     {
@@ -105,8 +112,10 @@ impl World {
 
     /// Closes a cursor of an open session.
     pub fn close_cursor(&mut self, number: u8, cursor: u8)
-        ensures open { (session : KeptSession) → session_at (world_of self.old) number ≡ Some session
-            → world_of self.new ≡ with_session (world_of self.old) number (Some (with_cursor session cursor None)) }
+        ensures open { (session : KeptSession)
+            → session_at (world_of self.old) number ≡ Some session
+            → world_of self.new ≡ with_session (world_of self.old) number
+            (Some (with_cursor session cursor None)) }
         ensures closed { session_at (world_of self.old) number ≡ None → self.new ≡ self.old }
         ensures audits { KeepsAudits self.old self.new }
     {
@@ -120,8 +129,10 @@ impl World {
             → session_at (world_of self.old) number ≡ Some session
             → at_number session.cursors cursor ≡ Some held
             → world_of self.new
-            ≡ with_session (world_of self.old) number (Some (with_cursor session cursor (Some (moved_on held count)))) }
-        ensures missing { (session : KeptSession) → session_at (world_of self.old) number ≡ Some session
+            ≡ with_session (world_of self.old) number
+            (Some (with_cursor session cursor (Some (moved_on held count)))) }
+        ensures missing { (session : KeptSession)
+            → session_at (world_of self.old) number ≡ Some session
             → at_number session.cursors cursor ≡ None → self.new ≡ self.old }
         ensures closed { session_at (world_of self.old) number ≡ None → self.new ≡ self.old }
         ensures audits { KeepsAudits self.old self.new }
@@ -132,8 +143,8 @@ impl World {
         }
     }
 
-    /// Changes the hits of each watch as the act of the next entry changes them, over the tables as they are before it.
-    /// Takes no memory.
+    /// Changes the hits of each watch as the act of the next entry changes them, over the tables as
+    /// they are before it. Takes no memory.
     pub fn take_in(&mut self, tables: &Tables, act: &Act)
         ensures world { world_of self.new ≡ world_of self.old }
         ensures jobs { self.new.jobs ≡ self.old.jobs }
@@ -142,7 +153,8 @@ impl World {
         self.watches.take_in(tables, act);
     }
 
-    /// Changes them back where the act that was taken in last does not come, over the same tables. Takes no memory.
+    /// Changes them back where the act that was taken in last does not come, over the same tables.
+    /// Takes no memory.
     pub fn take_back(&mut self, tables: &Tables, act: &Act)
         ensures world { world_of self.new ≡ world_of self.old }
         ensures jobs { self.new.jobs ≡ self.old.jobs }

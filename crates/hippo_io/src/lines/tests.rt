@@ -78,7 +78,8 @@ fn cuts_lines(rt: HostRuntime) -> Result<(), Memory> {
     Ok(())
 }
 
-// Over so many letters and the tail, the first line has this length unless it is too long, and these lines follow.
+// Over so many letters and the tail, the first line has this length unless it is too long, and
+// these lines follow.
 fn begins_with<R: Abort + AllocGlobal>(
     rt: &R,
     letters: usize,

@@ -1,11 +1,11 @@
 -- The schemas so far, and those of the tables that are left.
 use Rattle.std.proofs.Common.{◌≡◌, ◌++◌, drop}
 use Rattle.hippo_model.specs.Terms.{History}
-use Rattle.hippo_tables.specs.Standing.{StandsFor}
+use Rattle.hippo_tables.specs.Standing.{TablesStandFor}
 use Rattle.hippo_answering.specs.States.{schemas_at}
 use Rattle.hippo_answering.proofs.asked.schemas_of.Given as goal
 
 abbrev pub invariant-loop-name : goal.invariant-loop-name
 invariant-loop-name l =
-    (history : History) → StandsFor l.tables history
+    (history : History) → TablesStandFor l.tables history
     → l.schemas ++ schemas_at history (drop l.name-index l.names) ≡ schemas_at history l.names

@@ -2,14 +2,14 @@
 use Rattle.std.proofs.Common.{◌≡◌, ◌++◌, drop, length, map}
 use Rattle.hippo_model.specs.Terms.{History}
 use Rattle.hippo_model.specs.RowSets.{kept_at}
-use Rattle.hippo_tables.specs.Standing.{StandsFor}
+use Rattle.hippo_tables.specs.Standing.{TablesStandFor}
 use Rattle.hippo_answering.specs.States.{schemas_at}
 use Rattle.hippo_answering.proofs.asked.sets_of.Given as goal
 
 abbrev pub invariant-loop-name : goal.invariant-loop-name
 invariant-loop-name l = record {
   each : length l.sets ≡ l.name-index;
-  rows : (history : History) → StandsFor l.tables history
+  rows : (history : History) → TablesStandFor l.tables history
       → l.sets ++ map (λ schema. kept_at schema history) (schemas_at history (drop l.name-index l.names))
       ≡ map (λ schema. kept_at schema history) (schemas_at history l.names);
 }

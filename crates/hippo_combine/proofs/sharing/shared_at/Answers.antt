@@ -7,7 +7,7 @@ use Rattle.hippo_model.specs.Verdicts.{Context}
 use Rattle.hippo_typing.specs.Meanings.{meaning}
 use Rattle.hippo_model.specs.Audits.{first_serving}
 use Rattle.hippo_examining.specs.Examining.{ServesFirst}
-use Rattle.hippo_combine.specs.Held.{have_rows}
+use Rattle.hippo_combine.specs.Held.{are_held}
 use Rattle.hippo_combine.specs.Sharing.{HoldsBoth}
 use Rattle.hippo_combine.proofs.ExaminingLemmas.{query_many, audit_many, rows_same, those_of}
 use Rattle.hippo_combine.proofs.SharingLemmas.{nothing_serves}
@@ -20,7 +20,7 @@ returns-then-not-have_all_rows c = λ history holds.
 
 pub shared_of-requires : goal.shared_of-requires
 shared_of-requires c =
-    let rows : (have_rows c.args.tables.now c.args.audit.now.tables && have_rows c.args.tables.now c.args.query.now.tables) ≡ true = search rules in
+    let rows : (are_held c.args.tables.now c.args.audit.now.tables && are_held c.args.tables.now c.args.query.now.tables) ≡ true = search rules in
     record {
       query_sets = query_many c.args.tables.now c.args.query.now.tables c.args.audit.now.tables c.in_ok-query_sets.query_sets c.in_ok-audit_sets.audit_sets (search rules) (search rules) rows;
       audit_sets = audit_many c.args.tables.now c.args.query.now.tables c.args.audit.now.tables c.in_ok-query_sets.query_sets c.in_ok-audit_sets.audit_sets (search rules) (search rules) rows;
@@ -30,7 +30,7 @@ shared_of-requires c =
 
 pub returns : goal.returns
 returns c =
-    let rows : (have_rows c.args.tables.now c.args.audit.now.tables && have_rows c.args.tables.now c.args.query.now.tables) ≡ true = search rules in
+    let rows : (are_held c.args.tables.now c.args.audit.now.tables && are_held c.args.tables.now c.args.query.now.tables) ≡ true = search rules in
     let context : Context = record { purpose = c.args.purpose.now; recipient = c.args.recipient.now; moment = c.args.moment } in
     IfOk-weaker c.shared_of.result
     (λ (shared : Option (List SharedRow)). ServesFirst c.args.query.now c.args.audit.now c.in_ok-rules.rules c.in_ok-query_sets.query_sets c.in_ok-audit_sets.audit_sets _ shared)

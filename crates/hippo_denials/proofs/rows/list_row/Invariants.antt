@@ -1,12 +1,12 @@
 -- The cells so far, and those of the columns that are left.
 use Rattle.std.proofs.Common.{◌≡◌, ◌++◌, take, drop}
 use Rattle.hippo_model.specs.Terms.{History}
-use Rattle.hippo_policy.specs.Books.{StandsFor}
-use Rattle.hippo_denials.specs.Listing.{context_of, listed_denials}
+use Rattle.hippo_policy.specs.Books.{BookStandsFor}
+use Rattle.hippo_denials.specs.Listing.{rules_context, listed_denials}
 use Rattle.hippo_denials.proofs.rows.list_row.Given as goal
 
 abbrev pub invariant-loop-column : goal.invariant-loop-column
 invariant-loop-column l =
-    (history : History) → StandsFor l.rules.book.now history
-    → l.cells ++ listed_denials (take l.rules.count history) (context_of l.rules) l.schema (drop l.column-index l.listed) (record { row = l.row; born = l.born })
-    ≡ l.initial.cells ++ listed_denials (take l.rules.count history) (context_of l.rules) l.schema l.listed (record { row = l.row; born = l.born })
+    (history : History) → BookStandsFor l.rules.book.now history
+    → l.cells ++ listed_denials (take l.rules.count history) (rules_context l.rules) l.schema (drop l.column-index l.listed) (record { row = l.row; born = l.born })
+    ≡ l.initial.cells ++ listed_denials (take l.rules.count history) (rules_context l.rules) l.schema l.listed (record { row = l.row; born = l.born })

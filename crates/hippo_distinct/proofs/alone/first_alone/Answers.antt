@@ -3,7 +3,7 @@ use Rattle.std.proofs.Common.{List, map, ◌≡◌, ◌∙◌}
 use Rattle.std.specs.Prelude.{Bool, Option}
 use Rattle.hippo_model.specs.declared.audit.SharedRow.{SharedRow}
 use Rattle.hippo_model.specs.declared.query.Form.TheVariants.{Distinct}
-use Rattle.hippo_shared.specs.Candidates.{AreThoseOf, first_passing}
+use Rattle.hippo_shared.specs.Candidates.{AreCandidates, first_passing}
 use Rattle.hippo_shared.specs.Needs.{needs_by}
 use Rattle.hippo_shared.specs.Sharing.{common_tables, place_in}
 use Rattle.hippo_distinct.proofs.AloneLemmas.{needed-are, none-needed, ok-by}
@@ -21,7 +21,7 @@ returns g c =
     let audit = c.args.audited.now.audit.now in
     let candidates = c.in_ok-candidates.candidates.keys in
     ok-by
-    (λ (shared : Option (List SharedRow)). (test : List SharedRow → Bool) → AreThoseOf test audit.tables c.args.audited.now.audit_sets.now (common_tables query.tables audit.tables) candidates
+    (λ (shared : Option (List SharedRow)). (test : List SharedRow → Bool) → AreCandidates test audit.tables c.args.audited.now.audit_sets.now (common_tables query.tables audit.tables) candidates
     → shared ≡ first_passing test choices query audit c.args.seen.now c.args.audited.now.query_sets.now c.args.audited.now.audit_sets.now)
     (λ (shared : Option (List SharedRow)). shared ≡ first_passing (needs_by choices query Distinct c.args.audited.now.query_sets.now) choices query audit c.args.seen.now c.args.audited.now.query_sets.now c.args.audited.now.audit_sets.now)
     (λ shared told. told (needs_by choices query Distinct c.args.audited.now.query_sets.now)

@@ -1,6 +1,6 @@
 -- The entry is kept, and the answer is that of before.
 use Rattle.std.proofs.Common.{◌∙◌, refl}
-use Rattle.hippo_engine.proofs.QuestionLemmas.{Keeps-ok}
+use Rattle.hippo_engine.proofs.QuestionLemmas.{KeepsEntry-ok}
 use Rattle.hippo_engine.proofs.questions.keep_entry.Goals as goal
 
 pub answered-answer-requires : goal.answered-answer-requires
@@ -20,7 +20,7 @@ returns-in-Ok g c =
     let keeps = c.in-Ok.ensures.keeps in
     record {
       asks = λ session. record {
-        keeps = Keeps-ok c.in-Ok.field-0 c.answered-answer.result c.args.entry.now c.args.state.now (g.P.Keeper.state c.args.keeper.now) (g.P.Keeper.state c.keep.new.keeper) keeps;
+        keeps = KeepsEntry-ok c.in-Ok.field-0 c.answered-answer.result c.args.entry.now c.args.state.now (g.P.Keeper.state c.args.keeper.now) (g.P.Keeper.state c.keep.new.keeper) keeps;
         added = λ history stands. c.take_in.ensures history (c.order_for.ensures.stands history stands) (keeps.follows refl history stands);
         same = tt;
         rows = λ history stands. c.answered-answer.ensures session history (c.order_for.ensures.stands history stands);

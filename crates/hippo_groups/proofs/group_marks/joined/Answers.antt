@@ -4,13 +4,13 @@ use Rattle.std.proofs.lemmas.List.{map-append, with_items_is}
 use Rattle.hippo_model.specs.Terms.{Place}
 use Rattle.hippo_shared.specs.Marks.{mark_of}
 use Rattle.hippo_groups.specs.declared.group_marks.GroupMarks.{GroupMarks}
-use Rattle.hippo_groups.specs.GroupMarks.{PlacedRow, places_of, best_of}
+use Rattle.hippo_groups.specs.GroupMarks.{PlacedRow, member_places, best_of}
 use Rattle.hippo_groups.proofs.group_marks.joined.Goals as goal
 
 pub returns : goal.returns
 returns c = λ members was.
     let member : PlacedRow = record { row = c.args.row.now; places = c.args.places.now } in
-    let mark = c.in_ok-mark_with.ensures (places_of members) (ap (λ (group : GroupMarks). group.mark) was)
+    let mark = c.in_ok-mark_with.ensures (member_places members) (ap (λ (group : GroupMarks). group.mark) was)
     ∙ ap mark_of (sym (map-append (λ (one : PlacedRow). one.places) members (member ∷ []))) in
     let bests = c.from_vec.ensures
     ∙ with_items_is c.into_vec-bests.result c.join.new.bests (omega (arith, c.join.auto.bests, c.deref_mut.ensures.len))

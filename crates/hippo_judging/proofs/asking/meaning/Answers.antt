@@ -3,14 +3,14 @@ use Rattle.std.proofs.Common.{◌≡◌, ◌⊎◌, Ok, Err, subst}
 use Rattle.hippo_report.specs.declared.refusal.Refusal.TheVariants.{Memory}
 use Rattle.hippo_catalog.specs.Catalogs.{KnownNames}
 use Rattle.hippo_catalog.specs.Selects.{select_refused, query_of}
-use Rattle.hippo_judging.specs.Checks.{meant}
+use Rattle.hippo_judging.specs.Checks.{unless_refused}
 use Rattle.hippo_judging.proofs.AskingLemmas.{meant_so, meant_not, answerable}
 use Rattle.hippo_judging.proofs.asking.meaning.Goals as goal
 
 pub returns-in-Ok-clause-found : goal.returns-in-Ok-clause-found
 returns-in-Ok-clause-found c = λ history stands.
     let select = c.args.select.now in
-    subst (λ (known : KnownNames). meant (select_refused known select) (query_of known select) ≡ Ok c.in-Ok.query) stands.names
+    subst (λ (known : KnownNames). unless_refused (select_refused known select) (query_of known select) ≡ Ok c.in-Ok.query) stands.names
     (meant_so _ _ c.in-Ok.query c.in-Ok.ensures.0 c.in-Ok.ensures.1)
 
 pub returns-in-Ok-clause-answerable : goal.returns-in-Ok-clause-answerable
@@ -21,5 +21,5 @@ pub returns-in-Err-clause-found : goal.returns-in-Err-clause-found
 returns-in-Err-clause-found c = λ history stands.
     let select = c.args.select.now in
     let refusal = c.name_refusal.result in
-    subst (λ (known : KnownNames). (meant (select_refused known select) (query_of known select) ≡ Err refusal) ⊎ (refusal ≡ Memory)) stands.names
+    subst (λ (known : KnownNames). (unless_refused (select_refused known select) (query_of known select) ≡ Err refusal) ⊎ (refusal ≡ Memory)) stands.names
     (meant_not _ _ c.in-Err.fault refusal c.in-Err.ensures c.name_refusal.ensures)

@@ -12,5 +12,5 @@ returns-in-Ok c = λ text world.
 
 pub returns-in-Err : goal.returns-in-Err
 returns-in-Err c = λ text world.
-    refused_audit c.args.state.now world c.args.session c.args.written.now (commands.state c.args.session (stmt.Audit c.args.written.now) text) (λ audit. Ok (deeds.audit audit)) c.in-Err.refusal
+    refused_audit c.args.state.now world c.args.session c.args.written.now (commands.make_statement c.args.session (stmt.Audit c.args.written.now) text) (λ audit. Ok (deeds.audit audit)) c.in-Err.refusal
     refl (λ history. refl) c.in-Err.ensures.found

@@ -14,7 +14,7 @@ use Rattle.hippo_judging.proofs.statements.judge_begin.Goals as goal
 
 pub returns-in-Ok : goal.returns-in-Ok
 returns-in-Ok c = λ text.
-    let command = commands.state c.args.session (stmt.BeginAudit c.args.written.now) text in
+    let command = commands.make_statement c.args.session (stmt.BeginAudit c.args.written.now) text in
     let finds = may_begin c.args.state.now c.args.world.now c.args.session c.args.written.now text c.in-Ok.audit c.in-Ok.ensures.console
     (record { fits = c.in-Ok.ensures.audit; differ = c.in-Ok.ensures.differ }) c.in-Ok.ensures.found (free_number c.args.world.now.jobs) refl in
     subst (λ (found : Checked Deed). FindsDeed command found c.args.state.now c.args.world.now)
@@ -22,6 +22,6 @@ returns-in-Ok c = λ text.
 
 pub returns-in-Err : goal.returns-in-Err
 returns-in-Err c = λ text.
-    refused_audit c.args.state.now c.args.world.now c.args.session c.args.written.now (commands.state c.args.session (stmt.BeginAudit c.args.written.now) text)
+    refused_audit c.args.state.now c.args.world.now c.args.session c.args.written.now (commands.make_statement c.args.session (stmt.BeginAudit c.args.written.now) text)
     (λ audit. ok_or (free_number (world_of c.args.world.now).jobs) JobLimit >>= λ number. Ok (deeds.begin_audit number audit)) c.in-Err.refusal
     refl (λ history. refl) c.in-Err.ensures.found

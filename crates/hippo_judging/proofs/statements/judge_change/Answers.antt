@@ -10,12 +10,12 @@ use Rattle.hippo_judging.proofs.statements.judge_change.Goals as goal
 
 pub returns-in-Ok : goal.returns-in-Ok
 returns-in-Ok c = λ text.
-    may_change c.args.state.now c.args.world.now (commands.state c.args.session c.args.statement.now text) (λ history. judged_change history (world_of c.args.world.now) c.args.session c.args.statement.now) refl
+    may_change c.args.state.now c.args.world.now (commands.make_statement c.args.session c.args.statement.now text) (λ history. judged_change history (world_of c.args.world.now) c.args.session c.args.statement.now) refl
     (λ history. judged_as_change history (world_of c.args.world.now) c.args.session c.args.statement.now text c.requires.changes)
     c.in-Ok.entry (ap speaker_at c.in-Ok.ensures.console) c.in-Ok.ensures.found c.in-Ok.ensures.number c.in-Ok.ensures.follows
 
 pub returns-in-Err : goal.returns-in-Err
 returns-in-Err c = λ text.
-    refused_change c.args.state.now c.args.world.now (commands.state c.args.session c.args.statement.now text) (λ history. judged_change history (world_of c.args.world.now) c.args.session c.args.statement.now) refl
+    refused_change c.args.state.now c.args.world.now (commands.make_statement c.args.session c.args.statement.now text) (λ history. judged_change history (world_of c.args.world.now) c.args.session c.args.statement.now) refl
     (λ history. judged_as_change history (world_of c.args.world.now) c.args.session c.args.statement.now text c.requires.changes)
     c.in-Err.refusal c.in-Err.ensures.found

@@ -1,7 +1,7 @@
 -- The row's entry stands there already, or it comes instead of the other row's.
 use Rattle.std.proofs.Common.{sym, subst, ◌∙◌}
 use Rattle.hippo_model.specs.RowSets.{with_row}
-use Rattle.hippo_model.specs.ColumnOrders.{AreEntriesOf}
+use Rattle.hippo_model.specs.ColumnOrders.{AreOrderKeysOf}
 use Rattle.hippo_model.proofs.EntryLemmas.{OnOk-weaker, stays-at, replaced-at}
 use Rattle.hippo_model.proofs.column_order.replace.Goals as goal
 
@@ -14,5 +14,5 @@ pub returns : goal.returns
 returns c are =
     let left = rw (c.as_slice-old.ensures, c.as_slice-key.ensures, c.key.ensures) at c.in_ok-leave.ensures in
     let entered = rw (c.as_slice-2.ensures, c.as_slice-key.ensures, c.key.ensures, left) at c.enter.ensures in
-    OnOk-weaker _ _ c.enter.result (λ is. subst (AreEntriesOf c.args.column (with_row (record { row = c.args.row.now; born = c.args.born }) c.args.set.now)) (sym is)
+    OnOk-weaker _ _ c.enter.result (λ is. subst (AreOrderKeysOf c.args.column (with_row (record { row = c.args.row.now; born = c.args.born }) c.args.set.now)) (sym is)
     (replaced-at c.args.column c.args.set.now c.args.entries.now c.args.row.now c.args.born c.args.place c.row.result.now are c.requires.found c.row.ensures)) entered

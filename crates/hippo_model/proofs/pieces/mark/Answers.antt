@@ -2,7 +2,7 @@
 use Rattle.std.proofs.Common.{◌≡◌, ℕ, suc, ◌+◌, ◌<◌, List, [], length, get_or, set, sym, ap, ◌∙◌, refl, add-one, arith}
 use Rattle.std.proofs.lemmas.List.{length-map}
 use Rattle.hippo_model.specs.declared.pieces.Piece.{Piece}
-use Rattle.hippo_model.specs.Pieces.{contents, joined, start_of}
+use Rattle.hippo_model.specs.Pieces.{contents, all_members, start_of}
 use Rattle.hippo_model.proofs.PiecesLemmas.{piece_at, contents-kept, IsMarked-more, start_of-next, start_of-within}
 use Rattle.hippo_model.proofs.pieces.mark.Goals as goal
 
@@ -13,7 +13,7 @@ overflow_add-end g c =
     let piece : Piece g.row.T.Denot = get_or pieces place c.index-pieces-place.result in
     let range : place < length pieces = omega arith in
     let inside : place < length (contents pieces) = omega (arith, length-map pieces (λ (piece : Piece g.row.T.Denot). piece.members.items)) in
-    omega (arith, piece.members.ok.0, ap length (piece_at pieces place c.index-pieces-place.result range), start_of-next (contents pieces) place inside, start_of-within (contents pieces) (suc place), ap (λ (lists : List (List g.row.T.Denot)). length (joined lists)) c.loop-place.invariant.kept)
+    omega (arith, piece.members.ok.0, ap length (piece_at pieces place c.index-pieces-place.result range), start_of-next (contents pieces) place inside, start_of-within (contents pieces) (suc place), ap (λ (lists : List (List g.row.T.Denot)). length (all_members lists)) c.loop-place.invariant.kept)
 
 pub loop-place-preserved : goal.loop-place-preserved
 loop-place-preserved g c =

@@ -2,8 +2,8 @@
 use Rattle.std.proofs.Common.{◌≤◌, length, sym, ap, ◌∙◌, subst, List, arith}
 use Rattle.std.specs.Result.{IsOk}
 use Rattle.hippo_model.specs.declared.pieces.Piece.{Piece}
-use Rattle.hippo_model.specs.Pieces.{contents, joined, IsMarked, AreFull}
-use Rattle.hippo_model.proofs.PiecesLemmas.{size_below_end, IsMarked-cut, AreFull-cut, joined-cut}
+use Rattle.hippo_model.specs.Pieces.{contents, all_members, IsMarked, AreFull}
+use Rattle.hippo_model.proofs.PiecesLemmas.{size_below_end, IsMarked-cut, AreFull-cut, all_members-cut}
 use Rattle.hippo_model.proofs.pieces.split.Goals as goal
 
 pub cut-requires : goal.cut-requires
@@ -30,4 +30,4 @@ returns-in-Some-clause-joined g c =
     let read = rw c.in-Ok.ensures.items at c.index_mut.ensures.value in
     let fits : IsOk c.insert.result = c.insert.ensures.succeeds (omega (arith, c.in-Ok.ensures.ok)) in
     let items = rw (fits, c.in-Ok.ensures.items) at c.insert.ensures.items in
-    ap (λ (pieces : List (Piece g.row.T.Denot)). joined (contents pieces)) items ∙ joined-cut c.args.pieces.now.items c.args.index c.index_mut.result.now c.cut.new.piece c.in-Some.upper c.requires.range read c.in-Some.ensures
+    ap (λ (pieces : List (Piece g.row.T.Denot)). all_members (contents pieces)) items ∙ all_members-cut c.args.pieces.now.items c.args.index c.index_mut.result.now c.cut.new.piece c.in-Some.upper c.requires.range read c.in-Some.ensures

@@ -2,7 +2,7 @@
 use Rattle.std.proofs.Common.{◌≡◌, List, length, ◌∙◌, ap, sym, subst, arith}
 use Rattle.std.proofs.lemmas.List.{nil_from_length}
 use Rattle.hippo_model.specs.declared.pieces.Piece.{Piece}
-use Rattle.hippo_model.specs.Pieces.{contents, joined, AreFull}
+use Rattle.hippo_model.specs.Pieces.{contents, all_members, AreFull}
 use Rattle.hippo_model.proofs.PiecesLemmas.{zero_from_test, some_from_test, joined_taken, AreFull-taken, joined_gone, AreFull-gone}
 use Rattle.hippo_model.proofs.pieces.take_out.Goals as goal
 
@@ -13,7 +13,7 @@ returns-then-is_empty-clause-joined g c =
     let new : Piece g.row.T.Denot = record { members = c.remove.new.self; end = old.end } in
     let read = c.index_mut-piece.ensures.value in
     let none : length new.members.items ≡ 0 = omega (arith, zero_from_test new.members.len c.if-is_empty.ensures, new.members.ok.0) in
-    ap (λ (pieces : List (Piece g.row.T.Denot)). joined (contents pieces)) c.remove-then-is_empty.ensures.items
+    ap (λ (pieces : List (Piece g.row.T.Denot)). all_members (contents pieces)) c.remove-then-is_empty.ensures.items
     ∙ joined_gone pieces c.args.index c.args.place old new c.requires.range read (nil_from_length new.members.items none)
     ∙ joined_taken pieces c.args.index c.args.place old new c.requires.range read c.requires.inside c.remove.ensures.items
 

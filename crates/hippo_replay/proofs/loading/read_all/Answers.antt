@@ -1,6 +1,6 @@
 -- Piece by piece, until nothing is left or something is wrong.
 use Rattle.std.proofs.Common.{◌∙◌, ap, Ok}
-use Rattle.hippo_replay.proofs.ReadingLemmas.{IsReading-first, IsReading-on, ReadsAll-end, ReadsAll-fault}
+use Rattle.hippo_replay.proofs.ReadingLemmas.{IsReading-first, IsReading-on, ReadsAllKept-end, ReadsAllKept-fault}
 use Rattle.hippo_replay.proofs.loading.read_all.Goals as goal
 
 pub loop-fault-init : goal.loop-fault-init
@@ -12,8 +12,8 @@ loop-fault-preserved g c =
 
 pub returns-in-Ok-false : goal.returns-in-Ok-false
 returns-in-Ok-false g c =
-    record { reads = ReadsAll-end (g.P.Keeper.state c.args.keeper.now) (g.P.Keeper.state c.loop-fault.keeper) (g.P.Keeper.state c.read_on.new.keeper) c.loop-fault.state c.read_on.new.state c.args.steps.now c.loop-fault.steps c.read_on.new.steps c.loop-fault.invariant c.requires.order c.read_on.result c.read_on.ensures.reads (c.in-Ok-false.is ∙ ap Ok c.in-Ok-false.field-0-test) }
+    record { reads = ReadsAllKept-end (g.P.Keeper.state c.args.keeper.now) (g.P.Keeper.state c.loop-fault.keeper) (g.P.Keeper.state c.read_on.new.keeper) c.loop-fault.state c.read_on.new.state c.args.steps.now c.loop-fault.steps c.read_on.new.steps c.loop-fault.invariant c.requires.order c.read_on.result c.read_on.ensures.reads (c.in-Ok-false.is ∙ ap Ok c.in-Ok-false.field-0-test) }
 
 pub returns-in-Err : goal.returns-in-Err
 returns-in-Err g c =
-    record { reads = ReadsAll-fault (g.P.Keeper.state c.args.keeper.now) (g.P.Keeper.state c.loop-fault.keeper) (g.P.Keeper.state c.read_on.new.keeper) c.loop-fault.state c.read_on.new.state c.args.steps.now c.loop-fault.steps c.read_on.new.steps c.loop-fault.invariant c.requires.order c.read_on.result c.read_on.ensures.reads c.in-Err.fault c.in-Err.is }
+    record { reads = ReadsAllKept-fault (g.P.Keeper.state c.args.keeper.now) (g.P.Keeper.state c.loop-fault.keeper) (g.P.Keeper.state c.read_on.new.keeper) c.loop-fault.state c.read_on.new.state c.args.steps.now c.loop-fault.steps c.read_on.new.steps c.loop-fault.invariant c.requires.order c.read_on.result c.read_on.ensures.reads c.in-Err.fault c.in-Err.is }

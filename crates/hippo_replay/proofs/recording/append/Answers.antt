@@ -1,7 +1,7 @@
 -- The entry's form was handed over, or there was no memory for it.
 use Rattle.std.proofs.Common.{◌∙◌, ap, arith}
 use Rattle.hippo_model.specs.declared.stored.StoredEntry.{StoredEntry}
-use Rattle.hippo_replay.proofs.RecordingLemmas.{Keeps-Appends, Keeps-short}
+use Rattle.hippo_replay.proofs.RecordingLemmas.{KeepsEntry-AppendsEntry, KeepsEntry-short}
 use Rattle.hippo_replay.proofs.recording.append.Goals as goal
 
 pub append-result-requires : goal.append-result-requires
@@ -14,7 +14,7 @@ append-result-requires g c =
     }
 
 pub returns-in-Ok : goal.returns-in-Ok
-returns-in-Ok g c = record { keeps = λ state follows. Keeps-Appends c.args.entry.now c.in-Ok.kept c.append-result.result state (g.P.Keeper.state c.args.keeper.now) (g.P.Keeper.state c.append-result.new.self) c.in-Ok.ensures.form c.append-result.ensures.appends follows }
+returns-in-Ok g c = record { keeps = λ state follows. KeepsEntry-AppendsEntry c.args.entry.now c.in-Ok.kept c.append-result.result state (g.P.Keeper.state c.args.keeper.now) (g.P.Keeper.state c.append-result.new.self) c.in-Ok.ensures.form c.append-result.ensures.appends follows }
 
 pub returns-in-Err : goal.returns-in-Err
-returns-in-Err g c = record { keeps = λ state follows. Keeps-short c.args.entry.now state (g.P.Keeper.state c.args.keeper.now) c.requires.ready }
+returns-in-Err g c = record { keeps = λ state follows. KeepsEntry-short c.args.entry.now state (g.P.Keeper.state c.args.keeper.now) c.requires.ready }

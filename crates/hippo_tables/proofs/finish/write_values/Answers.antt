@@ -4,10 +4,10 @@ use Rattle.std.proofs.lemmas.List.{drop_all}
 use Rattle.std.specs.Vec.Iter.{into_iter_items}
 use Rattle.hippo_values.specs.declared.values.Value.{Value}
 use Rattle.hippo_model.specs.Terms.{Row, Place}
-use Rattle.hippo_tables.specs.Finished.{written}
+use Rattle.hippo_tables.specs.Finished.{written_row}
 use Rattle.hippo_tables.proofs.finish.write_values.Goals as goal
 
-written-none : (places : List Place) (row : Row) → written places [] row ≡ row
+written-none : (places : List Place) (row : Row) → written_row places [] row ≡ row
 written-none [] row = refl
 written-none (place ∷ places) row = refl
 
@@ -17,4 +17,4 @@ returns-in_default c =
     let none : into_iter_items left ≡ [] = drop_all 0 left.rest.items (omega (arith, left.rest.ok.0, c.in_default.ensures.cases.0)) in
     let places : List Place = drop c.loop-place.place-index c.args.places.now in
     let row : Row = c.loop-place.cells.items in
-    sym (written-none places row) ∙ ap (λ (values : List Value). written places values row) (sym none) ∙ c.loop-place.invariant
+    sym (written-none places row) ∙ ap (λ (values : List Value). written_row places values row) (sym none) ∙ c.loop-place.invariant

@@ -3,13 +3,13 @@ use Rattle.std.proofs.Common.{◌≡◌, ◌++◌, length}
 use denote.Text.{Utf8}
 use denote.Shadow.{shadow}
 use Rattle.hippo_values.specs.Printing.{KeepsFront}
-use Rattle.hippo_values.specs.Quoting.{doubled}
+use Rattle.hippo_values.specs.Quoting.{doubled_quotes}
 use Rattle.hippo_values.proofs.printing.append_doubled.Given as goal
 
 abbrev pub invariant-loop-before : goal.invariant-loop-before
 invariant-loop-before g l = record {
   text : shadow (Utf8 l.rest);
-  whole : l.out ++ doubled l.rest ≡ l.initial.out ++ doubled l.text;
+  whole : l.out ++ doubled_quotes l.rest ≡ l.initial.out ++ doubled_quotes l.text;
   front : KeepsFront l.initial.out l.out;
 }
 

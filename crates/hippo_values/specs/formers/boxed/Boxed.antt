@@ -29,8 +29,11 @@ abbrev pub the_weighed : {held : Former {0}} → Weighed held → Weighed (the_f
 the_weighed weighed = weighed
 
 abbrev in_fields : Former {0}
-in_fields = via (pair (const (Ptr × Global)) this) Inside (λ X fields. ((fields.held.ptr, fields.held.alloc), fields.held.value))
-    (λ X v. record { held = record { ptr = v.0.0; alloc = v.0.1; value = v.1 } }) (λ X fields. refl) (λ X v. refl)
+in_fields =
+    via (pair (const (Ptr × Global)) this) Inside
+    (λ X fields. ((fields.held.ptr, fields.held.alloc), fields.held.value))
+    (λ X v. record { held = record { ptr = v.0.0; alloc = v.0.1; value = v.1 } }) (λ X fields. refl)
+    (λ X v. refl)
 
 abbrev holding : {X Y : Type 0} → Box X Global → Y → Box Y Global
 holding b y = record { ptr = b.ptr; alloc = b.alloc; value = y }
@@ -42,16 +45,24 @@ module _ (R S : RattleType) (h : R.Denot → S.Denot) where
   box_places : Alike R S h → Alike (box_row R) (box_row S) (λ b. holding b (h b.value))
   unfolding part_of
   box_places alike = record {
-    mir_same = λ i. (box_row (one_value R (alike.mir_same i) (λ _. ftrue) (λ _ _. nothing) gnil)).mir;
-    own_same = λ b i. (box_row (one_value R (alike.mir_same i) (alike.own_same b.value i) (alike.shr_same b.value i) gnil)).own_val (holding b tt);
-    shr_same = λ b i. (box_row (one_value R (alike.mir_same i) (alike.own_same b.value i) (alike.shr_same b.value i) gnil)).shr_at (holding b tt);
+    mir_same = λ i. (box_row (one_value R (alike.mir_same i) (λ _. ftrue)
+        (λ _ _. nothing) gnil)).mir;
+    own_same = λ b i. (box_row (one_value R (alike.mir_same i) (alike.own_same b.value i)
+        (alike.shr_same b.value i) gnil)).own_val (holding b tt);
+    shr_same = λ b i. (box_row (one_value R (alike.mir_same i) (alike.own_same b.value i)
+        (alike.shr_same b.value i) gnil)).shr_at (holding b tt);
   }
 
-  pub the_places : Alike R S h → Alike (row.the_row R) (row.the_row S) ((the_former this).map R.Denot S.Denot h)
-  the_places alike = view_places in_fields this view (λ X Y k u. refl) (λ X u. refl) R.Denot S.Denot h (row.the_row R).coded (row.the_row S).coded
-      (invariant R.Denot) (invariant S.Denot) (λ u p q. refl) (λ u p q. refl) (λ u e. tt) (λ u e. tt)
+  pub the_places : Alike R S h → Alike (row.the_row R) (row.the_row S)
+      ((the_former this).map R.Denot S.Denot h)
+  the_places alike = view_places in_fields this view (λ X Y k u. refl)
+      (λ X u. refl) R.Denot S.Denot h (row.the_row R).coded (row.the_row S).coded
+      (invariant R.Denot) (invariant S.Denot) (λ u p q. refl) (λ u p q. refl) (λ u e. tt)
+      (λ u e. tt)
       (over (inside.the_row R)) (over (inside.the_row S))
-      (struct_places (inside.the_type R) (inside.the_type S) ((λ b. holding b (h b.value)), tt) _ (λ d. refl) refl (laid _ _ _ (box_places alike), tt))
+      (struct_places (inside.the_type R) (inside.the_type S) ((λ b. holding b (h b.value)), tt) _
+      (λ d. refl) refl (laid _ _ _ (box_places alike), tt))
 
-  pub the_codes_placed : Recodes R S h → Recodes (row.the_row R) (row.the_row S) ((the_former this).map R.Denot S.Denot h)
+  pub the_codes_placed : Recodes R S h → Recodes (row.the_row R) (row.the_row S)
+      ((the_former this).map R.Denot S.Denot h)
   the_codes_placed recodes held = recodes held

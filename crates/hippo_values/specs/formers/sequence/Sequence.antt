@@ -31,18 +31,27 @@ the_empty = []
 abbrev pub the_items : (X : Type 0) → List X → List X
 the_items X members = members
 
-pub the_items_listed : (X : Type 0) (members : List X) → listed _ (children (the_former this) X members) ≡ the_items X members
+pub the_items_listed : (X : Type 0) (members : List X)
+    → listed _ (children (the_former this) X members) ≡ the_items X members
 the_items_listed X members = list-listed X members
 
 abbrev in_fields : Former {0}
-in_fields = via (vec.the_former this Global) Inside (λ X fields. fields.members) (λ X held. record { members = held }) (λ X fields. refl) (λ X held. refl)
+in_fields =
+    via (vec.the_former this Global) Inside (λ X fields. fields.members)
+    (λ X held. record { members = held }) (λ X fields. refl) (λ X held. refl)
 
 module _ (R S : RattleType) (h : R.Denot → S.Denot) where
-  pub the_places : Alike R S h → Alike (row.the_row R) (row.the_row S) ((the_former this).map R.Denot S.Denot h)
-  the_places alike = view_places in_fields (list this) view (λ X Y k u. refl) (λ X u. refl) R.Denot S.Denot h (row.the_row R).coded (row.the_row S).coded
-      (invariant R.Denot) (invariant S.Denot) (λ u p q. refl) (λ u p q. refl) (λ u e. tt) (λ u e. tt)
+  pub the_places : Alike R S h → Alike (row.the_row R) (row.the_row S)
+      ((the_former this).map R.Denot S.Denot h)
+  the_places alike = view_places in_fields (list this) view (λ X Y k u. refl)
+      (λ X u. refl) R.Denot S.Denot h (row.the_row R).coded (row.the_row S).coded
+      (invariant R.Denot) (invariant S.Denot) (λ u p q. refl) (λ u p q. refl) (λ u e. tt)
+      (λ u e. tt)
       (over (inside.the_row R)) (over (inside.the_row S))
-      (struct_places (inside.the_type R) (inside.the_type S) (vec.mapped h, tt) _ (λ d. refl) refl (laid _ _ _ (vec.the_places global.the_row ghosts R S h alike), tt))
+      (struct_places (inside.the_type R) (inside.the_type S) (vec.mapped h, tt) _
+      (λ d. refl) refl (laid _ _ _ (vec.the_places global.the_row ghosts R S h alike), tt))
 
-  pub the_codes_placed : Recodes R S h → Recodes (row.the_row R) (row.the_row S) ((the_former this).map R.Denot S.Denot h)
-  the_codes_placed recodes members = sym (code_map R.coded.code S.coded.code h (λ x. sym (recodes x)) members)
+  pub the_codes_placed : Recodes R S h → Recodes (row.the_row R) (row.the_row S)
+      ((the_former this).map R.Denot S.Denot h)
+  the_codes_placed recodes members = sym
+      (code_map R.coded.code S.coded.code h (λ x. sym (recodes x)) members)

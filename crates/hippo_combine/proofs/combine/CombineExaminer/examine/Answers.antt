@@ -2,7 +2,7 @@
 use Rattle.std.proofs.Common.{rules, List, refl, sym, subst}
 use Rattle.hippo_intervals.specs.Living.{HeldLives}
 use Rattle.hippo_combine.specs.Bringing.{Brings}
-use Rattle.hippo_combine.specs.Held.{AreUpTo}
+use Rattle.hippo_combine.specs.Held.{AreHeldUpTo}
 use Rattle.hippo_combine.specs.declared.combine.Combine.{Combine}
 use Rattle.hippo_combine.proofs.ExaminingLemmas.{up_to_number, examines_nothing, examines_fault, examines_shared}
 use Rattle.hippo_combine.proofs.combine.CombineExaminer.examine.Goals as goal
@@ -14,7 +14,7 @@ returns-in_default g c =
 
 pub bring_both-requires-clause-up_to : goal.bring_both-requires-clause-up_to
 bring_both-requires-clause-up_to g c =
-    subst (λ (held : List HeldLives). AreUpTo c.in-Some.number held) (sym c.order_for.ensures)
+    subst (λ (held : List HeldLives). AreHeldUpTo c.in-Some.number held) (sym c.order_for.ensures)
     (up_to_number c.args.self.now c.args.entry.now.seq c.in-Some.number c.requires.sound c.requires.order c.in-Some.ensures.0)
 
 pub returns-in_err-bring_both : goal.returns-in_err-bring_both

@@ -1,16 +1,16 @@
 -- The different rows of a front come first.
 use Rattle.std.proofs.Common.{◌≡◌, length, ap, arith, ◌++◌}
 use Rattle.std.proofs.lemmas.List.{length-append}
-use Rattle.hippo_model.specs.Forms.{different}
-use Rattle.hippo_distinct.proofs.DifferentLemmas.{different-append}
+use Rattle.hippo_model.specs.Forms.{different_rows}
+use Rattle.hippo_distinct.proofs.DifferentLemmas.{different_rows-append}
 use Rattle.hippo_distinct.proofs.deduplication.DifferentGatherer.finish.Goals as goal
 
 pub returns : goal.returns
 returns c found held = record {
   rows_are = held.rows;
   not_fewer = λ later.
-      let whole = different-append later found in
-      let same : length c.args.rows.rows ≡ length (different found) = ap length held.rows in
-      let more : length (different (found ++ later)) ≡ length (different found ++ whole.0) = ap length whole.1 in
-      omega (arith, same, more, length-append (different found) whole.0);
+      let whole = different_rows-append later found in
+      let same : length c.args.rows.rows ≡ length (different_rows found) = ap length held.rows in
+      let more : length (different_rows (found ++ later)) ≡ length (different_rows found ++ whole.0) = ap length whole.1 in
+      omega (arith, same, more, length-append (different_rows found) whole.0);
 }

@@ -4,7 +4,7 @@ use Rattle.hippo_world.specs.declared.sessions.Session.{Session}
 use Rattle.hippo_world.specs.Holding.{world_of}
 use Rattle.hippo_world.specs.Worlds.{session_at}
 use Rattle.hippo_judging.specs.declared.asking.Asking.{Asking}
-use Rattle.hippo_judging.specs.Asking.{entry_of}
+use Rattle.hippo_judging.specs.Asking.{question_entry}
 use Rattle.hippo_judging.specs.Findings.{question_by}
 use Rattle.hippo_replay.specs.Standing.{MayFollow}
 use Rattle.hippo_engine.proofs.CarryingLemmas.{IsBacked-of}
@@ -18,7 +18,7 @@ keep_and_answer-kept-requires-clause-backed g c =
 pub keep_and_answer-kept-requires-clause-follows : goal.keep_and_answer-kept-requires-clause-follows
 keep_and_answer-kept-requires-clause-follows g c =
     let asks = c.requires.needs.1 in
-    subst (λ (asker : Session). MayFollow c.args.self.now.state (entry_of c.args.self.now.state c.args.self.now.world.clock (question_by asker c.args.question)))
+    subst (λ (asker : Session). MayFollow c.args.self.now.state (question_entry c.args.self.now.state c.args.self.now.world.clock (question_by asker c.args.question)))
     (sym (asker_same (session_at (world_of c.args.self.now.world) c.args.question.session) c.in-Some.asker.now asks.asker c.in-Some.ensures asks.there)) asks.follows
 
 pub unreachable-requires : goal.unreachable-requires

@@ -4,14 +4,14 @@ use Rattle.std.specs.Prelude.{Option}
 use Rattle.hippo_values.specs.Limits.{line_limit}
 use Rattle.hippo_io.specs.Lines.{feeds}
 use Rattle.hippo_io.specs.Position.{Position}
-use Rattle.hippo_io.specs.HandingOut.{consumed}
+use Rattle.hippo_io.specs.HandingOut.{bytes_handed_out}
 use Rattle.hippo_io.specs.Moves.{IsGoing, KeepsHandedOut}
 use Rattle.hippo_io.proofs.lines.LineReader.find_line.Given as goal
 
 pub record IsSearching (before reader : Position) (left_before left : Option (List ℕ)) (faults_before faults_now searched : ℕ) : Type 0 where
   pub going : IsGoing reader
   pub kept : KeepsHandedOut before reader left_before left
-  pub same : consumed reader ≡ consumed before
+  pub same : bytes_handed_out reader ≡ bytes_handed_out before
   pub within : searched ≤ length reader.waiting
   pub clear : feeds (take searched reader.waiting) ≡ 0
   pub faults : faults_now ≡ faults_before

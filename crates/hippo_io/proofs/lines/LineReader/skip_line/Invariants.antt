@@ -3,7 +3,7 @@ use Rattle.std.proofs.Common.{◌≡◌, ℕ, ◌-◌, ◌<◌, List}
 use Rattle.std.specs.Prelude.{Option}
 use Rattle.hippo_io.specs.Lines.{LineText, feeds}
 use Rattle.hippo_io.specs.Position.{Position}
-use Rattle.hippo_io.specs.HandingOut.{input_limit, consumed, HasHandedOut}
+use Rattle.hippo_io.specs.HandingOut.{input_limit, bytes_handed_out, HasHandedOut}
 use Rattle.hippo_io.specs.Moves.{IsGoing}
 use Rattle.hippo_io.proofs.HandedLemmas.{IsSkipping}
 use Rattle.hippo_io.proofs.lines.LineReader.skip_line.Given as goal
@@ -12,7 +12,7 @@ pub record IsInside (before reader : Position) (left_before left : Option (List 
   pub going : IsGoing reader
   pub clear : feeds reader.waiting ≡ 0
   pub skipping : (input : List ℕ) (handed : List LineText) → HasHandedOut input handed before left_before → IsSkipping input handed reader left
-  pub later : consumed before < reader.taken
+  pub later : bytes_handed_out before < reader.taken
   pub faults : faults_now ≡ faults_before
 
 abbrev pub invariant-loop-self : goal.invariant-loop-self

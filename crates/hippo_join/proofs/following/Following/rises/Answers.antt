@@ -2,11 +2,11 @@
 use Rattle.std.proofs.Common.{◌-◌, subst, sym}
 use Rattle.std.specs.List.Sorted.{IsStrictlyIncreasing}
 use Rattle.hippo_join.specs.declared.following.Following.{Following}
-use Rattle.hippo_join.specs.Walking.{followed}
+use Rattle.hippo_join.specs.Walking.{following_places}
 use Rattle.hippo_join.proofs.VisitingLemmas.{rises-range}
 use Rattle.hippo_join.proofs.following.Following.rises.Goals as goal
 
 pub returns-in-Sought : goal.returns-in-Sought
 returns-in-Sought c asked =
     let span = c.in-Sought.field-0 in
-    subst (λ (f : Following). IsStrictlyIncreasing (followed f)) (sym c.in-Sought.is) (rises-range span.start (span.end - span.start))
+    subst (λ (f : Following). IsStrictlyIncreasing (following_places f)) (sym c.in-Sought.is) (rises-range span.start (span.end - span.start))

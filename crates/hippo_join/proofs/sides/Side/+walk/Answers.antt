@@ -5,8 +5,8 @@ use Rattle.std.proofs.lemmas.Bool.{false≢true}
 use Rattle.std.proofs.lemmas.List.{set-set}
 use Rattle.hippo_model.specs.Terms.{Combination, Place}
 use Rattle.hippo_join.specs.Visiting.{Completes}
-use Rattle.hippo_join.specs.Walking.{followed, IsWalkable}
-use Rattle.hippo_join.proofs.FindingLemmas.{all-first, walk-again, walk-closed, walk-first, walk-chosen, open-within, still-open, within-set}
+use Rattle.hippo_join.specs.Walking.{following_places, IsWalkable}
+use Rattle.hippo_join.proofs.FindingLemmas.{all-first, walk-again, walk-closed, walk-first, walk-chosen_rows, open-within, still-open, within-set}
 use Rattle.hippo_join.proofs.SlotLemmas.{rows-before}
 use Rattle.hippo_join.proofs.VisitingLemmas.{Tried, is-next, visited-none, visited-more, visited-all, visited-enough}
 use Rattle.hippo_join.proofs.sides.Side.+walk.Goals as goal
@@ -53,13 +53,13 @@ walk_each-loop-index-init g t c = record {
   same = still-open c.args.slots.now c.args.stage.now.table c.requires.still;
   rows = c.requires.rows;
   so_far = λ front before kept.
-      visited-none (g.V.PlaceVisitor.Keeps c.args.visitor.now c.args.self.now.sets.now front) c.args.in_order (Tried (g.C.ChoiceView.choices c.args.self.now.choices.now) c.args.self.now.query.now c.args.self.now.sets.now c.args.slots.now c.args.stage.now.table (followed c.args.following.now) 0) before c.args.state.now
+      visited-none (g.V.PlaceVisitor.Keeps c.args.visitor.now c.args.self.now.sets.now front) c.args.in_order (Tried (g.C.ChoiceView.choices c.args.self.now.choices.now) c.args.self.now.query.now c.args.self.now.sets.now c.args.slots.now c.args.stage.now.table (following_places c.args.following.now) 0) before c.args.state.now
       (λ places tried. absurd (omega (arith, tried.lower))) kept;
 }
 
 pub walk_each-loop-index-preserved : goal.walk_each-loop-index-preserved
 walk_each-loop-index-preserved g t c =
-    let some = followed c.args.following.now in
+    let some = following_places c.args.following.now in
     record {
       same = ap (λ (slots : List (Option Place)). slice_set slots c.args.stage.now.table None) c.in_ok-onward.ensures.slots ∙ set-set c.loop-index.slots c.args.stage.now.table (Some c.place-place.result) None ∙ c.loop-index.invariant.same;
       rows = c.in_ok-onward.ensures.rows;
@@ -77,7 +77,7 @@ walk_each-returns-in-Enough-clause-slots g t c =
 
 pub walk_each-returns-in-Enough-clause-kept : goal.walk_each-returns-in-Enough-clause-kept
 walk_each-returns-in-Enough-clause-kept g t c front before kept =
-    let some = followed c.args.following.now in
+    let some = following_places c.args.following.now in
     let so_far = c.loop-index.invariant.so_far front before kept in
     visited-enough (g.V.PlaceVisitor.Keeps c.args.visitor.now c.args.self.now.sets.now front) c.args.in_order (g.C.ChoiceView.choices c.args.self.now.choices.now) c.args.self.now.query.now c.args.self.now.sets.now c.args.slots.now c.args.stage.now.table some
     (is-next (g.C.ChoiceView.choices c.args.self.now.choices.now) c.args.self.now.query.now c.args.self.now.sets.now c.args.in_order (c.args.stage.now ∷ c.args.rest.now) c.args.stage.now c.args.rest.now c.args.slots.now some c.requires.walk refl c.requires.still c.requires.reaches c.requires.order)
@@ -86,7 +86,7 @@ walk_each-returns-in-Enough-clause-kept g t c front before kept =
 
 pub walk_each-returns-clause-kept : goal.walk_each-returns-clause-kept
 walk_each-returns-clause-kept g t c front before kept =
-    let some = followed c.args.following.now in
+    let some = following_places c.args.following.now in
     visited-all (g.V.PlaceVisitor.Keeps c.args.visitor.now c.args.self.now.sets.now front) c.args.in_order (g.C.ChoiceView.choices c.args.self.now.choices.now) c.args.self.now.query.now c.args.self.now.sets.now c.args.slots.now c.args.stage.now.table some
     (is-next (g.C.ChoiceView.choices c.args.self.now.choices.now) c.args.self.now.query.now c.args.self.now.sets.now c.args.in_order (c.args.stage.now ∷ c.args.rest.now) c.args.stage.now c.args.rest.now c.args.slots.now some c.requires.walk refl c.requires.still c.requires.reaches c.requires.order)
     c.loop-index.index before c.loop-index.state (c.loop-index.invariant.so_far front before kept) (omega (arith, c.loop-index-test.false, c.len-index-end.ensures))
@@ -102,4 +102,4 @@ walk_with-renew-requires g t c =
 
 pub walk_with-walk_behind-requires : goal.walk_with-walk_behind-requires
 walk_with-walk_behind-requires g t c κs within =
-    (omega arith, (within.0, (within.1.0, (within.1.1, (walk-chosen (g.C.ChoiceView.choices c.args.self.now.choices.now) c.args.self.now.query.now c.args.self.now.sets.now c.args.in_order c.args.stage.now c.args.rest.now c.args.slots.now c.args.place c.requires.walk c.requires.table, c.in_ok-renew.ensures)))))
+    (omega arith, (within.0, (within.1.0, (within.1.1, (walk-chosen_rows (g.C.ChoiceView.choices c.args.self.now.choices.now) c.args.self.now.query.now c.args.self.now.sets.now c.args.in_order c.args.stage.now c.args.rest.now c.args.slots.now c.args.place c.requires.walk c.requires.table, c.in_ok-renew.ensures)))))

@@ -5,7 +5,7 @@ use Rattle.hippo_model.specs.Terms.{Combination, Place}
 use Rattle.hippo_eval.specs.declared.walks.Onward.TheVariants.{More}
 use Rattle.hippo_join.specs.Places.{rows_at}
 use Rattle.hippo_join.specs.Visiting.{Visited}
-use Rattle.hippo_join.specs.Walking.{followed}
+use Rattle.hippo_join.specs.Walking.{following_places}
 use Rattle.hippo_join.proofs.VisitingLemmas.{Tried}
 use Rattle.hippo_join.proofs.sides.Side.+walk.Given as goal
 
@@ -26,5 +26,5 @@ invariant-walk_each-loop-index g l = record {
   same : slice_set l.slots l.stage.table None ≡ l.initial.slots;
   rows : l.rows ≡ rows_at l.self.sets.now l.slots;
   so_far : (front : List Combination) (before : List (List Place)) → g.V.PlaceVisitor.Keeps l.visitor l.self.sets.now front before l.initial.state
-      → Visited (Tried (g.C.ChoiceView.choices l.self.choices.now) l.self.query.now l.self.sets.now l.initial.slots l.stage.table (followed l.following) l.index) l.in_order (g.V.PlaceVisitor.Keeps l.visitor l.self.sets.now front) More before l.state;
+      → Visited (Tried (g.C.ChoiceView.choices l.self.choices.now) l.self.query.now l.self.sets.now l.initial.slots l.stage.table (following_places l.following) l.index) l.in_order (g.V.PlaceVisitor.Keeps l.visitor l.self.sets.now front) More before l.state;
 }

@@ -3,7 +3,7 @@ use Rattle.std.proofs.Common.{◌∷◌, [], subst}
 use Rattle.std.proofs.lemmas.Option.{IfSome_then}
 use Rattle.hippo_values.specs.declared.truths.CompareOp.{CompareOp}
 use Rattle.hippo_model.specs.declared.query.CondOf.TheVariants.{Compare}
-use Rattle.hippo_join.specs.Places.{chosen}
+use Rattle.hippo_join.specs.Places.{chosen_rows}
 use Rattle.hippo_join.specs.Ranges.{bounding, IsBoundedBy}
 use Rattle.hippo_join.proofs.RangeLemmas.{all-turned}
 use Rattle.hippo_join.proofs.sides.Side.bound_by_compare.Goals as goal
@@ -16,4 +16,4 @@ returns-in-None g c =
     let right = c.args.right.now in
     IfSome_then c.bound_beside-in-None.result c.bound_beside-in-None.ensures (λ bound bounded.
     let turned = subst (λ (op : CompareOp). IsBoundedBy choices sets c.args.slots.now (Compare op right left ∷ []) c.args.column (bounding c.args.above bound.strict) bound.value.now) c.flipped.ensures bounded in
-    λ places fits all. turned places fits (all-turned choices (chosen sets places) c.args.op left right all))
+    λ places fits all. turned places fits (all-turned choices (chosen_rows sets places) c.args.op left right all))

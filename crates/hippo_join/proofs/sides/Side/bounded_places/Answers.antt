@@ -4,7 +4,7 @@ use Rattle.std.specs.Option.{IfSome}
 use Rattle.std.specs.List.{Contains}
 use Rattle.std.proofs.lemmas.Option.{IfSome_then}
 use Rattle.hippo_model.specs.Terms.{Place}
-use Rattle.hippo_join.specs.Lookups.{value_at}
+use Rattle.hippo_join.specs.Lookups.{value_at_place}
 use Rattle.hippo_join.specs.Ranges.{KeepsBound}
 use Rattle.hippo_join.specs.Stages.{ReachesFrom}
 use Rattle.hippo_join.proofs.ReachLemmas.{ok-then}
@@ -18,6 +18,6 @@ returns g c =
     let sets = c.args.self.now.sets.now in
     let set = c.get.result.now in
     let column = c.args.column in
-    ok-then (λ found. IfSome found (λ places. (place : Place) → place < length set.rows → KeepsBound false (Some c.in-Some.low) (value_at set column place) → KeepsBound true c.told_end-high.result (value_at set column place) → Contains places.items place))
+    ok-then (λ found. IfSome found (λ places. (place : Place) → place < length set.rows → KeepsBound false (Some c.in-Some.low) (value_at_place set column place) → KeepsBound true c.told_end-high.result (value_at_place set column place) → Contains places.items place))
     (λ found. IfSome found (λ places. ReachesFrom choices query sets c.args.slots.now c.args.table places.items)) c.places_within.result c.places_within.ensures.all
     (λ found has. IfSome_then found has (λ places. found-bounded choices query sets c.args.slots.now c.args.table column set places.items c.get.ensures c.in-Some.low c.told_end-high.result c.in-Some.ensures c.told_end-high.ensures))

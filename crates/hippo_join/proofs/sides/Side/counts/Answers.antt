@@ -1,6 +1,6 @@
 -- The rows are those at the places.
 use Rattle.std.proofs.Common.{◌&&◌, sym, ap, ◌∙◌}
-use Rattle.hippo_join.specs.Places.{rows_at, chosen, stays}
+use Rattle.hippo_join.specs.Places.{rows_at, chosen_rows, stays}
 use Rattle.hippo_join.proofs.FindingLemmas.{counts-is}
 use Rattle.hippo_join.proofs.sides.Side.counts.Goals as goal
 
@@ -11,4 +11,4 @@ returns-then-in_range g c places whole =
 
 pub returns-else-in_range : goal.returns-else-in_range
 returns-else-in_range g c places whole =
-    c.if-in_range.false ∙ sym (ap (λ b. b && stays (g.C.ChoiceView.choices c.args.self.now.choices.now) c.args.self.now.query.now (chosen c.args.self.now.sets.now places)) (sym (c.in_range.ensures places whole) ∙ c.if-in_range.false))
+    c.if-in_range.false ∙ sym (ap (λ b. b && stays (g.C.ChoiceView.choices c.args.self.now.choices.now) c.args.self.now.query.now (chosen_rows c.args.self.now.sets.now places)) (sym (c.in_range.ensures places whole) ∙ c.if-in_range.false))

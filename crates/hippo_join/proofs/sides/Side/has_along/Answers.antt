@@ -3,7 +3,7 @@ use Rattle.std.proofs.Common.{◌≡◌, Bool, false, List, [], refl}
 use Rattle.std.specs.List.{list_any}
 use Rattle.hippo_model.specs.Terms.{Place}
 use Rattle.hippo_join.specs.Existence.{are_shown}
-use Rattle.hippo_join.specs.Places.{chosen}
+use Rattle.hippo_join.specs.Places.{chosen_rows}
 use Rattle.hippo_join.proofs.ExistenceLemmas.{one-found}
 use Rattle.hippo_join.proofs.VisitingLemmas.{kept-whole}
 use Rattle.hippo_join.proofs.sides.Side.has_along.Goals as goal
@@ -14,4 +14,4 @@ returns-clause-one g c =
     let sets = c.args.self.now.sets.now in
     let visited = c.in_ok-_onward.ensures.kept [] [] refl in
     one-found choices c.args.self.now.query.now c.args.seen.now sets c.args.slots.now false visited.all c.walk.new.state visited.are
-    (kept-whole (λ (some : List (List Place)) (found : Bool). found ≡ list_any (λ places. are_shown choices c.args.seen.now (chosen sets places)) some) false c.in_ok-_onward._onward [] visited.all c.walk.new.state visited.kept)
+    (kept-whole (λ (some : List (List Place)) (found : Bool). found ≡ list_any (λ places. are_shown choices c.args.seen.now (chosen_rows sets places)) some) false c.in_ok-_onward._onward [] visited.all c.walk.new.state visited.kept)

@@ -8,7 +8,7 @@ use Rattle.hippo_model.specs.declared.query.Expr.{Expr}
 use Rattle.hippo_model.specs.declared.query.Expr.TheVariants.{Literal}
 use Rattle.hippo_model.specs.Terms.{Place}
 use Rattle.hippo_join.specs.Lists.{IsListedBy}
-use Rattle.hippo_join.specs.Lookups.{value_at}
+use Rattle.hippo_join.specs.Lookups.{value_at_place}
 use Rattle.hippo_join.specs.Stages.{ReachesFrom}
 use Rattle.hippo_join.proofs.ReachLemmas.{ok-then}
 use Rattle.hippo_join.proofs.SeekingLemmas.{found-listed}
@@ -23,6 +23,6 @@ returns g c =
     let column = c.args.column in
     let list = c.in-Some.list.now in
     let listed = subst (λ (parts : List (CondOf Expr)). IsListedBy parts (record { table = c.args.table; column = column }) list) c.outer_parts.ensures c.in-Some.ensures in
-    ok-then (λ found. IfSome found (λ places. (place : Place) → place < length set.rows → Contains list (Literal (value_at set column place)) → Contains places.items place))
+    ok-then (λ found. IfSome found (λ places. (place : Place) → place < length set.rows → Contains list (Literal (value_at_place set column place)) → Contains places.items place))
     (λ found. IfSome found (λ places. ReachesFrom choices query sets c.args.slots.now c.args.table places.items)) c.places_listed.result c.places_listed.ensures
     (λ found has. IfSome_then found has (λ places. found-listed choices query sets c.args.slots.now c.args.table column set places.items c.get.ensures list listed))

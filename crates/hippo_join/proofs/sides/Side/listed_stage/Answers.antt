@@ -2,7 +2,7 @@
 use Rattle.std.proofs.Common.{◌≡◌, Some, map, sym, ap, subst, ◌∙◌}
 use Rattle.std.proofs.lemmas.List.Sorted.{Contains-permutation}
 use Rattle.hippo_model.specs.RowSets.{KeyedRows}
-use Rattle.hippo_join.specs.Lookups.{value_at, IsIndex}
+use Rattle.hippo_join.specs.Lookups.{value_at_place, IsIndex}
 use Rattle.hippo_join.proofs.ReachLemmas.{tie-counts}
 use Rattle.hippo_join.proofs.sides.Side.listed_stage.Goals as goal
 
@@ -17,5 +17,5 @@ returns-clause-stage g c =
     record {
       reaches = λ places counts place at. Contains-permutation c.in_ok-places.places.items c.sorted_by_column-places.result.items place c.sorted_by_column-places.ensures.permutation (c.in_ok-places.ensures places counts place at);
       tied = tie-counts choices query sets c.args.table c.in-Some.tie c.outer_parts.result.now c.outer_parts.ensures c.in-Some.ensures;
-      ordered = λ set at. subst (λ (s : KeyedRows). IsIndex s c.in-Some.tie.column c.in_ok-values.values.items c.sorted_by_column-places.result.items) (some_is (sym c.get-set.ensures ∙ at)) (record { are = c.in_ok-values.ensures ∙ ap (map (value_at c.get-set.result.now c.in-Some.tie.column)) c.deref.ensures.value; rise = c.sorted_by_column-places.ensures.order });
+      ordered = λ set at. subst (λ (s : KeyedRows). IsIndex s c.in-Some.tie.column c.in_ok-values.values.items c.sorted_by_column-places.result.items) (some_is (sym c.get-set.ensures ∙ at)) (record { are = c.in_ok-values.ensures ∙ ap (map (value_at_place c.get-set.result.now c.in-Some.tie.column)) c.deref.ensures.value; rise = c.sorted_by_column-places.ensures.order });
     }

@@ -4,7 +4,7 @@ use Rattle.std.proofs.lemmas.List.{set-set}
 use Rattle.hippo_model.specs.Terms.{Place}
 use Rattle.std.specs.Prelude.{Option}
 use Rattle.hippo_join.specs.Places.{Fits, stands}
-use Rattle.hippo_join.specs.Walking.{followed}
+use Rattle.hippo_join.specs.Walking.{following_places}
 use Rattle.hippo_join.proofs.PruneLemmas.{long-enough}
 use Rattle.hippo_join.proofs.ReachLemmas.{fits-alone, tested-more, all-tested, length-unchosen}
 use Rattle.hippo_join.proofs.sides.Side.tested_places.Goals as goal
@@ -22,7 +22,7 @@ loop-index-preserved g c = record {
   fit = λ places long place at. rw (set-set c.loop-index.slots.items c.args.table (Some c.place-place.result) (Some place)) (c.loop-index.invariant.fit places long place at);
   so_far =
       tested-more (λ places. stands (g.C.ChoiceView.choices c.args.self.now.choices.now) c.args.self.now.query.now c.args.self.now.sets.now places ≡ true) c.args.table
-      c.deref.result.now c.in_ok-may_count.may_count c.loop-index.places.items c.push_if.new.places.items (followed c.args.candidates.now) c.place-place.result c.loop-index.index c.place-place.ensures c.in_ok-push_if.ensures
+      c.deref.result.now c.in_ok-may_count.may_count c.loop-index.places.items c.push_if.new.places.items (following_places c.args.candidates.now) c.place-place.result c.loop-index.index c.place-place.ensures c.in_ok-push_if.ensures
       (λ places counts at. subst (λ (slots : List (Option Place)). Fits slots places) (sym c.deref.ensures.value) (c.loop-index.invariant.fit places (long-enough (g.C.ChoiceView.choices c.args.self.now.choices.now) c.args.self.now.query.now c.args.self.now.sets.now places counts) c.place-place.result at))
       c.in_ok-may_count.ensures c.loop-index.invariant.so_far;
 }
@@ -30,4 +30,4 @@ loop-index-preserved g c = record {
 pub returns : goal.returns
 returns g c =
     all-tested (λ places. stands (g.C.ChoiceView.choices c.args.self.now.choices.now) c.args.self.now.query.now c.args.self.now.sets.now places ≡ true) c.args.table
-    (followed c.args.candidates.now) c.loop-index.places.items c.loop-index.index (omega (arith, c.loop-index-test.false, c.len-index-end.ensures)) c.requires.candidates c.loop-index.invariant.so_far
+    (following_places c.args.candidates.now) c.loop-index.places.items c.loop-index.index (omega (arith, c.loop-index-test.false, c.len-index-end.ensures)) c.requires.candidates c.loop-index.invariant.so_far

@@ -6,7 +6,7 @@ use Rattle.hippo_model.specs.Terms.{Combination, Place}
 use Rattle.hippo_eval.specs.declared.walks.Onward.TheVariants.{More}
 use Rattle.hippo_eval.specs.Walks.{rows_of}
 use Rattle.hippo_model.specs.Answers.{product}
-use Rattle.hippo_join.specs.Places.{chosen, stands}
+use Rattle.hippo_join.specs.Places.{chosen_rows, stands}
 use Rattle.hippo_join.specs.Visiting.{counting, Visited}
 use Rattle.hippo_join.proofs.FoundLemmas.{rows-in-order}
 use Rattle.hippo_join.proofs.ReachLemmas.{ok-then}
@@ -26,7 +26,7 @@ pub returns : goal.returns
 returns g c before kept =
     let keeps = g.V.Visitor.Keeps c.args.visitor.now in
     let sets = c.args.self.now.sets.now in
-    let held : List Combination → List (List Place) → _ = λ front visited. keeps (front ++ map (chosen sets) visited) in
+    let held : List Combination → List (List Place) → _ = λ front visited. keeps (front ++ map (chosen_rows sets) visited) in
     ok-then (λ _. Visited (λ places. stands (g.C.ChoiceView.choices c.args.self.now.choices.now) c.args.self.now.query.now sets places ≡ true) true (held before) More [] c.walk_all.new.state)
     (λ _. keeps (before ++ counting (g.C.ChoiceView.choices c.args.self.now.choices.now) c.args.self.now.query.now (product (rows_of sets))) c.walk_all.new.state) c.walk_all.result
     (c.walk_all.ensures before [] (subst (λ (some : List Combination). keeps some c.args.state.now) (sym (append-nil before)) kept))

@@ -1,9 +1,9 @@
 -- What the query did changes nothing that is told, and its entries are those of the history.
 use Rattle.std.proofs.Common.{◌∙◌, sym, ap, subst₂, arith}
 use Rattle.hippo_keeper.specs.Selecting.{handed_over}
-use Rattle.hippo_sqlite.specs.Contents.{LooksAt, contents}
+use Rattle.hippo_sqlite.specs.Contents.{LooksAtStore, connection_contents}
 use Rattle.hippo_sqlite.specs.Links.{linked_contents}
-use Rattle.hippo_sqlite.specs.Queries.{text_of, params_of, test_of}
+use Rattle.hippo_sqlite.specs.Queries.{read_sql, params_of, test_of}
 use Rattle.hippo_sqlite.proofs.ContentsLemmas.{look_linked, look_away, told_history, ok_weaker}
 use Rattle.hippo_sqlite.proofs.OrderLemmas.{none_handed}
 use Rattle.hippo_sqlite.proofs.ReadLemmas.{question_plain}
@@ -27,8 +27,8 @@ returns-clause-looks g c =
     let new = c.note.new.self in
     let question = c.args.question.now in
     let done = look_linked g.S.Store g.met.S.Store.settled g.met.S.Store.stays g.met.S.Store.survives old.connection c.find-answer.new.connection old.opened.value old.told.value new.told.value c.requires.rests
-    (text_of question) (params_of question c.args.after c.args.max) c.find-answer.result (question_plain question) c.find-answer.ensures.survives c.find-answer.ensures.looked c.note.ensures.told in
-    subst₂ (λ now opened. LooksAt c.find-answer.result (linked_contents g.S.Store old) (contents g.S.Store now new.told.value opened.value))
+    (read_sql question) (params_of question c.args.after c.args.max) c.find-answer.result (question_plain question) c.find-answer.ensures.survives c.find-answer.ensures.looked c.note.ensures.told in
+    subst₂ (λ now opened. LooksAtStore c.find-answer.result (linked_contents g.S.Store old) (connection_contents g.S.Store now new.told.value opened.value))
     (sym c.note.ensures.connection) (sym c.note.ensures.opened) done
 
 pub returns-clause-told : goal.returns-clause-told
@@ -37,8 +37,8 @@ returns-clause-told g c =
     let new = c.note.new.self in
     let question = c.args.question.now in
     let done = look_linked g.S.Store g.met.S.Store.settled g.met.S.Store.stays g.met.S.Store.survives old.connection c.find-answer.new.connection old.opened.value old.told.value new.told.value c.requires.rests
-    (text_of question) (params_of question c.args.after c.args.max) c.find-answer.result (question_plain question) c.find-answer.ensures.survives c.find-answer.ensures.looked c.note.ensures.told in
+    (read_sql question) (params_of question c.args.after c.args.max) c.find-answer.result (question_plain question) c.find-answer.ensures.survives c.find-answer.ensures.looked c.note.ensures.told in
     ok_weaker c.find-answer.result _ _ (λ list told tells.
-    let still = subst₂ (λ now opened. (contents g.S.Store now new.told.value opened.value).tells) c.note.ensures.connection c.note.ensures.opened tells in
+    let still = subst₂ (λ now opened. (connection_contents g.S.Store now new.told.value opened.value).tells) c.note.ensures.connection c.note.ensures.opened tells in
     let h = told_history g.S.Store g.met.S.Store.settled g.met.S.Store.stays g.met.S.Store.survives old.connection old.connection old.opened.value old.told.value old.told.value c.requires.rests (done.on.told still) in
     told still.0 h.0.rows h.0.schema h.0.are h.0.order ∙ ap (handed_over (test_of question) c.args.after c.args.max) (sym h.1)) c.find-answer.ensures.told

@@ -5,7 +5,7 @@ use Rattle.hippo_model.specs.declared.born_row.BornRow.{BornRow}
 use Rattle.hippo_model.specs.Terms.{Key}
 use Rattle.hippo_model.specs.Rows.{key_of}
 use Rattle.hippo_model.specs.RowSets.{KeyedRows, with_row, without_row, find_row}
-use Rattle.hippo_tables.specs.KeptTables.{KeptTable, place_in}
+use Rattle.hippo_tables.specs.KeptTables.{KeptTable, place_of_key}
 use Rattle.hippo_tables.proofs.KeptLemmas.{place_within, rows_longer, rows_back}
 use Rattle.hippo_tables.proofs.table.Table.insert.Goals as goal
 
@@ -14,7 +14,7 @@ insert-requires-2 c =
     let table : KeptTable = record { schema = c.self.inside.schema; rows = c.self.inside.rows; numbers = c.self.inside.numbers } in
     let kept : BornRow = record { row = c.args.row; born = c.args.born } in
     let parts = rw c.in-Some.is at c.in_ok-found.ensures.ok in
-    let place : place_in (key_of table.rows.key c.args.row) (with_row kept table.rows) ≡ c.in-Some.place = ap (λ found. unwrap_or found 0) (ap (λ (set : KeyedRows). find_row table.rows.key (key_of table.rows.key c.args.row) set.rows) (sym parts.1) ∙ parts.2) in
+    let place : place_of_key (key_of table.rows.key c.args.row) (with_row kept table.rows) ≡ c.in-Some.place = ap (λ found. unwrap_or found 0) (ap (λ (set : KeyedRows). find_row table.rows.key (key_of table.rows.key c.args.row) set.rows) (sym parts.1) ∙ parts.2) in
     omega (arith, place, place_within table kept parts.0 c.self.invariant)
 
 pub invariant_of-self-in-Err : goal.invariant_of-self-in-Err
@@ -41,5 +41,5 @@ invariant_of-self-in_default-insert c =
     let table : KeptTable = record { schema = c.self.inside.schema; rows = c.self.inside.rows; numbers = c.self.inside.numbers } in
     let kept : BornRow = record { row = c.args.row; born = c.args.born } in
     let parts = rw c.in-Some.is at c.in_ok-found.ensures.ok in
-    let place : place_in (key_of table.rows.key c.args.row) (with_row kept table.rows) ≡ c.in-Some.place = ap (λ found. unwrap_or found 0) (ap (λ (set : KeyedRows). find_row table.rows.key (key_of table.rows.key c.args.row) set.rows) (sym parts.1) ∙ parts.2) in
+    let place : place_of_key (key_of table.rows.key c.args.row) (with_row kept table.rows) ≡ c.in-Some.place = ap (λ found. unwrap_or found 0) (ap (λ (set : KeyedRows). find_row table.rows.key (key_of table.rows.key c.args.row) set.rows) (sym parts.1) ∙ parts.2) in
     omega (arith, ap length c.in_default-insert.ensures.ok, length-insert table.numbers c.in-Some.place c.args.number (omega (arith, place, place_within table kept parts.0 c.self.invariant)), ap (λ (set : KeyedRows). length set.rows) parts.1, rows_longer table kept parts.0, c.self.invariant)
