@@ -3,8 +3,7 @@ use Rattle.std.proofs.Common.{◌≡◌, ℕ, List, [], ◌∷◌, true, false, 
 use Rattle.hippo_io.specs.Lines.{text_line, too_long_line, not_utf8_line}
 use Rattle.hippo_lines.specs.Forms.{logs_out, fetches, says_nothing, makes_request, makes_statement}
 use Rattle.hippo_report.specs.declared.refusal.Refusal.TheVariants.{BadLine, LineTooLong, BadSyntax, BadMoment, Unsupported, Memory}
-use Rattle.hippo_report.specs.declared.speaker.Speaker.TheVariants.{Nobody}
-use Rattle.hippo_report.specs.Speakers.{speaker_at}
+use Rattle.hippo_report.specs.declared.speaker.Speaker.TheVariants.{Nobody, Session}
 use Rattle.hippo_lexer.specs.declared.kinds.Token.{Token}
 use Rattle.hippo_lexer.specs.declared.kinds.TokenKind.TheVariants as kinds
 use Rattle.hippo_lexer.specs.declared.faults.SyntaxFault.TheVariants as syntax
@@ -25,11 +24,11 @@ silence_commands_nothing = refl
 no_moment_is_nobodys : clock_command None ≡ wrong Nobody BadMoment
 no_moment_is_nobodys = refl
 
-fetches_in_a_session : command_by (Some (makes_request 1 (fetches 2 10))) ≡ make_request 1 (fetches 2 10)
+fetches_in_a_session : command_by (Some (makes_request 1 (fetches 2 10))) ≡ make_request (Session 1) (fetches 2 10)
 fetches_in_a_session = refl
 
 -- a statement's refusal is its session's
-refused_in_a_session : (text : List ℕ) → state_command 3 text (Err BadSyntax) ≡ wrong (speaker_at 3) BadSyntax
+refused_in_a_session : (text : List ℕ) → state_command (Session 3) text (Err BadSyntax) ≡ wrong (Session 3) BadSyntax
 refused_in_a_session text = refl
 
 -- the word that is refused is told in upper case
@@ -39,8 +38,8 @@ words_in_upper_case :
 words_in_upper_case = refl
 
 -- a line that ends something takes no memory, one that is refused in a session may
-logout_takes_none : takes_memory (make_request 7 logs_out) ≡ false
+logout_takes_none : takes_memory (make_request (Session 7) logs_out) ≡ false
 logout_takes_none = refl
 
-refusals_may_take_some : takes_memory (wrong (speaker_at 3) BadSyntax) ≡ true
+refusals_may_take_some : takes_memory (wrong (Session 3) BadSyntax) ≡ true
 refusals_may_take_some = refl

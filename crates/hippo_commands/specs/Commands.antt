@@ -31,10 +31,10 @@ pub data Command : Type 0 where
   -- whatever the history, a line that speaks for somebody or nobody is refused
   wrong : Speaker → Refusal → Command
   set_clock : Moment → Command
-  -- in a session or at the console: the request of a short word
-  make_request : ℕ → Request → Command
+  -- of who speaks: the request of a short word
+  make_request : Speaker → Request → Command
   -- a statement, and the text in which it stands
-  make_statement : ℕ → Stmt → Txt → Command
+  make_statement : Speaker → Stmt → Txt → Command
 
 -- why a text has no tokens
 abbrev pub lexing_refusal : LexFault → Refusal
@@ -71,9 +71,9 @@ statement_among (Err fault) = Err (lexing_refusal fault)
 abbrev pub statement_in : Txt → Result Stmt Refusal
 statement_in text = statement_among (outcome_of text)
 
-abbrev pub state_command : ℕ → Txt → Result Stmt Refusal → Command
-state_command session text (Ok stmt) = make_statement session stmt text
-state_command session text (Err refusal) = wrong (speaker_at session) refusal
+abbrev pub state_command : Speaker → Txt → Result Stmt Refusal → Command
+state_command who text (Ok stmt) = make_statement who stmt text
+state_command who text (Err refusal) = wrong who refusal
 
 abbrev pub clock_command : Option Moment → Command
 clock_command (Some moment) = set_clock moment
@@ -84,8 +84,9 @@ abbrev pub command_by : Option Form → Command
 command_by None = wrong Nobody BadLine
 command_by (Some says_nothing) = nothing
 command_by (Some (sets_clock moment)) = clock_command (moment_in moment)
-command_by (Some (makes_request session request)) = make_request session request
-command_by (Some (makes_statement session text)) = state_command session text (statement_in text)
+command_by (Some (makes_request session request)) = make_request (speaker_at session) request
+command_by (Some (makes_statement session text)) =
+    state_command (speaker_at session) text (statement_in text)
 
 -- what a line commands
 abbrev pub command_of : LineText → Command
@@ -103,8 +104,8 @@ abbrev pub who_commands : Command → Speaker
 who_commands nothing = Nobody
 who_commands (wrong who refusal) = who
 who_commands (set_clock moment) = Nobody
-who_commands (make_request session request) = speaker_at session
-who_commands (make_statement session stmt text) = speaker_at session
+who_commands (make_request who request) = who
+who_commands (make_statement who stmt text) = who
 
 -- a request takes no memory where it ends something
 abbrev pub request_takes_memory : Request → Bool
@@ -119,14 +120,14 @@ abbrev pub takes_memory : Command → Bool
 takes_memory nothing = false
 takes_memory (wrong who refusal) = is_somebody who
 takes_memory (set_clock moment) = false
-takes_memory (make_request session request) = request_takes_memory request
-takes_memory (make_statement session stmt text) = true
+takes_memory (make_request who request) = request_takes_memory request
+takes_memory (make_statement who stmt text) = true
 
 -- reading takes memory for statements alone: such a line is a statement, or a refusal of a
 -- session's line
 abbrev pub may_want : Command → Bool
 may_want (wrong who refusal) = is_somebody who
-may_want (make_statement session stmt text) = true
+may_want (make_statement who stmt text) = true
 may_want command = false
 
 -- an outcome, or want of memory

@@ -8,5 +8,5 @@ abbrev pub command : Command → commands.Command
 command Nothing = commands.nothing
 command (Wrong who refusal) = commands.wrong who refusal
 command (SetClock moment) = commands.set_clock moment
-command (Request session asked) = commands.make_request session (request asked)
-command (Statement session statement text) = commands.make_statement session statement text.now
+command (Request who asked) = commands.make_request who (request asked)
+command (Statement who statement text) = commands.make_statement who statement text.now

@@ -20,12 +20,12 @@ pub enum Command<'a> {
     },
     /// Carry out the request of a short word.
     Request {
-        session: u8,
+        who: Speaker,
         request: RequestForm<'a>,
     },
     /// Carry out a statement, which stands in this text.
     Statement {
-        session: u8,
+        who: Speaker,
         statement: Stmt,
         text: &'a str,
     },

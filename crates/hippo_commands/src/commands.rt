@@ -2,6 +2,7 @@
 ghost use Rattle.std.specs.Prelude.{◌≡◌};
 ghost use Rattle.hippo_io.specs.LineTexts.{line_text};
 ghost use Rattle.hippo_lines.specs.Forms.{line_form};
+ghost use Rattle.hippo_report.specs.Speakers.{speaker_at};
 ghost use Rattle.hippo_commands.specs.Moments.{moment_in};
 ghost use Rattle.hippo_commands.specs.Commands.{clock_command, state_command, statement_in, command_by, input_command, IsCommand};
 ghost use Rattle.hippo_commands.specs.Lent.{command};
@@ -34,18 +35,17 @@ fn clock_command(text: &str) -> Command<'_>
 
 #[tactic(auto, using(hippo_report::proofs::SpeakerLemmas::somebody_at))]
 fn state_command<'a>(alloc: Global, session: u8, text: &'a str) -> Command<'a>
-    ensures { IsCommand (state_command session text.now (statement_in text.now)) (command result) }
+    ensures { IsCommand (state_command (speaker_at session) text.now (statement_in text.now))
+        (command result) }
 {
+    let who = Speaker::at(session);
     match statement_in(alloc, text) {
         Ok(statement) => Command::Statement {
-            session,
+            who,
             statement,
             text,
         },
-        Err(refusal) => Command::Wrong {
-            who: Speaker::at(session),
-            refusal,
-        },
+        Err(refusal) => Command::Wrong { who, refusal },
     }
 }
 
@@ -59,7 +59,10 @@ fn text_command<'a>(alloc: Global, text: &'a str) -> Command<'a>
         },
         Some(LineForm::Silent) => Command::Nothing,
         Some(LineForm::At { moment }) => clock_command(moment),
-        Some(LineForm::Short { session, request }) => Command::Request { session, request },
+        Some(LineForm::Short { session, request }) => Command::Request {
+            who: Speaker::at(session),
+            request,
+        },
         Some(LineForm::Statement { session, text }) => state_command(alloc, session, text),
     }
 }

@@ -153,7 +153,7 @@ IsSaid format found reply = (reply ≡ told_flags format found) ⊎ (reply ≡ r
 -- DURING at the console
 module _ (text : Txt) (written : RawAudit) (audit : Audit) (old new : Engine) (before after : KeeperState) (steps steps' : ℕ) where
   abbrev audits : Command
-  audits = make_statement 0 (stmt.Audit written) text
+  audits = make_statement Console (stmt.Audit written) text
 
   pub Carries-audit_effect : (result : Result (Unit {0}) EngineFault) → AtWork old before → IsJudged audits old.state old.world (Ok (deeds.audit audit))
       → ((history : History) → StandsFor old.state history → IsAuditOf history audit)

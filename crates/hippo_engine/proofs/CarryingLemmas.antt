@@ -1,5 +1,5 @@
 -- From what single calls do to what carrying out a command does.
-use Rattle.std.proofs.Common.{◌≡◌, ◌∙◌, ℕ, zero, suc, refl, sym, ap, subst, inl, inr, List, [], ◌∷◌, ◌++◌, map, Option, Some, None, Result, Ok, Err, true, append-nil}
+use Rattle.std.proofs.Common.{◌≡◌, ◌∙◌, ℕ, refl, sym, ap, subst, inl, inr, List, [], ◌∷◌, ◌++◌, map, Option, Some, None, Result, Ok, Err, true, codes, arith, append-nil}
 use Rattle.std.specs.Prelude.{int_le}
 use Rattle.std.proofs.lemmas.Bool.{false≢true}
 use Rattle.std.proofs.lemmas.List.{map-append}
@@ -28,6 +28,7 @@ use Rattle.hippo_engine.specs.declared.engine.Engine.{Engine}
 use Rattle.hippo_engine.specs.declared.faults.EngineFault.{EngineFault}
 use Rattle.hippo_engine.specs.declared.faults.EngineFault.TheVariants.{Keeper, Write, Damaged}
 use Rattle.hippo_engine.specs.Effects.{Effect, only_reply, IsEffect}
+use Rattle.hippo_judging.proofs.LengthLemmas.{plain_fits}
 use Rattle.hippo_judging.specs.Findings.{IsOfLine, may_do_nothing}
 use Rattle.hippo_engine.specs.Ledgers.{Tallies, none_taken, at_once, job_begun, job_stepped, job_dropped}
 use Rattle.hippo_engine.specs.Carrying.{Holds, AtWork, IsBacked, is_carried, shown_effect, IsQuiet, AddsNothing, BreaksOff, Carries}
@@ -202,8 +203,9 @@ wanting (wrong Console refusal) wants = (refl, tt)
 wanting (wrong (Session number) refusal) wants = (refl, tt)
 wanting (commands.set_clock moment) wants = absurd (false≢true wants)
 wanting (make_request session request) wants = absurd (false≢true wants)
-wanting (make_statement zero statement text) wants = (refl, tt)
-wanting (make_statement (suc session) statement text) wants = (refl, tt)
+wanting (make_statement Nobody statement text) wants = (refl, plain_fits Nobody (codes "90 Memory") tt (omega arith))
+wanting (make_statement Console statement text) wants = (refl, tt)
+wanting (make_statement (Session number) statement text) wants = (refl, tt)
 
 -- what is carried out for the command that was found
 pub Carries-found : {A : Type 0} (command found : Command) (result : Result A EngineFault) (old new : Engine) (before after : KeeperState) (steps steps' : ℕ)

@@ -8,7 +8,6 @@ use Rattle.hippo_model.specs.Terms.{History}
 use Rattle.hippo_audit_job.specs.Jobs.{OpenAudit}
 use Rattle.hippo_report.specs.declared.speaker.Speaker.{Speaker}
 use Rattle.hippo_report.specs.declared.speaker.Speaker.TheVariants.{Nobody}
-use Rattle.hippo_report.specs.Speakers.{speaker_at}
 use Rattle.hippo_report.specs.declared.refusal.Refusal.TheVariants.{NoJob, MomentBack, Memory}
 use Rattle.hippo_report.specs.Refusals.{refusal_line}
 use Rattle.hippo_world.specs.Worlds.{World, at_number}
@@ -59,8 +58,8 @@ set_forward history world last moment false is timely = later last world.clock m
 by_rules : (history : History) (world : World) (command : Command) (last : Moment) → int_le last world.clock ≡ true
     → int_le last (effect_of history world command).world.clock ≡ true
 by_rules history world (commands.set_clock moment) last timely = set_forward history world last moment (int_lt moment world.clock) refl timely
-by_rules history world (make_request session (steps number count)) last timely =
-    ap (λ (moment : Moment). int_le last moment) (stepped_clock history world (speaker_at session) number count (by_console session) (at_number world.jobs number)) ∙ timely
+by_rules history world (make_request who (steps number count)) last timely =
+    ap (λ (moment : Moment). int_le last moment) (stepped_clock history world who number count (by_console who) (at_number world.jobs number)) ∙ timely
 by_rules history world command last timely =
     ap (λ (moment : Moment). int_le last moment) (carried_clock history world (who_commands command) (judged history world command) (plain history world command refl)) ∙ timely
 

@@ -15,8 +15,7 @@ use Rattle.hippo_model.specs.declared.statement.RawSelect.{RawSelect}
 use Rattle.hippo_model.specs.declared.statement.Stmt.{Stmt}
 use Rattle.hippo_model.specs.declared.statement.Stmt.TheVariants.{CreateTable, CreatePurpose, CreateRecipient, Authorize, Allow, Insert, Select}
 use Rattle.hippo_model.specs.Terms.{History}
-use Rattle.hippo_report.specs.declared.speaker.Speaker.TheVariants.{Console}
-use Rattle.hippo_report.specs.Speakers.{speaker_at}
+use Rattle.hippo_report.specs.declared.speaker.Speaker.TheVariants.{Console, Session}
 use Rattle.hippo_report.specs.declared.format.Format.TheVariants as formats
 use Rattle.hippo_model.specs.declared.audit.Pair.{Pair}
 use Rattle.hippo_model.specs.declared.entry.Act.{Act}
@@ -65,14 +64,14 @@ abbrev pub text : Txt → Cell
 text bytes = Shown (Text bytes)
 
 abbrev pub no : Refusal → Txt
-no refusal = refusal_line (speaker_at 1) refusal
+no refusal = refusal_line (Session 1) refusal
 
 abbrev pub console_no : Refusal → Txt
 console_no refusal = refusal_line Console refusal
 
 -- a statement of the console, and one of a session with its whole text
 abbrev pub console : Stmt → Command
-console statement = make_statement 0 statement []
+console statement = make_statement Console statement []
 
 abbrev column : Name → ColumnKind → Column
 column name kind = record { name = name; kind = kind; not_null = false }
@@ -103,7 +102,7 @@ abbrev pub allow : List Name → Stmt
 allow columns = Allow treatment nurse patient columns None None
 
 abbrev pub ann_logs_in : Command
-ann_logs_in = make_request 1 (logs_in (codes "ann") treatment nurse)
+ann_logs_in = make_request (Session 1) (logs_in (codes "ann") treatment nurse)
 
 -- a nurse may see the number and the name of two patients
 abbrev pub morning : List Command
@@ -164,7 +163,7 @@ left (command ∷ commands) history world = left_by history (left commands) (eff
 
 -- a question of session 1; its text is not looked at here
 abbrev pub question : RawSelect → Command
-question selected = make_statement 1 (Select selected 0 6) (codes "SELECT")
+question selected = make_statement (Session 1) (Select selected 0 6) (codes "SELECT")
 
 -- SELECT names FROM patient
 abbrev pub all_rows : List Name → RawSelect

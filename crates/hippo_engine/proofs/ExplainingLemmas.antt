@@ -124,7 +124,7 @@ ended_same (Err (Some (Read Memory))) = refl
 
 module _ (history : History) (world : World) (text : Txt) (number : ℤ) where
   abbrev command : Command
-  command = make_statement 0 (stmt.Explain number) text
+  command = make_statement Console (stmt.Explain number) text
 
   abbrev by_found : Option Entry → Checked Deed
   by_found found = ok_or found (refusals.NoSuchQuery number) >>= λ entry. Ok (deeds.explain entry)
@@ -199,13 +199,12 @@ abbrev IsSaid : ℤ → Explanation → Txt → Type 0
 IsSaid number found reply = (reply ≡ explained_line number found) ⊎ (reply ≡ refusal_line Console refusals.Memory)
 
 -- EXPLAIN at the console
-pub Carries-explain_effect : (text : Txt) (number : ℤ) (session : ℕ) (result : Result (Unit {0}) EngineFault) (old new : Engine) (before after : KeeperState) (steps steps' : ℕ) → session ≡ 0 → AtWork old before
+pub Carries-explain_effect : (text : Txt) (number : ℤ) (result : Result (Unit {0}) EngineFault) (old new : Engine) (before after : KeeperState) (steps steps' : ℕ) → AtWork old before
     → new.state ≡ old.state → new.world ≡ old.world → TellsCells number old.state result new.reply before after steps steps'
-    → Carries (make_statement session (stmt.Explain number) text) result old new before after steps steps'
-Carries-explain_effect text number session result old new before after steps steps' console at_work same_state same_world tells =
-    subst (λ (s : ℕ). Carries (make_statement s (stmt.Explain number) text) result old new before after steps steps') (sym console)
-    (subst (λ (r : Result (Unit {0}) EngineFault). Carries (make_statement 0 (stmt.Explain number) text) r old new before after steps steps') (sym tells.ended_so)
-    (Carries-looked (make_statement 0 (stmt.Explain number) text) (explaining_end tells.found) old new before after steps steps' refl at_work same_state (ap (λ (held : HeldWorld). held.clock) same_world)
+    → Carries (make_statement Console (stmt.Explain number) text) result old new before after steps steps'
+Carries-explain_effect text number result old new before after steps steps' at_work same_state same_world tells =
+    subst (λ (r : Result (Unit {0}) EngineFault). Carries (make_statement Console (stmt.Explain number) text) r old new before after steps steps') (sym tells.ended_so)
+    (Carries-looked (make_statement Console (stmt.Explain number) text) (explaining_end tells.found) old new before after steps steps' refl at_work same_state (ap (λ (held : HeldWorld). held.clock) same_world)
     (IsAfterCall-as true false (explaining.explanation_as_call tells.found) (line_as_call (explaining_end tells.found)) before after (ended_same tells.found) tells.explains.call)
     tells.explains.stays
     (λ told history holds.
@@ -213,7 +212,7 @@ Carries-explain_effect text number session result old new before after steps ste
     let done = tells.explains.told told history holds.forms holds.stands in
     record {
       effect = λ fine.
-          subst (λ (w : World). IsEffect history world (make_statement 0 (stmt.Explain number) text) (only_reply w new.reply)) (ap world_of (sym same_world))
+          subst (λ (w : World). IsEffect history world (make_statement Console (stmt.Explain number) text) (only_reply w new.reply)) (ap world_of (sym same_world))
           (either history world done.found fine (carried_said tells.found (IsSaid number tells.found new.reply) fine (subst (λ (r : Result (Unit {0}) EngineFault). OnOk r (IsSaid number tells.found new.reply)) tells.ended_so tells.said)));
       jobs = subst (JobsFit history) (sym same_world) holds.jobs;
       watches = subst (WatchesFit history) (sym same_world) holds.watches;
@@ -221,21 +220,21 @@ Carries-explain_effect text number session result old new before after steps ste
       refused = λ refusal is others. absurd (only_missing history world text number refusal is others);
       adds = adds_none history world text number;
       undamaged = λ other e. undamaged history world text number tells.found other done.found e;
-    })))
+    }))
   where
     either : (history : History) (world : World) → IsFound history number tells.found → is_carried (explaining_end tells.found) ≡ true
         → (new.reply ≡ explained_line number tells.found) ⊎ (new.reply ≡ refusal_line Console refusals.Memory)
-        → IsEffect history world (make_statement 0 (stmt.Explain number) text) (only_reply world new.reply)
+        → IsEffect history world (make_statement Console (stmt.Explain number) text) (only_reply world new.reply)
     either history world is fine (inl said) = effect_found history world text number tells.found new.reply is fine said
     either history world is fine (inr said) =
-        subst (λ (r : Txt). IsEffect history world (make_statement 0 (stmt.Explain number) text) (only_reply world r)) (sym said) (said_so history world text number new.reply)
+        subst (λ (r : Txt). IsEffect history world (make_statement Console (stmt.Explain number) text) (only_reply world r)) (sym said) (said_so history world text number new.reply)
 
 -- it was looked up, and told of
 pub Carries-told : (asked : Command) (number : ℤ) (entry : Entry) (result : Result (Unit {0}) EngineFault) (old new : Engine) (before between after : KeeperState) (start steps steps' : ℕ) → AtWork old before
     → LooksUpFor asked number (Ok (Some entry)) old.state before between start steps → Explained entry result old new between after steps steps' → Carries asked result old new before after start steps'
 Carries-told asked number entry result old new before between after start steps steps' at_work looks told =
     subst (λ (c : Command). Carries c result old new before after start steps') (sym looks.is)
-    (Carries-explain_effect looks.text number 0 result old new before after start steps' refl at_work told.state told.world (record {
+    (Carries-explain_effect looks.text number result old new before after start steps' at_work told.state told.world (record {
       found = told_of told.tells.found;
       explains = question_explains number old.state before between start steps entry told.tells.found after steps' looks.looks told.tells.denies;
       ended_so = told.tells.ended_so;
@@ -248,7 +247,7 @@ pub Carries-unasked : (asked : Command) (number : ℤ) (old new : Engine) (befor
     → (new.reply ≡ refusal_line Console (refusals.NoSuchQuery number)) ⊎ (new.reply ≡ refusal_line Console refusals.Memory) → Carries {A = Unit {0}} asked (Ok tt) old new before after steps steps'
 Carries-unasked asked number old new before after steps steps' at_work looks same_state same_world said =
     subst (λ (c : Command). Carries {A = Unit {0}} c (Ok tt) old new before after steps steps') (sym looks.is)
-    (Carries-explain_effect looks.text number 0 (Ok tt) old new before after steps steps' refl at_work same_state same_world
+    (Carries-explain_effect looks.text number (Ok tt) old new before after steps steps' at_work same_state same_world
     (record { found = Err None; explains = none_explains number old.state before after steps steps' looks.looks; ended_so = refl; said = said }))
 
 -- it was not read
@@ -257,7 +256,7 @@ pub Carries-unread : (asked : Command) (number : ℤ) (fault : ReadFault) (resul
     → result ≡ explaining_end (Err (Some (Read fault))) → OnOk result (new.reply ≡ refusal_line Console refusals.Memory) → Carries asked result old new before after steps steps'
 Carries-unread asked number fault result old new before after steps steps' at_work looks same_state same_world ends said =
     subst (λ (c : Command). Carries c result old new before after steps steps') (sym looks.is)
-    (Carries-explain_effect looks.text number 0 result old new before after steps steps' refl at_work same_state same_world
+    (Carries-explain_effect looks.text number result old new before after steps steps' at_work same_state same_world
     (record { found = Err (Some (Read fault)); explains = unread_explains number old.state before after steps steps' fault looks.looks; ended_so = ends; said = on_ok result said }))
   where
     on_ok : (r : Result (Unit {0}) EngineFault) → OnOk r (new.reply ≡ refusal_line Console refusals.Memory) → OnOk r ((new.reply ≡ explained_line number (Err (Some (Read fault)))) ⊎ (new.reply ≡ refusal_line Console refusals.Memory))

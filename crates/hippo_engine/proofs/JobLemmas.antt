@@ -99,7 +99,7 @@ module _ (command : Command) (number : ℕ) (audit : Audit) (old new : Engine) (
 -- ---- a job is dropped
 module _ (number : ℕ) (old new : Engine) where
   abbrev drops : Command
-  drops = make_request 0 (requests.drops number)
+  drops = make_request Console (requests.drops number)
 
   judged_dropped : (history : History) (found : Option HeldJob) → at_number old.world.jobs number ≡ found
       → judged history (world_of old.world) drops ≡ (ok_or (option_map open_audit found) (refusals.NoJob number) >>= λ job. Ok (deeds.drop_job number))
@@ -170,7 +170,7 @@ pub record StepsHeld (number count : ℕ) (past : Past) (looked : Result (Unit {
 module _ (number count : ℕ) (past : Past) (looked : Result (Unit {0}) ReadFault) (old new : Engine) (before after : KeeperState) (steps steps' : ℕ)
     (held : StepsHeld number count past looked old new before after steps steps') where
   abbrev steps_it : Command
-  steps_it = make_request 0 (requests.steps number count)
+  steps_it = make_request Console (requests.steps number count)
 
   abbrev world : World
   world = world_of old.world

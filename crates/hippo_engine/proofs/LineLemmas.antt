@@ -26,8 +26,8 @@ of_somebody zero refusal = tt
 of_somebody (suc number) refusal = tt
 
 module _ (line : Txt) (utf8 : IsUtf8 line) where
-  statement : (session : ℕ) (text : Txt) (found : Result Stmt Refusal) → command_of (text_line line) ≡ state_command session text found → IsOfLine (state_command session text found)
-  statement session text (Ok made) is = (line, commands_are_written line session made text utf8 is)
+  statement : (session : ℕ) (text : Txt) (found : Result Stmt Refusal) → command_of (text_line line) ≡ state_command (speaker_at session) text found → IsOfLine (state_command (speaker_at session) text found)
+  statement session text (Ok made) is = (line, commands_are_written line (speaker_at session) made text utf8 is)
   statement session text (Err refusal) is = of_somebody session refusal
 
   by_form : (form : Option Form) → command_of (text_line line) ≡ command_by form → IsOfLine (command_by form)

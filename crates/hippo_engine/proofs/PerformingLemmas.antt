@@ -8,7 +8,6 @@ use Rattle.hippo_keeper.proofs.CallLemmas.{IsReady-after}
 use Rattle.hippo_backlog.specs.Calls as reads
 use Rattle.hippo_backlog.specs.declared.faults.ReadFault.{ReadFault}
 use Rattle.hippo_report.specs.declared.speaker.Speaker.{Speaker}
-use Rattle.hippo_report.specs.Speakers.{speaker_at}
 use Rattle.hippo_report.specs.declared.refusal.Refusal.TheVariants.{Memory}
 use Rattle.hippo_report.specs.Refusals.{refusal_line}
 use Rattle.hippo_world.specs.declared.worlds.World.{World as HeldWorld}
@@ -40,16 +39,16 @@ quiet_done command deed old new does same audits shows = record {
 }
 
 -- or memory was short for it, and that is said
-pub quiet_short : (command : Command) (session : ℕ) (old new : Engine) → who_commands command ≡ speaker_at session → may_do_nothing command ≡ true → new.state ≡ old.state → new.world ≡ old.world
-    → new.reply ≡ refusal_line (speaker_at session) Memory → IsQuiet command old new
-quiet_short command session old new who takes same world_is said = record {
+pub quiet_short : (command : Command) (who : Speaker) (old new : Engine) → who_commands command ≡ who → may_do_nothing command ≡ true → new.state ≡ old.state → new.world ≡ old.world
+    → new.reply ≡ refusal_line who Memory → IsQuiet command old new
+quiet_short command who old new of_who takes same world_is said = record {
   same = same;
   effect = λ history stands. subst (λ (effect : Effect). IsEffect history (world_of old.world) command effect) shown_is (short history (world_of old.world) command takes);
   audits = record { jobs = ap (λ (held : HeldWorld). held.jobs) world_is; watches = ap (λ (held : HeldWorld). held.watches) world_is };
 }
   where
     line_is : refusal_line (who_commands command) Memory ≡ new.reply
-    line_is = ap (λ (one : Speaker). refusal_line one Memory) who ∙ sym said
+    line_is = ap (λ (one : Speaker). refusal_line one Memory) of_who ∙ sym said
 
     shown_is : only_reply (world_of old.world) (refusal_line (who_commands command) Memory) ≡ shown_effect new
     shown_is = λ i. only_reply (world_of (sym world_is i)) (line_is i)

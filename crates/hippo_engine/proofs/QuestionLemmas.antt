@@ -6,7 +6,7 @@ use Rattle.hippo_values.specs.Texts.{Txt}
 use Rattle.hippo_model.specs.declared.entry.Entry.{Entry}
 use Rattle.hippo_model.specs.Terms.{History, ShownRow}
 use Rattle.hippo_report.specs.declared.speaker.Speaker.{Speaker}
-use Rattle.hippo_report.specs.Speakers.{speaker_at}
+use Rattle.hippo_report.specs.declared.speaker.Speaker.TheVariants as speaker
 use Rattle.hippo_report.specs.declared.refusal.Refusal.TheVariants.{Memory}
 use Rattle.hippo_report.specs.Refusals.{refusal_line}
 use Rattle.hippo_keeper.specs.declared.faults.KeeperFault.{KeeperFault}
@@ -195,7 +195,7 @@ pub judged_by : (command : Command) (engine : Engine) (question : AskedQuestion)
 judged_by command engine question delivery one other same does =
     subst (λ (asker : Session). IsJudged command engine.state engine.world (Ok (deed_for asker (question_by asker question) delivery))) (sym same) does
 
-module _ (session : ℕ) (asks_it : Command) (asked_for : Asking) (who : who_commands asks_it ≡ speaker_at session) (takes : may_do_nothing asks_it ≡ true) (old new : Engine) (before after : KeeperState) (steps : ℕ) (sound : IsSound old.state) (timely : IsTimely old.state old.world.clock) (same_audits : KeepsAudits old.world new.world) where
+module _ (session : ℕ) (asks_it : Command) (asked_for : Asking) (who : who_commands asks_it ≡ speaker.Session session) (takes : may_do_nothing asks_it ≡ true) (old new : Engine) (before after : KeeperState) (steps : ℕ) (sound : IsSound old.state) (timely : IsTimely old.state old.world.clock) (same_audits : KeepsAudits old.world new.world) where
   -- a question that is not refused
   abbrev question : Question
   question = question_of session asked_for
@@ -212,7 +212,7 @@ module _ (session : ℕ) (asks_it : Command) (asked_for : Asking) (who : who_com
   is_question delivered.Records = record { effect = λ history. refl; short = λ history reply result answer. answer }
   is_question (delivered.Cursor cursor) = record { effect = λ history. refl; short = λ history reply result answer. answer }
 
-  said_to : refusal_line (speaker_at session) Memory ≡ refusal_line (who_commands asks_it) Memory
+  said_to : refusal_line (speaker.Session session) Memory ≡ refusal_line (who_commands asks_it) Memory
   said_to = ap (λ (one : Speaker). refusal_line one Memory) (sym who)
 
   says : session_at (world_of old.world) session ≡ Some asked_for.asker.now → (rows : List ShownRow) (alarms : Result Txt NoMemory) (more : Txt) → IfOk alarms (λ said. said ≡ more)

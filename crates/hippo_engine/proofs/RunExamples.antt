@@ -16,8 +16,7 @@ use Rattle.hippo_judging.specs.Judging.{judged}
 use Rattle.hippo_engine.specs.Effects.{question_effect}
 use Rattle.hippo_values.specs.Texts.{Txt}
 use Rattle.std.specs.List.{flat_map}
-use Rattle.hippo_report.specs.declared.speaker.Speaker.TheVariants.{Nobody}
-use Rattle.hippo_report.specs.Speakers.{speaker_at}
+use Rattle.hippo_report.specs.declared.speaker.Speaker.TheVariants.{Nobody, Console, Session}
 use Rattle.hippo_report.specs.declared.format.Format.TheVariants as formats
 use Rattle.hippo_report.specs.declared.refusal.Refusal.TheVariants.{NoSession, SessionOpen, NotAuthorized, ConsoleOnly, SessionsOnly, Meaningless, KeyThere, KeyMissing, NoCursor, HistoryFull, MomentBack, BadRecord, BadField, NoJob, NoWatch}
 use Rattle.hippo_report.specs.Cells.{answer_line}
@@ -30,7 +29,7 @@ use Rattle.hippo_commands.specs.Commands.{set_clock, make_request, make_statemen
 use Rattle.hippo_engine.proofs.ExampleLines.{run, left, morning, clinic, entry, world_within, nurses_pair, reply_in, reply_after, world_left, console, patient, treatment, nurse, question, all_rows, asked_for, rows_after, ok, rows, text, no, console_no}
 
 a_clinic_is_set_up :
-    run morning ≡ done_line Nobody ∷ ok 1 ∷ ok 2 ∷ ok 3 ∷ ok 4 ∷ ok 5 ∷ ok 6 ∷ ok 7 ∷ done_line (speaker_at 1) ∷ []
+    run morning ≡ done_line Nobody ∷ ok 1 ∷ ok 2 ∷ ok 3 ∷ ok 4 ∷ ok 5 ∷ ok 6 ∷ ok 7 ∷ done_line (Session 1) ∷ []
 a_clinic_is_set_up = refl
 
 a_morning_leaves_entries_and_a_session :
@@ -81,17 +80,17 @@ abbrev handed : List ShownRow → Txt
 handed answer = flat_map (answer_line 1) answer
 
 cursors_hand_out_a_part :
-    reply_in with_two_rows clinic (make_request 1 (fetches 1 1))
+    reply_in with_two_rows clinic (make_request (Session 1) (fetches 1 1))
     ≡ handed ((Shown (Int (pos 1)) ∷ text (codes "Ada") ∷ []) ∷ []) ++ number_line 1 (codes "part") 1
 cursors_hand_out_a_part = refl
 
 cursors_hand_out_the_rest :
-    reply_in (world_left with_two_rows clinic (make_request 1 (fetches 1 1))) clinic (make_request 1 (fetches 1 10))
+    reply_in (world_left with_two_rows clinic (make_request (Session 1) (fetches 1 1))) clinic (make_request (Session 1) (fetches 1 10))
     ≡ handed ((Shown (Int (pos 2)) ∷ text (codes "Bob") ∷ []) ∷ []) ++ number_line 1 (codes "end") 2
 cursors_hand_out_the_rest = refl
 
 closed_cursors_hand_out_nothing :
-    reply_in (world_left with_two_rows clinic (make_request 1 (closes 1))) clinic (make_request 1 (fetches 1 1)) ≡ no (NoCursor 1)
+    reply_in (world_left with_two_rows clinic (make_request (Session 1) (closes 1))) clinic (make_request (Session 1) (fetches 1 1)) ≡ no (NoCursor 1)
 closed_cursors_hand_out_nothing = refl
 
 -- a user who is no longer authorized is refused, and the entry that says so is named
@@ -119,17 +118,17 @@ names_that_are_there_are_refused :
 names_that_are_there_are_refused = refl
 
 -- who may do what
-sessions_change_nothing : reply_after [] (make_statement 1 (CreatePurpose (codes "x")) []) ≡ no ConsoleOnly
+sessions_change_nothing : reply_after [] (make_statement (Session 1) (CreatePurpose (codes "x")) []) ≡ no ConsoleOnly
 sessions_change_nothing = refl
 
-the_console_asks_nothing : reply_after [] (make_statement 0 (Select (all_rows (codes "name" ∷ [])) 0 6) (codes "SELECT")) ≡ console_no SessionsOnly
+the_console_asks_nothing : reply_after [] (make_statement Console (Select (all_rows (codes "name" ∷ [])) 0 6) (codes "SELECT")) ≡ console_no SessionsOnly
 the_console_asks_nothing = refl
 
-open_sessions_are_not_opened : reply_after [] (make_request 1 (logs_in (codes "ann") treatment nurse)) ≡ no SessionOpen
+open_sessions_are_not_opened : reply_after [] (make_request (Session 1) (logs_in (codes "ann") treatment nurse)) ≡ no SessionOpen
 open_sessions_are_not_opened = refl
 
 closed_sessions_ask_nothing :
-    reply_in (world_left (world_within 4000000) clinic (make_request 1 logs_out)) clinic (question (all_rows (codes "name" ∷ []))) ≡ no NoSession
+    reply_in (world_left (world_within 4000000) clinic (make_request (Session 1) logs_out)) clinic (question (all_rows (codes "name" ∷ []))) ≡ no NoSession
 closed_sessions_ask_nothing = refl
 
 the_clock_does_not_go_back :
@@ -138,46 +137,46 @@ the_clock_does_not_go_back = refl
 
 -- EXTRACT SELECT name FROM patient asks the same question, for records
 names_are_to_be_extracted :
-    judged clinic (world_within 4000000) (make_statement 1 (Extract (all_rows (codes "name" ∷ [])) 0 6) (codes "SELECT"))
+    judged clinic (world_within 4000000) (make_statement (Session 1) (Extract (all_rows (codes "name" ∷ [])) 0 6) (codes "SELECT"))
     ≡ Ok (deeds.extract (asked_for (1 ∷ [])))
 names_are_to_be_extracted = simp (changes_of_operands, comparisons_of)
 
 -- a record is loaded as a row; else its number of fields comes first, then their forms, and then what its INSERT is refused for
-records_are_inserted : reply_after [] (make_request 0 (loads patient (codes "3,\"O'Hara, Pat\",,7"))) ≡ ok 8
+records_are_inserted : reply_after [] (make_request Console (loads patient (codes "3,\"O'Hara, Pat\",,7"))) ≡ ok 8
 unfolding csv_on_literals
 records_are_inserted = refl
 
-few_fields_are_counted_first : reply_after [] (make_request 0 (loads patient (codes "x"))) ≡ console_no (Meaningless (faults.WrongCount 4))
+few_fields_are_counted_first : reply_after [] (make_request Console (loads patient (codes "x"))) ≡ console_no (Meaningless (faults.WrongCount 4))
 unfolding csv_on_literals
 few_fields_are_counted_first = refl
 
-fields_have_their_columns_form : reply_after [] (make_request 0 (loads patient (codes "1,Di,,x"))) ≡ console_no (BadField (codes "zip"))
+fields_have_their_columns_form : reply_after [] (make_request Console (loads patient (codes "1,Di,,x"))) ≡ console_no (BadField (codes "zip"))
 unfolding csv_on_literals
 fields_have_their_columns_form = refl
 
-loaded_keys_are_not_there : reply_after [] (make_request 0 (loads patient (codes "1,Di,,"))) ≡ console_no (KeyThere 6)
+loaded_keys_are_not_there : reply_after [] (make_request Console (loads patient (codes "1,Di,,"))) ≡ console_no (KeyThere 6)
 unfolding csv_on_literals
 loaded_keys_are_not_there = refl
 
-two_records_are_no_row : reply_after [] (make_request 0 (loads patient (codes "3,a,,\r4,b,,"))) ≡ console_no BadRecord
+two_records_are_no_row : reply_after [] (make_request Console (loads patient (codes "3,a,,\r4,b,,"))) ≡ console_no BadRecord
 unfolding csv_on_literals
 two_records_are_no_row = refl
 
-sessions_load_nothing : reply_after [] (make_request 1 (loads (codes "x") [])) ≡ no ConsoleOnly
+sessions_load_nothing : reply_after [] (make_request (Session 1) (loads (codes "x") [])) ≡ no ConsoleOnly
 sessions_load_nothing = refl
 
-sessions_step_no_job : reply_after [] (make_request 1 (steps 1 1)) ≡ no ConsoleOnly
+sessions_step_no_job : reply_after [] (make_request (Session 1) (steps 1 1)) ≡ no ConsoleOnly
 sessions_step_no_job = refl
 
-jobs_that_did_not_begin_are_not_stepped : reply_after [] (make_request 0 (steps 1 1)) ≡ console_no (NoJob 1)
+jobs_that_did_not_begin_are_not_stepped : reply_after [] (make_request Console (steps 1 1)) ≡ console_no (NoJob 1)
 jobs_that_did_not_begin_are_not_stepped = refl
 
-jobs_that_did_not_begin_are_not_dropped : reply_after [] (make_request 0 (drops 8)) ≡ console_no (NoJob 8)
+jobs_that_did_not_begin_are_not_dropped : reply_after [] (make_request Console (drops 8)) ≡ console_no (NoJob 8)
 jobs_that_did_not_begin_are_not_dropped = refl
 
 -- watches are the console's
-a_session_ends_no_watch : reply_after [] (make_request 1 (unwatches 1)) ≡ no ConsoleOnly
+a_session_ends_no_watch : reply_after [] (make_request (Session 1) (unwatches 1)) ≡ no ConsoleOnly
 a_session_ends_no_watch = refl
 
-no_watch_stands_yet : reply_after [] (make_request 0 (unwatches 1)) ≡ console_no (NoWatch 1)
+no_watch_stands_yet : reply_after [] (make_request Console (unwatches 1)) ≡ console_no (NoWatch 1)
 no_watch_stands_yet = refl

@@ -183,7 +183,7 @@ sets_watch command number audit watch old new does same is counted world_is said
 pub watch_short : (command : Command) (number : ℕ) (audit : Audit) (old new : Engine) → Does command (kinds.Watch number audit) old.state old.world → new.state ≡ old.state
     → new.world ≡ old.world → new.reply ≡ refusal_line Console Memory → AddsNothing command old new
 watch_short command number audit old new ((written, text, is), means, does) same world_is said =
-    AddsNothing-quiet command old new (quiet_short command 0 old new (ap who_commands is) (ap may_do_nothing is) same world_is said)
+    AddsNothing-quiet command old new (quiet_short command Console old new (ap who_commands is) (ap may_do_nothing is) same world_is said)
 
 pub ends_watch : (command : Command) (number : ℕ) (old new : Engine) → Does command (kinds.EndWatch number) old.state old.world → new.state ≡ old.state
     → new.world ≡ record old.world { watches = with_at old.world.watches number None } → new.reply ≡ done_line Console → AddsNothing command old new

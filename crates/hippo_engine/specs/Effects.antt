@@ -14,7 +14,7 @@ use Rattle.hippo_model.specs.Denials.{Denial, denials}
 use Rattle.hippo_typing.specs.Meanings.{meaning}
 use Rattle.hippo_report.specs.declared.speaker.Speaker.{Speaker}
 use Rattle.hippo_report.specs.declared.speaker.Speaker.TheVariants.{Nobody, Console}
-use Rattle.hippo_report.specs.Speakers.{speaker_at}
+use Rattle.hippo_report.specs.declared.speaker.Speaker.TheVariants as speaker
 use Rattle.hippo_report.specs.declared.refusal.Refusal.TheVariants.{TooManyRows, Memory}
 use Rattle.hippo_csv.specs.Records.{extract_line}
 use Rattle.hippo_report.specs.Cells.{answer_line, denied_line}
@@ -65,7 +65,7 @@ question_rows history world question =
 -- a reply with the rows, unless there are too many
 abbrev pub within_limit : ℕ → List ShownRow → Txt → Txt
 within_limit number rows reply =
-    if nat_lt row_limit (length rows) then refusal_line (speaker_at number) TooManyRows else reply
+    if nat_lt row_limit (length rows) then refusal_line (speaker.Session number) TooManyRows else reply
 
 -- what a watch says of an entry, where its audit flags it
 abbrev pub alarm_line : History → Entry → ℕ → Audit → Txt
@@ -186,14 +186,14 @@ deed_effect history world (deeds.set_clock moment) =
     only_reply (record world { clock = moment }) (done_line Nobody)
 deed_effect history world (deeds.log_in number user pair) =
     only_reply (with_session world number (Some (new_session user pair)))
-    (done_line (speaker_at number))
+    (done_line (speaker.Session number))
 deed_effect history world (deeds.log_out number) =
-    only_reply (with_session world number None) (done_line (speaker_at number))
+    only_reply (with_session world number None) (done_line (speaker.Session number))
 deed_effect history world (deeds.hand_out number session at cursor count) =
     fetch_effect world number session at cursor count
 deed_effect history world (deeds.close_cursor number session at) =
     only_reply (with_session world number (Some (with_cursor session at None)))
-    (done_line (speaker_at number))
+    (done_line (speaker.Session number))
 deed_effect history world (deeds.step_job number job count) =
     job_step_effect history world number job count
 deed_effect history world (deeds.drop_job number) =

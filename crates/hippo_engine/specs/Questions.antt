@@ -4,7 +4,7 @@ use Rattle.hippo_values.specs.Texts.{Txt}
 use Rattle.hippo_model.specs.declared.entry.Entry.{Entry}
 use Rattle.hippo_model.specs.Terms.{History, ShownRow}
 use Rattle.hippo_values.specs.declared.memory.Memory.{Memory}
-use Rattle.hippo_report.specs.Speakers.{speaker_at}
+use Rattle.hippo_report.specs.declared.speaker.Speaker.TheVariants as speaker
 use Rattle.hippo_report.specs.declared.refusal.Refusal.TheVariants.{Memory as NoMemory}
 use Rattle.hippo_csv.specs.Records.{extract_line}
 use Rattle.hippo_report.specs.Cells.{answer_line}
@@ -45,7 +45,7 @@ pub record Asks (entry : Entry) (world : World) (question : Question) (result : 
 
 -- that memory was short, to a session
 abbrev pub short_line : ℕ → Txt
-short_line session = refusal_line (speaker_at session) NoMemory
+short_line session = refusal_line (speaker.Session session) NoMemory
 
 -- where a question is not kept, memory was short, or the keeper failed
 abbrev pub IsUnkept : KeeperFault → ℕ → Result (Unit {0}) EngineFault → Txt → Type 0

@@ -7,7 +7,7 @@ ghost use Rattle.hippo_model.specs.Validity.{may_follow};
 ghost use Rattle.hippo_csv.specs.Records.{extract_line};
 ghost use Rattle.hippo_report.specs.declared.refusal.Refusal.TheVariants.{TooManyRows as TooMany};
 ghost use Rattle.hippo_report.specs.Cells.{answer_line};
-ghost use Rattle.hippo_report.specs.Speakers.{speaker_at};
+ghost use Rattle.hippo_report.specs.declared.speaker.Speaker.TheVariants as speaker;
 ghost use Rattle.hippo_report.specs.Refusals.{refusal_line};
 ghost use Rattle.hippo_eval.specs.Answering.{IsAnswered};
 ghost use Rattle.hippo_typing.specs.Meanings.{meaning};
@@ -223,10 +223,10 @@ fn print_answer(
 
 // Makes the reply of an answer that has too many rows, and of what the watches say behind it.
 fn print_too_many(session: u8, alarms: &str, reply: &mut Reply) -> Result<(), Memory>
-    ensures { OnOk result (reply.new ≡ refusal_line (speaker_at session) TooMany ++ alarms.now) }
+    ensures { OnOk result (reply.new ≡ refusal_line (speaker.Session session) TooMany ++ alarms.now) }
 {
     reply.clear();
-    refusal_line(Speaker::at(session), &Refusal::TooManyRows, reply)?;
+    refusal_line(Speaker::Session(session), &Refusal::TooManyRows, reply)?;
     reply.append(alarms)
 }
 
@@ -285,7 +285,7 @@ fn hand_out_rows(
 
 // Says that an answer has too many rows; or that memory was short.
 fn say_too_many(session: u8, alarms: &str, reply: &mut Reply)
-    ensures { (reply.new ≡ refusal_line (speaker_at session) TooMany ++ alarms.now)
+    ensures { (reply.new ≡ refusal_line (speaker.Session session) TooMany ++ alarms.now)
         ⊎ (reply.new ≡ short_line session) }
 {
     if print_too_many(session, alarms, reply).is_err() {

@@ -5,15 +5,14 @@ ghost use Rattle.hippo_report.specs.declared.refusal.Refusal.TheVariants.{Moment
 ghost use Rattle.hippo_report.specs.Notices.{done_line, number_line};
 ghost use Rattle.hippo_report.specs.declared.speaker.Speaker.TheVariants.{Nobody, Console, Session};
 ghost use Rattle.hippo_report.specs.Refusals.{refusal_line};
-ghost use Rattle.hippo_report.specs.Speakers.{speaker_at};
 ghost use Rattle.hippo_judging.specs.Checks.{reply_room};
 
 use crate::engine::Reply;
 use hippo_report::{Refusal, Speaker, done_line, number_line, refusal_line};
 use hippo_values::Moment;
 
-// Want of memory, to a user's session.
-fn refuse_user(number: u8, reply: &mut Reply)
+/// Want of memory, to a user's session. Takes none itself.
+pub fn refuse_session(number: u8, reply: &mut Reply)
     ensures { reply.new ≡ refusal_line (Session number) NoMemory }
 {
     reply.clear();
@@ -47,15 +46,8 @@ pub fn refuse_for_memory(who: Speaker, reply: &mut Reply)
     match who {
         Speaker::Nobody => refuse_nobody(reply),
         Speaker::Console => refuse_console(reply),
-        Speaker::Session(number) => refuse_user(number, reply),
+        Speaker::Session(number) => refuse_session(number, reply),
     }
-}
-
-/// The same, where the line begins with this number.
-pub fn refuse_session(number: u8, reply: &mut Reply)
-    ensures { reply.new ≡ refusal_line (speaker_at number) NoMemory }
-{
-    refuse_for_memory(Speaker::at(number), reply);
 }
 
 /// Makes the reply to a line that is not carried out: that of its refusal, or that of want of
@@ -79,7 +71,8 @@ pub fn refuse_moment(clock: Moment, reply: &mut Reply)
     refuse(Speaker::Nobody, &Refusal::MomentBack(clock), reply);
 }
 
-fn say_done_to_user(number: u8, reply: &mut Reply)
+/// Makes the reply to a line of a user's session that was carried out. Takes no memory.
+pub fn say_done_to_session(number: u8, reply: &mut Reply)
     ensures { reply.new ≡ done_line (Session number) }
 {
     reply.clear();
@@ -113,15 +106,8 @@ pub fn say_done(who: Speaker, reply: &mut Reply)
     match who {
         Speaker::Nobody => say_done_to_nobody(reply),
         Speaker::Console => say_done_to_console(reply),
-        Speaker::Session(number) => say_done_to_user(number, reply),
+        Speaker::Session(number) => say_done_to_session(number, reply),
     }
-}
-
-/// The same, where the line begins with this number.
-pub fn say_done_to_session(number: u8, reply: &mut Reply)
-    ensures { reply.new ≡ done_line (speaker_at number) }
-{
-    say_done(Speaker::at(number), reply);
 }
 
 /// Makes the reply that says a word and a number to a session or to the console. Takes no memory.

@@ -23,6 +23,7 @@ use Rattle.hippo_lines.proofs.FormLemmas.{makes_statement-within}
 use Rattle.hippo_model.specs.declared.statement.Stmt.{Stmt}
 use Rattle.hippo_report.specs.declared.refusal.Refusal.{Refusal}
 use Rattle.hippo_report.specs.declared.refusal.Refusal.TheVariants.{BadSyntax}
+use Rattle.hippo_report.specs.declared.speaker.Speaker.{Speaker}
 use Rattle.hippo_report.specs.Speakers.{speaker_at}
 use Rattle.hippo_stmt_reader.specs.StatementFinder.{statement_of}
 use Rattle.hippo_commands.specs.Commands.{make_statement, wrong, statement_by, statement_among, statement_in, state_command, clock_command, command_by}
@@ -96,33 +97,34 @@ text_utf8 line text utf8 is =
     subst (λ (bytes : Txt). IsUtf8 bytes) is.rest (IsUtf8-drop line (place + 1) utf8 (IsCharBoundary-after_ascii line place utf8 is.some small))
 
 -- the form of the line, and the statement that its text is
-record IsCommanded (line : Txt) (session : ℕ) (statement : Stmt) (text : Txt) : Type 0 where
+record IsCommanded (line : Txt) (statement : Stmt) (text : Txt) : Type 0 where
+  session : ℕ
   form : line_form line ≡ Some (makes_statement session text)
   found : statement_in text ≡ Ok statement
 
-by_statement : (line : Txt) (number : ℕ) (behind : Txt) (session : ℕ) (statement : Stmt) (text : Txt) (read : Result Stmt Refusal) → line_form line ≡ Some (makes_statement number behind) → statement_in behind ≡ read
-    → state_command number behind read ≡ make_statement session statement text → IsCommanded line session statement text
-by_statement line number behind session statement text (Ok other) form found is =
-    let same : make_statement number other behind ≡ make_statement session statement text = is in
-    let numbers : number ≡ session = cc in
+by_statement : (line : Txt) (number : ℕ) (behind : Txt) (who : Speaker) (statement : Stmt) (text : Txt) (read : Result Stmt Refusal) → line_form line ≡ Some (makes_statement number behind) → statement_in behind ≡ read
+    → state_command (speaker_at number) behind read ≡ make_statement who statement text → IsCommanded line statement text
+by_statement line number behind who statement text (Ok other) form found is =
+    let same : make_statement (speaker_at number) other behind ≡ make_statement who statement text = is in
     let statements : other ≡ statement = cc in
     let texts : behind ≡ text = cc in
     record {
-      form = form ∙ (λ i. Some (makes_statement (numbers i) (texts i)));
+      session = number;
+      form = form ∙ (λ i. Some (makes_statement number (texts i)));
       found = subst (λ (text : Txt). statement_in text ≡ Ok statement) texts (found ∙ (λ i. Ok (statements i)));
     }
-by_statement line number behind session statement text (Err refusal) form found is = let other : wrong (speaker_at number) refusal ≡ make_statement session statement text = is in absurd cc
+by_statement line number behind who statement text (Err refusal) form found is = let other : wrong (speaker_at number) refusal ≡ make_statement who statement text = is in absurd cc
 
-by_moment : (line : Txt) (moment : Option Moment) (session : ℕ) (statement : Stmt) (text : Txt) → clock_command moment ≡ make_statement session statement text → IsCommanded line session statement text
-by_moment line None session statement text is = absurd cc
-by_moment line (Some moment) session statement text is = absurd cc
+by_moment : (line : Txt) (moment : Option Moment) (who : Speaker) (statement : Stmt) (text : Txt) → clock_command moment ≡ make_statement who statement text → IsCommanded line statement text
+by_moment line None who statement text is = absurd cc
+by_moment line (Some moment) who statement text is = absurd cc
 
-by_form : (line : Txt) (form : Option Form) (session : ℕ) (statement : Stmt) (text : Txt) → line_form line ≡ form → command_by form ≡ make_statement session statement text → IsCommanded line session statement text
-by_form line None session statement text form is = absurd cc
-by_form line (Some says_nothing) session statement text form is = absurd cc
-by_form line (Some (sets_clock moment)) session statement text form is = by_moment line (moment_in moment) session statement text is
-by_form line (Some (makes_request number request)) session statement text form is = absurd cc
-by_form line (Some (makes_statement number behind)) session statement text form is = by_statement line number behind session statement text (statement_in behind) form refl is
+by_form : (line : Txt) (form : Option Form) (who : Speaker) (statement : Stmt) (text : Txt) → line_form line ≡ form → command_by form ≡ make_statement who statement text → IsCommanded line statement text
+by_form line None who statement text form is = absurd cc
+by_form line (Some says_nothing) who statement text form is = absurd cc
+by_form line (Some (sets_clock moment)) who statement text form is = by_moment line (moment_in moment) who statement text is
+by_form line (Some (makes_request number request)) who statement text form is = absurd cc
+by_form line (Some (makes_statement number behind)) who statement text form is = by_statement line number behind who statement text (statement_in behind) form refl is
 
 -- the tokens of a text, and the statement that they are
 record IsRead (text : Txt) (statement : Stmt) : Type 0 where
@@ -145,13 +147,13 @@ by_outcome text statement (Err fault) cut is = absurd cc
 
 -- the statement that a line commands is written, and a question reads by itself
 pub commands_are_written : CommandsAreWritten
-commands_are_written line session statement text utf8 commands =
-    let commanded = by_form line (line_form line) session statement text refl commands in
-    let inside = text_utf8 line text utf8 (line_states line text session commanded.form) in
+commands_are_written line who statement text utf8 commands =
+    let commanded = by_form line (line_form line) who statement text refl commands in
+    let inside = text_utf8 line text utf8 (line_states line text commanded.session commanded.form) in
     let read = by_outcome text statement (outcome_of text) refl commanded.found in
     record {
       written = statements_are_written read.tokens statement (tokens_are_typed text read.tokens inside read.cut) read.found;
       utf8 = inside;
-      shorter = (makes_statement-within line text session commanded.form).0;
+      shorter = (makes_statement-within line text commanded.session commanded.form).0;
       reads = λ select start end asks. found_read_by_themselves text read.tokens statement select start end read.cut read.words read.found asks;
     }

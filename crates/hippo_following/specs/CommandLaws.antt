@@ -4,6 +4,7 @@ use Rattle.hippo_values.specs.Texts.{Txt}
 use Rattle.hippo_io.specs.Lines.{text_line}
 use Rattle.hippo_model.specs.declared.statement.RawSelect.{RawSelect}
 use Rattle.hippo_model.specs.declared.statement.Stmt.{Stmt}
+use Rattle.hippo_report.specs.declared.speaker.Speaker.{Speaker}
 use Rattle.hippo_reading_laws.specs.QuestionLaws.{select_place, ReadsByItself}
 use Rattle.hippo_commands.specs.Commands.{make_statement, command_of}
 use Rattle.hippo_following.specs.Written.{is_written}
@@ -21,6 +22,6 @@ pub record StandsInLine (line : Txt) (statement : Stmt) (text : Txt) : Type 0 wh
 -- the statement that a line commands is so
 abbrev pub CommandsAreWritten : Type 0
 CommandsAreWritten =
-    (line : Txt) (session : ℕ) (statement : Stmt) (text : Txt) → IsUtf8 line
-    → command_of (text_line line) ≡ make_statement session statement text
+    (line : Txt) (who : Speaker) (statement : Stmt) (text : Txt) → IsUtf8 line
+    → command_of (text_line line) ≡ make_statement who statement text
     → StandsInLine line statement text

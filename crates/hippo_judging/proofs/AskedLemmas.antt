@@ -42,7 +42,7 @@ use Rattle.hippo_judging.proofs.AskingLemmas.{judged_written}
 use Rattle.hippo_judging.proofs.FollowingLemmas.{passed, found_same, unrefused, has_room_at}
 use Rattle.hippo_judging.specs.declared.deeds.Question.{Question as AskedQuestion}
 use Rattle.hippo_judging.specs.Findings.{IsOfLine, IsRefused, MayBeAsked}
-use Rattle.hippo_report.specs.Speakers.{speaker_at}
+use Rattle.hippo_report.specs.declared.speaker.Speaker.TheVariants as speaker
 use Rattle.hippo_judging.specs.Asking.{question_entry}
 
 -- the question that a deed asks
@@ -100,7 +100,7 @@ module _ (handing : Handing) (history : History) (world : World) (number : ℕ) 
         text_is = ap (λ (question : Question). question.text) made_is;
       }
 
-  is_asked : judged_question handing history world number select text ≡ Ok deed → IsAsked history select text asking
+  is_asked : judged_question handing history world (speaker.Session number) select text ≡ Ok deed → IsAsked history select text asking
   is_asked is =
       let asks = passed {A = Question} (question_in history world number select text)
       (λ question. open_session world number >>= λ session. delivery_for handing session >>= λ delivery. has_room history world >>= λ room. Ok (deed_for session question delivery)) deed is in
@@ -149,7 +149,7 @@ pub may_be_asked : (state : State) (held : HeldWorld) (session : ℕ) (written :
     → IsTimely state held.clock → is_moment held.clock ≡ true → names_fit asking.asker.now.user asking.asker.now.pair.purpose asking.asker.now.pair.recipient ≡ true
     → IsOfLine (written_command session written text) → length (written_text written text) ≤ line_limit → state.count + 1 < 2 ^ 63 → IsAnswerable state asking.query
     → open_session (world_of held) session ≡ Ok asking.asker.now → question.session ≡ session → asking.text.now ≡ question.text.now → question.query ≡ asking.query
-    → ((history : History) → StandsFor state history → judged_question written.handing history (world_of held) session written.select.now (written_text written text) ≡ Ok (deed_asked session asking))
+    → ((history : History) → StandsFor state history → judged_question written.handing history (world_of held) (speaker.Session session) written.select.now (written_text written text) ≡ Ok (deed_asked session asking))
     → MayBeAsked (written_command session written text) question asking.delivery state held
 may_be_asked state held session written text asking question timely fits names of_line short below answerable opened own same query found =
     let asker : Session = asking.asker.now in
@@ -158,7 +158,7 @@ may_be_asked state held session written text asking question timely fits names o
     record {
       asker = asker;
       there = subst (λ (n : ℕ). session_at (world_of held) n ≡ Some asker) (sym own) (is_there (world_of held) session asker opened);
-      who = ap speaker_at (sym own);
+      who = ap speaker.Session (sym own);
       memory = refl;
       does = λ history stands.
           judged_is history stands
@@ -172,7 +172,7 @@ may_be_asked state held session written text asking question timely fits names o
 
 -- or it is refused
 pub refused_question : (state : State) (held : HeldWorld) (session : ℕ) (written : WrittenQuestion) (text : Txt) (refusal : Refusal)
-    → ((history : History) → StandsFor state history → Refuses (judged_question written.handing history (world_of held) session written.select.now (written_text written text)) refusal)
+    → ((history : History) → StandsFor state history → Refuses (judged_question written.handing history (world_of held) (speaker.Session session) written.select.now (written_text written text)) refusal)
     → IsRefused (written_command session written text) refusal state held
 refused_question state held session written text refusal refuses =
     refused_or_short (written_command session written text) refusal state held refl

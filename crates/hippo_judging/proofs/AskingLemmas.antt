@@ -17,6 +17,7 @@ use Rattle.hippo_typing.specs.ResolutionLaws.{NamesAreThoseOf}
 use Rattle.hippo_typing.proofs.CatalogTheorem.{valid_names}
 use Rattle.hippo_report.specs.declared.refusal.Refusal.{Refusal}
 use Rattle.hippo_report.specs.declared.refusal.Refusal.TheVariants.{Memory, Meaningless}
+use Rattle.hippo_report.specs.declared.speaker.Speaker.TheVariants as speaker
 use Rattle.hippo_answering.specs.States.{are_created}
 use Rattle.hippo_commands.specs.Commands as commands
 use Rattle.hippo_world.specs.Worlds.{World}
@@ -50,15 +51,15 @@ meant_not (head ∷ more) form fault refusal first (inl (other, is)) =
 
 -- a SELECT, an EXTRACT or an OPEN is judged as a question
 judged_asked : (handing : Handing) (history : History) (world : World) (session : ℕ) (select : RawSelect) (start end : ℕ) (text : Txt)
-    → judged history world (commands.make_statement session (statement_asked handing select start end) text)
-    ≡ judged_question handing history world session select (text_between text start end)
+    → judged history world (commands.make_statement (speaker.Session session) (statement_asked handing select start end) text)
+    ≡ judged_question handing history world (speaker.Session session) select (text_between text start end)
 judged_asked Rows history world session select start end text = refl
 judged_asked Records history world session select start end text = refl
 judged_asked Cursor history world session select start end text = refl
 
 pub judged_written : (written : WrittenQuestion) (text : Txt) (history : History) (world : World) (session : ℕ)
     → judged history world (written_command session written text)
-    ≡ judged_question written.handing history world session written.select.now (written_text written text)
+    ≡ judged_question written.handing history world (speaker.Session session) written.select.now (written_text written text)
 judged_written written text history world session =
     judged_asked written.handing history world session written.select.now written.start written.end text
 
@@ -132,7 +133,7 @@ module _ (handing : Handing) (history : History) (world : World) (session : ℕ)
   judged_found : (allowed : Unit {0}) → open_session world session ≡ Ok asking.asker.now
       → by_authorized_user history asking.asker.now.user asking.asker.now.pair ≡ Ok allowed
       → unless_refused (select_refused (known_at history) select) (query_of (known_at history) select) ≡ Ok asking.query
-      → judged_question handing history world session select asking.text.now
+      → judged_question handing history world (speaker.Session session) select asking.text.now
       ≡ (delivery_in_room handing asking.asker.now (length history) world.limit >>= λ delivery. Ok (deed_asked session (record asking { delivery = delivery })))
   unfolding left_asker from_meant from_opened
   judged_found allowed opened may means =
@@ -147,7 +148,7 @@ module _ (handing : Handing) (history : History) (world : World) (session : ℕ)
       → by_authorized_user history asking.asker.now.user asking.asker.now.pair ≡ Ok allowed
       → unless_refused (select_refused (known_at history) select) (query_of (known_at history) select) ≡ Ok asking.query
       → count ≡ length history → Finds (λ delivery. delivery) (delivery_in_room handing asking.asker.now count world.limit) wanted
-      → Finds (deed_asked session) (judged_question handing history world session select asking.text.now) (asking_with asking wanted)
+      → Finds (deed_asked session) (judged_question handing history world (speaker.Session session) select asking.text.now) (asking_with asking wanted)
   question_found allowed count wanted opened may means counted found =
       let at_length = subst (λ (n : ℕ). Finds (λ delivery. delivery) (delivery_in_room handing asking.asker.now n world.limit) wanted) counted found in
       subst (λ (judged : Checked Deed). Finds (deed_asked session) judged (asking_with asking wanted)) (sym (judged_found allowed opened may means))

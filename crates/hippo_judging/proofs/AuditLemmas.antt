@@ -1,5 +1,5 @@
 -- From what an audit expression means by names to what it means in a history.
-use Rattle.std.proofs.Common.{◌≡◌, ◌∙◌, ℕ, ℤ, refl, sym, ap, subst, true, [], ◌++◌, Option, Some, None, Ok, append-nil}
+use Rattle.std.proofs.Common.{◌≡◌, ◌∙◌, ℤ, refl, sym, ap, subst, true, [], ◌++◌, Option, Some, None, Ok, append-nil}
 use Rattle.hippo_values.specs.Texts.{Txt}
 use Rattle.hippo_model.specs.declared.audit.Audit.{Audit}
 use Rattle.hippo_model.specs.declared.statement.RawAudit.{RawAudit}
@@ -12,9 +12,10 @@ use Rattle.hippo_commands.specs.Moments.{moment_in, period_in}
 use Rattle.hippo_commands.proofs.MomentLemmas.{moments_are_read}
 use Rattle.hippo_audit_job.specs.Examining.{IsAuditOf}
 use Rattle.hippo_audit_job.proofs.AuditLemmas.{unrefused_is_audit}
+use Rattle.hippo_report.specs.declared.speaker.Speaker.TheVariants.{Console}
 use Rattle.hippo_replay.specs.declared.state.State.{State}
 use Rattle.hippo_replay.specs.Standing.{StandsFor}
-use Rattle.hippo_judging.specs.Checks.{Checked, Finds, ◌>>=◌, by_console, unless_refused}
+use Rattle.hippo_judging.specs.Checks.{Checked, Finds, unless_refused}
 use Rattle.hippo_judging.specs.Judging.{audit_in}
 
 -- the moment that is found in a text is the one that it writes
@@ -33,11 +34,10 @@ pub period_is : (written : RawAudit) → IsPeriodOf written (period_in written)
 period_is written = record { from = moment_is written.from; to = moment_is written.to }
 
 -- the audit that a catalog's names give is that of the history, at the console
-pub audit_found : (history : History) (session : ℕ) (written : RawAudit) (known : KnownNames) (result : Checked Audit) → ◌≡◌ {A = Checked (Unit {0})} (Ok tt) (by_console session) → known ≡ known_at history
-    → Finds (λ audit. audit) (unless_refused (audit_refused known (period_in written) written) (audit_of known (period_in written) written)) result → Finds (λ audit. audit) (audit_in history session written) result
-audit_found history session written known result passed same finds =
-    subst (λ (console : Checked (Unit {0})). Finds (λ audit. audit) (console >>= λ _. unless_refused (audit_refused (known_at history) (period_in written) written) (audit_of (known_at history) (period_in written) written)) result) passed
-    (subst (λ (names : KnownNames). Finds (λ audit. audit) (unless_refused (audit_refused names (period_in written) written) (audit_of names (period_in written) written)) result) same finds)
+pub audit_found : (history : History) (written : RawAudit) (known : KnownNames) (result : Checked Audit) → known ≡ known_at history
+    → Finds (λ audit. audit) (unless_refused (audit_refused known (period_in written) written) (audit_of known (period_in written) written)) result → Finds (λ audit. audit) (audit_in history Console written) result
+audit_found history written known result same finds =
+    subst (λ (names : KnownNames). Finds (λ audit. audit) (unless_refused (audit_refused names (period_in written) written) (audit_of names (period_in written) written)) result) same finds
 
 -- an audit expression of which nothing is refused means an audit of each history that the state stands for
 pub audit_stands : (held : State) (written : RawAudit) (audit : Audit) (history : History) → StandsFor held history

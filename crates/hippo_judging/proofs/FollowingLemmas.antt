@@ -19,6 +19,7 @@ use Rattle.hippo_tables.specs.Finished.{finished_act}
 use Rattle.hippo_typing.specs.Meanings.{meaning}
 use Rattle.hippo_report.specs.declared.refusal.Refusal.{Refusal}
 use Rattle.hippo_report.specs.declared.refusal.Refusal.TheVariants.{BadSyntax}
+use Rattle.hippo_report.specs.declared.speaker.Speaker.TheVariants.{Console}
 use Rattle.hippo_following.specs.FollowingLaws.{HasRoomAt, ComesTo}
 use Rattle.hippo_following.specs.Written.{is_written}
 use Rattle.hippo_following.proofs.FollowingTheorem.{changes_may_follow}
@@ -29,7 +30,7 @@ use Rattle.hippo_world.specs.declared.worlds.World.{World as HeldWorld}
 use Rattle.hippo_world.specs.Worlds.{World}
 use Rattle.hippo_world.specs.Holding.{world_of}
 use Rattle.hippo_judging.specs.Changes.{FindsChange}
-use Rattle.hippo_judging.specs.Checks.{Checked, ◌>>=◌, by_console, unless_refused, act_made, has_room}
+use Rattle.hippo_judging.specs.Checks.{Checked, ◌>>=◌, unless_refused, act_made, has_room}
 use Rattle.hippo_judging.specs.Deeds.{Deed}
 use Rattle.hippo_judging.specs.Deeds as deeds
 use Rattle.hippo_judging.specs.Judging.{judged_wanted, judged_change}
@@ -52,9 +53,9 @@ pub unrefused : {A : Type 0} (faults : List NameFault) (form found : A) → unle
 unrefused [] form found is = (refl, found_same form found is)
 unrefused (fault ∷ more) form found is = absurd cc
 
-wanted_so : (form : Option Wanted) (wanted : Wanted) → ok_or form BadSyntax ≡ Ok wanted → form ≡ Some wanted
-wanted_so None wanted is = absurd cc
-wanted_so (Some one) wanted is = ap Some (found_same one wanted is)
+pub some_so : {A : Type 0} (form : Option A) (refusal : Refusal) (found : A) → ok_or form refusal ≡ Ok found → form ≡ Some found
+some_so None refusal found is = absurd cc
+some_so (Some one) refusal found is = ap Some (found_same one found is)
 
 finished_so : (made : Result Act TableFault) (act : Act) → act_made made ≡ Ok act → made ≡ Ok act
 finished_so (Ok one) act is = ap Ok (found_same one act is)
@@ -65,14 +66,12 @@ act_in other (Ok (deeds.change act)) = act
 act_in other judgement = other
 
 -- a statement that is judged to make an act comes to it
-comes_to : (history : History) (world : World) (session : ℕ) (statement : Stmt) (act : Act) → is_written statement ≡ true
-    → judged_change history world session statement ≡ Ok (deeds.change act) → ComesTo history statement act
-comes_to history world session statement act written is =
+comes_to : (history : History) (world : World) (statement : Stmt) (act : Act) → is_written statement ≡ true
+    → judged_change history world Console statement ≡ Ok (deeds.change act) → ComesTo history statement act
+comes_to history world statement act written is =
     let refusals : List NameFault = change_refused (known_at history) statement in
     let form : Option Wanted = wanted_by (known_at history) statement in
-    let console = passed {A = Unit {0}} (by_console session)
-    (λ console. unless_refused refusals form >>= λ change. ok_or change BadSyntax >>= λ wanted. judged_wanted history world wanted) (deeds.change act) is in
-    let means = passed {A = Option Wanted} (unless_refused refusals form) (λ change. ok_or change BadSyntax >>= λ wanted. judged_wanted history world wanted) (deeds.change act) console.on in
+    let means = passed {A = Option Wanted} (unless_refused refusals form) (λ change. ok_or change BadSyntax >>= λ wanted. judged_wanted history world wanted) (deeds.change act) is in
     let wants = passed {A = Wanted} (ok_or means.found BadSyntax) (λ wanted. judged_wanted history world wanted) (deeds.change act) means.on in
     let makes = passed {A = Act} (act_made (finished_act history wants.found)) (λ act. has_room history world >>= λ room. Ok (deeds.change act)) (deeds.change act) wants.on in
     let room = passed {A = Unit {0}} (has_room history world) (λ room. Ok (deeds.change makes.found)) (deeds.change act) makes.on in
@@ -82,7 +81,7 @@ comes_to history world session statement act written is =
       written = written;
       unrefused = none.0;
       wanted = wants.found;
-      wants = none.1 ∙ wanted_so means.found wants.found wants.is;
+      wants = none.1 ∙ some_so means.found BadSyntax wants.found wants.is;
       comes = finished_so (finished_act history wants.found) makes.found makes.is ∙ ap Ok same;
     }
 
@@ -96,14 +95,14 @@ has_room_at state history moment number stands timely fits is below = record {
 }
 
 -- the entry that the checks of a change found may follow
-pub change_follows : (state : State) (held : HeldWorld) (session : ℕ) (statement : Stmt) (found : Result Entry Refusal) → IsTimely state held.clock → is_written statement ≡ true
-    → ((history : History) → StandsFor state history → FindsChange history (world_of held) (judged_change history (world_of held) session statement) found)
+pub change_follows : (state : State) (held : HeldWorld) (statement : Stmt) (found : Result Entry Refusal) → IsTimely state held.clock → is_written statement ≡ true
+    → ((history : History) → StandsFor state history → FindsChange history (world_of held) (judged_change history (world_of held) Console statement) found)
     → IfOk found (λ entry. entry.seq < 2 ^ 63) → IfOk found (λ entry. is_moment entry.moment ≡ true) → IfOk found (λ entry. MayFollow state entry)
-change_follows state held session statement (Ok entry) timely written finds below fits = λ history stands.
+change_follows state held statement (Ok entry) timely written finds below fits = λ history stands.
     let change = finds history stands in
     let moment : entry.moment ≡ held.clock = ap (λ (e : Entry). e.moment) change.next in
     let number : entry.seq ≡ length history + 1 = ap (λ (e : Entry). e.seq) change.next in
     let room = has_room_at state history held.clock entry.seq stands timely (subst (λ (m : Moment). is_moment m ≡ true) moment fits) number below in
-    let comes = comes_to history (world_of held) session statement entry.act written change.judged_so in
+    let comes = comes_to history (world_of held) statement entry.act written change.judged_so in
     subst (λ (e : Entry). may_follow meaning history e ≡ true) (sym change.next) (changes_may_follow meaning history held.clock statement entry.act stands.valid room comes)
-change_follows state held session statement (Err refusal) timely written finds below fits = tt
+change_follows state held statement (Err refusal) timely written finds below fits = tt

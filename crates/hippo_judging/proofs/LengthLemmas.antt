@@ -1,5 +1,5 @@
 -- How long the replies are that must not want memory: each of them is within the room.
-use Rattle.std.proofs.Common.{◌≡◌, ◌+◌, ◌≤◌, ◌<◌, ◌^◌, ℕ, zero, suc, ℤ, [], true, Option, Some, None, Result, Ok, Err, IsOk, is_err, length, decimal, codes, refl, ap, arith, length-append}
+use Rattle.std.proofs.Common.{◌≡◌, ◌+◌, ◌≤◌, ◌<◌, ◌^◌, ℕ, ℤ, [], true, Option, Some, None, Result, Ok, Err, IsOk, is_err, length, decimal, codes, refl, ap, arith, length-append}
 use Rattle.std.proofs.lemmas.Fmt.{length-decimal-le}
 use Rattle.hippo_values.specs.Texts.{Txt}
 use Rattle.hippo_values.specs.Dates.{day_text, time_text, moment_text}
@@ -8,7 +8,7 @@ use Rattle.hippo_report.specs.Notices.{done_line, number_line}
 use Rattle.hippo_report.specs.declared.speaker.Speaker.{Speaker}
 use Rattle.hippo_report.specs.declared.speaker.Speaker.TheVariants.{Nobody, Console, Session}
 use Rattle.hippo_report.specs.Refusals.{said_of, refusal_line}
-use Rattle.hippo_report.specs.Speakers.{speaker_at, who_text}
+use Rattle.hippo_report.specs.Speakers.{who_text}
 use Rattle.hippo_judging.specs.Checks.{reply_room}
 
 -- a number of 8 bits has at most three digits, one of 64 bits at most twenty
@@ -28,10 +28,6 @@ abbrev pub IsSpeaker : Speaker → Type 0
 IsSpeaker Nobody = Unit {0}
 IsSpeaker Console = Unit {0}
 IsSpeaker (Session number) = number < 256
-
-pub speaks : (number : ℕ) → number < 256 → IsSpeaker (speaker_at number)
-speaks zero small = tt
-speaks (suc number) small = small
 
 pub length-who_text : (who : Speaker) → IsSpeaker who → length (who_text who) ≤ 3
 length-who_text Nobody is = omega arith

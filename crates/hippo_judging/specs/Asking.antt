@@ -8,6 +8,7 @@ use Rattle.hippo_model.specs.declared.statement.RawSelect.{RawSelect}
 use Rattle.hippo_model.specs.declared.statement.Stmt.{Stmt}
 use Rattle.hippo_model.specs.declared.statement.Stmt.TheVariants as stmt
 use Rattle.hippo_report.specs.declared.refusal.Refusal.TheVariants.{HistoryFull}
+use Rattle.hippo_report.specs.declared.speaker.Speaker.TheVariants as speaker
 use Rattle.hippo_answering.specs.States.{AreKeptTables}
 use Rattle.hippo_replay.specs.declared.state.State.{State}
 use Rattle.hippo_world.specs.declared.sessions.Session.{Session}
@@ -46,7 +47,7 @@ written_statement written =
 
 abbrev pub written_command : ℕ → WrittenQuestion → Txt → Command
 written_command session written text =
-    commands.make_statement session (written_statement written) text
+    commands.make_statement (speaker.Session session) (written_statement written) text
 
 abbrev pub written_text : WrittenQuestion → Txt → Txt
 written_text written text = text_between text written.start written.end

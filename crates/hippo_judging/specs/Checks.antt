@@ -1,5 +1,5 @@
 -- The checks of a line, one after the other; the first that fails refuses it.
-use Rattle.std.specs.Prelude.{◌≡◌, ◌⊎◌, ℕ, ◌==◌, ℤ, pos, Bool, true, false, not, nat_le, if◌then◌else◌, List, [], ◌∷◌, length, find, ◌&&◌, Option, Some, is_some, Result, Ok, Err, ok_or}
+use Rattle.std.specs.Prelude.{◌≡◌, ◌⊎◌, ℕ, ℤ, pos, Bool, nat_le, if◌then◌else◌, List, [], ◌∷◌, length, find, ◌&&◌, Option, Some, is_some, Result, Ok, Err, ok_or}
 use Rattle.std.specs.Ordering.{int_eq}
 use Rattle.hippo_model.specs.declared.audit.Pair.{Pair}
 use Rattle.hippo_values.specs.declared.names.Name.{Name}
@@ -16,8 +16,10 @@ use Rattle.hippo_model.specs.Terms.{History}
 use Rattle.hippo_audit_job.specs.Jobs.{OpenAudit}
 use Rattle.hippo_report.specs.declared.refusal.Refusal.{Refusal}
 use Rattle.hippo_report.specs.declared.refusal.Refusal.TheVariants.{NoSession, SessionOpen, NotAuthorized, ConsoleOnly, SessionsOnly, Meaningless, KeyThere, KeyMissing, HistoryFull, NoCursor, NoJob, NoWatch, Memory}
+use Rattle.hippo_report.specs.declared.speaker.Speaker.{Speaker}
+use Rattle.hippo_report.specs.declared.speaker.Speaker.TheVariants.{Console, Session}
 use Rattle.hippo_world.specs.declared.cursors.Cursor.{Cursor}
-use Rattle.hippo_world.specs.declared.sessions.Session.{Session}
+use Rattle.hippo_world.specs.declared.sessions.Session.{Session as OpenSession}
 use Rattle.hippo_world.specs.declared.worlds.World.{World as HeldWorld}
 use Rattle.hippo_world.specs.Auditing.{HeldJob}
 use Rattle.hippo_world.specs.Worlds.{World, at_number, session_at}
@@ -45,16 +47,18 @@ abbrev pub ◌>>=◌ : {A B : Type 0} → Checked A → (A → Checked B) → Ch
 abbrev pub refused_if : Bool → Refusal → Checked (Unit {0})
 refused_if test refusal = if test then Err refusal else Ok tt
 
--- the console may not; only the console may
-abbrev pub by_session : ℕ → Checked (Unit {0})
-by_session number = refused_if (number == 0) SessionsOnly
+-- only a session may, which has this number; only the console may
+abbrev pub by_session : Speaker → Checked ℕ
+by_session (Session number) = Ok number
+by_session who = Err SessionsOnly
 
-abbrev pub by_console : ℕ → Checked (Unit {0})
-by_console number = refused_if (not (number == 0)) ConsoleOnly
+abbrev pub by_console : Speaker → Checked (Unit {0})
+by_console Console = Ok tt
+by_console who = Err ConsoleOnly
 
 -- the session of this number is open
-abbrev pub open_session : World → ℕ → Checked Session
-open_session world number = by_session number >>= λ _. ok_or (session_at world number) NoSession
+abbrev pub open_session : World → ℕ → Checked OpenSession
+open_session world number = ok_or (session_at world number) NoSession
 
 -- the cursor of this number is open in such a session
 abbrev pub cursor_in_session : World → ℕ → ℕ → Checked Cursor
@@ -63,8 +67,7 @@ cursor_in_session world number at =
 
 -- no session of this number is open
 abbrev pub closed_session : World → ℕ → Checked (Unit {0})
-closed_session world number =
-    by_session number >>= λ _. refused_if (is_some (session_at world number)) SessionOpen
+closed_session world number = refused_if (is_some (session_at world number)) SessionOpen
 
 -- a user is authorized to ask for a purpose and recipient
 abbrev pub allowed_by : Authorization → Checked (Unit {0})
@@ -105,17 +108,16 @@ question_at history number =
     find (λ entry. int_eq (pos entry.seq) number && is_question entry.act) history
 
 -- the job with a number
-abbrev pub job_at : World → ℕ → ℕ → Checked OpenAudit
-job_at world number at = by_console number >>= λ _. ok_or (at_number world.jobs at) (NoJob at)
+abbrev pub job_at : World → ℕ → Checked OpenAudit
+job_at world at = ok_or (at_number world.jobs at) (NoJob at)
 
 -- a job stands at this number
 abbrev pub StandsJob : HeldWorld → ℕ → Type 0
 StandsJob world number = (job : HeldJob) × (at_number world.jobs number ≡ Some job)
 
 -- a watch stands at this number
-abbrev pub held_watch : World → ℕ → ℕ → Checked (Unit {0})
-held_watch world number at =
-    by_console number >>= λ _. ok_or (at_number world.watches at) (NoWatch at) >>= λ audit. Ok tt
+abbrev pub held_watch : World → ℕ → Checked (Unit {0})
+held_watch world at = ok_or (at_number world.watches at) (NoWatch at) >>= λ audit. Ok tt
 
 -- how many bytes of a reply there is always room for
 abbrev pub reply_room : ℕ

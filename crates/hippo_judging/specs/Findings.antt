@@ -20,8 +20,8 @@ use Rattle.hippo_replay.specs.declared.state.State.{State}
 use Rattle.hippo_replay.specs.Standing.{StandsFor, MayFollow}
 use Rattle.hippo_report.specs.declared.refusal.Refusal.{Refusal}
 use Rattle.hippo_report.specs.declared.speaker.Speaker.TheVariants.{Nobody, Console}
+use Rattle.hippo_report.specs.declared.speaker.Speaker.TheVariants as speaker
 use Rattle.hippo_report.specs.Refusals.{refusal_line}
-use Rattle.hippo_report.specs.Speakers.{speaker_at}
 use Rattle.hippo_world.specs.declared.cursors.Cursor.{Cursor}
 use Rattle.hippo_world.specs.declared.sessions.Session.{Session}
 use Rattle.hippo_world.specs.declared.worlds.World.{World as HeldWorld}
@@ -49,14 +49,14 @@ use Rattle.hippo_judging.specs.Judging.{deed_for, judged}
 -- statement stands in the line
 abbrev pub IsOfLine : Command → Type 0
 IsOfLine (wrong Nobody refusal) = length (refusal_line Nobody refusal) ≤ reply_room
-IsOfLine (commands.make_statement session statement text) =
+IsOfLine (commands.make_statement who statement text) =
     (line : Txt) × StandsIn line statement text
 IsOfLine command = Unit {0}
 
 -- a command that takes memory and may be answered by want of it so that nothing changes, in any
 -- world: not a step, which leaves its job at some number up to the step's end
 abbrev pub may_do_nothing : Command → Bool
-may_do_nothing (make_request session (requests.steps job count)) = false
+may_do_nothing (make_request who (requests.steps job count)) = false
 may_do_nothing command = takes_memory command
 
 -- a command is judged so, whatever history the state stands for
@@ -122,7 +122,7 @@ pub record MayBeAsked (command : Command) (question : Question) (delivery : Deli
     : Type 0 where
   pub asker : Session
   pub there : session_at (world_of world) question.session ≡ Some asker
-  pub who : who_commands command ≡ speaker_at question.session
+  pub who : who_commands command ≡ speaker.Session question.session
   pub memory : may_do_nothing command ≡ true
   pub does : IsJudged command state world
       (Ok (deed_for asker (question_by asker question) delivery))
@@ -141,23 +141,23 @@ Does command kinds.DoNothing state world = IsJudged command state world (Ok deed
 Does command (kinds.SetClock moment) state world =
     IsJudged command state world (Ok (deeds.set_clock moment))
 Does command (kinds.LogIn session user pair) state world =
-    (who_commands command ≡ speaker_at session) × (may_do_nothing command ≡ true)
+    (who_commands command ≡ speaker.Session session) × (may_do_nothing command ≡ true)
     × IsJudged command state world (Ok (deeds.log_in session user pair))
 Does command (kinds.LogOut session) state world =
     IsJudged command state world (Ok (deeds.log_out session))
 Does command (kinds.HandOut session at count) state world =
-    (who_commands command ≡ speaker_at session) × (may_do_nothing command ≡ true)
+    (who_commands command ≡ speaker.Session session) × (may_do_nothing command ≡ true)
     × HoldsCursor world session at (λ held cursor.
     IsJudged command state world (Ok (deeds.hand_out session held at cursor count)))
 Does command (kinds.CloseCursor session at) state world =
     HoldsCursor world session at (λ held cursor. IsJudged command state world
     (Ok (deeds.close_cursor session held at)))
 Does command (kinds.StepJob number count) state world =
-    (command ≡ make_request 0 (requests.steps number count))
+    (command ≡ make_request Console (requests.steps number count))
     × HoldsJob world number (λ job. IsJudged command state world
     (Ok (deeds.step_job number (open_audit job) count)))
 Does command (kinds.DropJob number) state world =
-    (command ≡ make_request 0 (requests.drops number))
+    (command ≡ make_request Console (requests.drops number))
     × HoldsJob world number (λ job. IsJudged command state world (Ok (deeds.drop_job number)))
 Does command (kinds.EndWatch number) state world =
     IsJudged command state world (Ok (deeds.end_watch number))
@@ -171,16 +171,16 @@ Does command (kinds.Extract question) state world =
 Does command (kinds.Explain entry) state world = ⊥
 Does command (kinds.Audit audit) state world =
     ((written : RawAudit) × (text : Txt)
-    × (command ≡ commands.make_statement 0 (stmt.Audit written) text))
+    × (command ≡ commands.make_statement Console (stmt.Audit written) text))
     × IsAuditOfState audit state × IsJudged command state world (Ok (deeds.audit audit))
 Does command (kinds.BeginAudit number audit) state world =
     ((written : RawAudit) × (text : Txt)
-    × (command ≡ commands.make_statement 0 (stmt.BeginAudit written) text))
+    × (command ≡ commands.make_statement Console (stmt.BeginAudit written) text))
     × IsAuditOfState audit state × (free_number world.jobs ≡ Some number)
     × IsJudged command state world (Ok (deeds.begin_audit number audit))
 Does command (kinds.Watch number audit) state world =
     ((written : RawAudit) × (text : Txt)
-    × (command ≡ commands.make_statement 0 (stmt.Watch written) text))
+    × (command ≡ commands.make_statement Console (stmt.Watch written) text))
     × IsAuditOfState audit state × IsJudged command state world (Ok (deeds.watch number audit))
 
 -- a command that names no logged question does this, or is refused
@@ -224,7 +224,7 @@ pub record LooksUpFor (command : Command) (number : ℤ) (result : Result (Optio
     (state : State)
     (before after : KeeperState) (steps steps' : ℕ) : Type 0 where
   pub text : Txt
-  pub is : command ≡ commands.make_statement 0 (stmt.Explain number) text
+  pub is : command ≡ commands.make_statement Console (stmt.Explain number) text
   pub looks : LooksUp number result state before after steps steps'
 
 -- what judging a command comes to: a question's entry or none was looked up, or nothing was read

@@ -26,6 +26,7 @@ use Rattle.hippo_csv.specs.Records.{record_fields}
 use Rattle.hippo_csv.specs.Loading.{row_of_fields}
 use Rattle.hippo_report.specs.declared.refusal.Refusal.{Refusal}
 use Rattle.hippo_report.specs.declared.refusal.Refusal.TheVariants.{BadSyntax, MomentBack, Meaningless, CursorLimit, NoCursor, JobLimit, NoJob, NoSuchQuery, BadRecord, BadField, WatchLimit, NoWatch, Memory}
+use Rattle.hippo_report.specs.declared.speaker.Speaker.{Speaker}
 use Rattle.hippo_world.specs.declared.sessions.Session.{Session}
 use Rattle.hippo_world.specs.Worlds.{World, at_number, free_number}
 use Rattle.hippo_commands.specs.Moments.{period_in}
@@ -38,7 +39,7 @@ use Rattle.hippo_judging.specs.declared.asking.Handing.{Handing}
 use Rattle.hippo_judging.specs.declared.asking.Handing.TheVariants.{Rows, Records, Cursor}
 use Rattle.hippo_judging.specs.Deeds.{Deed, Question}
 use Rattle.hippo_judging.specs.Deeds as deeds
-use Rattle.hippo_judging.specs.Checks.{Checked, ◌>>=◌, refused_if, by_console, open_session, may_log_in, by_authorized_user, unless_refused, act_made, has_room, question_at}
+use Rattle.hippo_judging.specs.Checks.{Checked, ◌>>=◌, refused_if, by_console, by_session, open_session, may_log_in, by_authorized_user, unless_refused, act_made, has_room, question_at}
 
 -- the clock does not go back
 abbrev pub judged_clock : World → ℤ → Checked Deed
@@ -46,40 +47,47 @@ judged_clock world moment =
     refused_if (int_lt moment world.clock) (MomentBack world.clock) >>=
     λ _. Ok (deeds.set_clock moment)
 
-abbrev pub judged_login : History → World → ℕ → Name → Pair → Checked Deed
-judged_login history world number user pair =
-    may_log_in history world number user pair >>= λ allowed. Ok (deeds.log_in number user pair)
+abbrev pub judged_login : History → World → Speaker → Name → Pair → Checked Deed
+judged_login history world who user pair = do
+  number ← by_session who
+  allowed ← may_log_in history world number user pair
+  Ok (deeds.log_in number user pair)
 
-abbrev pub judged_logout : World → ℕ → Checked Deed
-judged_logout world number = open_session world number >>= λ session. Ok (deeds.log_out number)
+abbrev pub judged_logout : World → Speaker → Checked Deed
+judged_logout world who = do
+  number ← by_session who
+  session ← open_session world number
+  Ok (deeds.log_out number)
 
-abbrev pub judged_fetch : World → ℕ → ℕ → ℕ → Checked Deed
-judged_fetch world number at count = do
+abbrev pub judged_fetch : World → Speaker → ℕ → ℕ → Checked Deed
+judged_fetch world who at count = do
+  number ← by_session who
   session ← open_session world number
   cursor ← ok_or (at_number session.cursors at) (NoCursor at)
   Ok (deeds.hand_out number session at cursor count)
 
-abbrev pub judged_close : World → ℕ → ℕ → Checked Deed
-judged_close world number at = do
+abbrev pub judged_close : World → Speaker → ℕ → Checked Deed
+judged_close world who at = do
+  number ← by_session who
   session ← open_session world number
   cursor ← ok_or (at_number session.cursors at) (NoCursor at)
   Ok (deeds.close_cursor number session at)
 
-abbrev pub judged_step : World → ℕ → ℕ → ℕ → Checked Deed
-judged_step world number at count = do
-  console ← by_console number
+abbrev pub judged_step : World → Speaker → ℕ → ℕ → Checked Deed
+judged_step world who at count = do
+  console ← by_console who
   job ← ok_or (at_number world.jobs at) (NoJob at)
   Ok (deeds.step_job at job count)
 
-abbrev pub judged_drop : World → ℕ → ℕ → Checked Deed
-judged_drop world number at = do
-  console ← by_console number
+abbrev pub judged_drop : World → Speaker → ℕ → Checked Deed
+judged_drop world who at = do
+  console ← by_console who
   job ← ok_or (at_number world.jobs at) (NoJob at)
   Ok (deeds.drop_job at)
 
-abbrev pub judged_unwatch : World → ℕ → ℕ → Checked Deed
-judged_unwatch world number at = do
-  console ← by_console number
+abbrev pub judged_unwatch : World → Speaker → ℕ → Checked Deed
+judged_unwatch world who at = do
+  console ← by_console who
   audit ← ok_or (at_number world.watches at) (NoWatch at)
   Ok (deeds.end_watch at)
 
@@ -91,9 +99,9 @@ judged_wanted history world wanted = do
   Ok (deeds.change act)
 
 -- a statement that changes something
-abbrev pub judged_change : History → World → ℕ → Stmt → Checked Deed
-judged_change history world number statement = do
-  console ← by_console number
+abbrev pub judged_change : History → World → Speaker → Stmt → Checked Deed
+judged_change history world who statement = do
+  console ← by_console who
   change ← unless_refused (change_refused (known_at history) statement)
       (wanted_by (known_at history) statement)
   wanted ← ok_or change BadSyntax
@@ -124,17 +132,17 @@ loaded_insert known table text = do
   Ok (stmt.Insert table row)
 
 -- a record that is loaded into a table is judged as its INSERT
-abbrev pub judged_load : History → World → ℕ → Name → Txt → Checked Deed
-judged_load history world number table text = do
-  console ← by_console number
+abbrev pub judged_load : History → World → Speaker → Name → Txt → Checked Deed
+judged_load history world who table text = do
+  console ← by_console who
   insert ← loaded_insert (known_at history) table text
-  judged_change history world number insert
+  judged_change history world who insert
 
 -- the text of a question, from its first byte to its last
 abbrev pub text_between : Txt → ℕ → ℕ → Txt
 text_between text start end = take (end - start) (drop start text)
 
--- an authorized question that means something
+-- an authorized question of the session with a number, that means something
 abbrev pub question_in : History → World → ℕ → RawSelect → Txt → Checked Question
 question_in history world number select text = do
   session ← open_session world number
@@ -162,75 +170,76 @@ deed_for session question delivered.Records = deeds.extract question
 deed_for session question (delivered.Cursor number) = deeds.open_cursor session number question
 
 -- a SELECT, an EXTRACT or an OPEN
-abbrev pub judged_question : Handing → History → World → ℕ → RawSelect → Txt → Checked Deed
-judged_question handing history world number select text = do
+abbrev pub judged_question : Handing → History → World → Speaker → RawSelect → Txt → Checked Deed
+judged_question handing history world who select text = do
+  number ← by_session who
   question ← question_in history world number select text
   session ← open_session world number
   delivery ← delivery_for handing session
   room ← has_room history world
   Ok (deed_for session question delivery)
 
-abbrev pub judged_explain : History → ℕ → ℤ → Checked Deed
-judged_explain history number question = do
-  console ← by_console number
+abbrev pub judged_explain : History → Speaker → ℤ → Checked Deed
+judged_explain history who question = do
+  console ← by_console who
   entry ← ok_or (question_at history question) (NoSuchQuery question)
   Ok (deeds.explain entry)
 
 -- an audit expression that means something
-abbrev pub audit_in : History → ℕ → RawAudit → Checked Audit
-audit_in history number audit = do
-  console ← by_console number
+abbrev pub audit_in : History → Speaker → RawAudit → Checked Audit
+audit_in history who audit = do
+  console ← by_console who
   unless_refused (audit_refused (known_at history) (period_in audit) audit)
       (audit_of (known_at history) (period_in audit) audit)
 
-abbrev pub judged_audit : History → ℕ → RawAudit → Checked Deed
-judged_audit history number written =
-    audit_in history number written >>= λ audit. Ok (deeds.audit audit)
+abbrev pub judged_audit : History → Speaker → RawAudit → Checked Deed
+judged_audit history who written =
+    audit_in history who written >>= λ audit. Ok (deeds.audit audit)
 
-abbrev pub judged_begin : History → World → ℕ → RawAudit → Checked Deed
-judged_begin history world number written = do
-  audit ← audit_in history number written
+abbrev pub judged_begin : History → World → Speaker → RawAudit → Checked Deed
+judged_begin history world who written = do
+  audit ← audit_in history who written
   free ← ok_or (free_number world.jobs) JobLimit
   Ok (deeds.begin_audit free audit)
 
-abbrev pub judged_watch : History → World → ℕ → RawAudit → Checked Deed
-judged_watch history world number written = do
-  audit ← audit_in history number written
+abbrev pub judged_watch : History → World → Speaker → RawAudit → Checked Deed
+judged_watch history world who written = do
+  audit ← audit_in history who written
   free ← ok_or (free_number world.watches) WatchLimit
   Ok (deeds.watch free audit)
 
-abbrev pub judged_statement : History → World → ℕ → Stmt → Txt → Checked Deed
-judged_statement history world number (stmt.Select select start end) text =
-    judged_question Rows history world number select (text_between text start end)
-judged_statement history world number (stmt.Ask select start end) text =
-    judged_question Cursor history world number select (text_between text start end)
-judged_statement history world number (stmt.Extract select start end) text =
-    judged_question Records history world number select (text_between text start end)
-judged_statement history world number (stmt.Explain question) text =
-    judged_explain history number question
-judged_statement history world number (stmt.Audit audit) text = judged_audit history number audit
-judged_statement history world number (stmt.BeginAudit audit) text =
-    judged_begin history world number audit
-judged_statement history world number (stmt.Watch audit) text =
-    judged_watch history world number audit
-judged_statement history world number statement text = judged_change history world number statement
+abbrev pub judged_statement : History → World → Speaker → Stmt → Txt → Checked Deed
+judged_statement history world who (stmt.Select select start end) text =
+    judged_question Rows history world who select (text_between text start end)
+judged_statement history world who (stmt.Ask select start end) text =
+    judged_question Cursor history world who select (text_between text start end)
+judged_statement history world who (stmt.Extract select start end) text =
+    judged_question Records history world who select (text_between text start end)
+judged_statement history world who (stmt.Explain question) text =
+    judged_explain history who question
+judged_statement history world who (stmt.Audit audit) text = judged_audit history who audit
+judged_statement history world who (stmt.BeginAudit audit) text =
+    judged_begin history world who audit
+judged_statement history world who (stmt.Watch audit) text =
+    judged_watch history world who audit
+judged_statement history world who statement text = judged_change history world who statement
 
-abbrev pub judged_request : History → World → ℕ → Request → Checked Deed
-judged_request history world number (logs_in user purpose recipient) =
-    judged_login history world number user (record { purpose = purpose; recipient = recipient })
-judged_request history world number logs_out = judged_logout world number
-judged_request history world number (fetches cursor count) = judged_fetch world number cursor count
-judged_request history world number (closes cursor) = judged_close world number cursor
-judged_request history world number (steps job count) = judged_step world number job count
-judged_request history world number (drops job) = judged_drop world number job
-judged_request history world number (unwatches watch) = judged_unwatch world number watch
-judged_request history world number (loads table text) = judged_load history world number table text
+abbrev pub judged_request : History → World → Speaker → Request → Checked Deed
+judged_request history world who (logs_in user purpose recipient) =
+    judged_login history world who user (record { purpose = purpose; recipient = recipient })
+judged_request history world who logs_out = judged_logout world who
+judged_request history world who (fetches cursor count) = judged_fetch world who cursor count
+judged_request history world who (closes cursor) = judged_close world who cursor
+judged_request history world who (steps job count) = judged_step world who job count
+judged_request history world who (drops job) = judged_drop world who job
+judged_request history world who (unwatches watch) = judged_unwatch world who watch
+judged_request history world who (loads table text) = judged_load history world who table text
 
 -- what is to be done for a command, or why not
 abbrev pub judged : History → World → Command → Checked Deed
 judged history world nothing = Ok deeds.do_nothing
 judged history world (wrong who refusal) = Err refusal
 judged history world (commands.set_clock moment) = judged_clock world moment
-judged history world (make_request number request) = judged_request history world number request
-judged history world (make_statement number statement text) =
-    judged_statement history world number statement text
+judged history world (make_request who request) = judged_request history world who request
+judged history world (make_statement who statement text) =
+    judged_statement history world who statement text

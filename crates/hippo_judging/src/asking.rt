@@ -4,6 +4,7 @@ ghost use Rattle.std.specs.Prelude.{Ok as Good, Err as Bad};
 ghost use Rattle.hippo_values.specs.Limits.{line_limit};
 ghost use Rattle.hippo_model.specs.Terms.{History};
 ghost use Rattle.hippo_report.specs.declared.refusal.Refusal.TheVariants.{Memory as NoMemory};
+ghost use Rattle.hippo_report.specs.declared.speaker.Speaker.TheVariants as speaker;
 ghost use Rattle.hippo_catalog.specs.Catalogs.{known_at};
 ghost use Rattle.hippo_catalog.specs.Selects.{select_refused, query_of};
 ghost use Rattle.hippo_following.specs.Written.{names_fit};
@@ -196,7 +197,7 @@ fn question<'a>(
 ) -> Result<Asking<'a>, Refusal>
     requires { IsSound state.now }
     ensures found { (history : History) → StandsFor state.now history → Finds (deed_asked session)
-        (judged_question written.now.handing history (world_of world.now) session
+        (judged_question written.now.handing history (world_of world.now) (speaker.Session session)
         written.now.select.now text.now)
         result }
     ensures asker { IfOk result (λ asking. open_session (world_of world.now) session

@@ -1,15 +1,15 @@
 //! Audit expressions of the console: what each means, or why it is refused.
-ghost use Rattle.std.specs.Prelude.{◌≡◌, [], bytes_eq, IfOk, OnOk};
+ghost use Rattle.std.specs.Prelude.{◌≡◌, [], bytes_eq, IfOk};
 ghost use Rattle.std.specs.List.{IsDistinct};
 ghost use Rattle.hippo_model.specs.Terms.{History};
 ghost use Rattle.hippo_audit_job.specs.Examining.{IsAuditOf};
+ghost use Rattle.hippo_report.specs.declared.speaker.Speaker.TheVariants.{Console};
 ghost use Rattle.hippo_replay.specs.Standing.{StandsFor, IsSound};
 ghost use Rattle.hippo_catalog.specs.AuditExpressions.{audit_refused, audit_of};
 ghost use Rattle.hippo_commands.specs.Moments.{period_in};
 ghost use Rattle.hippo_judging.specs.Checks.{Finds, unless_refused};
 ghost use Rattle.hippo_judging.specs.Judging.{audit_in};
 
-use crate::console_checks::check_console;
 use crate::refusals::name_refusal;
 use hippo_catalog::Catalog;
 use hippo_model::{Audit, RawAudit};
@@ -33,22 +33,15 @@ fn meaning(alloc: Global, catalog: &Catalog, written: &RawAudit) -> Result<Audit
     }
 }
 
-/// The audit that an audit expression of the console means; or its first refusal: that it is a
-/// session's, or that its names, types or period are wrong. Want of memory may refuse it, too.
-pub(crate) fn audit_in(
-    alloc: Global,
-    state: &State,
-    session: u8,
-    written: &RawAudit,
-) -> Result<Audit, Refusal>
+/// The audit that an audit expression of the console means; or its first refusal: that its names,
+/// types or period are wrong. Want of memory may refuse it, too.
+pub(crate) fn audit_in(alloc: Global, state: &State, written: &RawAudit) -> Result<Audit, Refusal>
     requires sound { IsSound state.now }
     ensures found { (history : History) → StandsFor state.now history
-        → Finds (λ audit. audit) (audit_in history session written.now) result }
-    ensures console { OnOk result (session ≡ 0) }
+        → Finds (λ audit. audit) (audit_in history Console written.now) result }
     ensures audit { IfOk result (λ audit. (history : History) → StandsFor state.now history
         → IsAuditOf history audit) }
     ensures differ { IfOk result (λ audit. IsDistinct bytes_eq audit.tables) }
 {
-    check_console(session)?;
     meaning(alloc, &state.catalog, written)
 }

@@ -1,9 +1,10 @@
 //! Statements that change something: the entry that each adds to the history, or why it is refused.
-ghost use Rattle.std.specs.Prelude.{◌≡◌, ◌^◌, ◌<◌, true, length, IfOk, OnOk};
+ghost use Rattle.std.specs.Prelude.{◌≡◌, ◌^◌, ◌<◌, true, length, IfOk};
 ghost use Rattle.hippo_values.specs.Moments.{is_moment};
 ghost use Rattle.hippo_model.specs.Terms.{History};
 ghost use Rattle.hippo_tables.specs.Finished.{finished_act};
 ghost use Rattle.hippo_tables.specs.Standing.{TablesStandFor};
+ghost use Rattle.hippo_report.specs.declared.speaker.Speaker.TheVariants.{Console};
 ghost use Rattle.hippo_replay.specs.Standing.{StandsFor, MayFollow, IsTimely};
 ghost use Rattle.hippo_world.specs.Holding.{world_of};
 ghost use Rattle.hippo_following.specs.Written.{is_written};
@@ -11,7 +12,6 @@ ghost use Rattle.hippo_judging.specs.Checks.{Finds, rows_refusal, act_made};
 ghost use Rattle.hippo_judging.specs.Judging.{judged_wanted, judged_change};
 ghost use Rattle.hippo_judging.specs.Changes.{FindsChange, wanted_in, change_in_room};
 
-use crate::console_checks::check_console;
 use crate::refusals::name_refusal;
 use hippo_catalog::Catalog;
 use hippo_changes::check_change;
@@ -94,8 +94,8 @@ fn entry_wanted(
     }
 }
 
-/// The entry that a statement of the console which changes something adds, or its first refusal.
-pub(crate) fn entry_for(
+// The entry that a statement which changes something adds, or its first refusal.
+fn entry_for(
     alloc: Global,
     state: &State,
     world: &World,
@@ -103,7 +103,7 @@ pub(crate) fn entry_for(
 ) -> Result<Entry, Refusal>
     ensures found { (history : History) → StandsFor state.now history
         → FindsChange history (world_of world.now)
-        (judged_change history (world_of world.now) 0 statement.now) result }
+        (judged_change history (world_of world.now) Console statement.now) result }
     ensures number { IfOk result (λ entry. entry.seq < 2 ^ 63) }
     ensures moment { IfOk result (λ entry. is_moment entry.moment ≡ true) }
 {
@@ -113,26 +113,23 @@ pub(crate) fn entry_for(
     }
 }
 
-/// The entry that a statement which changes something adds: the next one, with the clock's moment.
-/// It may follow the history. Or its first refusal: that it is a session's, that its names or types
-/// are wrong, that the rows which are there do not let it be, or that the history is full. Want of
+/// The entry that a statement of the console which changes something adds: the next one, with the
+/// clock's moment. It may follow the history. Or its first refusal: that its names or types are
+/// wrong, that the rows which are there do not let it be, or that the history is full. Want of
 /// memory may refuse it, too.
 pub(crate) fn entry_of_change(
     alloc: Global,
     state: &State,
     world: &World,
-    session: u8,
     statement: &Stmt,
 ) -> Result<Entry, Refusal>
     requires timely { IsTimely state.now world.now.clock }
     requires written { is_written statement.now ≡ true }
     ensures found { (history : History) → StandsFor state.now history
         → FindsChange history (world_of world.now)
-        (judged_change history (world_of world.now) session statement.now) result }
+        (judged_change history (world_of world.now) Console statement.now) result }
     ensures number { IfOk result (λ entry. entry.seq < 2 ^ 63) }
     ensures follows { IfOk result (λ entry. MayFollow state.now entry) }
-    ensures console { OnOk result (session ≡ 0) }
 {
-    check_console(session)?;
     entry_for(alloc, state, world, statement)
 }

@@ -25,8 +25,8 @@ pub fn who_commands(found: &Command<'_>) -> Speaker
         Command::Nothing => Speaker::Nobody,
         Command::Wrong { who, .. } => *who,
         Command::SetClock { .. } => Speaker::Nobody,
-        Command::Request { session, .. } => Speaker::at(*session),
-        Command::Statement { session, .. } => Speaker::at(*session),
+        Command::Request { who, .. } => *who,
+        Command::Statement { who, .. } => *who,
     }
 }
 
@@ -55,17 +55,15 @@ pub fn judge<'t, P: Keeper, L: Ledger>(
         Command::Nothing => Ok(Deed::DoNothing),
         Command::Wrong { refusal, .. } => Err(Unjudged::Refused(refusal)),
         Command::SetClock { moment } => unread(judge_clock(world, moment)),
-        Command::Request { session, request } => unread(judge_request(
-            alloc, state, world, session, &request,
-        )),
+        Command::Request { who, request } => {
+            unread(judge_request(alloc, state, world, who, &request))
+        }
         Command::Statement {
-            session,
+            who,
             statement,
             text,
         } => {
-            let judged = judge_statement(
-                alloc, state, world, keeper, session, &statement, text, steps,
-            );
+            let judged = judge_statement(alloc, state, world, keeper, who, &statement, text, steps);
             drop(statement);
             judged
         }

@@ -1,5 +1,5 @@
 //! Records that are loaded: each is an INSERT of its row.
-ghost use Rattle.std.specs.Prelude.{◌≡◌, ◌⊎◌, ◌^◌, ◌<◌, ◌&&◌, true, IfOk, OnOk};
+ghost use Rattle.std.specs.Prelude.{◌≡◌, ◌⊎◌, ◌^◌, ◌<◌, ◌&&◌, true, IfOk};
 ghost use Rattle.std.specs.List.{list_all};
 ghost use Rattle.std.specs.Result.{result_map_both};
 ghost use Rattle.std.specs.Str.{is_utf8};
@@ -9,6 +9,7 @@ ghost use Rattle.hippo_model.specs.Terms.{History};
 ghost use Rattle.hippo_csv.specs.declared.faults.CsvFault.TheVariants as fields;
 ghost use Rattle.hippo_csv.specs.Loading.{row_of_fields};
 ghost use Rattle.hippo_following.specs.Written.{is_typed, is_written};
+ghost use Rattle.hippo_report.specs.declared.speaker.Speaker.TheVariants.{Console};
 ghost use Rattle.hippo_replay.specs.Standing.{StandsFor, MayFollow, IsTimely};
 ghost use Rattle.hippo_report.specs.declared.refusal.Refusal.TheVariants.{Memory as NoMemory};
 ghost use Rattle.hippo_world.specs.Holding.{world_of};
@@ -16,8 +17,7 @@ ghost use Rattle.hippo_judging.specs.Checks.{Finds};
 ghost use Rattle.hippo_judging.specs.Judging.{record_refusal, loaded_row, loaded_insert, judged_load};
 ghost use Rattle.hippo_judging.specs.Changes.{FindsChange};
 
-use crate::changes::entry_for;
-use crate::console_checks::check_console;
+use crate::changes::entry_of_change;
 use hippo_catalog::Catalog;
 use hippo_csv::{CsvFault, Fields, field_values, read_fields};
 use hippo_following::name_fits;
@@ -150,29 +150,25 @@ fn insert_of(
 }
 
 /// The entry that a record for a table adds, which is that of its row's INSERT and may follow the
-/// history. Or its first refusal: that it is a session's, that there is no such table, that the
-/// text is not one record with a field of its form for each column, or that of the INSERT. Want of
-/// memory may refuse it, too.
+/// history. Or its first refusal: that there is no such table, that the text is not one record with
+/// a field of its form for each column, or that of the INSERT. Want of memory may refuse it, too.
 pub(crate) fn entry_of_record(
     alloc: Global,
     state: &State,
     world: &World,
-    session: u8,
     table: &WrittenName<'_>,
     text: &str,
 ) -> Result<Entry, Refusal>
     requires timely { IsTimely state.now world.now.clock }
     ensures found { (history : History) → StandsFor state.now history
         → FindsChange history (world_of world.now)
-        (judged_load history (world_of world.now) session table.now text.now) result }
+        (judged_load history (world_of world.now) Console table.now text.now) result }
     ensures number { IfOk result (λ entry. entry.seq < 2 ^ 63) }
-    ensures console { OnOk result (session ≡ 0) }
     ensures follows { IfOk result (λ entry. MayFollow state.now entry) }
 {
-    check_console(session)?;
     match insert_of(alloc, &state.catalog, table, text) {
         Ok(insert) => {
-            let found = entry_for(alloc, state, world, &insert);
+            let found = entry_of_change(alloc, state, world, &insert);
             drop(insert);
             found
         }

@@ -5,7 +5,9 @@ ghost use Rattle.hippo_lines.specs.Lent.{request};
 ghost use Rattle.hippo_commands.specs.Commands as commands;
 ghost use Rattle.hippo_replay.specs.declared.state.State.{State as HeldState};
 ghost use Rattle.hippo_replay.specs.Standing.{IsTimely};
-ghost use Rattle.hippo_judging.specs.Findings.{FindsDeed};
+ghost use Rattle.hippo_report.specs.declared.speaker.Speaker.TheVariants.{Nobody, Console, Session};
+ghost use Rattle.hippo_world.specs.declared.worlds.World.{World as HeldWorld};
+ghost use Rattle.hippo_judging.specs.Findings.{FindsDeed, IsRefused};
 
 use crate::console_checks::{check_job, held_watch};
 use crate::deeds::Deed;
@@ -14,7 +16,7 @@ use crate::session_checks::{check_login, open_cursor, open_session};
 use hippo_lines::{RequestForm, WrittenName};
 use hippo_model::Pair;
 use hippo_replay::State;
-use hippo_report::Refusal;
+use hippo_report::{Refusal, Speaker};
 use hippo_values::{Memory, Moment, Name};
 use hippo_world::World;
 use std::alloc::Global;
@@ -60,7 +62,7 @@ fn judge_user(
     user: Name,
     pair: Pair,
 ) -> Result<Deed<'static>, Refusal>
-    ensures { FindsDeed (commands.make_request session
+    ensures { FindsDeed (commands.make_request (Session session)
         (requests.logs_in user pair.purpose pair.recipient)) result
         state.now world.now }
 {
@@ -83,7 +85,7 @@ fn judge_login(
     purpose: &WrittenName<'_>,
     recipient: &WrittenName<'_>,
 ) -> Result<Deed<'static>, Refusal>
-    ensures { FindsDeed (commands.make_request session
+    ensures { FindsDeed (commands.make_request (Session session)
         (requests.logs_in user.now purpose.now recipient.now)) result
         state.now world.now }
 {
@@ -94,8 +96,8 @@ fn judge_login(
 }
 
 fn judge_logout(world: &World, session: u8) -> Result<Deed<'static>, Refusal>
-    ensures { (state : HeldState) → FindsDeed (commands.make_request session requests.logs_out)
-        result state world.now }
+    ensures { (state : HeldState) → FindsDeed (commands.make_request (Session session)
+        requests.logs_out) result state world.now }
 {
     match open_session(world, session) {
         Ok(_) => Ok(Deed::LogOut { session }),
@@ -105,7 +107,7 @@ fn judge_logout(world: &World, session: u8) -> Result<Deed<'static>, Refusal>
 
 fn judge_fetch(world: &World, session: u8, cursor: u8, count: u32) -> Result<Deed<'static>, Refusal>
     ensures { (state : HeldState)
-        → FindsDeed (commands.make_request session (requests.fetches cursor count)) result state
+        → FindsDeed (commands.make_request (Session session) (requests.fetches cursor count)) result state
         world.now }
 {
     match open_cursor(world, session, cursor) {
@@ -120,7 +122,7 @@ fn judge_fetch(world: &World, session: u8, cursor: u8, count: u32) -> Result<Dee
 
 fn judge_close(world: &World, session: u8, cursor: u8) -> Result<Deed<'static>, Refusal>
     ensures { (state : HeldState)
-        → FindsDeed (commands.make_request session (requests.closes cursor)) result state
+        → FindsDeed (commands.make_request (Session session) (requests.closes cursor)) result state
         world.now }
 {
     match open_cursor(world, session, cursor) {
@@ -129,33 +131,33 @@ fn judge_close(world: &World, session: u8, cursor: u8) -> Result<Deed<'static>, 
     }
 }
 
-fn judge_step(world: &World, session: u8, job: u8, count: u32) -> Result<Deed<'static>, Refusal>
+fn judge_step(world: &World, job: u8, count: u32) -> Result<Deed<'static>, Refusal>
     ensures { (state : HeldState)
-        → FindsDeed (commands.make_request session (requests.steps job count)) result state
+        → FindsDeed (commands.make_request Console (requests.steps job count)) result state
         world.now }
 {
-    match check_job(world, session, job) {
+    match check_job(world, job) {
         Ok(()) => Ok(Deed::StepJob { job, count }),
         Err(refusal) => Err(refusal),
     }
 }
 
-fn judge_drop(world: &World, session: u8, job: u8) -> Result<Deed<'static>, Refusal>
+fn judge_drop(world: &World, job: u8) -> Result<Deed<'static>, Refusal>
     ensures { (state : HeldState)
-        → FindsDeed (commands.make_request session (requests.drops job)) result state world.now }
+        → FindsDeed (commands.make_request Console (requests.drops job)) result state world.now }
 {
-    match check_job(world, session, job) {
+    match check_job(world, job) {
         Ok(()) => Ok(Deed::DropJob { job }),
         Err(refusal) => Err(refusal),
     }
 }
 
-fn judge_unwatch(world: &World, session: u8, watch: u8) -> Result<Deed<'static>, Refusal>
+fn judge_unwatch(world: &World, watch: u8) -> Result<Deed<'static>, Refusal>
     ensures { (state : HeldState)
-        → FindsDeed (commands.make_request session (requests.unwatches watch)) result state
+        → FindsDeed (commands.make_request Console (requests.unwatches watch)) result state
         world.now }
 {
-    match held_watch(world, session, watch) {
+    match held_watch(world, watch) {
         Ok(()) => Ok(Deed::EndWatch { watch }),
         Err(refusal) => Err(refusal),
     }
@@ -165,31 +167,29 @@ fn judge_load(
     alloc: Global,
     state: &State,
     world: &World,
-    session: u8,
     table: &WrittenName<'_>,
     text: &str,
 ) -> Result<Deed<'static>, Refusal>
     requires timely { IsTimely state.now world.now.clock }
-    ensures { FindsDeed (commands.make_request session (requests.loads table.now text.now)) result
+    ensures { FindsDeed (commands.make_request Console (requests.loads table.now text.now)) result
         state.now world.now }
 {
-    match entry_of_record(alloc, state, world, session, table, text) {
+    match entry_of_record(alloc, state, world, table, text) {
         Ok(entry) => Ok(Deed::Change { entry }),
         Err(refusal) => Err(refusal),
     }
 }
 
-/// What is to be done for what a short word asks for in a session or at the console, or why not.
-pub(crate) fn judge_request(
+// What is to be done for what a short word asks for in a session; what is the console's is refused.
+fn request_of_session(
     alloc: Global,
     state: &State,
     world: &World,
     session: u8,
     asked: &RequestForm<'_>,
 ) -> Result<Deed<'static>, Refusal>
-    requires timely { IsTimely state.now world.now.clock }
-    ensures { FindsDeed (commands.make_request session (request asked.now)) result state.now
-        world.now }
+    ensures { FindsDeed (commands.make_request (Session session) (request asked.now)) result
+        state.now world.now }
 {
     match asked {
         RequestForm::Login {
@@ -200,12 +200,71 @@ pub(crate) fn judge_request(
         RequestForm::Logout => judge_logout(world, session),
         RequestForm::Fetch { cursor, count } => judge_fetch(world, session, *cursor, *count),
         RequestForm::Close { cursor } => judge_close(world, session, *cursor),
-        RequestForm::Step { job, count } => judge_step(world, session, *job, *count),
-        RequestForm::Drop { job } => judge_drop(world, session, *job),
-        RequestForm::Unwatch { watch } => judge_unwatch(world, session, *watch),
+        RequestForm::Step { .. } => Err(Refusal::ConsoleOnly),
+        RequestForm::Drop { .. } => Err(Refusal::ConsoleOnly),
+        RequestForm::Unwatch { .. } => Err(Refusal::ConsoleOnly),
+        RequestForm::Load { .. } => Err(Refusal::ConsoleOnly),
+    }
+}
+
+// What is to be done for what a short word asks for at the console; what is a session's is refused.
+fn request_of_console(
+    alloc: Global,
+    state: &State,
+    world: &World,
+    asked: &RequestForm<'_>,
+) -> Result<Deed<'static>, Refusal>
+    requires timely { IsTimely state.now world.now.clock }
+    ensures { FindsDeed (commands.make_request Console (request asked.now)) result state.now
+        world.now }
+{
+    match asked {
+        RequestForm::Step { job, count } => judge_step(world, *job, *count),
+        RequestForm::Drop { job } => judge_drop(world, *job),
+        RequestForm::Unwatch { watch } => judge_unwatch(world, *watch),
         RequestForm::Load {
             table,
             record: text,
-        } => judge_load(alloc, state, world, session, table, text),
+        } => judge_load(alloc, state, world, table, text),
+        RequestForm::Login { .. } => Err(Refusal::SessionsOnly),
+        RequestForm::Logout => Err(Refusal::SessionsOnly),
+        RequestForm::Fetch { .. } => Err(Refusal::SessionsOnly),
+        RequestForm::Close { .. } => Err(Refusal::SessionsOnly),
+    }
+}
+
+// Why what a short word asks for is refused to nobody.
+fn refused_to_nobody(asked: &RequestForm<'_>) -> Refusal
+    ensures { (state : HeldState) (world : HeldWorld)
+        → IsRefused (commands.make_request Nobody (request asked.now)) result state world }
+{
+    match asked {
+        RequestForm::Login { .. } => Refusal::SessionsOnly,
+        RequestForm::Logout => Refusal::SessionsOnly,
+        RequestForm::Fetch { .. } => Refusal::SessionsOnly,
+        RequestForm::Close { .. } => Refusal::SessionsOnly,
+        RequestForm::Step { .. } => Refusal::ConsoleOnly,
+        RequestForm::Drop { .. } => Refusal::ConsoleOnly,
+        RequestForm::Unwatch { .. } => Refusal::ConsoleOnly,
+        RequestForm::Load { .. } => Refusal::ConsoleOnly,
+    }
+}
+
+/// What is to be done for what a short word asks for, or why not: each is a session's or the
+/// console's.
+pub(crate) fn judge_request(
+    alloc: Global,
+    state: &State,
+    world: &World,
+    who: Speaker,
+    asked: &RequestForm<'_>,
+) -> Result<Deed<'static>, Refusal>
+    requires timely { IsTimely state.now world.now.clock }
+    ensures { FindsDeed (commands.make_request who (request asked.now)) result state.now world.now }
+{
+    match who {
+        Speaker::Session(session) => request_of_session(alloc, state, world, session, asked),
+        Speaker::Console => request_of_console(alloc, state, world, asked),
+        Speaker::Nobody => Err(refused_to_nobody(asked)),
     }
 }

@@ -5,7 +5,7 @@ ghost use Rattle.hippo_model.specs.Terms.{History};
 ghost use Rattle.hippo_replay.specs.Standing.{StandsFor};
 ghost use Rattle.hippo_report.specs.declared.refusal.Refusal.TheVariants.{NoCursor as CursorMissing};
 ghost use Rattle.hippo_report.specs.Refusals.{refusal_line};
-ghost use Rattle.hippo_report.specs.Speakers.{speaker_at};
+ghost use Rattle.hippo_report.specs.declared.speaker.Speaker.TheVariants as speaker;
 ghost use Rattle.hippo_world.specs.Worlds.{at_number};
 ghost use Rattle.hippo_world.specs.Holding.{world_of};
 ghost use Rattle.hippo_judging.specs.Checks.{open_session, cursor_in_session, closed_session, by_authorized_user};
@@ -17,17 +17,13 @@ use hippo_report::Refusal;
 use hippo_values::Name;
 use hippo_world::{Cursor, Session, World};
 
-/// The open session with a number; or the refusal that only a session may, or that none is open
-/// with it. Its refusals are short.
+/// The open session with a number; or the refusal that none is open with it, which is short.
 pub(crate) fn open_session(world: &World, number: u8) -> Result<&Session, Refusal>
     ensures found { result_map_both (λ session. session.now) (λ refusal. refusal) result
         ≡ open_session (world_of world.now) number }
-    ensures fits { IfErr result (λ refusal. length (refusal_line (speaker_at number) refusal)
+    ensures fits { IfErr result (λ refusal. length (refusal_line (speaker.Session number) refusal)
         ≤ reply_room) }
 {
-    if number == 0 {
-        return Err(Refusal::SessionsOnly);
-    }
     match world.session(number) {
         Some(session) => Ok(session),
         None => Err(Refusal::NoSession),
@@ -37,7 +33,7 @@ pub(crate) fn open_session(world: &World, number: u8) -> Result<&Session, Refusa
 fn held_cursor(session: &Session, number: u8, cursor: u8) -> Result<&Cursor, Refusal>
     ensures found { result_map_both (λ held. held.now) (λ refusal. refusal) result
         ≡ ok_or (at_number session.now.cursors cursor) (CursorMissing cursor) }
-    ensures fits { IfErr result (λ refusal. length (refusal_line (speaker_at number) refusal)
+    ensures fits { IfErr result (λ refusal. length (refusal_line (speaker.Session number) refusal)
         ≤ reply_room) }
 {
     match session.cursors.at(usize::from(cursor)) {
@@ -51,7 +47,7 @@ fn held_cursor(session: &Session, number: u8, cursor: u8) -> Result<&Cursor, Ref
 pub(crate) fn open_cursor(world: &World, number: u8, cursor: u8) -> Result<&Cursor, Refusal>
     ensures found { result_map_both (λ held. held.now) (λ refusal. refusal) result
         ≡ cursor_in_session (world_of world.now) number cursor }
-    ensures fits { IfErr result (λ refusal. length (refusal_line (speaker_at number) refusal)
+    ensures fits { IfErr result (λ refusal. length (refusal_line (speaker.Session number) refusal)
         ≤ reply_room) }
 {
     match open_session(world, number) {
@@ -60,13 +56,10 @@ pub(crate) fn open_cursor(world: &World, number: u8, cursor: u8) -> Result<&Curs
     }
 }
 
-// Whether a number is that of a session, and none is open with it.
+// Whether no session is open with a number.
 fn check_closed(world: &World, number: u8) -> Result<(), Refusal>
     ensures { result ≡ closed_session (world_of world.now) number }
 {
-    if number == 0 {
-        return Err(Refusal::SessionsOnly);
-    }
     match world.session(number) {
         Some(_) => Err(Refusal::SessionOpen),
         None => Ok(()),
@@ -88,8 +81,7 @@ pub(crate) fn check_allowed(state: &State, user: &Name, pair: &Pair) -> Result<(
 }
 
 /// Whether a user may open the session with a number, to ask for a purpose and recipient; or the
-/// refusal that only a session may, that one is open with the number, or that the user is not
-/// authorized.
+/// refusal that one is open with the number, or that the user is not authorized.
 pub(crate) fn check_login(
     state: &State,
     world: &World,

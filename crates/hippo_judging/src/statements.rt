@@ -7,21 +7,22 @@ ghost use Rattle.hippo_keeper.specs.Keeping.{IsReady};
 ghost use Rattle.hippo_commands.specs.Commands as commands;
 ghost use Rattle.hippo_following.specs.Written.{is_written};
 ghost use Rattle.hippo_replay.specs.Standing.{IsSound, IsTimely};
+ghost use Rattle.hippo_report.specs.declared.speaker.Speaker.TheVariants.{Nobody, Console, Session};
+ghost use Rattle.hippo_replay.specs.declared.state.State.{State as HeldState};
 ghost use Rattle.hippo_report.specs.declared.refusal.Refusal.TheVariants as refusals;
 ghost use Rattle.hippo_world.specs.declared.worlds.World.{World as HeldWorld};
 ghost use Rattle.hippo_world.specs.Worlds.{free_number};
-ghost use Rattle.hippo_judging.specs.Findings.{IsOfLine, FindsDeed, begun_with, set_with, without_reading, Judges, is_still};
+ghost use Rattle.hippo_judging.specs.Findings.{IsOfLine, IsRefused, FindsDeed, begun_with, set_with, without_reading, Judges, is_still};
 
 use crate::asking::{judge_question, written_question};
 use crate::audits::audit_in;
 use crate::changes::entry_of_change;
-use crate::console_checks::check_console;
 use crate::deeds::{Deed, Unjudged};
 use crate::entries::question_at;
 use hippo_keeper::{Keeper, Steps};
 use hippo_model::{Audit, RawAudit, Stmt};
 use hippo_replay::State;
-use hippo_report::Refusal;
+use hippo_report::{Refusal, Speaker};
 use hippo_world::World;
 use std::alloc::Global;
 use std::sync::ledger::Ledger;
@@ -30,33 +31,27 @@ fn judge_change(
     alloc: Global,
     state: &State,
     world: &World,
-    session: u8,
     statement: &Stmt,
 ) -> Result<Deed<'static>, Refusal>
     requires timely { IsTimely state.now world.now.clock }
     requires changes { changes_something statement.now ≡ true }
     requires written { is_written statement.now ≡ true }
-    ensures { (text : Text) → FindsDeed (commands.make_statement session statement.now text) result
+    ensures { (text : Text) → FindsDeed (commands.make_statement Console statement.now text) result
         state.now world.now }
 {
-    match entry_of_change(alloc, state, world, session, statement) {
+    match entry_of_change(alloc, state, world, statement) {
         Ok(entry) => Ok(Deed::Change { entry }),
         Err(refusal) => Err(refusal),
     }
 }
 
-fn judge_audit(
-    alloc: Global,
-    state: &State,
-    session: u8,
-    written: &RawAudit,
-) -> Result<Deed<'static>, Refusal>
+fn judge_audit(alloc: Global, state: &State, written: &RawAudit) -> Result<Deed<'static>, Refusal>
     requires sound { IsSound state.now }
     ensures { (text : Text) (world : HeldWorld)
-        → FindsDeed (commands.make_statement session (stmt.Audit written.now) text) result state.now
+        → FindsDeed (commands.make_statement Console (stmt.Audit written.now) text) result state.now
         world }
 {
-    match audit_in(alloc, state, session, written) {
+    match audit_in(alloc, state, written) {
         Ok(audit) => Ok(Deed::Audit { audit }),
         Err(refusal) => Err(refusal),
     }
@@ -88,15 +83,14 @@ fn judge_begin(
     alloc: Global,
     state: &State,
     world: &World,
-    session: u8,
     written: &RawAudit,
 ) -> Result<Deed<'static>, Refusal>
     requires sound { IsSound state.now }
-    ensures { (text : Text) → FindsDeed (commands.make_statement session
+    ensures { (text : Text) → FindsDeed (commands.make_statement Console
         (stmt.BeginAudit written.now) text) result
         state.now world.now }
 {
-    match audit_in(alloc, state, session, written) {
+    match audit_in(alloc, state, written) {
         Ok(audit) => begun_with(audit, free_job(world)),
         Err(refusal) => Err(refusal),
     }
@@ -128,15 +122,14 @@ fn judge_watch(
     alloc: Global,
     state: &State,
     world: &World,
-    session: u8,
     written: &RawAudit,
 ) -> Result<Deed<'static>, Refusal>
     requires sound { IsSound state.now }
-    ensures { (text : Text) → FindsDeed (commands.make_statement session (stmt.Watch written.now)
+    ensures { (text : Text) → FindsDeed (commands.make_statement Console (stmt.Watch written.now)
         text) result
         state.now world.now }
 {
-    match audit_in(alloc, state, session, written) {
+    match audit_in(alloc, state, written) {
         Ok(audit) => set_with(audit, free_watch(world)),
         Err(refusal) => Err(refusal),
     }
@@ -162,7 +155,7 @@ fn look_up<P: Keeper, L: Ledger>(
 ) -> Result<Deed<'static>, Unjudged>
     requires ready { IsReady true (P.state keeper.old) }
     ensures judges { (text : Text) (world : HeldWorld)
-        → Judges (commands.make_statement 0 (stmt.Explain number.now) text) result
+        → Judges (commands.make_statement Console (stmt.Explain number.now) text) result
         state.now world (P.state keeper.old) (P.state keeper.new) steps.old steps.new }
     ensures looks { is_still result ≡ false }
 {
@@ -173,35 +166,77 @@ fn look_up<P: Keeper, L: Ledger>(
     }
 }
 
-fn judge_explain<P: Keeper, L: Ledger>(
+// What is to be done for a statement of a session: it asks a question, or is refused.
+fn statement_of_session<'t>(
     alloc: Global,
     state: &State,
-    keeper: &mut P,
+    world: &World,
     session: u8,
-    number: &i64,
-    steps: &mut Steps<L>,
-) -> Result<Deed<'static>, Unjudged>
-    requires ready { IsReady true (P.state keeper.old) }
-    ensures judges { (text : Text) (world : HeldWorld)
-        → Judges (commands.make_statement session (stmt.Explain number.now) text)
-        result state.now world (P.state keeper.old) (P.state keeper.new) steps.old steps.new }
-    ensures still { is_still result ≡ true → keeper.new ≡ keeper.old }
-    ensures idle { is_still result ≡ true → steps.new ≡ steps.old }
+    statement: &Stmt,
+    text: &'t str,
+) -> Result<Deed<'t>, Refusal>
+    requires sound { IsSound state.now }
+    requires timely { IsTimely state.now world.now.clock }
+    requires of_line { IsOfLine (commands.make_statement (Session session) statement.now text.now) }
+    ensures { FindsDeed (commands.make_statement (Session session) statement.now text.now) result
+        state.now world.now }
 {
-    match check_console(session) {
-        Ok(()) => look_up(alloc, state, keeper, number, steps),
-        Err(refusal) => Err(Unjudged::Refused(refusal)),
+    match written_question(statement) {
+        Some(written) => judge_question(alloc, state, world, session, &written, text),
+        None => Err(Refusal::ConsoleOnly),
     }
 }
 
-/// What is to be done for a statement that stands in a text, or why not. Only EXPLAIN reads what is
-/// kept.
+// What is to be done for a statement of the console. Only EXPLAIN reads what is kept.
+fn statement_of_console<P: Keeper, L: Ledger>(
+    alloc: Global,
+    state: &State,
+    world: &World,
+    keeper: &mut P,
+    statement: &Stmt,
+    steps: &mut Steps<L>,
+) -> Result<Deed<'static>, Unjudged>
+    requires sound { IsSound state.now }
+    requires timely { IsTimely state.now world.now.clock }
+    requires ready { IsReady true (P.state keeper.old) }
+    requires written { is_written statement.now ≡ true }
+    ensures judges { (text : Text)
+        → Judges (commands.make_statement Console statement.now text) result state.now world.now
+        (P.state keeper.old) (P.state keeper.new) steps.old steps.new }
+    ensures still { is_still result ≡ true → keeper.new ≡ keeper.old }
+    ensures idle { is_still result ≡ true → steps.new ≡ steps.old }
+{
+    match statement {
+        Stmt::Explain(number) => look_up(alloc, state, keeper, number, steps),
+        Stmt::Audit(written) => unread(judge_audit(alloc, state, written)),
+        Stmt::BeginAudit(written) => unread(judge_begin(alloc, state, world, written)),
+        Stmt::Watch(written) => unread(judge_watch(alloc, state, world, written)),
+        _ => match written_question(statement) {
+            Some(_) => Err(Unjudged::Refused(Refusal::SessionsOnly)),
+            None => unread(judge_change(alloc, state, world, statement)),
+        },
+    }
+}
+
+// Why a statement is refused to nobody.
+fn refused_to_nobody(statement: &Stmt) -> Refusal
+    ensures { (text : Text) (state : HeldState) (world : HeldWorld)
+        → IsRefused (commands.make_statement Nobody statement.now text) result state world }
+{
+    match written_question(statement) {
+        Some(_) => Refusal::SessionsOnly,
+        None => Refusal::ConsoleOnly,
+    }
+}
+
+/// What is to be done for a statement that stands in a text, or why not: a question is a session's,
+/// all else is the console's. Only EXPLAIN reads what is kept.
 pub(crate) fn judge_statement<'t, P: Keeper, L: Ledger>(
     alloc: Global,
     state: &State,
     world: &World,
     keeper: &mut P,
-    session: u8,
+    who: Speaker,
     statement: &Stmt,
     text: &'t str,
     steps: &mut Steps<L>,
@@ -209,21 +244,18 @@ pub(crate) fn judge_statement<'t, P: Keeper, L: Ledger>(
     requires sound { IsSound state.now }
     requires timely { IsTimely state.now world.now.clock }
     requires ready { IsReady true (P.state keeper.old) }
-    requires of_line { IsOfLine (commands.make_statement session statement.now text.now) }
-    ensures judges { Judges (commands.make_statement session statement.now text.now) result
+    requires of_line { IsOfLine (commands.make_statement who statement.now text.now) }
+    ensures judges { Judges (commands.make_statement who statement.now text.now) result
         state.now world.now
         (P.state keeper.old) (P.state keeper.new) steps.old steps.new }
     ensures still { is_still result ≡ true → keeper.new ≡ keeper.old }
     ensures idle { is_still result ≡ true → steps.new ≡ steps.old }
 {
-    match statement {
-        Stmt::Explain(number) => judge_explain(alloc, state, keeper, session, number, steps),
-        Stmt::Audit(written) => unread(judge_audit(alloc, state, session, written)),
-        Stmt::BeginAudit(written) => unread(judge_begin(alloc, state, world, session, written)),
-        Stmt::Watch(written) => unread(judge_watch(alloc, state, world, session, written)),
-        _ => match written_question(statement) {
-            Some(written) => unread(judge_question(alloc, state, world, session, &written, text)),
-            None => unread(judge_change(alloc, state, world, session, statement)),
-        },
+    match who {
+        Speaker::Session(session) => {
+            unread(statement_of_session(alloc, state, world, session, statement, text))
+        }
+        Speaker::Console => statement_of_console(alloc, state, world, keeper, statement, steps),
+        Speaker::Nobody => Err(Unjudged::Refused(refused_to_nobody(statement))),
     }
 }

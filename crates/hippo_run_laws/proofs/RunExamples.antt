@@ -8,8 +8,7 @@ use Rattle.hippo_model.specs.declared.audit.Audit.{Audit}
 use Rattle.hippo_model.specs.declared.audit.Flag.{Flag}
 use Rattle.hippo_model.specs.declared.query.CondOf.TheVariants.{All}
 use Rattle.hippo_model.specs.Terms.{History}
-use Rattle.hippo_report.specs.declared.speaker.Speaker.TheVariants.{Nobody, Console}
-use Rattle.hippo_report.specs.Speakers.{speaker_at}
+use Rattle.hippo_report.specs.declared.speaker.Speaker.TheVariants.{Nobody, Console, Session}
 use Rattle.hippo_report.specs.declared.format.Format.TheVariants as formats
 use Rattle.hippo_report.specs.declared.refusal.Refusal.TheVariants.{BadLine, LineTooLong, Memory}
 use Rattle.hippo_flags.specs.Flags.{flag_line}
@@ -84,7 +83,7 @@ abbrev world : World
 world = with_job (world_within 4000000) 1 (Some job)
 
 abbrev three_numbers : Command
-three_numbers = make_request 0 (steps 1 3)
+three_numbers = make_request Console (steps 1 3)
 
 -- a step writes what waits, and up to which number it has looked
 abbrev eighth_written : Portion
@@ -99,7 +98,7 @@ a_flag_and_how_far_it_is = refl
 
 -- the last step says how many flags there are: nobody asked anything in the morning
 the_last_step_says_end :
-    StepWrites world (make_request 0 (steps 1 9)) job 9 (deed_effect clinic world (deeds.step_job 1 job 9)) (record { flags = []; ended = Some 0 })
+    StepWrites world (make_request Console (steps 1 9)) job 9 (deed_effect clinic world (deeds.step_job 1 job 9)) (record { flags = []; ended = Some 0 })
 the_last_step_says_end = inl refl
 
 -- where memory is short nothing is written
@@ -144,7 +143,7 @@ nothing_is_heard_of_refused_lines = refl
 
 nothing_is_heard_without_memory :
     JudgedHeard 1 clinic world (question (all_rows (codes "name" ∷ []))) (Ok (deeds.answer_question (asked_for (1 ∷ []))))
-    (only_reply world (refusal_line (speaker_at 1) Memory)) None
+    (only_reply world (refusal_line (Session 1) Memory)) None
 nothing_is_heard_without_memory = inr (refl, refl)
 
 -- what is unfolded to read lines and texts

@@ -25,7 +25,7 @@ use Rattle.hippo_model.specs.Validity.{is_acceptable, is_authorized}
 use Rattle.hippo_catalog.specs.Catalogs.{known_at}
 use Rattle.hippo_typing.specs.Meanings.{Means, meaning}
 use Rattle.hippo_typing.proofs.MeaningTheorem.{Means-found}
-use Rattle.hippo_report.specs.Speakers.{speaker_at}
+use Rattle.hippo_report.specs.declared.speaker.Speaker.TheVariants as speaker
 use Rattle.hippo_report.specs.Notices.{done_line}
 use Rattle.hippo_world.specs.Worlds.{World, with_session}
 use Rattle.hippo_commands.specs.Commands.{command_of}
@@ -103,20 +103,20 @@ question-makes before world user purpose recipient text free kept fit bare room 
     let question : LineText = text_line (codes "1 " ++ text) in
     let logout : LineText = text_line (codes "1 logout") in
     let opens : effect_of before world (command_of (text_line
-    (login_line_of user purpose recipient))) ≡ only_reply w (done_line (speaker_at 1)) =
+    (login_line_of user purpose recipient))) ≡ only_reply w (done_line (speaker.Session 1)) =
     ap (effect_of before world) (logs-in-it user purpose recipient names.0 names.1 names.2)
-    ∙ ap (judgement_effect before world (speaker_at 1)) (login-judged before world user pair free may) in
+    ∙ ap (judgement_effect before world (speaker.Session 1)) (login-judged before world user pair free may) in
     let judged_so =
-    ap (judged_question Rows before w 1 select) (whole-text text)
+    ap (judged_question Rows before w (speaker.Session 1) select) (whole-text text)
     ∙ question-judged before world user pair free may select text means.right room in
     let asks =
     ap (effect_of before w)
     (makes_request-it text (stmt.Select select 0 (length text)) itself.begins itself.is)
-    ∙ ap (judgement_effect before w (speaker_at 1)) judged_so in
+    ∙ ap (judgement_effect before w (speaker.Session 1)) judged_so in
     let ends : effect_of so_far w (command_of logout)
-    ≡ only_reply (with_session w 1 None) (done_line (speaker_at 1)) =
+    ≡ only_reply (with_session w 1 None) (done_line (speaker.Session 1)) =
     ap (effect_of so_far w) logs-out-it
-    ∙ ap (judgement_effect so_far w (speaker_at 1)) (logout-judged before world user pair free may) in
+    ∙ ap (judgement_effect so_far w (speaker.Session 1)) (logout-judged before world user pair free may) in
     ap (λ (e : Effect). history_by_rules (before ++ e.added) e.world (question ∷ logout ∷ more)) opens
     ∙ ap (λ (h : History). history_by_rules h w (question ∷ logout ∷ more)) (append-nil before)
     ∙ ap (λ (e : Effect). history_by_rules (before ++ e.added) e.world (logout ∷ more)) asks

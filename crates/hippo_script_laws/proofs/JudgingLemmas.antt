@@ -29,6 +29,8 @@ use Rattle.hippo_report.specs.declared.refusal.Refusal.TheVariants.{BadSyntax, H
 use Rattle.hippo_world.specs.declared.sessions.Session.{Session}
 use Rattle.hippo_world.specs.Worlds.{World, new_session, with_session}
 use Rattle.hippo_judging.specs.declared.asking.Handing.TheVariants.{Rows}
+use Rattle.hippo_report.specs.declared.speaker.Speaker.TheVariants.{Console}
+use Rattle.hippo_report.specs.declared.speaker.Speaker.TheVariants as speaker
 use Rattle.hippo_judging.specs.Checks.{◌>>=◌, Checked, act_made, allowed_by, by_authorized_user, has_room, unless_refused, open_session, refused_if}
 use Rattle.hippo_judging.specs.Deeds as deeds
 use Rattle.hippo_judging.specs.Deeds.{Question}
@@ -38,7 +40,7 @@ use Rattle.hippo_script_laws.specs.ScriptLaws.{is_free}
 -- a statement that asks for something is judged as a change
 changes-judged : (history : History) (world : World) (statement : Stmt) (text : Txt)
     (wanted : Wanted) → wanted_by (known_at history) statement ≡ Some wanted
-    → judged_statement history world 0 statement text ≡ judged_change history world 0 statement
+    → judged_statement history world Console statement text ≡ judged_change history world Console statement
 changes-judged history world (stmt.Select select start end) text wanted wants = absurd cc
 changes-judged history world (stmt.Ask select start end) text wanted wants = absurd cc
 changes-judged history world (stmt.Extract select start end) text wanted wants = absurd cc
@@ -54,7 +56,7 @@ pub change-judged : (history : History) (world : World) (statement : Stmt) (text
     (wanted : Wanted) (act : Act) → change_refused (known_at history) statement ≡ []
     → wanted_by (known_at history) statement ≡ Some wanted → finished_act history wanted ≡ Ok act
     → length history < world.limit
-    → judged_statement history world 0 statement text ≡ Ok (deeds.change act)
+    → judged_statement history world Console statement text ≡ Ok (deeds.change act)
 change-judged history world statement text wanted act unrefused wants comes room =
     let full : nat_le world.limit (length history) ≡ false =
     lt-leb world.limit (length history) room in
@@ -111,7 +113,7 @@ module _ (history : History) (world : World) (user : Name) (pair : Pair)
     (free : is_free world ≡ true)
     (may : authorized_at history user pair.purpose pair.recipient ≡ Yes) where
   -- an authorized user may log in
-  pub login-judged : judged_login history world 1 user pair ≡ Ok (deeds.log_in 1 user pair)
+  pub login-judged : judged_login history world (speaker.Session 1) user pair ≡ Ok (deeds.log_in 1 user pair)
   login-judged =
       ap (λ (held : Option Session). (refused_if (is_some held) SessionOpen >>= λ closed.
       by_authorized_user history user pair) >>= λ allowed. Ok (deeds.log_in 1 user pair))
@@ -124,7 +126,7 @@ module _ (history : History) (world : World) (user : Name) (pair : Pair)
       ap (λ (held : Option Session). ok_or held NoSession)
       (opened_at world.sessions (new_session user pair) free)
 
-  pub logout-judged : judged_logout (logged world user pair) 1 ≡ Ok (deeds.log_out 1)
+  pub logout-judged : judged_logout (logged world user pair) (speaker.Session 1) ≡ Ok (deeds.log_out 1)
   logout-judged =
       ap (λ (opened : Checked Session). opened >>= λ session. Ok (deeds.log_out 1)) stands_open
 
@@ -157,7 +159,7 @@ module _ (history : History) (world : World) (user : Name) (pair : Pair)
       ∙ ap (λ (refusals : List NameFault). asked_by_it text (new_session user pair)
       (unless_refused refusals query)) right
 
-  pub question-judged : judged_question Rows history (logged world user pair) 1 select text
+  pub question-judged : judged_question Rows history (logged world user pair) (speaker.Session 1) select text
       ≡ Ok (deeds.answer_question (question_so user pair text query))
   question-judged =
       let w : World = logged world user pair in

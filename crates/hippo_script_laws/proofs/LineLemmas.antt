@@ -18,6 +18,7 @@ use Rattle.hippo_model.specs.Keepable.{is_folded_name}
 use Rattle.hippo_report.specs.declared.refusal.Refusal.TheVariants.{BadSyntax}
 use Rattle.hippo_lines.specs.Words.{is_filled, is_space, words_of, only}
 use Rattle.hippo_lines.specs.Forms.{◌>>=◌, makes_request, logs_in, logs_out, sets_clock, makes_statement, short_word_of, form_with, line_form}
+use Rattle.hippo_report.specs.declared.speaker.Speaker.TheVariants.{Console, Session}
 use Rattle.hippo_commands.specs.Commands.{make_request, make_statement, set_clock, command_of, command_by, clock_command, state_command, statement_among, statement_by, statement_in}
 use Rattle.hippo_commands.proofs.MomentLemmas.{moments_are_read}
 use Rattle.hippo_telling_laws.specs.TellingLaws.{ReadsAs}
@@ -42,10 +43,10 @@ console_form text word words are plain =
 -- the line of the console with a text that is read as a statement
 pub makes_statement-it : (text word : Txt) (words : List Txt) (statement : Stmt) → words_of text
     ≡ word ∷ words → short_word_of word ≡ None → ReadsAs text statement
-    → command_of (text_line (codes "0 " ++ text)) ≡ make_statement 0 statement text
+    → command_of (text_line (codes "0 " ++ text)) ≡ make_statement Console statement text
 makes_statement-it text word words statement are plain reads =
     ap command_by (console_form text word words are plain)
-    ∙ ap (state_command 0 text) (statement-is text statement reads)
+    ∙ ap (state_command Console text) (statement-is text statement reads)
 
 -- a moment is one word
 unspaced : (n : ℕ) → is_space (48 + n) ≡ false
@@ -174,13 +175,13 @@ session-form text =
 
 -- what it commands where its text is read as a statement
 pub makes_request-it : (text : Txt) (statement : Stmt) → Begins text → statement_in text ≡ Ok statement
-    → command_of (text_line (codes "1 " ++ text)) ≡ make_statement 1 statement text
+    → command_of (text_line (codes "1 " ++ text)) ≡ make_statement (Session 1) statement text
 makes_request-it text statement begins is =
     let stated : form_with 1 text (begins.word ∷ begins.words) ≡ Some (makes_statement 1 text) =
     rw begins.plain refl in
     let form : line_form (codes "1 " ++ text) ≡ Some (makes_statement 1 text) =
     session-form text ∙ ap (form_with 1 text) begins.are ∙ stated in
-    ap command_by form ∙ ap (state_command 1 text) is
+    ap command_by form ∙ ap (state_command (Session 1) text) is
 
 -- the lines that open and end it
 login-words : (user purpose recipient : Name) → IsWord user → IsWord purpose → IsWord recipient
@@ -210,7 +211,7 @@ login-makes_request user purpose recipient text who why whom =
 pub logs-in-it : (user purpose recipient : Name) → is_folded_name user ≡ true
     → is_folded_name purpose ≡ true → is_folded_name recipient ≡ true
     → command_of (text_line (login_line_of user purpose recipient))
-    ≡ make_request 1 (logs_in user purpose recipient)
+    ≡ make_request (Session 1) (logs_in user purpose recipient)
 logs-in-it user purpose recipient is_user is_purpose is_recipient =
     let who = name-word user is_user in
     let why = name-word purpose is_purpose in
@@ -222,6 +223,6 @@ logs-in-it user purpose recipient is_user is_purpose is_recipient =
     ∙ login-makes_request user purpose recipient text who why whom in
     ap command_by form
 
-pub logs-out-it : command_of (text_line (codes "1 logout")) ≡ make_request 1 logs_out
+pub logs-out-it : command_of (text_line (codes "1 logout")) ≡ make_request (Session 1) logs_out
 unfolding words_of
 logs-out-it = refl

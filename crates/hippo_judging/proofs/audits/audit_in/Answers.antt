@@ -5,7 +5,7 @@ use Rattle.hippo_judging.proofs.audits.audit_in.Goals as goal
 
 pub returns-clause-found : goal.returns-clause-found
 returns-clause-found c = λ history stands.
-    audit_found history c.args.session c.args.written.now c.args.state.now.catalog.names c.meaning.result c.in_ok-check_console.ensures.judged stands.names c.meaning.ensures.found
+    audit_found history c.args.written.now c.args.state.now.catalog.names c.meaning.result stands.names c.meaning.ensures.found
 
 pub returns-clause-audit : goal.returns-clause-audit
 returns-clause-audit c =

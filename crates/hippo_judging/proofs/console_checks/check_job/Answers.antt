@@ -1,25 +1,22 @@
 -- A job stands there, or the refusal is short.
-use Rattle.std.proofs.Common.{◌≡◌, ◌<◌, ◌^◌, Some, Err, arith, sym, subst, ℕ}
+use Rattle.std.proofs.Common.{◌≡◌, ◌<◌, ◌^◌, Err, arith, sym, subst, ℕ}
 use Rattle.hippo_report.specs.declared.refusal.Refusal.TheVariants.{NoJob}
+use Rattle.hippo_report.specs.declared.speaker.Speaker.TheVariants.{Console}
 use Rattle.hippo_world.specs.Holding.{world_of}
 use Rattle.hippo_judging.specs.Checks.{job_at}
 use Rattle.hippo_judging.proofs.FindingLemmas.{no_job}
-use Rattle.hippo_report.specs.Speakers.{speaker_at}
-use Rattle.hippo_judging.proofs.LengthLemmas.{console_only_fits, no_job_fits, speaks}
+use Rattle.hippo_judging.proofs.LengthLemmas.{no_job_fits}
 use Rattle.hippo_judging.proofs.console_checks.check_job.Goals as goal
 
-pub returns-then-session-ne0-clause-fits : goal.returns-then-session-ne0-clause-fits
-returns-then-session-ne0-clause-fits c = console_only_fits (speaker_at c.args.session) (speaks c.args.session (omega (arith, c.ranges.session.fits)))
-
 pub returns-in-Some-clause-found : goal.returns-in-Some-clause-found
-returns-in-Some-clause-found c = (c.if-session-ne0.false, (c.in-Some.field-0.now, rw c.from.ensures at (sym c.in-Some.ensures)))
+returns-in-Some-clause-found c = (c.in-Some.field-0.now, rw c.from.ensures at (sym c.in-Some.ensures))
 
 pub returns-in-None-clause-found : goal.returns-in-None-clause-found
 returns-in-None-clause-found c =
-    subst (λ (n : ℕ). job_at (world_of c.args.world.now) c.args.session c.args.number ≡ Err (NoJob n)) (sym c.from-in-None.ensures)
-    (no_job c.args.world.now c.args.session c.args.number c.if-session-ne0.false (rw c.from.ensures at (sym c.in-None.ensures)))
+    subst (λ (n : ℕ). job_at (world_of c.args.world.now) c.args.number ≡ Err (NoJob n)) (sym c.from-in-None.ensures)
+    (no_job c.args.world.now c.args.number (rw c.from.ensures at (sym c.in-None.ensures)))
 
 pub returns-in-None-clause-fits : goal.returns-in-None-clause-fits
 returns-in-None-clause-fits c =
     let small : c.from-in-None.result < 2 ^ 64 = omega (arith, c.from-in-None.ensures, c.ranges.number.fits) in
-    no_job_fits (speaker_at c.args.session) c.from-in-None.result (speaks c.args.session (omega (arith, c.ranges.session.fits))) small
+    no_job_fits Console c.from-in-None.result tt small

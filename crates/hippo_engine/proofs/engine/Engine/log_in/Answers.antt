@@ -3,6 +3,7 @@ use Rattle.std.proofs.Common.{refl}
 use Rattle.hippo_judging.specs.Deeds as deeds
 use Rattle.hippo_engine.specs.declared.engine.Engine.{Engine}
 use Rattle.hippo_engine.specs.Effects.{only_reply}
+use Rattle.hippo_report.specs.declared.speaker.Speaker.TheVariants.{Session}
 use Rattle.hippo_engine.proofs.PerformingLemmas.{quiet_done, quiet_short}
 use Rattle.hippo_engine.proofs.engine.Engine.log_in.Goals as goal
 
@@ -15,5 +16,5 @@ returns-in-Ok c = λ command does.
 pub returns-in-Err : goal.returns-in-Err
 returns-in-Err c = λ command does.
     let old : Engine = c.args.self.now in
-    quiet_short command c.args.session old (record { state = old.state; world = c.log_in.new.self; reply = c.refuse_session.new.reply }) does.0 does.1 refl c.in-Err.ensures.err
+    quiet_short command (Session c.args.session) old (record { state = old.state; world = c.log_in.new.self; reply = c.refuse_session.new.reply }) does.0 does.1 refl c.in-Err.ensures.err
     c.refuse_session.ensures

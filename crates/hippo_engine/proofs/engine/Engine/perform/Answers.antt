@@ -1,6 +1,7 @@
 -- Each deed is done by its own method.
 use Rattle.std.proofs.Common.{sym, subst}
 use Rattle.hippo_lines.specs.Forms as requests
+use Rattle.hippo_report.specs.declared.speaker.Speaker.TheVariants.{Console}
 use Rattle.hippo_commands.specs.Commands.{Command, make_request}
 use Rattle.hippo_keeper.proofs.Results.{well}
 use Rattle.hippo_engine.specs.declared.faults.EngineFault.{EngineFault}
@@ -84,7 +85,7 @@ returns-in-DropJob-clause-performs g c =
     rw c.in-DropJob.is
     (λ command does.
     subst (λ (one : Command). Carries one (well EngineFault) c.args.self.now c.drop_job.new.self (g.P.Keeper.state c.args.keeper.now) (g.P.Keeper.state c.args.keeper.now) c.args.steps.now c.args.steps.now) (sym does.0)
-    (Carries-nothing (make_request 0 (requests.drops c.in-DropJob.job)) c.args.self.now c.drop_job.new.self (g.P.Keeper.state c.args.keeper.now) c.args.steps.now c.requires.at_work c.drop_job.ensures))
+    (Carries-nothing (make_request Console (requests.drops c.in-DropJob.job)) c.args.self.now c.drop_job.new.self (g.P.Keeper.state c.args.keeper.now) c.args.steps.now c.requires.at_work c.drop_job.ensures))
 
 pub returns-in-EndWatch-clause-performs : goal.returns-in-EndWatch-clause-performs
 returns-in-EndWatch-clause-performs g c =

@@ -1,6 +1,7 @@
 -- The job looks on and is put back.
 use Rattle.std.proofs.Common.{◌≡◌, refl, sym, subst, ℕ, Some, None}
 use Rattle.hippo_lines.specs.Forms.{steps}
+use Rattle.hippo_report.specs.declared.speaker.Speaker.TheVariants.{Console}
 use Rattle.hippo_commands.specs.Commands.{make_request}
 use Rattle.hippo_world.specs.Worlds.{with_at}
 use Rattle.hippo_engine.specs.declared.engine.Engine.{Engine}
@@ -14,8 +15,8 @@ returns-clause-carries g c =
     let new : Engine = record { state = old.state; world = record (old.world) { jobs = c.put.new.self }; reply = c.tell_step-told.new.reply } in
     let before = g.P.Keeper.state c.args.keeper.now in
     let after = g.P.Keeper.state c.step-looked.new.keeper in
-    subst (λ (number : ℕ). Carries (make_request 0 (steps number c.args.count)) c.tell_step-told.result old new before after c.args.steps.now c.step-looked.new.steps) c.from-at.ensures
-    (subst (λ (count : ℕ). Carries (make_request 0 (steps c.from-at.result count)) c.tell_step-told.result old new before after c.args.steps.now c.step-looked.new.steps) c.from.ensures
+    subst (λ (number : ℕ). Carries (make_request Console (steps number c.args.count)) c.tell_step-told.result old new before after c.args.steps.now c.step-looked.new.steps) c.from-at.ensures
+    (subst (λ (count : ℕ). Carries (make_request Console (steps c.from-at.result count)) c.tell_step-told.result old new before after c.args.steps.now c.step-looked.new.steps) c.from.ensures
     (Carries-job_step_effect c.from-at.result c.from.result _ c.step-looked.result old new before after c.args.steps.now c.step-looked.new.steps
     (record {
       job = c.in-Some.job;

@@ -1,7 +1,7 @@
 use Rattle.std.proofs.Common.{arith, sym, ◌∙◌}
 use Rattle.hippo_report.specs.declared.speaker.Speaker.TheVariants.{Session}
 use Rattle.hippo_judging.proofs.LengthLemmas.{done_fits, never_short}
-use Rattle.hippo_engine.proofs.replies.say_done_to_user.Goals as goal
+use Rattle.hippo_engine.proofs.replies.say_done_to_session.Goals as goal
 
 pub unreachable-requires : goal.unreachable-requires
 unreachable-requires c =
