@@ -38,7 +38,7 @@ use Rattle.hippo_flags.specs.Flags.{flag_line}
 use Rattle.hippo_report.specs.Refusals.{refusal_line}
 use Rattle.hippo_world.specs.declared.worlds.World.{World as HeldWorld}
 use Rattle.hippo_world.specs.Worlds.{World}
-use Rattle.hippo_world.specs.Holding.{world_of, JobsFit, taken_of, WatchesFit}
+use Rattle.hippo_world.specs.Holding.{world_of, JobsFit, WatchesFit, tallies_of}
 use Rattle.hippo_engine.specs.declared.engine.Engine.{Engine}
 use Rattle.hippo_engine.specs.declared.faults.EngineFault.{EngineFault}
 use Rattle.hippo_engine.specs.declared.faults.EngineFault.TheVariants as engine
@@ -175,7 +175,7 @@ module _ (text : Txt) (written : RawAudit) (audit : Audit) (old new : Engine) (b
             (subst (λ (r : Result (Unit {0}) EngineFault). OnOk r (IsSaid old.world.format tells.found new.reply)) tells.ended_so tells.said)));
         jobs = subst (JobsFit history) (sym same_world) holds.jobs;
         watches = subst (WatchesFit history) (sym same_world) holds.watches;
-        counts = at_once refl done.few (ap taken_of same_world);
+        counts = λ fine. at_once refl done.few (ap tallies_of same_world);
         refused = λ refusal refuses others. absurd (unrefused history world audits audit refl refl is refusal refuses);
         adds = adds_none history world audits audit refl refl is;
         undamaged = λ number e. undamaged_end tells.found number done.undamaged e;

@@ -17,11 +17,13 @@ use Rattle.hippo_report.specs.declared.speaker.Speaker.TheVariants.{Nobody, Cons
 use Rattle.hippo_report.specs.declared.refusal.Refusal.{Refusal}
 use Rattle.hippo_report.specs.declared.refusal.Refusal.TheVariants.{Memory}
 use Rattle.hippo_report.specs.Refusals.{refusal_line}
+use Rattle.hippo_values.specs.Texts.{Txt}
+use Rattle.hippo_world.specs.Auditing.{JobTally}
 use Rattle.hippo_world.specs.Worlds.{World, opening}
 use Rattle.hippo_report.specs.declared.format.Format.{Format}
 use Rattle.hippo_values.specs.declared.moments.Moment.{Moment}
 use Rattle.hippo_world.specs.Holding.{world_of, JobsFit, WatchesFit}
-use Rattle.hippo_world.proofs.AuditLemmas.{JobsFit-opening, WatchesFit-opening, JobsFit-same, WatchesFit-same, taken_of-same}
+use Rattle.hippo_world.proofs.AuditLemmas.{JobsFit-opening, WatchesFit-opening, JobsFit-same, WatchesFit-same, tallies_of-same}
 use Rattle.hippo_commands.specs.Commands.{Command, nothing, wrong, make_request, make_statement, who_commands, may_want, IsCommand}
 use Rattle.hippo_commands.specs.Commands as commands
 use Rattle.hippo_engine.specs.declared.engine.Engine.{Engine}
@@ -67,7 +69,7 @@ AddsNothing-quiet command old new quiet = record {
   effect = quiet.effect;
   jobs = λ history stands fit. JobsFit-same history old.world new.world quiet.audits fit;
   watches = λ history stands stand. WatchesFit-same history old.world new.world quiet.audits stand;
-  counts = λ versions steps. none_taken refl (taken_of-same old.world new.world quiet.audits);
+  counts = λ versions steps. none_taken refl (tallies_of-same old.world new.world quiet.audits);
 }
 
 -- nothing was added
@@ -117,7 +119,7 @@ Carries-nothing command old new keeper steps at_work quiet = record {
     holds = Holds-same history old new keeper keeper holds (subst (λ (held : State). StandsFor held history) (sym quiet.same) holds.stands)
         (quiet.jobs history holds.stands holds.jobs) (quiet.watches history holds.stands holds.watches) (KeepsSame-here keeper);
     kept = KeepsSame-here keeper;
-    counts = λ ample. quiet.counts _ steps;
+    counts = quiet.counts _ steps;
     refused = λ refusal is others. refl;
   };
   failed = λ fails. absurd (false≢true fails);
@@ -140,13 +142,13 @@ not_added : {A : Type 0} (entry : A) → ◌≡◌ {A = List A} [] (entry ∷ []
 not_added entry e = cc
 
 -- a line that is refused whatever the history takes no step
-Tallies-refused : (who : Speaker) (refusal : Refusal) (command : Command) (versions steps steps' : ℕ) (taken taken' : List ℕ)
-    → Tallies (wrong who refusal) versions steps steps' taken taken' → Tallies command versions steps steps' taken taken'
-Tallies-refused who refusal command versions steps steps' taken taken' (none_taken same kept) = none_taken same kept
-Tallies-refused who refusal command versions steps steps' taken taken' (at_once looks few kept) = absurd (false≢true looks)
-Tallies-refused who refusal command versions steps steps' taken taken' (job_begun front rest begins same before after) = absurd (false≢true begins)
-Tallies-refused who refusal command versions steps steps' taken taken' (job_stepped had has front rest on takes few before after) = absurd (false≢true on)
-Tallies-refused who refusal command versions steps steps' taken taken' (job_dropped had front rest drops same before after) = absurd (false≢true drops)
+Tallies-refused : (who : Speaker) (refusal : Refusal) (command : Command) (reply : Txt) (versions steps steps' : ℕ) (jobs jobs' : List (Option JobTally))
+    → Tallies (wrong who refusal) reply versions steps steps' jobs jobs' → Tallies command reply versions steps steps' jobs jobs'
+Tallies-refused who refusal command reply versions steps steps' jobs jobs' (none_taken same kept) = none_taken same kept
+Tallies-refused who refusal command reply versions steps steps' jobs jobs' (at_once looks few kept) = absurd (false≢true looks)
+Tallies-refused who refusal command reply versions steps steps' jobs jobs' (job_begun number begins same free put) = absurd (false≢true begins)
+Tallies-refused who refusal command reply versions steps steps' jobs jobs' (job_stepped number before after on console there put rises) = absurd cc
+Tallies-refused who refusal command reply versions steps steps' jobs jobs' (job_dropped number before drops same there put) = absurd cc
 
 -- nor does the keeper fail
 unbroken : (history : History) (who : Speaker) (old : Engine) (before after : KeeperState) → BreaksOff history (wrong who Memory) old before after → ⊥
@@ -172,7 +174,7 @@ Carries-memory command result old new before after steps steps' takes refused = 
         world = done.world;
         holds = done.holds;
         kept = done.kept;
-        counts = λ ample. Tallies-refused (who_commands command) Memory command _ steps steps' _ _ (done.counts (λ reads. absurd (false≢true reads)));
+        counts = Tallies-refused (who_commands command) Memory command _ _ steps steps' _ _ done.counts;
         refused = λ refusal is others. refused.idle refl;
       };
   failed = λ fails tells history holds. absurd (unbroken history (who_commands command) old before after (refused.failed fails tells history holds));

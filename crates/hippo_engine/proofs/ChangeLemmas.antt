@@ -27,7 +27,7 @@ use Rattle.hippo_world.specs.Worlds.{World}
 use Rattle.hippo_tables.specs.declared.tables.Tables.{Tables}
 use Rattle.hippo_tables.specs.Standing.{TablesStandFor}
 use Rattle.hippo_watch.specs.Watches.{ComesNext}
-use Rattle.hippo_world.specs.Auditing.{AreLooking, AreAudits, all_handed}
+use Rattle.hippo_world.specs.Auditing.{AreLooking, AreAudits, job_tallies}
 use Rattle.hippo_world.specs.Holding.{world_of, WatchesFollow, WatchesGoBack}
 use Rattle.hippo_world.proofs.AuditLemmas.{JobsFit-more, AreAudits-of}
 use Rattle.hippo_commands.specs.Commands.{Command, who_commands}
@@ -154,7 +154,7 @@ module _ (command : Command) (entry : Entry) (old new : Engine) (before after : 
           (JobsFit-more history entry (records.ok history holds.stands).valid new.world (subst (AreLooking history) (sym jobs_are) holds.jobs))
           (follow history entry refl (comes_next number follows history holds.stands old.state.tables holds.stands.tables) holds.watches) (records.keeps.kept tells);
       kept = records.keeps.kept tells;
-      counts = λ ample. none_taken refl (ap all_handed jobs_are);
+      counts = none_taken refl (ap job_tallies jobs_are);
       refused = λ refusal is others. refl;
     };
     failed = λ fails. absurd (false≢true fails);
@@ -185,7 +185,7 @@ module _ (command : Command) (entry : Entry) (old new : Engine) (before after : 
           (follow history entry refl (comes_next number follows history holds.stands old.state.tables holds.stands.tables) holds.watches))
           (records.keeps.same refl tells);
       kept = records.keeps.same refl tells;
-      counts = λ ample. none_taken refl (ap all_handed jobs_are);
+      counts = none_taken refl (ap job_tallies jobs_are);
       refused = λ refusal is others. refl;
     };
     failed = λ fails. absurd (false≢true fails);

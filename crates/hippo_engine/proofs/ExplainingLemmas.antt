@@ -26,7 +26,7 @@ use Rattle.hippo_report.specs.declared.refusal.Refusal.TheVariants as refusals
 use Rattle.hippo_report.specs.Refusals.{refusal_line}
 use Rattle.hippo_world.specs.declared.worlds.World.{World as HeldWorld}
 use Rattle.hippo_world.specs.Worlds.{World}
-use Rattle.hippo_world.specs.Holding.{world_of, JobsFit, taken_of, WatchesFit}
+use Rattle.hippo_world.specs.Holding.{world_of, JobsFit, WatchesFit, tallies_of}
 use Rattle.hippo_commands.specs.Commands.{Command, make_statement}
 use Rattle.hippo_engine.specs.declared.engine.Engine.{Engine}
 use Rattle.hippo_engine.specs.declared.faults.EngineFault.{EngineFault}
@@ -216,7 +216,7 @@ Carries-explain_effect text number result old new before after steps steps' at_w
           (either history world done.found fine (carried_said tells.found (IsSaid number tells.found new.reply) fine (subst (λ (r : Result (Unit {0}) EngineFault). OnOk r (IsSaid number tells.found new.reply)) tells.ended_so tells.said)));
       jobs = subst (JobsFit history) (sym same_world) holds.jobs;
       watches = subst (WatchesFit history) (sym same_world) holds.watches;
-      counts = at_once refl done.few (ap taken_of same_world);
+      counts = λ fine. at_once refl done.few (ap tallies_of same_world);
       refused = λ refusal is others. absurd (only_missing history world text number refusal is others);
       adds = adds_none history world text number;
       undamaged = λ other e. undamaged history world text number tells.found other done.found e;

@@ -1,6 +1,6 @@
 -- From what is done to the audit jobs that a run holds to what the lines do that begin, step and drop them.
-use Rattle.std.proofs.Common.{◌≡◌, ◌∙◌, ◌⊎◌, ◌≤◌, ℕ, refl, sym, ap, subst, inl, inr, arith, Bool, true, false, List, [], ◌∷◌, ◌++◌, length, Option, Some, None, Result, Ok, Err}
-use Rattle.std.specs.Prelude.{◌==◌, nat_lt, codes, flat_map, if◌then◌else◌, ok_or, option_map, OnOk}
+use Rattle.std.proofs.Common.{◌≡◌, ◌∙◌, ◌⊎◌, ◌≤◌, ℕ, ◌+◌, refl, sym, ap, subst, inl, inr, arith, Bool, true, false, List, [], ◌∷◌, ◌++◌, length, Option, Some, None, Result, Ok, Err}
+use Rattle.std.specs.Prelude.{◌==◌, ◌&&◌, nat_lt, codes, flat_map, if◌then◌else◌, ok_or, option_map, is_ok, OnOk}
 use Rattle.std.proofs.lemmas.Bool.{false≢true}
 use Rattle.hippo_values.specs.Texts.{Txt}
 use Rattle.hippo_model.specs.declared.audit.Audit.{Audit}
@@ -19,6 +19,7 @@ use Rattle.hippo_audit_job.specs.declared.past.Past.{Past}
 use Rattle.hippo_audit_job.specs.Examining.{IsPastOf, IsAuditOf}
 use Rattle.hippo_audit_job.specs.Jobs.{OpenAudit, open_audit, step_end, LooksOver, HasStepped}
 use Rattle.hippo_audit_job.proofs.JobLemmas.{taken_within}
+use Rattle.hippo_audit_job.proofs.LoopLemmas.{and_done, and_failed}
 use Rattle.hippo_combine.specs.Combining.{combine_terms}
 use Rattle.hippo_replay.specs.Standing.{StandsFor}
 use Rattle.hippo_report.specs.declared.speaker.Speaker.TheVariants.{Console}
@@ -29,12 +30,12 @@ use Rattle.hippo_flags.specs.Flags.{flag_line}
 use Rattle.hippo_report.specs.Notices.{done_line, number_line}
 use Rattle.hippo_report.specs.Refusals.{refusal_line}
 use Rattle.hippo_world.specs.declared.worlds.World.{World as HeldWorld}
-use Rattle.hippo_world.specs.Auditing.{HeldJob, taken_by_job, HasBegun, IsLooking, AreLooking, all_handed}
-use Rattle.hippo_world.specs.Holding.{world_of, WatchesFit}
+use Rattle.hippo_world.specs.Auditing.{HeldJob, taken_by_job, HasBegun, IsLooking, AreLooking, JobTally, job_tally, job_tallies}
+use Rattle.hippo_world.specs.Holding.{world_of, WatchesFit, tallies_of}
 use Rattle.hippo_world.specs.Worlds.{World, at_number, with_at, free_number}
 use Rattle.hippo_world.proofs.NumberLemmas.{put_back}
-use Rattle.hippo_world.proofs.HeldLemmas.{seen-at, seen-with, StandsAt, held_stands, free_stands}
-use Rattle.hippo_world.proofs.AuditLemmas.{all_with, one_has, handed-parted, handed-with, IsLooking-begun, IsLooking-written, none_taken_yet}
+use Rattle.hippo_world.proofs.HeldLemmas.{seen-at, seen-with, seen-free, StandsAt, held_stands}
+use Rattle.hippo_world.proofs.AuditLemmas.{all_with, one_has, IsLooking-begun, IsLooking-written, tally-begun}
 use Rattle.hippo_engine.specs.declared.engine.Engine.{Engine}
 use Rattle.hippo_engine.specs.declared.faults.EngineFault.{EngineFault}
 use Rattle.hippo_engine.specs.Auditing.{reading_end}
@@ -59,6 +60,14 @@ world_with held number job jobs is =
     ap (λ (list : List (Option HeldJob)). world_of (record held { jobs = list })) is
     ∙ ap (λ (list : List (Option OpenAudit)). record (world_of held) { jobs = list }) (seen-with open_audit held.jobs number job)
 
+-- what is tallied of the job at a number, and once another stands there
+tally_there : (jobs : List (Option HeldJob)) (number : ℕ) (job : HeldJob) → at_number jobs number ≡ Some job → at_number (job_tallies jobs) number ≡ Some (job_tally job)
+tally_there jobs number job is = seen-at job_tally jobs number ∙ ap (option_map job_tally) is
+
+tallies_put : (jobs : List (Option HeldJob)) (number : ℕ) (job : Option HeldJob) (jobs' : List (Option HeldJob)) → jobs' ≡ with_at jobs number job
+    → job_tallies jobs' ≡ with_at (job_tallies jobs) number (option_map job_tally job)
+tallies_put jobs number job jobs' is = ap job_tallies is ∙ seen-with job_tally jobs number job
+
 -- ---- a job begins
 module _ (command : Command) (number : ℕ) (audit : Audit) (old new : Engine) (begins : begins_job command ≡ true)
     (does : IsJudged command old.state old.world (Ok (deeds.begin_audit number audit)))
@@ -71,14 +80,11 @@ module _ (command : Command) (number : ℕ) (audit : Audit) (old new : Engine) (
         subst (AreLooking history) (sym jobs_are)
         (all_with (IsLooking history) old.world.jobs number (Some begun.job) fit (IsLooking-begun history audit begun.job stands.valid (audit_is history stands) (begun_over history stands)));
     watches = λ history stands stand. subst (WatchesFit history) (sym begun.world) stand;
-    counts = λ versions steps. job_begun (all_handed there.front) (all_handed there.behind) begins refl (handed-parted old.world.jobs number None there)
-        (ap all_handed jobs_are ∙ handed-with old.world.jobs number None there (Some begun.job)
-        ∙ ap (λ (count : ℕ). all_handed there.front ++ count ∷ all_handed there.behind) (none_taken_yet audit old.state.count begun.job begun.begun));
+    counts = λ versions steps. job_begun number begins refl (seen-free job_tally old.world.jobs ∙ is)
+        (tallies_put old.world.jobs number (Some begun.job) new.world.jobs jobs_are
+        ∙ ap (λ (tally : JobTally). with_at (tallies_of old.world) number (Some tally)) (tally-begun audit old.state.count begun.job begun.begun));
   }
     where
-      there : StandsAt old.world.jobs number None
-      there = free_stands old.world.jobs number is
-
       jobs_are : new.world.jobs ≡ with_at old.world.jobs number (Some begun.job)
       jobs_are = ap (λ (held : HeldWorld). held.jobs) begun.world
 
@@ -113,13 +119,10 @@ module _ (number : ℕ) (old new : Engine) where
     effect = λ history stands. inl (effect_is ∙ sym (done_for history (world_of old.world) drops (deeds.drop_job number) (judged_dropped history (Some job) is)));
     jobs = λ history stands fit. subst (AreLooking history) (sym jobs_are) (all_with (IsLooking history) old.world.jobs number None fit tt);
     watches = λ history stands stand. subst (WatchesFit history) (sym world_is) stand;
-    counts = λ versions steps. job_dropped (taken_by_job job) (all_handed there.front) (all_handed there.behind) refl refl (handed-parted old.world.jobs number (Some job) there)
-        (ap all_handed jobs_are ∙ handed-with old.world.jobs number (Some job) there None);
+    counts = λ versions steps. job_dropped number (job_tally job) refl refl (tally_there old.world.jobs number job is)
+        (tallies_put old.world.jobs number None new.world.jobs jobs_are);
   }
     where
-      there : StandsAt old.world.jobs number (Some job)
-      there = held_stands old.world.jobs number job is
-
       jobs_are : new.world.jobs ≡ with_at old.world.jobs number None
       jobs_are = ap (λ (held : HeldWorld). held.jobs) world_is
 
@@ -198,11 +201,25 @@ module _ (number count : ℕ) (past : Past) (looked : Result (Unit {0}) ReadFaul
   place_there : StandsAt old.world.jobs number (Some held.job)
   place_there = held_stands old.world.jobs number held.job held.there
 
-  same_taken : taken_by_job held.told ≡ taken_by_job held.mid
-  same_taken = elim (left_so looked old.world.format held.mid held.told new.reply held.tells) [
-    | inl is ↦ ap taken_by_job is
-    | inr is ↦ ap taken_by_job is
+  same_tally : job_tally held.told ≡ job_tally held.mid
+  same_tally = elim (left_so looked old.world.format held.mid held.told new.reply held.tells) [
+    | inl is ↦ ap job_tally is
+    | inr is ↦ ap job_tally is
   ]
+
+  -- it is unbroken if it was, unless memory was short
+  still_unbroken : is_carried (reading_end looked) ≡ true → (held.told.unbroken ≡ held.job.unbroken) ⊎ ((new.reply ≡ refusal_line Console refusals.Memory) × (held.told.unbroken ≡ false))
+  still_unbroken = by looked held.tells held.stepped.unbroken_is
+    where
+      same : held.told.unbroken ≡ held.mid.unbroken
+      same = ap (λ (tally : JobTally). tally.unbroken) same_tally
+
+      by : (answer : Result (Unit {0}) ReadFault) → TellsStep answer old.world.format held.mid held.told new.reply → held.mid.unbroken ≡ (held.job.unbroken && is_ok answer)
+          → is_carried (reading_end answer) ≡ true → (held.told.unbroken ≡ held.job.unbroken) ⊎ ((new.reply ≡ refusal_line Console refusals.Memory) × (held.told.unbroken ≡ false))
+      by (Ok all) so is fine = inl (same ∙ is ∙ sym (and_done held.job.unbroken))
+      by (Err faults.Memory) so is fine = inr (so.1, same ∙ is ∙ sym (and_failed held.job.unbroken))
+      by (Err faults.Keeper) so is fine = absurd (false≢true fine)
+      by (Err (faults.Damaged other)) so is fine = absurd (false≢true fine)
 
   module _ (history : History) (over : LooksOver combine_terms history looked held.job held.mid) where
     told_looks : IsLooking history held.told
@@ -272,15 +289,17 @@ module _ (number count : ℕ) (past : Past) (looked : Result (Unit {0}) ReadFaul
       (λ told history holds.
       let looks : IsLooking history held.job = one_has (IsLooking history) old.world.jobs number (Some held.job) place_there holds.jobs in
       let over : LooksOver combine_terms history looked held.job held.mid = held.stepped.looks.told told history holds.forms (is_past history holds.stands) looks.fits in
+      let same_taken : taken_by_job held.told ≡ taken_by_job held.mid = ap (λ (tally : JobTally). tally.taken) same_tally in
       let few : taken_by_job held.mid ≤ versions history = taken_within combine_terms held.mid history (taken_by_job held.mid) over.fits_still refl in
+      let takes : steps' + taken_by_job held.job ≡ steps + taken_by_job held.told = omega (arith, held.stepped.looks.moves.ledger, same_taken) in
+      let within : taken_by_job held.told ≤ versions history = omega (arith, few, same_taken) in
       record {
         effect = step_effect history over;
         jobs = subst (AreLooking history) (sym jobs_are) (all_with (IsLooking history) old.world.jobs number (Some held.told) holds.jobs (told_looks history over));
         watches = subst (WatchesFit history) (sym held.world) holds.watches;
-        counts = job_stepped (taken_by_job held.job) (taken_by_job held.told) (all_handed place_there.front) (all_handed place_there.behind) refl
-            (omega (arith, held.stepped.looks.moves.ledger, same_taken)) (omega (arith, few, same_taken))
-            (handed-parted old.world.jobs number (Some held.job) place_there)
-            (ap all_handed jobs_are ∙ handed-with old.world.jobs number (Some held.job) place_there (Some held.told));
+        counts = λ fine. job_stepped number (job_tally held.job) (job_tally held.told) refl refl
+            (tally_there old.world.jobs number held.job held.there) (tallies_put old.world.jobs number (Some held.told) new.world.jobs jobs_are)
+            (record { takes = takes; few = within; unbroken = still_unbroken fine });
         refused = λ refusal refuses others. absurd (unrefused history refusal refuses);
         adds = ap (λ (effect : Effect). effect.added) (done_so history);
         undamaged = λ other e. undamaged_end looked other over.undamaged e;

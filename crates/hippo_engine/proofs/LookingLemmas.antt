@@ -8,7 +8,7 @@ use Rattle.hippo_replay.specs.declared.state.State.{State}
 use Rattle.hippo_replay.specs.Standing.{StandsFor, IsSound}
 use Rattle.hippo_report.specs.declared.refusal.Refusal.{Refusal}
 use Rattle.hippo_report.specs.declared.refusal.Refusal.TheVariants.{NoSuchQuery}
-use Rattle.hippo_world.specs.Holding.{world_of, JobsFit, taken_of, WatchesFit}
+use Rattle.hippo_world.specs.Holding.{world_of, JobsFit, WatchesFit, tallies_of}
 use Rattle.hippo_commands.specs.Commands.{Command}
 use Rattle.hippo_engine.specs.declared.engine.Engine.{Engine}
 use Rattle.hippo_engine.specs.declared.faults.EngineFault.{EngineFault}
@@ -24,7 +24,7 @@ pub record HasLooked (history : History) (command : Command) (result : Result (U
   pub effect : is_carried result ≡ true → IsEffect history (world_of old.world) command (shown_effect new)
   pub jobs : JobsFit history new.world
   pub watches : WatchesFit history new.world
-  pub counts : Tallies command (versions history) steps steps' (taken_of old.world) (taken_of new.world)
+  pub counts : is_carried result ≡ true → Tallies command new.reply (versions history) steps steps' (tallies_of old.world) (tallies_of new.world)
   pub refused : (refusal : Refusal) → judged history (world_of old.world) command ≡ Err refusal → ((number : ℤ) → refusal ≢ NoSuchQuery number) → steps' ≡ steps
   pub adds : (effect_of history (world_of old.world) command).added ≡ []
   pub undamaged : (number : ℕ) → result ≢ Err (Damaged number)
@@ -48,7 +48,7 @@ Carries-looked command result old new before after steps steps' reads at_work sa
         world = refl;
         holds = Holds-same history old new before after holds (subst (λ (held : State). StandsFor held history) (sym same) holds.stands) looked.jobs looked.watches keeps;
         kept = keeps;
-        counts = λ ample. looked.counts;
+        counts = looked.counts fine;
         refused = looked.refused;
       };
   failed = λ fails tells history holds.

@@ -25,7 +25,7 @@ use Rattle.hippo_world.specs.declared.worlds.World.{World as HeldWorld}
 use Rattle.hippo_world.specs.Worlds.{World, session_at}
 use Rattle.hippo_world.specs.Holding.{world_of, KeepsAudits, WatchesFit}
 use Rattle.hippo_values.specs.declared.memory.Memory.{Memory as NoMemory}
-use Rattle.hippo_world.proofs.AuditLemmas.{JobsFit-more, JobsFit-same, taken_of-same, WatchesFit-more, WatchesFit-same}
+use Rattle.hippo_world.proofs.AuditLemmas.{JobsFit-more, JobsFit-same, tallies_of-same, WatchesFit-more, WatchesFit-same}
 use Rattle.hippo_commands.specs.Commands.{Command, who_commands}
 use Rattle.hippo_engine.specs.declared.engine.Engine.{Engine}
 use Rattle.hippo_engine.specs.declared.faults.EngineFault.{EngineFault}
@@ -107,7 +107,7 @@ module _ (command : Command) (deed : Deed) (question : Question) (said : List Sh
       let line : Txt = refusal_line (who_commands command) Memory in
       let next = next_is history old.state old.world question stands in
       let so : IsShort history (world_of old.world) line (Ok deed) shown = asks.short history line shown (record { said = none.said; kept = inr (λ i. next i ∷ []); same = none.same }) in
-      inr ((takes_some command takes).0, subst (λ (judgement : Checked Deed). IsShort history (world_of old.world) line judgement shown) (sym (judged_is history stands)) so)
+      inr (takes_some command takes, subst (λ (judgement : Checked Deed). IsShort history (world_of old.world) line judgement shown) (sym (judged_is history stands)) so)
 
   -- it was kept and answered
   Carries-kept : (answer : Result (List ShownRow) EvalFault) → new.world.clock ≡ old.world.clock → Asks entry (world_of old.world) question (ok_of KeeperFault answer) old.state new.state before after
@@ -132,7 +132,7 @@ module _ (command : Command) (deed : Deed) (question : Question) (said : List Sh
           (JobsFit-more history entry (kept.added history holds.stands).valid new.world (JobsFit-same history old.world new.world same_audits holds.jobs))
           (WatchesFit-more history entry (kept.added history holds.stands).valid new.world refl (WatchesFit-same history old.world new.world same_audits holds.watches)) (kept.keeps.kept tells);
       kept = kept.keeps.kept tells;
-      counts = λ ample. none_taken refl (taken_of-same old.world new.world same_audits);
+      counts = none_taken refl (tallies_of-same old.world new.world same_audits);
       refused = λ refusal is others. refl;
     };
     failed = λ fails. absurd (false≢true fails);
@@ -155,7 +155,7 @@ module _ (command : Command) (deed : Deed) (question : Question) (said : List Sh
       holds = Holds-same history old new before after holds (subst (λ (held : State). StandsFor held history) (sym kept.same) holds.stands)
           (JobsFit-same history old.world new.world same_audits holds.jobs) (WatchesFit-same history old.world new.world same_audits holds.watches) (kept.keeps.same refl tells);
       kept = kept.keeps.same refl tells;
-      counts = λ ample. none_taken refl (taken_of-same old.world new.world same_audits);
+      counts = none_taken refl (tallies_of-same old.world new.world same_audits);
       refused = λ refusal is others. refl;
     };
     failed = λ fails. absurd (false≢true fails);

@@ -40,7 +40,6 @@ use Rattle.hippo_judging.specs.Checks.{Checked, ◌>>=◌, by_console, by_sessio
 use Rattle.hippo_judging.specs.Judging.{judged, judged_login, judged_logout, judged_fetch, judged_close, judged_wanted, judged_change, loaded_insert, judged_load, text_between, question_in, delivery_for, deed_for, judged_question, audit_in, judged_begin, judged_drop}
 use Rattle.hippo_engine.specs.Effects.{only_reply, judgement_effect, effect_of, IsShort, IsEffect}
 use Rattle.hippo_judging.specs.Findings.{may_do_nothing}
-use Rattle.hippo_engine.specs.Ledgers.{steps_job}
 
 -- a command is no step of a job, and does not set the clock
 abbrev pub is_plain : Command → Bool
@@ -176,20 +175,10 @@ short_of history world reply (Ok (deeds.extract question)) none = record { said 
 short_of history world reply (Ok (deeds.step_job number job count)) none = absurd none
 short_of history world reply judgement none = refl
 
--- what may do nothing takes memory, and is no step
-pub takes_some : (command : Command) → may_do_nothing command ≡ true → (takes_memory command ≡ true) × (steps_job command ≡ false)
+-- what may do nothing takes memory
+pub takes_some : (command : Command) → may_do_nothing command ≡ true → takes_memory command ≡ true
 takes_some (make_request session (steps job count)) takes = absurd (false≢true takes)
-takes_some (make_request session (logs_in user purpose recipient)) takes = (takes, refl)
-takes_some (make_request session logs_out) takes = (takes, refl)
-takes_some (make_request session (fetches cursor count)) takes = (takes, refl)
-takes_some (make_request session (closes cursor)) takes = (takes, refl)
-takes_some (make_request session (drops job)) takes = (takes, refl)
-takes_some (make_request session (unwatches watch)) takes = (takes, refl)
-takes_some (make_request session (loads table text)) takes = (takes, refl)
-takes_some nothing takes = (takes, refl)
-takes_some (wrong who refusal) takes = (takes, refl)
-takes_some (commands.set_clock moment) takes = (takes, refl)
-takes_some (make_statement session statement text) takes = (takes, refl)
+takes_some command takes = takes
 
 takes_plain : (command : Command) → may_do_nothing command ≡ true → is_plain command ≡ true
 takes_plain (commands.set_clock moment) takes = absurd (false≢true takes)
@@ -200,8 +189,7 @@ takes_plain command takes = refl
 pub short : (history : History) (world : World) (command : Command) → may_do_nothing command ≡ true
     → IsEffect history world command (only_reply world (refusal_line (who_commands command) Memory))
 short history world command takes =
-    let both = takes_some command takes in
-    inr (both.0, short_of history world (refusal_line (who_commands command) Memory) (judged history world command) (plain history world command (takes_plain command takes)))
+    inr (takes_some command takes, short_of history world (refusal_line (who_commands command) Memory) (judged history world command) (plain history world command (takes_plain command takes)))
 
 -- a command that is refused is answered by its refusal, and nothing changes
 pub refused : (history : History) (world : World) (command : Command) (refusal : Refusal) → judged history world command ≡ Err refusal

@@ -32,7 +32,7 @@ use Rattle.hippo_report.specs.declared.refusal.Refusal.TheVariants.{Memory}
 use Rattle.hippo_report.specs.Refusals.{refusal_line}
 use Rattle.hippo_world.specs.declared.worlds.World.{World as HeldWorld}
 use Rattle.hippo_world.specs.Worlds.{World, with_at}
-use Rattle.hippo_world.specs.Holding.{world_of, JobsFit, WatchesFit, taken_of}
+use Rattle.hippo_world.specs.Holding.{world_of, JobsFit, WatchesFit, tallies_of}
 use Rattle.hippo_world.specs.Auditing.{watched, AreWatching}
 use Rattle.hippo_world.proofs.AuditLemmas.{all_with}
 use Rattle.hippo_world.proofs.HeldLemmas.{seen-with}
@@ -164,7 +164,7 @@ module _ (command : Command) (deed : Deed) (number : ℕ) (held : Option AuditHi
     jobs = λ history stands fit. subst (λ (world : HeldWorld). JobsFit history world) (sym world_is) fit;
     watches = λ history stands fit. subst (λ (world : HeldWorld). WatchesFit history world) (sym world_is)
         (all_with (IsWatchOf history) old.world.watches number held fit (fits history stands));
-    counts = λ versions steps. none_taken refl (ap taken_of world_is);
+    counts = λ versions steps. none_taken refl (ap tallies_of world_is);
   }
 
 pub sets_watch : (command : Command) (number : ℕ) (audit : Audit) (watch : AuditHits) (old new : Engine) → Does command (kinds.Watch number audit) old.state old.world → new.state ≡ old.state

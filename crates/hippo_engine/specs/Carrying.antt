@@ -17,7 +17,7 @@ use Rattle.hippo_replay.specs.Recording.{HasKept}
 use Rattle.hippo_replay.specs.TakingIn.{HasLoaded}
 use Rattle.hippo_report.specs.declared.refusal.Refusal.{Refusal}
 use Rattle.hippo_report.specs.declared.refusal.Refusal.TheVariants.{NoSuchQuery}
-use Rattle.hippo_world.specs.Holding.{world_of, KeepsAudits, JobsFit, WatchesFit, taken_of}
+use Rattle.hippo_world.specs.Holding.{world_of, KeepsAudits, JobsFit, WatchesFit, tallies_of}
 use Rattle.hippo_commands.specs.Commands.{Command}
 use Rattle.hippo_engine.specs.declared.engine.Engine.{Engine}
 use Rattle.hippo_engine.specs.declared.faults.EngineFault.{EngineFault}
@@ -88,12 +88,13 @@ pub record AddsNothing (command : Command) (old new : Engine) : Type 0 where
       → JobsFit history new.world
   pub watches : (history : History) → StandsFor old.state history → WatchesFit history old.world
       → WatchesFit history new.world
-  pub counts : (versions steps : ℕ) → Tallies command versions steps steps (taken_of old.world)
-      (taken_of new.world)
+  pub counts : (versions steps : ℕ)
+      → Tallies command new.reply versions steps steps (tallies_of old.world)
+      (tallies_of new.world)
 
 -- a command has its effect after a history: the engine shows the reply and the world, it and its
--- keeper hold the history with what was added, the steps are tallied unless memory was short for
--- reading, and a refusal takes none, but for one that is found by reading
+-- keeper hold the history with what was added, steps and jobs are tallied, and a refusal takes no
+-- step, but for one that is found by reading
 pub record HasEffect (history : History) (command : Command) (old new : Engine)
     (before after : KeeperState) (steps steps' : ℕ) : Type 0 where
   pub effect : Effect
@@ -102,8 +103,8 @@ pub record HasEffect (history : History) (command : Command) (old new : Engine)
   pub world : world_of new.world ≡ effect.world
   pub holds : Holds (history ++ effect.added) new after
   pub kept : HasKept effect.added before after
-  pub counts : (reads_kept command ≡ true → effect ≡ effect_of history (world_of old.world) command)
-      → Tallies command (versions history) steps steps' (taken_of old.world) (taken_of new.world)
+  pub counts : Tallies command new.reply (versions history) steps steps' (tallies_of old.world)
+      (tallies_of new.world)
   pub refused : (refusal : Refusal) → judged history (world_of old.world) command ≡ Err refusal
       → ((number : ℤ) → refusal ≢ NoSuchQuery number) → steps' ≡ steps
 

@@ -1,13 +1,13 @@
 -- A run: the lines of an input, each with its effect on the history and the world that the line
 -- before it left.
-use Rattle.std.specs.Prelude.{◌≡◌, ℕ, true, List, [], ◌∷◌, ◌++◌, flat_map, sum_by}
+use Rattle.std.specs.Prelude.{ℕ, List, [], ◌∷◌, ◌++◌, flat_map, sum_by}
 use Rattle.hippo_values.specs.Texts.{Txt}
 use Rattle.hippo_io.specs.Lines.{LineText}
 use Rattle.hippo_model.specs.Terms.{History}
 use Rattle.hippo_world.specs.Worlds.{World}
 use Rattle.hippo_commands.specs.Commands.{command_of}
-use Rattle.hippo_engine.specs.Effects.{Effect, effect_of, IsEffect}
-use Rattle.hippo_engine.specs.Ledgers.{reads_kept, audits_of}
+use Rattle.hippo_engine.specs.Effects.{Effect, IsEffect}
+use Rattle.hippo_engine.specs.Ledgers.{audits_of}
 
 -- each line has its effect
 abbrev pub IsRun : History → World → List LineText → List Effect → Type 0
@@ -17,16 +17,6 @@ IsRun history world (line ∷ lines) (effect ∷ effects) =
     × IsRun (history ++ effect.added) effect.world lines effects
 IsRun history world [] (effect ∷ effects) = ⊥
 IsRun history world (line ∷ lines) [] = ⊥
-
--- memory was ample for the lines that read the history that is kept: each has the effect that the
--- rules make
-abbrev pub IsAmple : History → World → List LineText → List Effect → Type 0
-IsAmple history world [] [] = Unit {0}
-IsAmple history world (line ∷ lines) (effect ∷ effects) =
-    (reads_kept (command_of line) ≡ true → effect ≡ effect_of history world (command_of line))
-    × IsAmple (history ++ effect.added) effect.world lines effects
-IsAmple history world [] (effect ∷ effects) = ⊥
-IsAmple history world (line ∷ lines) [] = ⊥
 
 -- how many audits the lines ask for
 abbrev pub audits_in : List LineText → ℕ

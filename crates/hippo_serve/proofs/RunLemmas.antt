@@ -1,6 +1,7 @@
 -- A run, one line more.
 use Rattle.std.proofs.Common.{◌≡◌, inl, inr, ℕ, ◌+◌, ◌*◌, ◌<◌, ◌≤◌, ◌↔◌, List, [], ◌∷◌, ◌++◌, flat_map, length, drop, take, true, cond, Option, Some, Result, Ok, Err, refl, ap, sym, subst, ◌∙◌, append_assoc, append-nil, arith, length-drop}
 use Rattle.std.proofs.lemmas.List.Sums.{sum_by-cons, sum_by-append}
+use Rattle.hippo_values.specs.Limits.{job_limit}
 use Rattle.hippo_values.specs.Texts.{Txt}
 use Rattle.hippo_io.specs.Lines.{LineText, lines}
 use Rattle.hippo_io.specs.declared.lines.Line.{Line}
@@ -13,17 +14,18 @@ use Rattle.hippo_model.specs.Terms.{History}
 use Rattle.hippo_model.specs.declared.entry.Entry.{Entry}
 use Rattle.hippo_model.specs.Versions.{is_version, versions}
 use Rattle.hippo_keeper.specs.Keeping.{KeeperState}
-use Rattle.hippo_world.specs.Worlds.{World}
-use Rattle.hippo_world.specs.Holding.{world_of, taken_of}
-use Rattle.hippo_world.proofs.AuditLemmas.{taken_of-opening}
+use Rattle.hippo_world.specs.Auditing.{JobTally}
+use Rattle.hippo_world.specs.Worlds.{World, none_held}
+use Rattle.hippo_world.specs.Holding.{world_of, tallies_of}
+use Rattle.hippo_world.proofs.AuditLemmas.{tallies_of-opening}
 use Rattle.hippo_commands.specs.Commands.{Command, command_of}
 use Rattle.hippo_engine.specs.declared.engine.Engine.{Engine}
 use Rattle.hippo_engine.specs.declared.faults.EngineFault.{EngineFault}
 use Rattle.hippo_engine.specs.declared.faults.EngineFault.TheVariants.{Keeper, Write, Damaged}
 use Rattle.hippo_engine.specs.Carrying.{Holds, is_carried, Carries, HasEffect, BreaksOff}
 use Rattle.hippo_engine.specs.Effects.{Effect, IsEffect, effect_of}
-use Rattle.hippo_engine.specs.Ledgers.{reads_kept, audits_of, Tallies, RunSum}
-use Rattle.hippo_engine.specs.Runs.{IsRun, IsAmple, audits_in, replies, history_after, world_after}
+use Rattle.hippo_engine.specs.Ledgers.{audits_of, RunSum}
+use Rattle.hippo_engine.specs.Runs.{IsRun, audits_in, replies, history_after, world_after}
 use Rattle.hippo_engine.proofs.LedgerLemmas.{RunSum-start, RunSum-line, RunSum-end}
 use Rattle.hippo_words.specs.declared.calls.Job.{Job}
 use Rattle.hippo_words.specs.declared.calls.Setting.{Setting}
@@ -63,21 +65,6 @@ world_after-append world (first ∷ effects) effect = world_after-append first.w
 pub replies-append : (effects : List Effect) (effect : Effect) → replies (effects ++ effect ∷ []) ≡ replies effects ++ effect.reply
 replies-append effects effect = flat_map-last (λ (e : Effect). e.reply) effects effect
 
--- memory was ample for the lines before the last, and for that one
-pub IsAmple-front : (history : History) (world : World) (replied : List LineText) (effects : List Effect) (line : LineText) (effect : Effect)
-    → IsRun history world replied effects → IsAmple history world (replied ++ line ∷ []) (effects ++ effect ∷ [])
-    → IsAmple history world replied effects × (reads_kept (command_of line) ≡ true → effect ≡ effect_of (history_after history effects) (world_after world effects) (command_of line))
-IsAmple-front history world [] [] line effect run ample =
-    (tt, λ reads. subst (λ (h : History). effect ≡ effect_of h world (command_of line)) (sym (append-nil history)) (ample.0 reads))
-IsAmple-front history world [] (first ∷ effects) line effect run ample = absurd run
-IsAmple-front history world (text ∷ replied) [] line effect run ample = absurd run
-IsAmple-front history world (text ∷ replied) (first ∷ effects) line effect run ample =
-    let rest = IsAmple-front (history ++ first.added) first.world replied effects line effect run.1 ample.1 in (
-      (ample.0, rest.0),
-      λ reads. subst (λ (h : History). effect ≡ effect_of h (world_after first.world effects) (command_of line))
-          (append_assoc history first.added (flat_map (λ (e : Effect). e.added) effects)) (rest.1 reads),
-    )
-
 -- the audits of the lines before the last, and of that one
 audits_in-append : (replied : List LineText) (line : LineText) → audits_in (replied ++ line ∷ []) ≡ audits_in replied + audits_of (command_of line)
 audits_in-append replied line =
@@ -112,9 +99,9 @@ replied_none setting history left written engine keeper start steps holds world 
   world = world;
   holds = subst (λ (h : History). Holds h engine keeper) (sym (append-nil history)) holds;
   kept = subst (λ (h : History). KeepsHistory h keeper) (sym (append-nil history)) kept;
-  sum = λ ample.
-      subst (λ (taken : List ℕ). RunSum start steps (versions (history ++ [])) 0 taken) (sym (taken_of-opening engine.world _ _ _ world))
-      (subst (λ (h : History). RunSum start steps (versions h) 0 []) (sym (append-nil history)) (RunSum-start start steps (versions history) counted));
+  sum =
+      subst (λ (jobs : List (Option JobTally)). RunSum start steps (versions (history ++ [])) 0 jobs) (sym (tallies_of-opening engine.world _ _ _ world))
+      (subst (λ (h : History). RunSum start steps (versions h) 0 (none_held job_limit)) (sym (append-nil history)) (RunSum-start start steps (versions history) job_limit counted));
   written = λ bytes is. is ∙ ap Some (sym (append-nil bytes));
 }
 
@@ -145,9 +132,9 @@ module _ (setting : Setting) (history : History) (asked : List LineText) (before
   now = outside left' written' keeper' steps'
 
   -- so many steps as the lines so far are allowed
-  pub within_so_far : (after : Outside) → after.told.steps ≡ steps → StepsWithin setting history asked replied.effects before after
-  within_so_far after same ample =
-      let at_most : steps ≤ before.steps + versions here * (1 + audits_in asked) = RunSum-end before.steps steps (versions here) (audits_in asked) (taken_of engine.world) (replied.sum ample) in
+  pub within_so_far : (after : Outside) → after.told.steps ≡ steps → StepsWithin history asked replied.effects before after
+  within_so_far after same =
+      let at_most : steps ≤ before.steps + versions here * (1 + audits_in asked) = RunSum-end before.steps steps (versions here) (audits_in asked) (tallies_of engine.world) replied.sum in
       subst (λ (n : ℕ). n ≤ before.steps + versions here * (1 + audits_in asked)) (sym same) at_most
 
   -- nothing has changed but what is left of the input
@@ -179,16 +166,12 @@ module _ (setting : Setting) (history : History) (asked : List LineText) (before
       kept_on = subst (λ (h : History). KeepsHistory h keeper') (sym there_is)
           (KeepsHistory-after here done.effect.added keeper keeper' done.holds.stands.valid replied.kept done.kept)
 
-      sum_on : IsAmple history (opening_after setting history) (asked ++ line ∷ []) longer
-          → RunSum before.steps steps' (versions there) (audits_in (asked ++ line ∷ [])) (taken_of engine'.world)
-      sum_on ample =
-          let parts = IsAmple-front history (opening_after setting history) asked replied.effects line done.effect replied.run ample in
-          let tallies : Tallies (command_of line) (versions here) steps steps' (taken_of engine.world) (taken_of engine'.world) =
-          done.counts (λ reads. subst (λ (w : World). done.effect ≡ effect_of here w (command_of line)) (sym replied.world) (parts.1 reads)) in
+      sum_on : RunSum before.steps steps' (versions there) (audits_in (asked ++ line ∷ [])) (tallies_of engine'.world)
+      sum_on =
           let more : versions here ≤ versions there = subst (λ (h : History). versions here ≤ versions h) (sym there_is) (versions-more here done.effect.added) in
-          subst (λ (n : ℕ). RunSum before.steps steps' (versions there) n (taken_of engine'.world)) (sym (audits_in-append asked line))
-          (RunSum-line (command_of line) before.steps steps steps' (versions here) (versions there) (audits_in asked) (taken_of engine.world) (taken_of engine'.world)
-          more (replied.sum parts.0) tallies)
+          subst (λ (n : ℕ). RunSum before.steps steps' (versions there) n (tallies_of engine'.world)) (sym (audits_in-append asked line))
+          (RunSum-line (command_of line) engine'.reply before.steps steps steps' (versions here) (versions there) (audits_in asked) (tallies_of engine.world) (tallies_of engine'.world)
+          more replied.sum done.counts)
 
       -- the line has its reply
       pub replied_more : Appends written written' engine'.reply → HasReplied setting history (asked ++ line ∷ []) before engine' now
@@ -208,7 +191,7 @@ module _ (setting : Setting) (history : History) (asked : List LineText) (before
       ran_on = record {
         run = run_on;
         kept = kept_on;
-        bound = λ ample. RunSum-end before.steps steps' (versions there) (audits_in (asked ++ line ∷ [])) (taken_of engine'.world) (sum_on ample);
+        bound = RunSum-end before.steps steps' (versions there) (audits_in (asked ++ line ∷ [])) (tallies_of engine'.world) sum_on;
       }
 
       -- its reply could not be written whole

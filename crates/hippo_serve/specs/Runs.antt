@@ -13,14 +13,14 @@ use Rattle.hippo_keeper.specs.Keeping.{KeeperState}
 use Rattle.hippo_typing.specs.Meanings.{meaning}
 use Rattle.hippo_replay.specs.Standing.{latest_moment}
 use Rattle.hippo_world.specs.Worlds.{World, opening}
-use Rattle.hippo_world.specs.Holding.{world_of, taken_of}
+use Rattle.hippo_world.specs.Holding.{world_of, tallies_of}
 use Rattle.hippo_commands.specs.Commands.{Command, command_of}
 use Rattle.hippo_engine.specs.declared.engine.Engine.{Engine}
 use Rattle.hippo_engine.specs.declared.faults.EngineFault.TheVariants.{Keeper, Write, Damaged as DamagedAt}
 use Rattle.hippo_engine.specs.Carrying.{Holds, Carries}
 use Rattle.hippo_engine.specs.Effects.{Effect, effect_of}
 use Rattle.hippo_engine.specs.Ledgers.{reads_kept, RunSum}
-use Rattle.hippo_engine.specs.Runs.{IsRun, IsAmple, audits_in, replies, history_after, world_after}
+use Rattle.hippo_engine.specs.Runs.{IsRun, audits_in, replies, history_after, world_after}
 use Rattle.hippo_words.specs.declared.calls.Job.{Job}
 use Rattle.hippo_words.specs.declared.calls.Setting.{Setting}
 use Rattle.hippo_serve.specs.declared.endings.Ending.{Ending}
@@ -37,12 +37,11 @@ opening_after setting history = opening (latest_moment history) setting.limit se
 abbrev pub ForInput : Told → (Txt → Type 0) → Type 0
 ForInput before holds = (input : Txt) → before.left ≡ Some input → holds input
 
--- where memory was ample, what is kept was read once by loading, and at most once for each audit
--- that was asked for: a step is one version that was read
-abbrev pub StepsWithin : Setting → History → List LineText → List Effect → Told → Outside → Type 0
-StepsWithin setting history asked effects before after =
-    IsAmple history (opening_after setting history) asked effects
-    → after.told.steps ≤ before.steps + versions (history_after history effects)
+-- what is kept was read once by loading, and at most once for each audit that was asked for: a step
+-- is one version that was read
+abbrev pub StepsWithin : History → List LineText → List Effect → Told → Outside → Type 0
+StepsWithin history asked effects before after =
+    after.told.steps ≤ before.steps + versions (history_after history effects)
     * (1 + audits_in asked)
 
 -- so many bytes of the input were taken, and the others are left: all at status 0, and more than
@@ -66,7 +65,7 @@ pub record HasRun (setting : Setting) (history : History) (asked : List LineText
     (before : Told) (after : Outside) : Type 0 where
   pub run : IsRun history (opening_after setting history) asked effects
   pub kept : KeepsHistory (history_after history effects) after.keeper
-  pub bound : StepsWithin setting history asked effects before after
+  pub bound : StepsWithin history asked effects before after
 
 -- these are all lines of the input, and nothing of it is left
 pub record HasReadAll (replied : List LineText) (input : Txt) (left : Option Txt) : Type 0 where
@@ -178,7 +177,7 @@ pub record IsBrokenOff (setting : Setting) (job : Job) (history : History) (befo
   pub run : IsRun history (opening_after setting history) (asked_lines job replied) effects
   pub kept : KeepsBroken setting history effects (asked_line job next) after.keeper
   pub bound : reads_kept (command_of (asked_line job next)) ≡ false
-      → StepsWithin setting history (asked_lines job replied) effects before after
+      → StepsWithin history (asked_lines job replied) effects before after
   pub read : ForInput before (λ input. HasReadFront (replied ++ next ∷ []) input after.told.left)
   pub written : Appends before.written after.told.written (replies effects)
 
@@ -200,10 +199,9 @@ pub record HasReplied (setting : Setting) (history : History) (asked : List Line
   pub world : world_of engine.world ≡ world_after (opening_after setting history) effects
   pub holds : Holds (history_after history effects) engine now.keeper
   pub kept : KeepsHistory (history_after history effects) now.keeper
-  pub sum : IsAmple history (opening_after setting history) asked effects
-      → RunSum before.steps now.told.steps (versions (history_after history effects))
+  pub sum : RunSum before.steps now.told.steps (versions (history_after history effects))
       (audits_in asked)
-      (taken_of engine.world)
+      (tallies_of engine.world)
   pub written : Appends before.written now.told.written (replies effects)
 
 -- so far the lines that were handed out have their replies, as the job asks for them

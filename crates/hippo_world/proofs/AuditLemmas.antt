@@ -2,7 +2,6 @@
 use Rattle.std.proofs.Common.{◌≡◌, ◌∙◌, ◌<◌, sym, ap, subst, refl, arith, ℕ, zero, suc, List, [], ◌∷◌, ◌++◌, map, length, get_or, Option, None, Some, true, false}
 use Rattle.std.specs.Prelude.{IfSome, option_map, slice_set}
 use Rattle.std.specs.List.{All, AllByRecursion}
-use Rattle.std.proofs.lemmas.List.Elements.{filter_map-append}
 use Rattle.hippo_values.specs.Limits.{job_limit, watch_limit}
 use Rattle.hippo_values.specs.declared.moments.Moment.{Moment}
 use Rattle.hippo_model.specs.declared.audit.Audit.{Audit}
@@ -22,10 +21,10 @@ use Rattle.hippo_hits.specs.declared.counts.AuditHits.{AuditHits}
 use Rattle.hippo_watch.specs.Watches.{IsWatchOf, WasWatchOf}
 use Rattle.hippo_watch.proofs.WatchLemmas.{IsWatchOf-no_version}
 use Rattle.hippo_world.specs.declared.worlds.World.{World as HeldWorld}
-use Rattle.hippo_world.specs.Auditing.{HeldJob, taken_by_job, HasBegun, IsLooking, AreLooking, watched, AreWatching, AreAudits, EachFollows, EachGoesBack, all_handed}
-use Rattle.hippo_world.specs.Holding.{world_of, KeepsAudits, JobsFit, WatchesFit, WatchesFollow, WatchesGoBack, taken_of}
+use Rattle.hippo_world.specs.Auditing.{HeldJob, taken_by_job, HasBegun, IsLooking, AreLooking, watched, AreWatching, AreAudits, EachFollows, EachGoesBack, JobTally, job_tally, job_tallies}
+use Rattle.hippo_world.specs.Holding.{world_of, KeepsAudits, JobsFit, WatchesFit, WatchesFollow, WatchesGoBack, tallies_of}
 use Rattle.hippo_world.specs.Worlds.{World, with_at, none_held, opening}
-use Rattle.hippo_world.proofs.HeldLemmas.{StandsAt}
+use Rattle.hippo_world.proofs.HeldLemmas.{StandsAt, seen-none}
 
 module _ {A : Type 0} (P Q : A → Type 0) where
   -- what each that is held has, so it has what follows from that
@@ -75,9 +74,9 @@ module _ (history : History) (old new : HeldWorld) (keeps : KeepsAudits old new)
   pub WatchesFit-same : WatchesFit history old → WatchesFit history new
   WatchesFit-same fit = subst (AreWatching history) (sym keeps.watches) fit
 
--- jobs that are the same were handed as much
-pub taken_of-same : (old new : HeldWorld) → KeepsAudits old new → taken_of new ≡ taken_of old
-taken_of-same old new keeps = ap all_handed keeps.jobs
+-- jobs that are the same are tallied alike
+pub tallies_of-same : (old new : HeldWorld) → KeepsAudits old new → tallies_of new ≡ tallies_of old
+tallies_of-same old new keeps = ap job_tallies keeps.jobs
 
 -- nothing is held where nothing is seen
 module _ {A B : Type 0} (f : A → B) where
@@ -98,10 +97,6 @@ none_watch : (history : History) (count : ℕ) → AreWatching history (none_hel
 none_watch history zero = tt
 none_watch history (suc count) = (tt, none_watch history count)
 
-none_handed : (count : ℕ) → all_handed (none_held count) ≡ []
-none_handed zero = refl
-none_handed (suc count) = none_handed count
-
 module _ (held : HeldWorld) (clock : Moment) (limit : ℕ) (format : Format) (opens : world_of held ≡ opening clock limit format) where
   no_jobs : (count : ℕ) → (opening clock limit format).jobs ≡ none_held count → held.jobs ≡ none_held count
   no_jobs count is = none_there open_audit held.jobs count (ap (λ (world : World). world.jobs) opens ∙ is)
@@ -110,8 +105,8 @@ module _ (held : HeldWorld) (clock : Moment) (limit : ℕ) (format : Format) (op
   pub JobsFit-opening : (history : History) → JobsFit history held
   JobsFit-opening history = subst (AreLooking history) (sym (no_jobs job_limit refl)) (none_look history job_limit)
 
-  pub taken_of-opening : taken_of held ≡ []
-  taken_of-opening = ap all_handed (no_jobs job_limit refl) ∙ none_handed job_limit
+  pub tallies_of-opening : tallies_of held ≡ none_held job_limit
+  tallies_of-opening = ap job_tallies (no_jobs job_limit refl) ∙ seen-none job_tally job_limit
 
   no_watches : (count : ℕ) → (opening clock limit format).watches ≡ none_held count → held.watches ≡ none_held count
   no_watches count is = none_there watched held.watches count (ap (λ (world : World). world.watches) opens ∙ is)
@@ -123,14 +118,6 @@ module _ (held : HeldWorld) (clock : Moment) (limit : ℕ) (format : Format) (op
   pub WatchesFit-opening : (history : History) → WatchesFit history held
   WatchesFit-opening history = subst (AreWatching history) (sym none_watched) (none_watch history watch_limit)
 
-module _ (jobs : List (Option HeldJob)) (number : ℕ) (held : Option HeldJob) (there : StandsAt jobs number held) where
-  -- what was handed to the jobs before a number, to the one there, and to those behind it
-  pub handed-parted : all_handed jobs ≡ all_handed there.front ++ all_handed (held ∷ there.behind)
-  handed-parted = ap all_handed there.whole ∙ filter_map-append (option_map taken_by_job) there.front (held ∷ there.behind)
-
-  pub handed-with : (other : Option HeldJob) → all_handed (with_at jobs number other) ≡ all_handed there.front ++ all_handed (other ∷ there.behind)
-  handed-with other = ap all_handed (there.put other) ∙ filter_map-append (option_map taken_by_job) there.front (other ∷ there.behind)
-
 -- a job that has just begun over a valid history looks at it
 pub IsLooking-begun : (history : History) (audit : Audit) (job : HeldJob) → is_valid meaning history ≡ true → IsAuditOf history audit → HasBegun audit (length history) job → IsLooking history job
 IsLooking-begun history audit job valid is_audit begun = subst (IsLooking history) (sym begun.is) (record {
@@ -138,9 +125,11 @@ IsLooking-begun history audit job valid is_audit begun = subst (IsLooking histor
   fits = JobFits-new combine_terms history audit job.examiner valid is_audit begun.unasked;
 })
 
--- and was handed nothing
-pub none_taken_yet : (audit : Audit) (number : ℕ) (job : HeldJob) → HasBegun audit number job → taken_by_job job ≡ 0
-none_taken_yet audit number job begun = begun.unasked.none_handed (taken_by_job job) refl
+-- and was handed nothing, and no step of it failed
+pub tally-begun : (audit : Audit) (number : ℕ) (job : HeldJob) → HasBegun audit number job → job_tally job ≡ record { taken = 0; unbroken = true }
+tally-begun audit number job begun =
+    let none : taken_by_job job ≡ 0 = begun.unasked.none_handed (taken_by_job job) refl in
+    λ i. record { taken = none i; unbroken = (begun.is i).unbroken }
 
 -- a job whose flags are written looks at the same history
 pub IsLooking-written : (history : History) (job : HeldJob) → IsLooking history job → IsLooking history (record job { waiting = [] })

@@ -1,5 +1,5 @@
 -- The audit jobs and watches that a run holds, and what they have to do with a history.
-use Rattle.std.specs.Prelude.{◌≡◌, ℕ, List, [], ◌∷◌, ◌++◌, Option, IfSome, option_map, filter_map}
+use Rattle.std.specs.Prelude.{◌≡◌, ℕ, Bool, List, [], ◌∷◌, ◌++◌, map, Option, IfSome, option_map}
 use Rattle.std.specs.List.{All, AllByRecursion}
 use Rattle.hippo_model.specs.declared.audit.Audit.{Audit}
 use Rattle.hippo_model.specs.declared.entry.Act.{Act}
@@ -73,6 +73,15 @@ EachGoesBack tables act old new =
     → All (λ held. IfSome held (WasWatchOf history entry)) old
     → All (λ held. IfSome held (IsWatchOf history)) new
 
--- how many versions each job that is held was handed, in the order of their numbers
-abbrev pub all_handed : List (Option HeldJob) → List ℕ
-all_handed jobs = filter_map (option_map taken_by_job) jobs
+-- what is tallied of a job: how many versions it was handed, and whether each of its steps ended
+-- well
+pub record JobTally : Type 0 where
+  pub taken : ℕ
+  pub unbroken : Bool
+
+abbrev pub job_tally : HeldJob → JobTally
+job_tally job = record { taken = taken_by_job job; unbroken = job.unbroken }
+
+-- what is tallied of each job, by its number
+abbrev pub job_tallies : List (Option HeldJob) → List (Option JobTally)
+job_tallies jobs = map (option_map job_tally) jobs

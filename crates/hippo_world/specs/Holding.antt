@@ -1,5 +1,5 @@
 -- What the code's world holds, as the record of definitions, and beside it.
-use Rattle.std.specs.Prelude.{◌≡◌, ℕ, List, [], ◌∷◌, ◌++◌, map, option_map}
+use Rattle.std.specs.Prelude.{◌≡◌, List, [], ◌∷◌, ◌++◌, map, Option, option_map}
 use Rattle.hippo_model.specs.declared.entry.Act.{Act}
 use Rattle.hippo_model.specs.declared.entry.Entry.{Entry}
 use Rattle.hippo_model.specs.Terms.{History}
@@ -7,7 +7,7 @@ use Rattle.hippo_tables.specs.declared.tables.Tables.{Tables}
 use Rattle.hippo_watch.specs.Watches.{ComesNext}
 use Rattle.hippo_audit_job.specs.Jobs.{open_audit}
 use Rattle.hippo_world.specs.declared.worlds.World.{World as HeldWorld}
-use Rattle.hippo_world.specs.Auditing.{AreLooking, watched, AreWatching, AreAudits, all_handed}
+use Rattle.hippo_world.specs.Auditing.{AreLooking, watched, AreWatching, AreAudits, JobTally, job_tallies}
 use Rattle.hippo_world.specs.Worlds.{World}
 
 abbrev pub world_of : HeldWorld → World
@@ -46,6 +46,6 @@ WatchesGoBack tables act old new =
     → AreAudits history (world_of old).watches → WatchesFit (history ++ entry ∷ []) old
     → WatchesFit history new
 
--- how many steps each open job has taken, in the order of their numbers
-abbrev pub taken_of : HeldWorld → List ℕ
-taken_of held = all_handed held.jobs
+-- what is tallied of the open jobs, by their numbers
+abbrev pub tallies_of : HeldWorld → List (Option JobTally)
+tallies_of held = job_tallies held.jobs
