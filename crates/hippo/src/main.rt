@@ -2,9 +2,10 @@
 //! output; the history is in a SQLite file, or in memory.
 #![tactic(auto)]
 
-ghost use Rattle.std.specs.Prelude.{◌≡◌, ◌≢◌, ◌⊎◌, ◌<◌, None, false};
+ghost use Rattle.std.specs.Prelude.{◌≡◌, ◌≢◌, ◌<◌, [], ◌∷◌, false, Any};
 ghost use Rattle.hippo_io.specs.Faults.{HasRisen};
 ghost use Rattle.hippo_keeper.specs.Keeping.{IsReady};
+ghost use Rattle.hippo_start.specs.Statuses.{RefusesJust};
 ghost use Rattle.hippo_words.specs.CommandLine.{call_of};
 
 use hippo_io::{Sink, Source};
@@ -31,8 +32,8 @@ fn serve<S: Source, K: Sink, P: Keeper, L: Ledger>(
     requires name { blank.name ≡ L.name }
     requires parts { blank.parts ≡ L.parts }
     requires some { 0 < blank.parts }
-    ensures refused { call_of words.now ≡ None → (result ≡ 2) ⊎ (result ≡ 5) ⊎ (result ≡ 7) }
-    ensures accepted { call_of words.now ≢ None → result ≢ 2 }
+    ensures status { Any (λ known. result ≡ known) (0 ∷ 2 ∷ 3 ∷ 4 ∷ 5 ∷ 6 ∷ 7 ∷ 8 ∷ []) }
+    ensures refuses { RefusesJust (call_of words.now) result }
     ensures keeper_fault { result ≡ 3 → HasRisen (P.state keeper.old).faults
         (P.state keeper.new).faults }
     ensures unfailed_keeper { result ≢ 3
@@ -53,6 +54,9 @@ struct Hippo {
 }
 
 impl Program for Hippo {
+    ghost Answers = { λ _ words status. RefusesJust (call_of words) status
+        × Any (λ known. status ≡ known) (0 ∷ 2 ∷ 3 ∷ 4 ∷ 5 ∷ 6 ∷ 7 ∷ 8 ∷ []) };
+
     fn call<S: Source, K: Sink>(
         self,
         alloc: Global,
@@ -60,8 +64,8 @@ impl Program for Hippo {
         source: &mut S,
         sink: &mut K,
     ) -> u8
-        ensures refused { call_of words.now ≡ None → (result ≡ 2) ⊎ (result ≡ 5) ⊎ (result ≡ 7) }
-        ensures accepted { call_of words.now ≢ None → result ≢ 2 }
+        ensures answers { RefusesJust (call_of words.now) result
+            × Any (λ known. result ≡ known) (0 ∷ 2 ∷ 3 ∷ 4 ∷ 5 ∷ 6 ∷ 7 ∷ 8 ∷ []) }
         ensures read_fault { result ≡ 4 → HasRisen (S.faults source.old) (S.faults source.new) }
         ensures unfailed_read { result ≢ 4 → S.faults source.new ≡ S.faults source.old }
         ensures write_fault { result ≡ 5 → HasRisen (K.faults sink.old) (K.faults sink.new) }

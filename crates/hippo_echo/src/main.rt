@@ -2,13 +2,17 @@
 //! line, and ends with the number of the words as its status, or with 255 where a write fails.
 #![tactic(auto)]
 
+ghost use Rattle.std.specs.Prelude.{◌≡◌, ◌⊎◌, IfOk, length, min};
+
 use hippo_io::{Failed, Sink, Source, write_whole};
 use hippo_start::{Ended, Program, start};
 use hippo_values::Txt;
 use std::alloc::Global;
 
 // Writes each word on a line, and answers how many there are.
-fn say_words<K: Sink>(words: &[Txt], sink: &mut K) -> Result<u8, Failed> {
+fn say_words<K: Sink>(words: &[Txt], sink: &mut K) -> Result<u8, Failed>
+    ensures count { IfOk result (λ count. count ≡ min 255 (length words.now)) }
+{
     let mut count: u8 = 0;
     for word in words {
         write_whole(sink, word.as_str().as_bytes())?;
@@ -22,6 +26,8 @@ fn say_words<K: Sink>(words: &[Txt], sink: &mut K) -> Result<u8, Failed> {
 struct Echo;
 
 impl Program for Echo {
+    ghost Answers = { λ _ words status. (status ≡ min 255 (length words)) ⊎ (status ≡ 255) };
+
     fn call<S: Source, K: Sink>(
         self,
         _alloc: Global,

@@ -2,11 +2,11 @@
 //! ask for: its entries, one by one, or the rules in force.
 #![tactic(auto)]
 
-ghost use Rattle.std.specs.Prelude.{◌≡◌, ◌≢◌, ◌⊎◌, ◌<◌, Some, None, false};
+ghost use Rattle.std.specs.Prelude.{◌≡◌, ◌≢◌, ◌<◌, [], ◌∷◌, false, Any};
 ghost use Rattle.hippo_io.specs.Faults.{HasRisen};
 ghost use Rattle.hippo_keeper.specs.Keeping.{IsReady};
+ghost use Rattle.hippo_start.specs.Statuses.{RefusesJust};
 ghost use Rattle.hippo_showing.specs.CommandLine.{asked_of};
-ghost use Rattle.hippo_showing.specs.declared.asking.Call.{Call as AskedCall};
 
 use hippo_io::{Sink, Source};
 use hippo_keeper::{Keeper, Steps};
@@ -31,8 +31,8 @@ fn show<K: Sink, P: Keeper, L: Ledger>(
     requires name { blank.name ≡ L.name }
     requires parts { blank.parts ≡ L.parts }
     requires some { 0 < blank.parts }
-    ensures refused { asked_of words.now ≡ None → (result ≡ 2) ⊎ (result ≡ 5) ⊎ (result ≡ 7) }
-    ensures accepted { (call : AskedCall) → asked_of words.now ≡ Some call → result ≢ 2 }
+    ensures status { Any (λ known. result ≡ known) (0 ∷ 2 ∷ 3 ∷ 5 ∷ 6 ∷ 7 ∷ []) }
+    ensures refuses { RefusesJust (asked_of words.now) result }
     ensures keeper_fault { result ≡ 3 → HasRisen (P.state keeper.old).faults
         (P.state keeper.new).faults }
     ensures unfailed_keeper { result ≢ 3
@@ -51,6 +51,9 @@ struct History {
 }
 
 impl Program for History {
+    ghost Answers = { λ _ words status. RefusesJust (asked_of words) status
+        × Any (λ known. status ≡ known) (0 ∷ 2 ∷ 3 ∷ 5 ∷ 6 ∷ 7 ∷ []) };
+
     fn call<S: Source, K: Sink>(
         self,
         alloc: Global,
@@ -58,8 +61,8 @@ impl Program for History {
         _source: &mut S,
         sink: &mut K,
     ) -> u8
-        ensures refused { asked_of words.now ≡ None → (result ≡ 2) ⊎ (result ≡ 5) ⊎ (result ≡ 7) }
-        ensures accepted { (call : AskedCall) → asked_of words.now ≡ Some call → result ≢ 2 }
+        ensures answers { RefusesJust (asked_of words.now) result
+            × Any (λ known. result ≡ known) (0 ∷ 2 ∷ 3 ∷ 5 ∷ 6 ∷ 7 ∷ []) }
         ensures write_fault { result ≡ 5 → HasRisen (K.faults sink.old) (K.faults sink.new) }
         ensures unfailed_write { result ≢ 5 → K.faults sink.new ≡ K.faults sink.old }
     {
