@@ -65,7 +65,8 @@ question_rows history world question =
 -- a reply with the rows, unless there are too many
 abbrev pub within_limit : ℕ → List ShownRow → Txt → Txt
 within_limit number rows reply =
-    if nat_lt row_limit (length rows) then refusal_line (speaker.Session number) TooManyRows else reply
+    if nat_lt row_limit (length rows) then refusal_line (speaker.Session number) TooManyRows
+    else reply
 
 -- what a watch says of an entry, where its audit flags it
 abbrev pub alarm_line : History → Entry → ℕ → Audit → Txt

@@ -45,8 +45,8 @@ audits_of command = if looks_back command || begins_job command then 1 else 0
 abbrev pub first_tally : JobTally
 first_tally = record { taken = 0; unbroken = true }
 
--- a job has taken what its line takes more, in all at most one step for each version; it is unbroken
--- as it was, or memory was short, and it is so no more
+-- a job has taken what its line takes more, in all at most one step for each version; it is
+-- unbroken as it was, or memory was short, and it is so no more
 pub record TallyRises (reply : Txt) (versions steps steps' : ℕ) (old new : JobTally)
     : Type 0 where
   pub takes : steps' + old.taken ≡ steps + new.taken
