@@ -15,5 +15,5 @@ pub use audit_conditions::unmasked_condition;
 pub use cells::{LentCell, cell};
 pub use conditions::test;
 pub use gathering::{Gatherer, gather, limited};
-pub use queries::{passes, project};
+pub use queries::{is_shown, passes, project};
 pub use walks::{Onward, Visitor, walk};

@@ -9,10 +9,17 @@ use hippo_model::{CellRow, ChoiceView, Combo, Expr, Masked};
 use hippo_values::{Memory, Sequence, Truth};
 use std::alloc::Global;
 
-fn is_shown<C: ChoiceView>(expr: &Expr, combo: &Combo<'_>, choices: &C) -> bool
+/// Whether the cell is shown that an expression stands for in a combination of rows. Takes no look
+/// at the rows where the expression alone says it.
+pub fn is_shown<C: ChoiceView>(expr: &Expr, combo: &Combo<'_>, choices: &C) -> bool
     ensures { result ≡ is_shown_cell (masked_cell (C.choices choices.now) combo.now expr.now) }
 {
-    cell(expr, combo, choices).is_shown()
+    match expr {
+        Expr::Keep(_) => true,
+        Expr::Literal(_) => true,
+        Expr::Null(_) => false,
+        _ => cell(expr, combo, choices).is_shown(),
+    }
 }
 
 fn is_guarded<C: ChoiceView>(query: &Masked, combo: &Combo<'_>, choices: &C) -> bool

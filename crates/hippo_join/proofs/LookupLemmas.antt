@@ -71,6 +71,17 @@ module _ (set : KeyedRows) (column : Place) (values : List Value) (places : List
     | inr above ↦ above
   ]
 
+  -- nor before one that is below
+  pub behind-below : (last : ℕ) (d : Value) → last < length values → is_lt (order_of (get_or values last d)) ≡ true
+      → (k : ℕ) → k < length places → order_of (value_of (get_or places k 0)) ≡ Equal → last < k
+  behind-below last d within below k inside equal = elim (cases_lt last k) as (λ _. last < k) [
+    | inl above ↦ above
+    | inr before ↦
+        let same : order_of (get_or values k d) ≡ Equal = ap order_of (at k d inside) ∙ equal in
+        let lower = rising_values k last d before within in
+        absurd (false≢true (sym (ap is_lt same) ∙ lower_less (order_of (get_or values k d)) (order_of (get_or values last d)) lower below))
+  ]
+
   -- nor behind one that is above
   pub before-end : (end : ℕ) (d : Value) → end < length values → is_le (order_of (get_or values end d)) ≡ false
       → (k : ℕ) → k < length places → order_of (value_of (get_or places k 0)) ≡ Equal → k < end

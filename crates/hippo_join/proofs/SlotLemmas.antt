@@ -1,11 +1,11 @@
 -- Rows that are chosen, and combinations that agree with them.
-use Rattle.std.proofs.Common.{◌≡◌, ℕ, zero, suc, ◌+◌, ◌-◌, ◌<◌, ◌≤◌, take, true, false, ◌&&◌, List, [], ◌∷◌, ◌++◌, map, length, drop, refl, sym, ap, ◌∙◌, arith, Option, Some, None, unwrap_or, add-one, append_assoc, subst, not, nat_lt, ℤ, int_le}
+use Rattle.std.proofs.Common.{◌≡◌, ℕ, zero, suc, ◌+◌, ◌<◌, ◌≤◌, true, false, ◌&&◌, List, [], ◌∷◌, ◌++◌, map, length, drop, refl, sym, ap, ◌∙◌, arith, Option, Some, None, unwrap_or, add-one, append_assoc, subst, not, nat_lt, ℤ, int_le}
 use Rattle.std.specs.Prelude.{slice_get, option_map}
 use Rattle.std.specs.Prelude.{replicate, slice_set}
 use Rattle.std.specs.Option.{option_map_or}
 use Rattle.std.proofs.lemmas.Bool.{and_parts, false≢true}
 use Rattle.std.proofs.Math.Seq.{drop-nil}
-use Rattle.std.proofs.lemmas.List.{append-nil, drop_all}
+use Rattle.std.proofs.lemmas.List.{append-nil, drop_all, set-set}
 use Rattle.hippo_values.specs.declared.values.Value.{Value}
 use Rattle.hippo_values.specs.declared.values.Value.TheVariants.{Null as NullValue}
 use Rattle.hippo_model.specs.declared.cells.Cell.TheVariants.{Shown}
@@ -117,14 +117,6 @@ rows_at-drop (first ∷ sets) (slot ∷ slots) zero set at = ap (λ (s : KeyedRo
 rows_at-drop (first ∷ sets) [] (suc i) set at = subst (λ (l : List (Option Place)). rows_at (drop i sets) l ≡ blank ∷ rows_at (drop (suc i) sets) []) (drop-nil i) (rows_at-drop sets [] i set at)
 rows_at-drop (first ∷ sets) (slot ∷ slots) (suc i) set at = rows_at-drop sets slots i set at
 
--- a row and the moment of its birth
-pub born_row_is : (kept : Option BornRow) (row : List Value) (born : ℤ) → option_map (λ k. k.row) kept ≡ Some row → option_map (λ k. k.born) kept ≡ Some born → unwrap_or kept blank ≡ record { row = row; born = born }
-born_row_is None row born e f = absurd cc
-born_row_is (Some kept) row born e f = λ i. record { row = one e i; born = one f i }
-  where
-    one : {A : Type 0} {a b : A} → Some a ≡ Some b → a ≡ b
-    one e = cc
-
 -- places in range are as many as the tables, and one stands in each table
 pub length-in_range : (sets : List KeyedRows) (places : List Place) → in_range sets places ≡ true → length places ≡ length sets
 length-in_range [] [] e = refl
@@ -144,24 +136,32 @@ pub rows-all : (sets : List KeyedRows) (slots : List (Option Place)) (i : ℕ) (
 rows-all sets slots i rows whole past so_far =
     sym (append-nil rows) ∙ sym (ap (λ (s : List KeyedRows). rows ++ rows_at s (drop i slots)) (drop_all i sets past)) ∙ so_far
 
--- rows before a table, and those from it on
-pub rows-parted : (sets : List KeyedRows) (slots : List (Option Place)) (table : ℕ) → take table (rows_at sets slots) ++ rows_at (drop table sets) (drop table slots) ≡ rows_at sets slots
-rows-parted sets slots zero = refl
-rows-parted [] slots (suc table) = refl
-rows-parted (set ∷ sets) [] (suc table) = ap (λ l. blank ∷ l) (subst (λ (l : List (Option Place)). take table (rows_at sets []) ++ rows_at (drop table sets) l ≡ rows_at sets []) (drop-nil table) (rows-parted sets [] table))
-rows-parted (set ∷ sets) (slot ∷ slots) (suc table) = ap (λ l. option_map_or (row_at_place set.rows) slot blank ∷ l) (rows-parted sets slots table)
+-- as many rows as tables, and the row of one table chosen anew
+pub length-rows_at : (sets : List KeyedRows) (slots : List (Option Place)) → length (rows_at sets slots) ≡ length sets
+length-rows_at [] slots = refl
+length-rows_at (set ∷ sets) [] = ap suc (length-rows_at sets [])
+length-rows_at (set ∷ sets) (slot ∷ slots) = ap suc (length-rows_at sets slots)
 
-pub rows-before : (sets : List KeyedRows) (slots : List (Option Place)) (table : ℕ) (slot : Option Place) → take table (rows_at sets (slice_set slots table slot)) ≡ take table (rows_at sets slots)
-rows-before sets slots zero slot = refl
-rows-before [] slots (suc table) slot = refl
-rows-before (set ∷ sets) [] (suc table) slot = refl
-rows-before (set ∷ sets) (first ∷ slots) (suc table) slot = ap (λ l. option_map_or (row_at_place set.rows) first blank ∷ l) (rows-before sets slots table slot)
+-- the rows, but for that of a table that is chosen anew; and with the one that is chosen
+pub rows-but : (sets : List KeyedRows) (slots : List (Option Place)) (table : ℕ) (slot : Option Place) (row : BornRow) → slice_set (rows_at sets slots) table row ≡ slice_set (rows_at sets (slice_set slots table slot)) table row
+rows-but [] slots table slot row = refl
+rows-but (set ∷ sets) [] zero slot row = refl
+rows-but (set ∷ sets) [] (suc table) slot row = refl
+rows-but (set ∷ sets) (old ∷ slots) zero slot row = refl
+rows-but (set ∷ sets) (old ∷ slots) (suc table) slot row = ap (λ (rows : Combination). option_map_or (row_at_place set.rows) old blank ∷ rows) (rows-but sets slots table slot row)
 
-pub take-fewer : {X : Type 0} (table : ℕ) (xs : List X) → table < length xs → take table (take (length xs - 1) xs) ≡ take table xs
-take-fewer table xs within = shorter table (length xs - 1) xs (omega (arith, within))
+rows-own : (sets : List KeyedRows) (slots : List (Option Place)) (table : ℕ) (set : KeyedRows) → slice_get sets table ≡ Some set → slice_set (rows_at sets slots) table (option_map_or (row_at_place set.rows) (slot_at slots table) blank) ≡ rows_at sets slots
+rows-own [] slots table set at = absurd cc
+rows-own (first ∷ sets) [] zero set at = refl
+rows-own (first ∷ sets) [] (suc table) set at = ap (λ (rows : Combination). blank ∷ rows) (rows-own sets [] table set at)
+rows-own (first ∷ sets) (slot ∷ slots) zero set at = ap (λ (s : KeyedRows). option_map_or (row_at_place s.rows) slot blank ∷ rows_at sets slots) (sym (one at))
   where
-    shorter : {X : Type 0} (m n : ℕ) (xs : List X) → m ≤ n → take m (take n xs) ≡ take m xs
-    shorter zero n xs below = refl
-    shorter (suc m) zero xs below = absurd (omega (arith, below))
-    shorter (suc m) (suc n) [] below = refl
-    shorter (suc m) (suc n) (x ∷ xs) below = ap (λ l. x ∷ l) (shorter m n xs (omega (arith, below)))
+    one : {A : Type 0} {a b : A} → Some a ≡ Some b → a ≡ b
+    one e = cc
+rows-own (first ∷ sets) (slot ∷ slots) (suc table) set at = ap (λ (rows : Combination). option_map_or (row_at_place first.rows) slot blank ∷ rows) (rows-own sets slots table set at)
+
+pub rows-renewed : (sets : List KeyedRows) (slots : List (Option Place)) (table : ℕ) (set : KeyedRows) (rows : Combination) (row : BornRow) → slice_get sets table ≡ Some set → row ≡ option_map_or (row_at_place set.rows) (slot_at slots table) blank
+    → slice_set rows table blank ≡ slice_set (rows_at sets slots) table blank → slice_set rows table row ≡ rows_at sets slots
+rows-renewed sets slots table set rows row at is same =
+    sym (set-set rows table blank row) ∙ ap (λ (some : Combination). slice_set some table row) same ∙ set-set (rows_at sets slots) table blank row
+    ∙ ap (λ (own : BornRow). slice_set (rows_at sets slots) table own) is ∙ rows-own sets slots table set at

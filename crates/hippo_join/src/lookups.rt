@@ -14,6 +14,7 @@ ghost use Rattle.hippo_join.specs.Lookups.{value_at_place, IsByColumn, IsIndex};
 use hippo_model::RowSet;
 use hippo_values::{Duplicate, Memory, Value};
 use std::alloc::Global;
+use std::cell::Cell;
 use std::cmp::Ordering;
 
 /// The value in a column of the row at a place, if one stands there.
@@ -121,6 +122,39 @@ fn start_with(values: &[Value], value: &Value) -> usize
     values.partition_point(|own| is_below(own, value))
 }
 
+// Whether the value at a place is there and below another one.
+fn is_below_at(values: &[Value], place: usize, value: &Value) -> bool
+    ensures { result ≡ true → (set : KeyedRows) (column : Place) (places : List Place)
+        → IsIndex set column values.now places
+        → (k : ℕ) → k < length places → value_cmp (value_at_place set column (get_or places k 0))
+        value.now ≡ Equal
+        → place < k }
+{
+    if place < values.len() {
+        is_below(&values[place], value)
+    } else {
+        false
+    }
+}
+
+// Where they begin, which is tried near a place first, since look-ups often rise.
+fn start_near(values: &[Value], near: usize, value: &Value) -> usize
+    ensures { (set : KeyedRows) (column : Place) (places : List Place)
+        → IsIndex set column values.now places
+        → (k : ℕ) → k < length places → value_cmp (value_at_place set column (get_or places k 0))
+        value.now ≡ Equal
+        → result ≤ k }
+{
+    if near == 0 {
+        return start_with(values, value);
+    }
+    if is_below_at(values, near - 1, value) && !is_below_at(values, near, value) {
+        near
+    } else {
+        start_with(values, value)
+    }
+}
+
 // Where those from a place on end that are not above it.
 fn end_with(values: &[Value], start: usize, value: &Value) -> usize
     ensures { (set : KeyedRows) (column : Place) (places : List Place)
@@ -138,15 +172,21 @@ fn end_with(values: &[Value], start: usize, value: &Value) -> usize
 }
 
 // The places whose row has a value, of places that stand by the values in a column, and these
-// values.
-pub(crate) fn with_value<'a>(places: &'a [usize], values: &[Value], value: &Value) -> &'a [usize]
+// values; where the last search ended is tried first, and marked anew.
+pub(crate) fn with_value<'a>(
+    places: &'a [usize],
+    values: &[Value],
+    value: &Value,
+    near: &Cell<usize>,
+) -> &'a [usize]
     ensures { (set : KeyedRows) (column : Place) → IsIndex set column values.now places.now
         → (place : Place) → Contains places.now place
         → value_cmp (value_at_place set column place) value.now ≡ Equal
         → Contains result.now place }
 {
-    let start = start_with(values, value);
+    let start = start_near(values, near.get(), value);
     let end = end_with(values, start, value);
+    near.set(end);
     if start <= end && end <= places.len() {
         &places[start..end]
     } else {

@@ -15,9 +15,13 @@ use crate::lookups::{known_value, sort_by_column, values_at, with_value};
 use crate::sides::Side;
 use crate::stages::Stage;
 use crate::ties::{Tie, find_tie, outer_parts};
-use hippo_model::{ChoiceView, Combo, Expr, Ref, RowSet};
+use hippo_model::{ChoiceView, Expr, Ref, RowSet};
 use hippo_values::Memory;
 use std::alloc::Global;
+use std::cell::Cell;
+
+// So many rows of an only table are tested where they are walked.
+const FEW_ROWS: usize = 64;
 
 /// A slot for the row of each table, none of which is chosen.
 pub fn open_slots(alloc: Global, tables: usize) -> Result<Vec<Option<usize>>, Memory>
@@ -66,6 +70,13 @@ impl<'a, C: ChoiceView> Side<'a, C> {
         guards.iter().any(|guard| can_fail(&guard.expr) && knows_expr(&guard.expr, slots))
     }
 
+    // Whether so many rows are tested before they are walked: where something can be tested, but
+    // for few rows of an only table, since the walk tests the whole condition at once there.
+    fn tests_early(&self, tests: &[usize], slots: &[Option<usize>], rows: usize) -> bool {
+        let can_test = !tests.is_empty() || self.knows_guard(slots);
+        can_test && (self.sets.len() > 1 || rows > FEW_ROWS)
+    }
+
     // The parts of the condition that can be tested where these rows are chosen, by their places.
     fn known_parts(&self, alloc: Global, slots: &[Option<usize>]) -> Result<Vec<usize>, Memory> {
         let mut known = Vec::new(alloc);
@@ -95,12 +106,13 @@ impl<'a, C: ChoiceView> Side<'a, C> {
             table places.items) }
     {
         let mut slots = open_slots(alloc, self.sets.len())?;
-        let mut rows = Combo::new(alloc);
+        let mut rows = self.rows(alloc, &slots)?;
         let mut places = Vec::new(alloc);
         for index in 0..candidates.len() {
             let place = candidates.place(index);
             slots[table] = Some(place);
-            let may_count = self.may_count_alone(&mut rows, tests, &slots)?;
+            self.renew(&mut rows, &slots, table);
+            let may_count = self.may_count_by(&rows, tests, &slots);
             push_if(may_count, &mut places, place)?;
         }
         Ok(places)
@@ -119,10 +131,10 @@ impl<'a, C: ChoiceView> Side<'a, C> {
         slots[table] = Some(0);
         let tests = self.known_parts(alloc, &slots)?;
         let candidates = self.open_candidates(alloc, table)?;
-        if tests.is_empty() && !self.knows_guard(&slots) {
-            listed(alloc, &candidates)
-        } else {
+        if self.tests_early(&tests, &slots, candidates.len()) {
             self.tested_places(alloc, table, &candidates, &tests)
+        } else {
+            listed(alloc, &candidates)
         }
     }
 
@@ -189,6 +201,7 @@ impl<'a, C: ChoiceView> Side<'a, C> {
                 is_sought: false,
                 places,
                 values: Vec::new(alloc),
+                near: Cell::new(0),
                 tests,
             });
         };
@@ -201,6 +214,7 @@ impl<'a, C: ChoiceView> Side<'a, C> {
             is_sought: false,
             places,
             values,
+            near: Cell::new(0),
             tests,
         })
     }
@@ -231,6 +245,7 @@ impl<'a, C: ChoiceView> Side<'a, C> {
                 is_sought,
                 places: Vec::new(alloc),
                 values: Vec::new(alloc),
+                near: Cell::new(0),
                 tests,
             })
         } else {
@@ -257,7 +272,7 @@ impl<'a, C: ChoiceView> Side<'a, C> {
         let others = self.sets.get(tie.other.table);
         match known_value(others, tie.other.column, place) {
             None => &places[..0],
-            Some(value) => with_value(places, values, value),
+            Some(value) => with_value(places, values, value, &stage.near),
         }
     }
 

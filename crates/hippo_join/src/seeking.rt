@@ -29,6 +29,14 @@ enum Access {
     List(usize),
 }
 
+// Whether so many rows are too many to be looked at one by one, where a row that an order finds
+// takes as long as so many of them.
+fn is_long(rows: usize, walked: usize) -> bool
+    requires { 0 < walked }
+{
+    rows > FEW && rows / walked > FEW / 2
+}
+
 // The column of a table that an expression shows.
 fn column_in(expr: &Expr, table: usize) -> Option<usize> {
     match column_of(expr) {
@@ -265,7 +273,7 @@ impl<'a, C: ChoiceView> Side<'a, C> {
             slots.now table (following_places following)) }
     {
         let span = self.span(alloc, table, slots)?;
-        if span.len() > FEW {
+        if is_long(span.len(), walked) {
             self.fewer_places(alloc, table, slots, span, span.len() / walked)
         } else {
             Ok(Following::Sought(span))

@@ -1,6 +1,6 @@
 //! One side of a join: a query over tables, and what can be said of a combination of rows before
 //! all are chosen.
-ghost use Rattle.std.specs.Prelude.{◌≡◌, ◌∷◌, [], ◌++◌, ◌<◌, true, List, OnOk, IfOk, length, not, ◌||◌, unwrap_or, slice_get, take};
+ghost use Rattle.std.specs.Prelude.{◌≡◌, ◌<◌, true, List, IfOk, length, not, ◌||◌, unwrap_or, slice_get, slice_set};
 ghost use Rattle.std.specs.Option.{option_map_or};
 ghost use Rattle.hippo_model.specs.Terms.{Place};
 ghost use Rattle.hippo_model.specs.Conditions.{is_true};
@@ -11,7 +11,7 @@ ghost use Rattle.hippo_join.specs.Ties.{holds};
 
 use crate::known::{knows, knows_expr, slot_at};
 use crate::ties::outer_parts;
-use hippo_eval::{cell, test};
+use hippo_eval::{is_shown, test};
 use hippo_model::{BornRow, ChoiceView, Combo, CondOf, Expr, Guard, Masked, RowSet, Sets};
 use hippo_values::{Memory, Truth};
 use std::alloc::Global;
@@ -28,20 +28,14 @@ pub struct Side<'a, C> {
     ghost is_blank: { blank.now ≡ blank_row },
 }
 
-// Adds the row that is chosen in a table, or the blank one.
-fn push_row<'a>(
-    rows: &mut Combo<'a>,
-    set: &'a RowSet,
-    slot: Option<usize>,
-    blank: &'a BornRow,
-) -> Result<(), Memory>
-    ensures { OnOk result (rows.new ≡ rows.old
-        ++ option_map_or (λ place. unwrap_or (slice_get set.now.rows place) blank.now) slot
-        blank.now ∷ []) }
+// The row that is chosen in a table, or the blank one.
+fn chosen_row<'a>(set: &'a RowSet, slot: Option<usize>, blank: &'a BornRow) -> &'a BornRow
+    ensures { result.now ≡ option_map_or (λ place. unwrap_or (slice_get set.now.rows place)
+        blank.now) slot blank.now }
 {
     match slot {
-        Some(place) if place < set.len() => rows.push(set.row(place), set.born(place)),
-        _ => rows.push(&blank.row, blank.born),
+        Some(place) if place < set.len() => set.born_row(place),
+        _ => blank,
     }
 }
 
@@ -51,42 +45,31 @@ fn is_true(truth: Truth) -> bool
     matches!(truth, Truth::True)
 }
 
-// Takes out the rows of the tables from a place on; their room stays.
-fn cut(rows: &mut Combo<'_>, table: usize)
-    ensures { rows.new ≡ take table rows.old }
-{
-    while rows.len() > table {
-        rows.pop();
-    }
-}
-
 impl<'a, C: ChoiceView> Side<'a, C> {
-    // Puts the rows that are chosen, and blank ones of the other tables, in the place of those
-    // before, from a table on.
-    pub(crate) fn renew(
-        &self,
-        rows: &mut Combo<'a>,
-        slots: &[Option<usize>],
-        table: usize,
-    ) -> Result<(), Memory>
-        requires { take table rows.old ≡ take table (rows_at self.now.sets.now slots.now) }
-        ensures { OnOk result (rows.new ≡ rows_at self.now.sets.now slots.now) }
-    {
-        cut(rows, table);
-        for later in table..self.sets.len() {
-            let slot = slot_at(slots, later);
-            push_row(rows, self.sets.get(later), slot, self.blank)?;
-        }
-        Ok(())
-    }
-
     // The rows that are chosen, and blank ones of the other tables.
     pub(crate) fn rows(&self, alloc: Global, slots: &[Option<usize>]) -> Result<Combo<'a>, Memory>
         ensures { IfOk result (λ rows. rows ≡ rows_at self.now.sets.now slots.now) }
     {
         let mut rows = Combo::new(alloc);
-        self.renew(&mut rows, slots, 0)?;
+        for table in 0..self.sets.len() {
+            let slot = slot_at(slots, table);
+            let row = chosen_row(self.sets.get(table), slot, self.blank);
+            rows.push(&row.row, row.born)?;
+        }
         Ok(rows)
+    }
+
+    // Puts the row that is chosen in a table, or a blank one, in the place of the one before.
+    pub(crate) fn renew(&self, rows: &mut Combo<'a>, slots: &[Option<usize>], table: usize)
+        requires long { length slots.now ≡ length self.now.sets.now }
+        requires table { table < length slots.now }
+        requires rows { slice_set rows.old table blank_row
+            ≡ slice_set (rows_at self.now.sets.now slots.now) table blank_row }
+        ensures { rows.new ≡ rows_at self.now.sets.now slots.now }
+    {
+        let slot = slot_at(slots, table);
+        let row = chosen_row(self.sets.get(table), slot, self.blank);
+        rows.set(table, &row.row, row.born);
     }
 
     // Whether a part of the condition holds, if its columns are known.
@@ -102,7 +85,7 @@ impl<'a, C: ChoiceView> Side<'a, C> {
             || is_shown_cell (masked_cell (C.choices self.now.choices.now) rows.now
             guard.now.expr)) }
     {
-        !knows_expr(&guard.expr, slots) || cell(&guard.expr, rows, self.choices).is_shown()
+        !knows_expr(&guard.expr, slots) || is_shown(&guard.expr, rows, self.choices)
     }
 
     // Whether the guards hold, as far as their columns are known: true where some combination
@@ -176,19 +159,20 @@ impl<'a, C: ChoiceView> Side<'a, C> {
         Ok(self.tests_hold(tests, slots, &rows))
     }
 
-    // Whether a combination may count that has the row of one table, by the guards and by some
+    // Whether a combination may count that has the rows that are chosen, by the guards and by some
     // parts of the condition.
-    pub(crate) fn may_count_alone(
+    pub(crate) fn may_count_by(
         &self,
-        rows: &mut Combo<'a>,
+        rows: &Combo<'_>,
         tests: &[usize],
         slots: &[Option<usize>],
-    ) -> Result<bool, Memory>
-        ensures { IfOk result (λ may. (places : List Place) → Fits slots.now places
+    ) -> bool
+        requires { rows.now ≡ rows_at self.now.sets.now slots.now }
+        ensures { (places : List Place) → Fits slots.now places
             → stands (C.choices self.now.choices.now) self.now.query.now self.now.sets.now places
-            ≡ true → may ≡ true) }
+            ≡ true
+            → result ≡ true }
     {
-        self.renew(rows, slots, 0)?;
-        Ok(self.guards_hold(slots, rows) && self.tests_hold(tests, slots, rows))
+        self.guards_hold(slots, rows) && self.tests_hold(tests, slots, rows)
     }
 }

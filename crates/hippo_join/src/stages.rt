@@ -1,6 +1,7 @@
 //! The stages of a join, a table at a time.
 use crate::ties::Tie;
 use hippo_values::Value;
+use std::cell::Cell;
 
 /// A table, by its place in FROM, the tie of its rows to a row that is chosen before, and its rows
 /// that can count.
@@ -16,6 +17,8 @@ pub struct Stage {
     pub places: Vec<usize>,
     /// The values of the tie's column at these places; none where there is no tie.
     pub values: Vec<Value>,
+    /// Where the last search among these values ended, which the next one tries first.
+    pub near: Cell<usize>,
     /// The parts of the condition that are tested here.
     pub tests: Vec<usize>,
 }

@@ -143,19 +143,15 @@ impl<'a, C: ChoiceView> Side<'a, C> {
     }
 
     // Lets the row of a table go that is chosen.
-    fn leave(
-        &self,
-        rows: &mut Combo<'a>,
-        slots: &mut [Option<usize>],
-        table: usize,
-    ) -> Result<(), Memory>
+    fn leave(&self, rows: &mut Combo<'a>, slots: &mut [Option<usize>], table: usize)
+        requires long { length slots.old ≡ length self.now.sets.now }
         requires table { table < length slots.old }
         requires rows { rows.old ≡ rows_at self.now.sets.now slots.old }
-        ensures slots { OnOk result (slots.new ≡ slice_set slots.old table None) }
-        ensures rows { OnOk result (rows.new ≡ rows_at self.now.sets.now slots.new) }
+        ensures slots { slots.new ≡ slice_set slots.old table None }
+        ensures rows { rows.new ≡ rows_at self.now.sets.now slots.new }
     {
         slots[table] = None;
-        self.renew(rows, slots, table)
+        self.renew(rows, slots, table);
     }
 
     // Visits what counts and has the rows that are chosen, where the row at a place of a stage's
@@ -186,7 +182,7 @@ impl<'a, C: ChoiceView> Side<'a, C> {
             in_order (V.Keeps visitor.now self.now.sets.now) result state.old state.new }
     {
         slots[stage.table] = Some(place);
-        self.renew(rows, slots, stage.table)?;
+        self.renew(rows, slots, stage.table);
         let onward = self.walk_behind(
             alloc,
             &stage.tests,
@@ -308,7 +304,7 @@ impl<'a, C: ChoiceView> Side<'a, C> {
         let onward = self.walk_each(
             alloc, stage, rest, &places, in_order, slots, rows, visitor, state,
         )?;
-        self.leave(rows, slots, stage.table)?;
+        self.leave(rows, slots, stage.table);
         Ok(onward)
     }
 

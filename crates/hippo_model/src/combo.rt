@@ -1,5 +1,5 @@
 //! One row of each table of a statement, the order of joining, and patients' choices.
-ghost use Rattle.std.specs.Prelude.{◌≡◌, ◌<◌, ◌-◌, ◌↔◌, [], ◌∷◌, ◌++◌, length, take, option_map, slice_get, Some, IsTrue, OnOk, OnErr};
+ghost use Rattle.std.specs.Prelude.{◌≡◌, ◌<◌, ◌-◌, ◌↔◌, [], ◌∷◌, ◌++◌, length, take, option_map, slice_get, slice_set, Some, IsTrue, OnOk, OnErr};
 
 use crate::cells::Cells;
 use crate::schema::Places;
@@ -72,6 +72,15 @@ impl<'a> Combo<'a> {
             Ok(()) => Ok(()),
             Err(_) => Err(Memory),
         }
+    }
+
+    /// Puts a row in the place of that of the table at a place, counted from 0.
+    pub fn set(&mut self, place: usize, row: &'a Cells, born: Moment)
+        requires { place < length self.old }
+        ensures { self.new
+            ≡ slice_set self.old place (record { row = row.now; born = born }) }
+    {
+        self.rows[place] = LentRow { row, born };
     }
 
     /// Takes away the last table's row, if there is one.

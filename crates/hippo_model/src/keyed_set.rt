@@ -285,6 +285,14 @@ impl KeyedSet {
         &self.rows.get(place).row
     }
 
+    // The row at a place with the moment at which it was born.
+    pub(crate) fn born_row(&self, place: usize) -> &BornRow
+        requires { place < length self.now.rows }
+        ensures { slice_get self.now.rows place ≡ Some result.now }
+    {
+        self.rows.get(place)
+    }
+
     // The moment at which the row at a place was born.
     pub(crate) fn born(&self, place: usize) -> Moment
         requires { place < length self.now.rows }

@@ -83,8 +83,10 @@ fn begin<T: Drop>(pieces: &mut Vec<Piece<T>>, member: T) -> Result<(), Memory>
     Ok(())
 }
 
-// Cuts a piece that is too long in two, where memory allows; the upper half is handed out.
-fn cut<T>(piece: &mut Piece<T>) -> Option<Piece<T>>
+// Cuts a piece that is too long in two, where memory allows; the upper part is handed out. The last
+// one keeps as many members as a piece may have, so that members that come in their order fill each
+// piece; any other is cut in halves. What room is left over is given back.
+fn cut<T>(piece: &mut Piece<T>, is_last: bool) -> Option<Piece<T>>
     requires { length piece.old.members.items ≤ piece.old.end }
     ensures { MatchOption result (piece.new ≡ piece.old)
         (λ upper. IsCutInTwo piece.old piece.new upper) }
@@ -93,8 +95,10 @@ fn cut<T>(piece: &mut Piece<T>) -> Option<Piece<T>>
     if len <= PIECE_LIMIT {
         return None;
     }
+    let kept = if is_last { PIECE_LIMIT } else { len / 2 };
     let end = piece.end;
-    let members = piece.members.split_off(len / 2).ok()?;
+    let members = piece.members.split_off(kept).ok()?;
+    piece.members.shrink_to_fit();
     piece.end = end - members.len();
     Some(Piece { members, end })
 }
@@ -112,7 +116,8 @@ fn split<T: Drop>(pieces: &mut Vec<Piece<T>>, index: usize)
     let Ok(()) = pieces.reserve(1) else {
         return;
     };
-    if let Some(upper) = cut(&mut pieces[index]) {
+    let is_last = index + 1 == pieces.len();
+    if let Some(upper) = cut(&mut pieces[index], is_last) {
         let _ = pieces.insert(index + 1, upper);
     }
 }

@@ -234,6 +234,14 @@ impl RowSet {
         self.set.row(place)
     }
 
+    /// The row at a place with the moment at which it was born, by one search.
+    pub fn born_row(&self, place: usize) -> &BornRow
+        requires { place < length self.now.rows }
+        ensures { slice_get self.now.rows place ≡ Some result.now }
+    {
+        self.set.born_row(place)
+    }
+
     /// The moment at which the row at a place was born.
     pub fn born(&self, place: usize) -> Moment
         requires { place < length self.now.rows }

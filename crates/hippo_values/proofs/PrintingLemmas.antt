@@ -1,9 +1,5 @@
 -- A text is printed in pieces, from one quote to the next.
-use Rattle.std.proofs.Common.{◌≡◌, ◌≢◌, ℕ, suc, false, inl, inr, ◌+◌, ◌/◌, ◌%◌, ◌^◌, ◌<◌, ◌≤◌, List, [], ◌∷◌, ◌++◌, length, get_or, refl, ap, ◌∙◌, arith, append_assoc}
-use Rattle.std.specs.Fmt.{decimal}
-use Rattle.std.specs.Char.{encode_utf8}
-use Rattle.std.proofs.lemmas.Fmt.{decimal_step, decimal_digit}
-use Rattle.std.proofs.lemmas.Str.{encode_ascii}
+use Rattle.std.proofs.Common.{◌≡◌, ◌≢◌, ℕ, suc, false, inl, inr, ◌+◌, ◌<◌, ◌≤◌, List, [], ◌∷◌, ◌++◌, length, get_or, refl, ap, ◌∙◌, arith, append_assoc}
 use Rattle.std.proofs.lemmas.List.{length-append, length-take, take-append-le}
 use Rattle.std.proofs.lemmas.Bool.{cases_Bool}
 use Rattle.std.proofs.lemmas.Bool.Decides.{nat_tests}
@@ -49,19 +45,6 @@ doubled_quotes-step initial text out rest before after first second whole split 
 pub doubled_quotes-last : (initial text out rest new : List ℕ) → out ++ doubled_quotes rest ≡ initial ++ doubled_quotes text → HasNoQuote rest → new ≡ out ++ rest → new ≡ initial ++ doubled_quotes text
 doubled_quotes-last initial text out rest new whole none e = e ∙ rw (← whole, doubled_quotes-without rest none) refl
 
--- the last digit after those before it
-pub decimal-last : (old front new : List ℕ) (n digit : ℕ) → n < 2 ^ 64 → 10 ≤ n → digit ≡ 48 + n % 10 → front ≡ old ++ decimal (n / 10) → new ≡ front ++ encode_utf8 digit → new ≡ old ++ decimal n
-decimal-last old front new n digit small h ed ef e =
-    let ascii : digit < 128 = omega arith in
-    e ∙ rw (encode_ascii digit ascii, ed, ef, decimal_step n h small) (append_assoc old (decimal (n / 10)) ((48 + n % 10) ∷ []))
-
--- or alone
-pub decimal-alone : (old front new : List ℕ) (n digit : ℕ) → n < 10 → digit ≡ 48 + n % 10 → front ≡ old → new ≡ front ++ encode_utf8 digit → new ≡ old ++ decimal n
-decimal-alone old front new n digit h ed ef e =
-    let ascii : digit < 128 = omega arith in
-    let last : n % 10 ≡ n = omega arith in
-    e ∙ rw (encode_ascii digit ascii, ef, ed, last, decimal_digit n h) refl
-
 pub KeepsFront-step : (old out before first second : List ℕ) → KeepsFront old out → first ≡ out ++ before → second ≡ first ++ (39 ∷ 39 ∷ []) → KeepsFront old second
 KeepsFront-step old out before first second h ef es =
     rw (es, ef) (KeepsFront-append old (out ++ before) (39 ∷ 39 ∷ []) (KeepsFront-append old out before h))
@@ -75,23 +58,3 @@ doubled_quotes-room initial text out rest room whole fits =
 pub doubled_quotes-longer : (rest before after : List ℕ) → (rest ≡ before ++ (39 ∷ after)) × HasNoQuote before → length before + 2 ≤ length (doubled_quotes rest)
 doubled_quotes-longer rest before after split =
     omega (arith, ap length (doubled_quotes-split rest before after split.0 split.1), length-append before (39 ∷ 39 ∷ doubled_quotes after))
-
-decimal-longer : (n : ℕ) → n < 2 ^ 64 → 10 ≤ n → length (decimal n) ≡ length (decimal (n / 10)) + 1
-decimal-longer n small h =
-    ap length (decimal_step n h small) ∙ length-append (decimal (n / 10)) ((48 + n % 10) ∷ [])
-
--- the digits before the last one take less room
-pub decimal-room : (n held room : ℕ) → n < 2 ^ 64 → 10 ≤ n → held + length (decimal n) ≤ room → held + length (decimal (n / 10)) ≤ room
-decimal-room n held room small h fits = omega (arith, decimal-longer n small h)
-
--- and there is room for the last one after them
-pub decimal-room-last : (old front : List ℕ) (n digit room : ℕ) → n < 2 ^ 64 → 10 ≤ n → digit ≡ 48 + n % 10 → front ≡ old ++ decimal (n / 10) → length old + length (decimal n) ≤ room → length front + length (encode_utf8 digit) ≤ room
-decimal-room-last old front n digit room small h ed ef fits =
-    let ascii : digit < 128 = omega arith in
-    rw (encode_ascii digit ascii, ef) (omega (arith, length-append old (decimal (n / 10)), decimal-longer n small h))
-
--- or alone
-pub decimal-room-alone : (old front : List ℕ) (n digit room : ℕ) → n < 10 → digit ≡ 48 + n % 10 → front ≡ old → length old + length (decimal n) ≤ room → length front + length (encode_utf8 digit) ≤ room
-decimal-room-alone old front n digit room h ed ef fits =
-    let ascii : digit < 128 = omega arith in
-    rw (encode_ascii digit ascii, ef) (omega (arith, ap length (decimal_digit n h)))

@@ -1,5 +1,5 @@
 //! How a value is printed.
-ghost use Rattle.std.specs.Prelude.{◌≡◌, ◌+◌, ◌<◌, ◌≤◌, [], ◌∷◌, ◌++◌, length, decimal, IsOk, OnOk, OnErr};
+ghost use Rattle.std.specs.Prelude.{◌≡◌, ◌+◌, ◌≤◌, ◌++◌, length, IsOk, OnOk, OnErr};
 ghost use Rattle.std.specs.Fmt.{signed_decimal};
 ghost use Rattle.hippo_values.specs.Dates.{day_text};
 ghost use Rattle.hippo_values.specs.Printing.{value_text, KeepsFront};
@@ -10,27 +10,14 @@ use crate::memory::Memory;
 use crate::moments::DayNumber;
 use crate::texts::RoomyTxt;
 use crate::values::Value;
-
-fn append_decimal<const ROOM: usize>(number: u64, out: &mut RoomyTxt<ROOM>) -> Result<(), Memory>
-    ensures ok { OnOk result (out.new ≡ out.old ++ decimal number) }
-    ensures err { OnErr result (KeepsFront out.old out.new) }
-    ensures room { length out.old + length (decimal number) ≤ ROOM → IsOk result }
-{
-    if number >= 10 {
-        append_decimal(number / 10, out)?;
-    }
-    out.push(char::from(b'0' + (number % 10) as u8))
-}
+use itoa::Buffer;
 
 fn append_integer<const ROOM: usize>(number: i64, out: &mut RoomyTxt<ROOM>) -> Result<(), Memory>
     ensures ok { OnOk result (out.new ≡ out.old ++ signed_decimal number) }
     ensures err { OnErr result (KeepsFront out.old out.new) }
     ensures room { length out.old + length (signed_decimal number) ≤ ROOM → IsOk result }
 {
-    if number < 0 {
-        out.push('-')?;
-    }
-    append_decimal(number.unsigned_abs(), out)
+    out.append(Buffer::new().format(number))
 }
 
 fn append_doubled<const ROOM: usize>(text: &str, out: &mut RoomyTxt<ROOM>) -> Result<(), Memory>

@@ -1,4 +1,4 @@
-use Rattle.std.proofs.Common.{arith, rules, Some, None, length, ◌≤◌, ◌++◌, ap, ◌∙◌}
+use Rattle.std.proofs.Common.{arith, rules, Some, None, length, ap, ◌∙◌}
 use Rattle.std.proofs.lemmas.List.{length-append}
 use Rattle.std.proofs.lemmas.Result.{on_ok_weaker}
 use Rattle.std.proofs.lemmas.Str.Pattern.{split_parts}

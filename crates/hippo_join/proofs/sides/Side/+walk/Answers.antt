@@ -1,13 +1,14 @@
 -- What counts is visited stage by stage and place by place.
-use Rattle.std.proofs.Common.{◌≡◌, suc, List, ◌∷◌, ◌++◌, length, take, Option, Some, None, refl, sym, ap, ◌∙◌, arith}
+use Rattle.std.proofs.Common.{◌≡◌, suc, List, ◌∷◌, ◌++◌, length, length-set, Option, Some, None, refl, sym, ap, ◌∙◌, arith}
 use Rattle.std.specs.Prelude.{slice_set}
 use Rattle.std.proofs.lemmas.Bool.{false≢true}
 use Rattle.std.proofs.lemmas.List.{set-set}
 use Rattle.hippo_model.specs.Terms.{Combination, Place}
+use Rattle.hippo_join.specs.Places.{blank}
 use Rattle.hippo_join.specs.Visiting.{Completes}
 use Rattle.hippo_join.specs.Walking.{following_places, IsWalkable}
 use Rattle.hippo_join.proofs.FindingLemmas.{all-first, walk-again, walk-closed, walk-first, walk-chosen_rows, open-within, still-open, within-set}
-use Rattle.hippo_join.proofs.SlotLemmas.{rows-before}
+use Rattle.hippo_join.proofs.SlotLemmas.{rows-but}
 use Rattle.hippo_join.proofs.VisitingLemmas.{Tried, is-next, visited-none, visited-more, visited-all, visited-enough}
 use Rattle.hippo_join.proofs.sides.Side.+walk.Goals as goal
 
@@ -34,12 +35,17 @@ walk-walk_each-requires g t c κs within =
     let first = walk-first (g.C.ChoiceView.choices c.args.self.now.choices.now) c.args.self.now.query.now c.args.self.now.sets.now c.args.in_order c.args.stages.now c.in-Some.stage.now c.in-Some.rest.now c.args.slots.now c.args.slots.now c.requires.walk c.in-Some.ensures.cases.0 refl in
     (omega arith, (within.0, (within.1.0, (within.1.1, (still, (first, (c.requires.rows, (c.in_ok-places.ensures.reaches, c.in_ok-places.ensures.order))))))))
 
+pub walk-leave-requires-clause-long : goal.walk-leave-requires-clause-long
+walk-leave-requires-clause-long g t c =
+    let long = c.requires.walk.long in
+    omega (arith, ap length c.in_ok-onward.ensures.slots, length-set c.walk_each.new.slots c.in-Some.stage.now.table None, long)
+
 pub walk-leave-requires-clause-table : goal.walk-leave-requires-clause-table
 walk-leave-requires-clause-table g t c =
     within-set c.args.slots.now c.walk_each.new.slots c.in-Some.stage.now.table (open-within c.args.slots.now c.in-Some.stage.now.table (sym c.is_open.ensures ∙ c.if-not-is_open.false)) c.in_ok-onward.ensures.slots
 
 pub walk-returns-clause-slots : goal.walk-returns-clause-slots
-walk-returns-clause-slots g t c = c.in_ok-leave.ensures.slots ∙ c.in_ok-onward.ensures.slots
+walk-returns-clause-slots g t c = c.leave.ensures.slots ∙ c.in_ok-onward.ensures.slots
 
 pub walk_each-walk_with-requires : goal.walk_each-walk_with-requires
 walk_each-walk_with-requires g t c κs within =
@@ -96,10 +102,17 @@ walk_behind-returns-else-tests_hold-clause-kept g t c front before kept =
     visited-none (g.V.PlaceVisitor.Keeps c.args.visitor.now c.args.self.now.sets.now front) c.args.in_order (Completes (g.C.ChoiceView.choices c.args.self.now.choices.now) c.args.self.now.query.now c.args.self.now.sets.now c.args.slots.now) before c.args.state.now
     (λ places is. false≢true (sym c.if-tests_hold.false ∙ c.tests_hold.ensures places is.0 is.1)) kept
 
-pub walk_with-renew-requires : goal.walk_with-renew-requires
-walk_with-renew-requires g t c =
-    ap (λ (rows : Combination). take c.args.stage.now.table rows) c.requires.rows ∙ sym (rows-before c.args.self.now.sets.now c.args.slots.now c.args.stage.now.table (Some c.args.place))
+pub walk_with-renew-requires-clause-long : goal.walk_with-renew-requires-clause-long
+walk_with-renew-requires-clause-long g t c =
+    let long = c.requires.walk.long in
+    length-set c.args.slots.now c.args.stage.now.table (Some c.args.place) ∙ long
+
+pub walk_with-renew-requires-clause-rows : goal.walk_with-renew-requires-clause-rows
+walk_with-renew-requires-clause-rows g t c =
+    let sets = c.args.self.now.sets.now in
+    let table = c.args.stage.now.table in
+    ap (λ (rows : Combination). slice_set rows table blank) c.requires.rows ∙ rows-but sets c.args.slots.now table (Some c.args.place) blank
 
 pub walk_with-walk_behind-requires : goal.walk_with-walk_behind-requires
 walk_with-walk_behind-requires g t c κs within =
-    (omega arith, (within.0, (within.1.0, (within.1.1, (walk-chosen_rows (g.C.ChoiceView.choices c.args.self.now.choices.now) c.args.self.now.query.now c.args.self.now.sets.now c.args.in_order c.args.stage.now c.args.rest.now c.args.slots.now c.args.place c.requires.walk c.requires.table, c.in_ok-renew.ensures)))))
+    (omega arith, (within.0, (within.1.0, (within.1.1, (walk-chosen_rows (g.C.ChoiceView.choices c.args.self.now.choices.now) c.args.self.now.query.now c.args.self.now.sets.now c.args.in_order c.args.stage.now c.args.rest.now c.args.slots.now c.args.place c.requires.walk c.requires.table, c.renew.ensures)))))

@@ -7,7 +7,7 @@ fewer_places-requires-clause-span g c = λ places fits counts place at.
     let within = c.in_ok-span.ensures places fits counts place at in
     in-span c.in_ok-span.span.start c.in_ok-span.span.end place within.0 within.1
 
-pub returns-else-len-gt-FEW : goal.returns-else-len-gt-FEW
-returns-else-len-gt-FEW g c = λ places fits counts place at.
+pub returns-else-is_long : goal.returns-else-is_long
+returns-else-is_long g c = λ places fits counts place at.
     let within = c.in_ok-span.ensures places fits counts place at in
     in-span c.in_ok-span.span.start c.in_ok-span.span.end place within.0 within.1

@@ -6,8 +6,8 @@ use Rattle.hippo_join.specs.Walking.{following_places}
 use Rattle.hippo_join.proofs.ReachLemmas.{ok-then}
 use Rattle.hippo_join.proofs.sides.Side.reached_places.Goals as goal
 
-pub returns-then-not-knows_guard : goal.returns-then-not-knows_guard
-returns-then-not-knows_guard g c =
+pub returns : goal.returns
+returns g c =
     let Reached : List Place → Type 0 = Reaches (g.C.ChoiceView.choices c.args.self.now.choices.now) c.args.self.now.query.now c.args.self.now.sets.now c.args.table in
     ok-then (λ places. places.items ≡ following_places c.in_ok-candidates.candidates) (λ places. Reached places.items) c.listed.result c.listed.ensures
     (λ places are. subst Reached (sym are) c.in_ok-candidates.ensures)

@@ -1,24 +1,24 @@
--- One table's row more, and the end.
-use Rattle.std.proofs.Common.{◌++◌, drop, ap, ◌∙◌, arith}
-use Rattle.hippo_model.specs.Terms.{Combination}
-use Rattle.hippo_join.specs.Places.{rows_at}
-use Rattle.hippo_join.proofs.SlotLemmas.{rows-more, rows-all, rows-parted}
+-- The other rows stay, and the one is that which is chosen.
+use Rattle.std.proofs.Common.{◌≡◌, length, length-set, unwrap_or, ap, ◌∙◌, arith}
+use Rattle.std.specs.Prelude.{slice_get}
+use Rattle.std.specs.Option.{option_map_or}
+use Rattle.hippo_model.specs.declared.born_row.BornRow.{BornRow}
+use Rattle.hippo_join.specs.Places.{blank, row_at_place, rows_at, slot_at}
+use Rattle.hippo_join.proofs.SlotLemmas.{length-rows_at, rows-renewed}
 use Rattle.hippo_join.proofs.sides.Side.renew.Goals as goal
 
-pub loop-later-init : goal.loop-later-init
-loop-later-init g c =
+pub set-requires : goal.set-requires
+set-requires g c =
     let sets = c.args.self.now.sets.now in
     let slots = c.args.slots.now in
-    let table = c.args.table in
-    ap (λ (rows : Combination). rows ++ rows_at (drop table sets) (drop table slots)) (c.cut.ensures ∙ c.requires) ∙ rows-parted sets slots table
-
-pub loop-later-preserved : goal.loop-later-preserved
-loop-later-preserved g c =
-    let sets = c.args.self.now.sets.now in
-    rows-more sets c.args.slots.now c.loop-later.later c.get.result.now c.slot_at-slot.result c.args.self.now.blank.now c.loop-later.rows c.push_row.new.rows (rows_at sets c.args.slots.now)
-    c.get.ensures c.slot_at-slot.ensures c.args.self.now.is_blank c.in_ok-push_row.ensures c.loop-later.invariant
+    omega (arith, c.requires.long, c.requires.table, ap length c.requires.rows, length-set c.args.rows.now c.args.table blank, length-set (rows_at sets slots) c.args.table blank, length-rows_at sets slots)
 
 pub returns : goal.returns
 returns g c =
     let sets = c.args.self.now.sets.now in
-    rows-all sets c.args.slots.now c.loop-later.later c.loop-later.rows (rows_at sets c.args.slots.now) (omega (arith, c.len-later-end.ensures)) c.loop-later.invariant
+    let slots = c.args.slots.now in
+    let set = c.get.result.now in
+    let row : BornRow = c.chosen_row-row.result.now in
+    let is : row ≡ option_map_or (row_at_place set.rows) (slot_at slots c.args.table) blank =
+    c.chosen_row-row.ensures ∙ (λ i. option_map_or (λ place. unwrap_or (slice_get set.rows place) (c.args.self.now.is_blank i)) (c.slot_at-slot.ensures i) (c.args.self.now.is_blank i)) in
+    c.set.ensures ∙ rows-renewed sets slots c.args.table set c.args.rows.now row c.get.ensures is c.requires.rows

@@ -1,7 +1,7 @@
 -- A name in lower case is a name still.
 use Rattle.std.proofs.Common.{◌≡◌, ◌≤◌, ◌∙◌, ◌&&◌, true, length, nat_le, rules, arith}
 use Rattle.std.proofs.lemmas.Bool.{and_from, le-leb}
-use Rattle.hippo_values.specs.Names.{lower_case, is_word, is_name}
+use Rattle.hippo_values.specs.Names.{is_word, is_name}
 use Rattle.hippo_values.proofs.NamesLemmas.{lower_case-lower_case, is_name-lower_case, is_name-free}
 use Rattle.hippo_values.proofs.names.Name.unreserved.Goals as goal
 
