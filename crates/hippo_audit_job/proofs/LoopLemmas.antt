@@ -1,5 +1,5 @@
 -- The loops of a step: what its parts ask and leave.
-use Rattle.std.proofs.Common.{◌≡◌, ◌∙◌, ap, refl, arith, true, false, Bool, ℕ, ◌<◌, ◌≤◌, [], ◌∷◌, drop, length, slice_get, None, Some, Result, Ok}
+use Rattle.std.proofs.Common.{◌≡◌, ◌∙◌, ap, refl, arith, true, false, Bool, ℕ, ◌<◌, [], ◌∷◌, drop, length, slice_get, None, Some, Result, Ok}
 use Rattle.std.specs.Prelude.{◌&&◌}
 use Rattle.hippo_model.specs.declared.entry.Entry.{Entry}
 use Rattle.hippo_model.specs.declared.stored.StoredEntry.{StoredEntry}
@@ -13,7 +13,7 @@ use Rattle.hippo_keeper.proofs.Results.{err_of, well}
 use Rattle.hippo_audit_job.specs.declared.jobs.Job.{Job}
 use Rattle.hippo_audit_job.specs.declared.past.Past.{Past}
 use Rattle.hippo_audit_job.specs.Examining.{Examination}
-use Rattle.hippo_audit_job.specs.Jobs.{IsSoundJob, IsAsFar, LooksOn}
+use Rattle.hippo_audit_job.specs.Jobs.{MayLook, IsAsFar, LooksOn}
 use Rattle.hippo_audit_job.proofs.StepLemmas.{LooksOn-none, LooksOn-then}
 use Rattle.hippo_audit_job.proofs.FlagLemmas.{LooksOn-as, LooksOn-fault}
 
@@ -48,13 +48,22 @@ module _ {X : Type 0} where
 
 module _ {X : Type 0} (terms : Examination X) (upto : ℕ) (past : Past) where
   -- a job that has looked at nothing more yet
-  pub LooksOn-start : (job : Job X) (keeper : KeeperState) (steps : ℕ) → IsReady true keeper → IsSoundJob terms job → job.place ≤ upto → LooksOn terms upto past (well ReadFault) job job keeper keeper steps steps
-  LooksOn-start job keeper steps ready sound forward =
-      LooksOn-none terms upto past job keeper steps ready sound forward (well ReadFault) (λ e. absurd cc) (λ history kept stands fits number e. absurd cc)
+  pub LooksOn-start : (job : Job X) (keeper : KeeperState) (steps : ℕ) → MayLook terms upto job keeper → LooksOn terms upto past (well ReadFault) job job keeper keeper steps steps
+  LooksOn-start job keeper steps may =
+      LooksOn-none terms upto past job keeper steps may.ready may.is_sound may.forward (well ReadFault) (λ e. absurd cc) (λ history kept stands fits number e. absurd cc)
 
   -- a keeper is ready after a look that did not fail
   pub ready_after : (old new : Job X) (before after : KeeperState) (one two : ℕ) → LooksOn terms upto past (well ReadFault) old new before after one two → IsReady true after
   ready_after old new before after one two looks = IsReady-after (reading_as_call (well ReadFault)) before after refl looks.moves.is_after
+
+  -- and the job may look on, if it might at first
+  pub MayLook-after : (old new : Job X) (before after : KeeperState) (one two : ℕ) → MayLook terms upto old before → LooksOn terms upto past (well ReadFault) old new before after one two → MayLook terms upto new after
+  MayLook-after old new before after one two may looks = record {
+    ready = ready_after old new before after one two looks;
+    is_sound = looks.is_sound;
+    forward = looks.limit;
+    within = rw looks.same_length may.within;
+  }
 
   module _ (old mid new : Job X) (before now after : KeeperState) (one two three : ℕ) (first : LooksOn terms upto past (well ReadFault) old mid before now one two) where
     -- and one more that did not fail, whatever it answered

@@ -115,6 +115,16 @@ stretch (suc above) (suc upto) (first ∷ rest) =
     let fewer : suc upto - suc above ≡ upto - above = omega arith in
     ap (λ (n : ℕ). take n (drop above rest)) fewer ∙ stretch above upto rest
 
+-- the first of the entries from a place on stands at that place
+pub first_there : (place : ℕ) (history : History) (entry : Entry) (rest : History) → drop place history ≡ entry ∷ rest → (slice_get history place ≡ Some entry) × (drop (suc place) history ≡ rest)
+first_there zero [] entry rest is = absurd cc
+first_there zero (first ∷ others) entry rest is =
+    let same : first ≡ entry = cc in
+    let behind : others ≡ rest = cc in
+    (ap Some same, behind)
+first_there (suc place) [] entry rest is = absurd cc
+first_there (suc place) (first ∷ others) entry rest is = first_there place others entry rest is
+
 module _ (meaning : Meaning) (audit : Audit) (later : History) where
   flag_lasts : (history : History) (entry : Entry) → StandsIn meaning history entry → flag_of meaning (history ++ later) audit entry ≡ flag_of meaning history audit entry
   flag_lasts history entry stands =
@@ -125,15 +135,6 @@ module _ (meaning : Meaning) (audit : Audit) (later : History) where
   each_lasts history valid place (entry ∷ rest) is =
       let there = first_there place history entry rest is in
       (flag_lasts history entry (record { valid = valid; place = place; stands = there.0 }), each_lasts history valid (suc place) rest there.1)
-    where
-      first_there : (place : ℕ) (history : History) (entry : Entry) (rest : History) → drop place history ≡ entry ∷ rest → (slice_get history place ≡ Some entry) × (drop (suc place) history ≡ rest)
-      first_there zero [] entry rest is = absurd cc
-      first_there zero (first ∷ others) entry rest is =
-          let same : first ≡ entry = cc in
-          let behind : others ≡ rest = cc in
-          (ap Some same, behind)
-      first_there (suc place) [] entry rest is = absurd cc
-      first_there (suc place) (first ∷ others) entry rest is = first_there place others entry rest is
 
   pub stretch_lasts : (history : History) (above upto : ℕ) → is_valid meaning (history ++ later) ≡ true → upto ≤ length history → flags_between meaning (history ++ later) audit above upto ≡ flags_between meaning history audit above upto
   stretch_lasts history above upto valid within =

@@ -17,7 +17,7 @@ use Rattle.hippo_model.specs.Verdicts.{Context}
 use Rattle.hippo_model.specs.Versions.{versions}
 use Rattle.hippo_model.specs.Audits.{first_serving}
 use Rattle.hippo_laws.specs.Audits.{StandsIn}
-use Rattle.hippo_keeper.specs.Keeping.{KeeperState, IsAfterCall, KeepsSame}
+use Rattle.hippo_keeper.specs.Keeping.{KeeperState, IsReady, IsAfterCall, KeepsSame}
 use Rattle.hippo_catalog.specs.Catalogs.{known_at}
 use Rattle.hippo_policy.specs.Books.{BookStandsFor}
 use Rattle.hippo_typing.specs.Meanings.{meaning}
@@ -102,6 +102,25 @@ pub record IsNew {X : Type 0} (terms : Examination X) (examiner : X) : Type 0 wh
   pub none_handed : (count : ℕ) → terms.handed examiner ≡ Some count → count ≡ 0
   pub counted : (history : History) → is_valid meaning history ≡ true
       → AreWithin (terms.handed examiner) (terms.unread examiner history) (versions history)
+
+-- an examiner may be asked for an audit, about the entry with a number
+pub record MayExamine {X : Type 0} (terms : Examination X) (audit : Audit) (number : ℕ)
+    (examiner : X) (keeper : KeeperState) : Type 0 where
+  pub ready : IsReady true keeper
+  pub is_sound : terms.sound examiner
+  pub order : terms.upto examiner ≤ number
+  pub tables : IsDistinct bytes_eq audit.tables
+
+-- by the entries before a question, this is the first virtual tuple that serves
+abbrev pub IsServing : History → Audit → Entry → Query → Option (List SharedRow) → Type 0
+IsServing past audit entry query shared =
+    (user purpose recipient : Name) (text : Txt) → entry.act ≡ Asked user purpose recipient text
+    → let context : Context = record {
+      purpose = purpose;
+      recipient = recipient;
+      moment = entry.moment;
+    } in
+    shared ≡ first_serving past context query audit
 
 -- the first virtual tuple that serves is found, at the entry's own time
 abbrev pub FindsServing : History → Audit → Entry → Query

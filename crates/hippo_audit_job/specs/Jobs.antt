@@ -7,7 +7,7 @@ use Rattle.hippo_model.specs.Terms.{History}
 use Rattle.hippo_model.specs.StoredForms.{stored}
 use Rattle.hippo_model.specs.Versions.{versions}
 use Rattle.hippo_model.specs.Audits.{flags_between}
-use Rattle.hippo_keeper.specs.Keeping.{KeeperState, RisesAbove, last_number}
+use Rattle.hippo_keeper.specs.Keeping.{KeeperState, IsReady, RisesAbove, last_number}
 use Rattle.hippo_typing.specs.Meanings.{meaning}
 use Rattle.hippo_backlog.specs.declared.faults.ReadFault.{ReadFault}
 use Rattle.hippo_backlog.specs.declared.faults.ReadFault.TheVariants.{Damaged}
@@ -64,6 +64,14 @@ pub record IsSoundJob {X : Type 0} (terms : Examination X) (job : Job X) : Type 
   pub ahead : RisesAbove job.place job.questions.waiting
   pub examiner_is : terms.sound job.examiner
   pub asked : terms.upto job.examiner ≤ job.place + 1
+
+-- a job may look at the numbers up to this one
+pub record MayLook {X : Type 0} (terms : Examination X) (upto : ℕ) (job : Job X)
+    (keeper : KeeperState) : Type 0 where
+  pub ready : IsReady true keeper
+  pub is_sound : IsSoundJob terms job
+  pub forward : job.place ≤ upto
+  pub within : upto ≤ job.length
 
 -- a job that looks at a history: it began when the history was no longer, it found the flags up to
 -- its place, its questions are those of the history, and its examiner may be asked about the

@@ -1,9 +1,7 @@
 //! What examines a logged question.
-ghost use Rattle.std.specs.Prelude.{◌≡◌, ◌≤◌, true, bytes_eq, option_map};
-ghost use Rattle.std.specs.List.{IsDistinct};
+ghost use Rattle.std.specs.Prelude.{◌≡◌, true, option_map};
 ghost use Rattle.hippo_model.specs.Columns.{names_all};
-ghost use Rattle.hippo_keeper.specs.Keeping.{IsReady};
-ghost use Rattle.hippo_audit_job.specs.Examining.{Examination, Examines, shown_count};
+ghost use Rattle.hippo_audit_job.specs.Examining.{Examination, MayExamine, Examines, shown_count};
 
 use crate::past::Past;
 use hippo_backlog::ReadFault;
@@ -33,10 +31,7 @@ pub trait Examiner<P: Keeper> {
         audit: &Audit,
         steps: &mut Steps<L>,
     ) -> Result<Option<SharedTuple>, ReadFault>
-        requires ready { IsReady true (P.state keeper.old) }
-        requires sound { terms.sound self.old }
-        requires order { terms.upto self.old ≤ entry.now.seq }
-        requires tables { IsDistinct bytes_eq audit.now.tables }
+        requires may { MayExamine terms audit.now entry.now.seq self.old (P.state keeper.old) }
         requires names { names_all query.now audit.now ≡ true }
         ensures examines { Examines terms past.now audit.now entry.now query.now result self.old
             self.new

@@ -114,7 +114,7 @@ impl<X> Job<X> {
 }
 
 impl<X> Job<X> {
-    ghost use Rattle.hippo_audit_job.specs.Jobs.{with_flag, IsSoundJob, IsAsFar, LooksOn, HasStepped};
+    ghost use Rattle.hippo_audit_job.specs.Jobs.{with_flag, IsSoundJob, MayLook, IsAsFar, LooksOn, HasStepped};
     ghost use Rattle.hippo_audit_job.specs.Flagging.{IsFirstWaiting};
     ghost use Rattle.hippo_backlog.specs.ReadingAhead.{BeginsAbove, without_first};
 
@@ -184,10 +184,7 @@ impl<X> Job<X> {
     ) -> Result<bool, ReadFault>
     where
         X: Examiner<P>,
-        requires ready { IsReady true (P.state keeper.old) }
-        requires sound { IsSoundJob X.terms self.old }
-        requires forward { self.old.place ≤ upto }
-        requires within { upto ≤ self.old.length }
+        requires may { MayLook X.terms upto self.old (P.state keeper.old) }
         ensures looks { LooksOn X.terms upto past.now result self.old self.new
             (P.state keeper.old) (P.state keeper.new) steps.old steps.new }
         ensures past { result ≡ Ok false → BeginsAbove upto self.new.questions.waiting }
@@ -221,10 +218,7 @@ impl<X> Job<X> {
     ) -> Result<(), ReadFault>
     where
         X: Examiner<P>,
-        requires ready { IsReady true (P.state keeper.old) }
-        requires sound { IsSoundJob X.terms self.old }
-        requires forward { self.old.place ≤ upto }
-        requires within { upto ≤ self.old.length }
+        requires may { MayLook X.terms upto self.old (P.state keeper.old) }
         ensures looks { LooksOn X.terms upto past.now result self.old self.new
             (P.state keeper.old) (P.state keeper.new) steps.old steps.new }
         ensures past { OnOk result (BeginsAbove upto self.new.questions.waiting) }
@@ -250,10 +244,7 @@ impl<X> Job<X> {
     ) -> Result<(), ReadFault>
     where
         X: Examiner<P>,
-        requires ready { IsReady true (P.state keeper.old) }
-        requires sound { IsSoundJob X.terms self.old }
-        requires forward { self.old.place ≤ upto }
-        requires within { upto ≤ self.old.length }
+        requires may { MayLook X.terms upto self.old (P.state keeper.old) }
         ensures looks { LooksOn X.terms upto past.now result self.old self.new
             (P.state keeper.old) (P.state keeper.new) steps.old steps.new }
         ensures place { OnOk result (self.new.place ≡ upto) }

@@ -1,8 +1,7 @@
 //! What an audit makes of one logged question.
-ghost use Rattle.std.specs.Prelude.{◌≡◌, ◌≤◌, true, bytes_eq, option_map, option_and_then};
-ghost use Rattle.std.specs.List.{IsDistinct};
+ghost use Rattle.std.specs.Prelude.{◌≡◌, option_map, option_and_then};
 ghost use Rattle.hippo_model.specs.Audits.{flag_by};
-ghost use Rattle.hippo_keeper.specs.Keeping.{IsReady};
+ghost use Rattle.hippo_audit_job.specs.Examining.{MayExamine};
 ghost use Rattle.hippo_audit_job.specs.Looking.{question_parts, IsMeant, IsAskedFor, LooksAt};
 ghost use Rattle.hippo_audit_job.specs.Flagging.{FindsFlag};
 
@@ -104,10 +103,7 @@ fn shared_by<P: Keeper, L: Ledger, X: Examiner<P>>(
     audit: &Audit,
     steps: &mut Steps<L>,
 ) -> Result<Option<SharedTuple>, ReadFault>
-    requires ready { IsReady true (P.state keeper.old) }
-    requires sound { X.terms.sound examiner.old }
-    requires order { X.terms.upto examiner.old ≤ entry.now.seq }
-    requires tables { IsDistinct bytes_eq audit.now.tables }
+    requires may { MayExamine X.terms audit.now entry.now.seq examiner.old (P.state keeper.old) }
     ensures looks { IsAskedFor past.now audit.now entry.now query.now
         → LooksAt X.terms past.now audit.now entry.now
         result examiner.old examiner.new (P.state keeper.old) (P.state keeper.new) steps.old
@@ -131,10 +127,7 @@ pub(crate) fn shared_with<P: Keeper, L: Ledger, X: Examiner<P>>(
     audit: &Audit,
     steps: &mut Steps<L>,
 ) -> Result<Option<SharedTuple>, ReadFault>
-    requires ready { IsReady true (P.state keeper.old) }
-    requires sound { X.terms.sound examiner.old }
-    requires order { X.terms.upto examiner.old ≤ entry.now.seq }
-    requires tables { IsDistinct bytes_eq audit.now.tables }
+    requires may { MayExamine X.terms audit.now entry.now.seq examiner.old (P.state keeper.old) }
     ensures looks { LooksAt X.terms past.now audit.now entry.now result examiner.old examiner.new
         (P.state keeper.old) (P.state keeper.new) steps.old steps.new }
 {
@@ -167,10 +160,7 @@ pub(crate) fn find_flag<P: Keeper, L: Ledger, X: Examiner<P>>(
     audit: &Audit,
     steps: &mut Steps<L>,
 ) -> Result<Option<Flag>, ReadFault>
-    requires ready { IsReady true (P.state keeper.old) }
-    requires sound { X.terms.sound examiner.old }
-    requires order { X.terms.upto examiner.old ≤ entry.seq }
-    requires tables { IsDistinct bytes_eq audit.now.tables }
+    requires may { MayExamine X.terms audit.now entry.seq examiner.old (P.state keeper.old) }
     ensures { FindsFlag X.terms past.now audit.now entry result examiner.old examiner.new
         (P.state keeper.old) (P.state keeper.new) steps.old steps.new }
 {

@@ -1,14 +1,12 @@
 -- From tables that are brought forward, and what is shared over them, to what examining a question does.
-use Rattle.std.proofs.Common.{◌≡◌, ◌≢◌, ◌⊎◌, inl, inr, ◌∙◌, sym, ap, refl, subst, arith, ℕ, ◌+◌, ◌<◌, ◌≤◌, true, false, ◌&&◌, List, [], map, filter_map, length, take, Option, None, Some, option_map, Result, Ok, Err}
+use Rattle.std.proofs.Common.{◌≡◌, ◌⊎◌, ◌∙◌, sym, ap, refl, subst, arith, ℕ, ◌+◌, ◌<◌, ◌≤◌, true, false, ◌&&◌, List, [], map, filter_map, length, take, Option, None, Some, option_map, Result, Ok, Err}
 use Rattle.std.specs.Prelude.{◌-◌, ℤ, IfOk, IfErr, is_some, bytes_eq}
 use Rattle.std.specs.List.{AllByRecursion, IsDistinct}
 use Rattle.std.proofs.lemmas.Bool.{and_parts}
-use Rattle.std.proofs.lemmas.Option.{same_Some, slice_get_within}
-use Rattle.hippo_values.specs.Texts.{Txt}
+use Rattle.std.proofs.lemmas.Option.{same_Some}
 use Rattle.hippo_values.specs.declared.names.Name.{Name}
 use Rattle.hippo_model.specs.declared.audit.Audit.{Audit}
 use Rattle.hippo_model.specs.declared.audit.SharedRow.{SharedRow}
-use Rattle.hippo_model.specs.declared.entry.Act.TheVariants.{Asked}
 use Rattle.hippo_model.specs.declared.entry.Entry.{Entry}
 use Rattle.hippo_model.specs.declared.policy.TableRules.{TableRules}
 use Rattle.hippo_model.specs.declared.query.Query.{Query}
@@ -23,7 +21,6 @@ use Rattle.hippo_model.specs.Terms.{History}
 use Rattle.hippo_model.specs.Validity.{is_valid}
 use Rattle.hippo_model.specs.Verdicts.{Context}
 use Rattle.hippo_laws.specs.Audits.{StandsIn}
-use Rattle.hippo_laws.proofs.ValidFronts.{entry_has_its_number}
 use Rattle.hippo_keeper.specs.Answering.{has_failed}
 use Rattle.hippo_keeper.specs.Keeping.{KeeperState, IsReady}
 use Rattle.hippo_catalog.specs.Catalogs.{KnownNames, known_at, table_of}
@@ -41,14 +38,15 @@ use Rattle.hippo_keeper.proofs.CallLemmas.{KeepsSame-here, IsAfterCall-none, IsA
 use Rattle.hippo_keeper.proofs.Results.{err_of}
 use Rattle.hippo_intervals.specs.Living.{HeldLives}
 use Rattle.hippo_audit_job.specs.declared.past.Past.{Past}
-use Rattle.hippo_audit_job.specs.Examining.{IsPastOf, IsAuditOf, FindsServing, IsNew, Examines}
+use Rattle.hippo_audit_job.specs.Examining.{IsPastOf, IsAuditOf, IsServing, FindsServing, IsNew, Examines}
 use Rattle.hippo_model.specs.Audits.{first_serving}
 use Rattle.hippo_examining.specs.Examining.{AreOfHistory}
 use Rattle.hippo_combine.specs.declared.combine.Combine.{Combine}
-use Rattle.hippo_combine.specs.Held.{schema_held, rows_held, are_held, AreHeldAt, AreHeldUpTo, all_taken, unread_count, TablesFit}
-use Rattle.hippo_combine.specs.Bringing.{AreKnown, Brings}
+use Rattle.hippo_combine.specs.Held.{schema_held, rows_held, are_held, AreHeldUpTo, all_taken, unread_count, TablesFit}
+use Rattle.hippo_combine.specs.Bringing.{AreKnown, AreHeldIfKnown, Brings}
 use Rattle.hippo_combine.specs.Sharing.{HoldsBoth}
 use Rattle.hippo_combine.specs.Combining.{IsSoundCombine, combine_terms}
+use Rattle.hippo_combine.proofs.ExaminerLemmas.{only_memory, undamaged, no_entry}
 use Rattle.hippo_combine.proofs.HeldLemmas.{all-from}
 use Rattle.hippo_combine.proofs.UnreadLemmas.{taken_and_unread}
 use Rattle.hippo_combine.proofs.PastLemmas.{front_valid, lasting, created_by_meaning, are_common}
@@ -121,30 +119,11 @@ up_to_number combine seq number sound order next =
     all-from (λ (lives : HeldLives). lives.versions.place < combine.asked) (λ (lives : HeldLives). lives.versions.place ≤ number) (λ lives below. omega (arith, below, order, next)) combine.tables.items sound
 
 -- ---- faults
-only_memory : (result : Result (Option (List SharedRow)) ReadFault) → IfErr result (λ fault. fault ≡ Memory) → has_failed (reading_as_call result) ≡ false
-only_memory (Ok shared) memory = refl
-only_memory (Err fault) memory = ap (λ (f : ReadFault). has_failed (reading_as_call (err_of (Option (List SharedRow)) f))) memory
-
-undamaged : (result : Result (Option (List SharedRow)) ReadFault) → IfErr result (λ fault. fault ≡ Memory) → (place : ℕ) → result ≢ Err (Damaged place)
-undamaged (Ok shared) memory place is = cc
-undamaged (Err fault) memory place is =
-    let other : Memory ≡ Damaged place = sym memory ∙ same_Err {A = Option (List SharedRow)} fault (Damaged place) is in cc
-
 unfailed : {B : Type 0} (one : Result B ReadFault) (value : B) → one ≡ Ok value → has_failed (reading_as_call one) ≡ false
 unfailed one value is = ap (λ r. has_failed (reading_as_call r)) is
 
 module _ (past : Past) (audit : Audit) (entry : Entry) (query : Query) (old new : Combine) (before : KeeperState) (s0 : ℕ)
     (asked : new.asked ≡ entry.seq) (sound : IsSoundCombine old) (order : old.asked ≤ entry.seq) where
-  -- ---- an entry that is none of the history
-  no_entry : (history : History) → IsPastOf past history → (entry.seq ≡ 0) ⊎ (past.count < entry.seq) → StandsIn meaning history entry → ⊥
-  no_entry history its (inl zero) stands =
-      let number = entry_has_its_number meaning history its.valid stands.place entry stands.stands in omega (arith, zero, number)
-  no_entry history its (inr beyond) stands =
-      let number = entry_has_its_number meaning history its.valid stands.place entry stands.stands in
-      let within = slice_get_within history stands.place entry stands.stands in
-      let count = its.count in
-      omega (arith, beyond, number, within, count)
-
   sound_still : new.tables.items ≡ old.tables.items → IsSoundCombine new
   sound_still same =
       subst (λ (tables : List HeldLives). AllByRecursion (λ (lives : HeldLives). lives.versions.place < new.asked) tables) (sym same)
@@ -165,7 +144,7 @@ module _ (past : Past) (audit : Audit) (entry : Entry) (query : Query) (old new 
           fits_still = subst (λ (tables : List HeldLives). TablesFit tables history) (sym same) fits;
           undamaged = λ place e. absurd cc;
           once = let unread_same : unread_count new.tables.items history ≡ unread_count old.tables.items history = ap (λ (tables : List HeldLives). unread_count tables history) same in omega (arith, unread_same);
-          finds = λ stands. absurd (no_entry history its none stands);
+          finds = λ stands. absurd (no_entry past entry history its none stands);
         };
       }
     where
@@ -218,10 +197,9 @@ module _ (past : Past) (audit : Audit) (entry : Entry) (query : Query) (old new 
         (λ tells history kept its audit_is fits stands. subst (FindsServing history audit entry query) (sym is) (λ user purpose recipient text asked means. tt))
 
     -- what is found, from what is shared over the rows that are held
-    finds_by : (tables : List HeldLives) → tables ≡ new.tables.items → names_all query audit ≡ true → (AreKnown past.catalog.now.names audit.tables → AreHeldAt number audit.tables new.tables.items) → (AreKnown past.catalog.now.names query.tables → AreHeldAt number query.tables new.tables.items)
+    finds_by : (tables : List HeldLives) → tables ≡ new.tables.items → names_all query audit ≡ true → AreHeldIfKnown past number audit.tables new.tables.items → AreHeldIfKnown past number query.tables new.tables.items
         → (result : Result (Option (List SharedRow)) ReadFault)
-        → IfOk result (λ shared. (history : History) → HoldsBoth past.book.now tables number history query audit → (user purpose recipient : Name) (text : Txt) → entry.act ≡ Asked user purpose recipient text
-        → (let context : Context = record { purpose = purpose; recipient = recipient; moment = entry.moment } in shared ≡ first_serving (take number history) context query audit))
+        → IfOk result (λ shared. (history : History) → HoldsBoth past.book.now tables number history query audit → IsServing (take number history) audit entry query shared)
         → (history : History) → IsPastOf past history → IsAuditOf history audit → TablesFit new.tables.items history → FindsServing history audit entry query result
     finds_by tables same names audit_held query_held (Err fault) shares history its audit_is fits = λ user purpose recipient text is means. tt
     finds_by tables same names audit_held query_held (Ok shared) shares history its audit_is fits = λ user purpose recipient text is means.
@@ -246,10 +224,9 @@ module _ (past : Past) (audit : Audit) (entry : Entry) (query : Query) (old new 
 
     -- what is shared over the rows that are held, is found
     pub examines_shared : (value : B) → one ≡ Ok value → (tables : List HeldLives) → tables ≡ new.tables.items → names_all query audit ≡ true
-        → (AreKnown past.catalog.now.names audit.tables → AreHeldAt number audit.tables new.tables.items) → (AreKnown past.catalog.now.names query.tables → AreHeldAt number query.tables new.tables.items)
+        → AreHeldIfKnown past number audit.tables new.tables.items → AreHeldIfKnown past number query.tables new.tables.items
         → (result : Result (Option (List SharedRow)) ReadFault) → IfErr result (λ fault. fault ≡ Memory)
-        → IfOk result (λ shared. (history : History) → HoldsBoth past.book.now tables number history query audit → (user purpose recipient : Name) (text : Txt) → entry.act ≡ Asked user purpose recipient text
-        → (let context : Context = record { purpose = purpose; recipient = recipient; moment = entry.moment } in shared ≡ first_serving (take number history) context query audit))
+        → IfOk result (λ shared. (history : History) → HoldsBoth past.book.now tables number history query audit → IsServing (take number history) audit entry query shared)
         → Examines combine_terms past audit entry query result old new before after s0 s1
     examines_shared value is tables same names audit_held query_held result memory shares =
         examines result (only_memory result memory ∙ sym (unfailed one value is)) (λ place e. absurd (undamaged result memory place e))

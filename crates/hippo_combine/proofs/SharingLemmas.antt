@@ -1,6 +1,6 @@
 -- What is held of tables at a place, as the sets and schemas of the history there; and where nothing is shared.
 use Rattle.std.proofs.Common.{◌≡◌, ◌⊎◌, inl, inr, ◌∙◌, sym, ap, refl, subst, arith, ℕ, zero, suc, ◌<◌, Bool, true, false, cond, ◌&&◌, List, [], ◌∷◌, ◌++◌, map, filter_map, length, take, Option, None, Some, option_map, get_or}
-use Rattle.std.specs.Prelude.{find, flat_map, nat_lt, bytes_eq}
+use Rattle.std.specs.Prelude.{flat_map, nat_lt, bytes_eq}
 use Rattle.std.specs.List.{AllByRecursion, cons_option, list_any}
 use Rattle.std.specs.Option.{option_map_or}
 use Rattle.std.proofs.lemmas.Bool.{and_parts, false≢true}
@@ -16,7 +16,7 @@ use Rattle.hippo_model.specs.declared.query.Form.{Form}
 use Rattle.hippo_model.specs.declared.query.Form.TheVariants.{Plain, Distinct, Grouped}
 use Rattle.hippo_model.specs.declared.query.Query.{Query}
 use Rattle.hippo_model.specs.declared.schema.Schema.{Schema}
-use Rattle.hippo_model.specs.Answers.{product, answer_of, query_answer, audit_answer, seen_combinations, unmasked_combinations}
+use Rattle.hippo_model.specs.Answers.{product, answer_of, query_answer, seen_combinations}
 use Rattle.hippo_model.specs.Audits.{needs, query_needs, audit_needs, has_tuple, serves, first_serving}
 use Rattle.hippo_model.specs.Forms.{rows_by_form}
 use Rattle.hippo_model.specs.Histories.{schema_at}
@@ -32,6 +32,7 @@ use Rattle.hippo_shared.proofs.CommonLemmas.{place-found, common-in-query, commo
 use Rattle.hippo_intervals.specs.Living.{HeldLives, LivesFit}
 use Rattle.hippo_intervals.proofs.LivesLemmas.{LivesAreThoseOf-fits}
 use Rattle.hippo_combine.specs.Held.{lives_of, schema_held, rows_held, place_held, has_some, are_held, AreHeldAt, TablesFit}
+use Rattle.hippo_combine.proofs.ExaminerLemmas.{find_none, nothing_of_audit}
 use Rattle.hippo_combine.proofs.PastLemmas.{front_valid, lasting, no_rows_yet}
 
 abbrev no_set : KeyedRows
@@ -213,9 +214,6 @@ module _ (tables : List HeldLives) (number : ℕ) (history : History) (valid : i
   view_empty table schema named found is (inl none) rows = rw (is ∙ none) refl
   view_empty table schema named found is (inr some) rows = rw (is ∙ some, rows) refl
 
-  audit_unneeded : unmasked_combinations before audit ≡ [] → (tuple : List SharedRow) → audit_needs before audit tuple ≡ false
-  audit_unneeded none tuple = ap (needs (audit_answer audit) (has_tuple before audit.tables tuple)) none
-
   query_unneeded : seen_combinations before context query ≡ [] → (tuple : List SharedRow) → query_needs before context query tuple ≡ false
   query_unneeded none tuple = ap (needs (query_answer query) (has_tuple before query.tables tuple)) none ∙ by query.form
     where
@@ -225,18 +223,7 @@ module _ (tables : List HeldLives) (number : ℕ) (history : History) (valid : i
   no_query : (mine others shown : Bool) → mine ≡ false → (mine && others && shown) ≡ false
   no_query mine others shown is = rw is refl
 
-  no_audit : (mine others shown : Bool) → others ≡ false → (mine && others && shown) ≡ false
-  no_audit true others shown is = rw is refl
-  no_audit false others shown is = refl
-
-  find_none : {A : Type 0} (test : A → Bool) → ((x : A) → test x ≡ false) → (xs : List A) → find test xs ≡ None
-  find_none test fails [] = refl
-  find_none test fails (x ∷ xs) = rw (fails x) (find_none test fails xs)
-
   -- where a table of either has no rows, nothing serves
-  nothing_of_audit : unmasked_combinations before audit ≡ [] → first_serving before context query audit ≡ None
-  nothing_of_audit none = find_none (serves before context query audit) (λ tuple. no_audit (query_needs before context query tuple) (audit_needs before audit tuple) _ (audit_unneeded none tuple)) _
-
   nothing_of_query : seen_combinations before context query ≡ [] → first_serving before context query audit ≡ None
   nothing_of_query none = find_none (serves before context query audit) (λ tuple. no_query (query_needs before context query tuple) (audit_needs before audit tuple) _ (query_unneeded none tuple)) _
 
@@ -244,5 +231,5 @@ module _ (tables : List HeldLives) (number : ℕ) (history : History) (valid : i
   nothing_serves audit_held query_held lacks =
       elim (are_held tables audit.tables) as (λ have. are_held tables audit.tables ≡ have → (have && are_held tables query.tables) ≡ false → first_serving before context query audit ≡ None) [
         | true ↦ λ is lacks. nothing_of_query (none_of_all tables number history valid fits (view_at before context) view_empty query.tables query_held lacks)
-        | false ↦ λ is lacks. nothing_of_audit (none_of_all tables number history valid fits (unmasked_at before) unmasked_empty audit.tables audit_held is)
+        | false ↦ λ is lacks. nothing_of_audit before context query audit (none_of_all tables number history valid fits (unmasked_at before) unmasked_empty audit.tables audit_held is)
       ] refl lacks

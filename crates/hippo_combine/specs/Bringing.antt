@@ -5,7 +5,7 @@ use Rattle.hippo_values.specs.declared.names.Name.{Name}
 use Rattle.hippo_model.specs.declared.schema.Schema.{Schema}
 use Rattle.hippo_model.specs.Terms.{History}
 use Rattle.hippo_model.specs.StoredForms.{stored}
-use Rattle.hippo_keeper.specs.Keeping.{KeeperState, IsAfterCall, KeepsSame}
+use Rattle.hippo_keeper.specs.Keeping.{KeeperState, IsReady, IsAfterCall, KeepsSame}
 use Rattle.hippo_catalog.specs.Catalogs.{KnownNames, table_of}
 use Rattle.hippo_backlog.specs.declared.faults.ReadFault.{ReadFault}
 use Rattle.hippo_backlog.specs.declared.faults.ReadFault.TheVariants.{Damaged}
@@ -30,6 +30,18 @@ abbrev pub AreKnown : KnownNames → List Name → Type 0
 AreKnown known names =
     AllByRecursion (λ table. option_map (λ schema. schema.name) (table_of known table) ≡ Some table)
     names
+
+-- these tables are held at a number, where they are all known
+abbrev pub AreHeldIfKnown : Past → ℕ → List Name → List HeldLives → Type 0
+AreHeldIfKnown past number names tables =
+    AreKnown past.catalog.now.names names → AreHeldAt number names tables
+
+-- tables may be brought forward to a number
+pub record MayBring (past : Past) (number : ℕ) (tables : List HeldLives) (keeper : KeeperState)
+    : Type 0 where
+  pub ready : IsReady true keeper
+  pub up_to : AreHeldUpTo number tables
+  pub within : number ≤ past.count
 
 -- the number of the entry before this one, which is among the first so many; none where it is not
 abbrev pub IsNumberBefore : ℕ → ℕ → Option ℕ → Type 0

@@ -1,10 +1,9 @@
 //! Tables that are brought forward to a place in the history.
-ghost use Rattle.std.specs.Prelude.{◌≡◌, ◌≤◌, ◌∷◌, [], true, Some, IfOk, OnOk, OnErr};
+ghost use Rattle.std.specs.Prelude.{◌≡◌, ◌∷◌, [], Some, IfOk, OnOk, OnErr};
 ghost use Rattle.hippo_values.specs.declared.names.Name.{Name as NameValue};
-ghost use Rattle.hippo_keeper.specs.Keeping.{IsReady};
 ghost use Rattle.hippo_catalog.specs.Catalogs.{table_of};
-ghost use Rattle.hippo_combine.specs.Held.{AreHeldAt, AreHeldUpTo};
-ghost use Rattle.hippo_combine.specs.Bringing.{with_table, IsPlaceOf, AreKnown, Brings};
+ghost use Rattle.hippo_combine.specs.Held.{AreHeldAt};
+ghost use Rattle.hippo_combine.specs.Bringing.{with_table, IsPlaceOf, AreHeldIfKnown, MayBring, Brings};
 
 use crate::held::place_of;
 use hippo_audit_job::Past;
@@ -39,9 +38,7 @@ fn bring<P: Keeper, L: Ledger>(
     number: u64,
     steps: &mut Steps<L>,
 ) -> Result<(), ReadFault>
-    requires ready { IsReady true (P.state keeper.old) }
-    requires up_to { AreHeldUpTo number tables.old.items }
-    requires end { number ≤ past.now.count }
+    requires may { MayBring past.now number tables.old.items (P.state keeper.old) }
     ensures brings { (table : NameValue)
         → table_of past.now.catalog.now.names table ≡ Some schema.now
         → Brings past.now number result tables.old.items tables.new.items
@@ -65,13 +62,10 @@ fn bring_known<P: Keeper, L: Ledger>(
     number: u64,
     steps: &mut Steps<L>,
 ) -> Result<(), ReadFault>
-    requires ready { IsReady true (P.state keeper.old) }
-    requires up_to { AreHeldUpTo number tables.old.items }
-    requires end { number ≤ past.now.count }
+    requires may { MayBring past.now number tables.old.items (P.state keeper.old) }
     ensures brings { Brings past.now number result tables.old.items tables.new.items
         (P.state keeper.old) (P.state keeper.new) steps.old steps.new }
-    ensures held { OnOk result (AreKnown past.now.catalog.now.names (table.now ∷ [])
-        → AreHeldAt number (table.now ∷ []) tables.new.items) }
+    ensures held { OnOk result (AreHeldIfKnown past.now number (table.now ∷ []) tables.new.items) }
 {
     match past.catalog.table(table) {
         Some(schema) => bring(tables, keeper, alloc, past, schema, number, steps),
@@ -89,13 +83,10 @@ fn bring_all<P: Keeper, L: Ledger>(
     number: u64,
     steps: &mut Steps<L>,
 ) -> Result<(), ReadFault>
-    requires ready { IsReady true (P.state keeper.old) }
-    requires up_to { AreHeldUpTo number tables.old.items }
-    requires end { number ≤ past.now.count }
+    requires may { MayBring past.now number tables.old.items (P.state keeper.old) }
     ensures brings { Brings past.now number result tables.old.items tables.new.items
         (P.state keeper.old) (P.state keeper.new) steps.old steps.new }
-    ensures held { OnOk result (AreKnown past.now.catalog.now.names names.now
-        → AreHeldAt number names.now tables.new.items) }
+    ensures held { OnOk result (AreHeldIfKnown past.now number names.now tables.new.items) }
 {
     for table in names {
         bring_known(tables, keeper, alloc, past, table, number, steps)?;
@@ -114,15 +105,11 @@ pub(crate) fn bring_both<P: Keeper, L: Ledger>(
     number: u64,
     steps: &mut Steps<L>,
 ) -> Result<(), ReadFault>
-    requires ready { IsReady true (P.state keeper.old) }
-    requires up_to { AreHeldUpTo number tables.old.items }
-    requires end { number ≤ past.now.count }
+    requires may { MayBring past.now number tables.old.items (P.state keeper.old) }
     ensures brings { Brings past.now number result tables.old.items tables.new.items
         (P.state keeper.old) (P.state keeper.new) steps.old steps.new }
-    ensures audit { OnOk result (AreKnown past.now.catalog.now.names audit.now.tables
-        → AreHeldAt number audit.now.tables tables.new.items) }
-    ensures query { OnOk result (AreKnown past.now.catalog.now.names query.now.tables
-        → AreHeldAt number query.now.tables tables.new.items) }
+    ensures audit { OnOk result (AreHeldIfKnown past.now number audit.now.tables tables.new.items) }
+    ensures query { OnOk result (AreHeldIfKnown past.now number query.now.tables tables.new.items) }
 {
     bring_all(
         tables,

@@ -1,13 +1,11 @@
 //! What a query and an audit share over the rows that are held.
 ghost use Rattle.std.specs.Prelude.{◌≡◌, ◌&&◌, bytes_eq, take, IfOk, IfErr};
 ghost use Rattle.std.specs.List.{IsDistinct};
-ghost use Rattle.hippo_values.specs.Texts.{Txt as TextValue};
-ghost use Rattle.hippo_values.specs.declared.names.Name.{Name as NameValue};
-ghost use Rattle.hippo_model.specs.declared.entry.Act.TheVariants.{Asked};
 ghost use Rattle.hippo_model.specs.Terms.{History};
 ghost use Rattle.hippo_model.specs.Verdicts.{Context};
 ghost use Rattle.hippo_backlog.specs.declared.faults.ReadFault.TheVariants.{Memory as NoMemory};
 ghost use Rattle.hippo_model.specs.Audits.{first_serving};
+ghost use Rattle.hippo_audit_job.specs.Examining.{IsServing};
 ghost use Rattle.hippo_combine.specs.Held.{are_held};
 ghost use Rattle.hippo_combine.specs.Sharing.{HoldsBoth};
 
@@ -82,11 +80,7 @@ pub(crate) fn shared_with(
     ensures memory { IfErr result (λ fault. fault ≡ NoMemory) }
     ensures serves { IfOk result (λ shared. (history : History)
         → HoldsBoth book.now tables.now number history query.now audit.now
-        → (user purpose recipient : NameValue) (text : TextValue)
-        → entry.now.act ≡ Asked user purpose recipient text
-        → let context : Context = record
-        { purpose = purpose; recipient = recipient; moment = entry.now.moment } in
-        shared ≡ first_serving (take number history) context query.now audit.now) }
+        → IsServing (take number history) audit.now entry.now query.now shared) }
 {
     let Act::Asked {
         purpose,

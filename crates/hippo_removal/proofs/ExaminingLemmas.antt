@@ -1,20 +1,14 @@
 -- From rows that are read, and what is shared over them, to what examining a question does.
-use Rattle.std.proofs.Common.{◌≡◌, ◌≢◌, ◌⊎◌, inl, inr, ◌∙◌, sym, ap, refl, subst, arith, ℕ, ◌+◌, ◌<◌, ◌≤◌, true, false, List, map, length, take, Option, None, Some, Result, Ok, Err}
+use Rattle.std.proofs.Common.{◌≡◌, ◌⊎◌, ◌∙◌, sym, ap, refl, subst, arith, ℕ, ◌+◌, ◌<◌, ◌≤◌, true, false, List, map, length, take, Option, None, Some, Result, Ok, Err}
 use Rattle.std.specs.Prelude.{◌-◌, IfOk, IfErr}
-use Rattle.std.proofs.lemmas.Option.{slice_get_within}
-use Rattle.hippo_values.specs.Texts.{Txt}
-use Rattle.hippo_values.specs.declared.names.Name.{Name}
 use Rattle.hippo_model.specs.declared.audit.Audit.{Audit}
 use Rattle.hippo_model.specs.declared.audit.SharedRow.{SharedRow}
-use Rattle.hippo_model.specs.declared.entry.Act.TheVariants.{Asked}
 use Rattle.hippo_model.specs.declared.entry.Entry.{Entry}
 use Rattle.hippo_model.specs.declared.query.Query.{Query}
 use Rattle.hippo_model.specs.Columns.{names_all}
 use Rattle.hippo_model.specs.StoredForms.{stored}
 use Rattle.hippo_model.specs.Terms.{History}
 use Rattle.hippo_model.specs.Verdicts.{Context}
-use Rattle.hippo_laws.specs.Audits.{StandsIn}
-use Rattle.hippo_laws.proofs.ValidFronts.{entry_has_its_number}
 use Rattle.hippo_keeper.specs.Answering.{has_failed}
 use Rattle.hippo_keeper.specs.Keeping.{KeeperState, IsReady}
 use Rattle.hippo_typing.specs.Meanings.{meaning}
@@ -25,38 +19,18 @@ use Rattle.hippo_backlog.proofs.CallLemmas.{same_Err, reading_as_call-fault}
 use Rattle.hippo_keeper.proofs.CallLemmas.{KeepsSame-here, IsAfterCall-none, IsAfterCall-as}
 use Rattle.hippo_keeper.proofs.Results.{err_of}
 use Rattle.hippo_audit_job.specs.declared.past.Past.{Past}
-use Rattle.hippo_audit_job.specs.Examining.{IsPastOf, IsAuditOf, FindsServing, IsNew, Examines}
+use Rattle.hippo_audit_job.specs.Examining.{IsPastOf, IsAuditOf, IsServing, FindsServing, IsNew, Examines}
 use Rattle.hippo_model.specs.Audits.{first_serving}
+use Rattle.hippo_combine.proofs.ExaminerLemmas.{Shared, only_memory, undamaged, no_entry}
 use Rattle.hippo_combine.proofs.PastLemmas.{front_valid, created_by_meaning}
 use Rattle.hippo_removal.specs.declared.removal.Removal.{Removal}
 use Rattle.hippo_removal.specs.declared.snapshots.BothRows.{BothRows}
 use Rattle.hippo_removal.specs.Removals.{AreThen, AreBoth, ReadsBoth, removal_terms}
 
-abbrev Shared : Type 0
-Shared = Result (Option (List SharedRow)) ReadFault
-
 abbrev found : Option (List SharedRow) → Shared
 found shared = Ok shared
 
-only_memory : (result : Shared) → IfErr result (λ fault. fault ≡ Memory) → has_failed (reading_as_call result) ≡ false
-only_memory (Ok shared) memory = refl
-only_memory (Err fault) memory = ap (λ (f : ReadFault). has_failed (reading_as_call (err_of (Option (List SharedRow)) f))) memory
-
-undamaged : (result : Shared) → IfErr result (λ fault. fault ≡ Memory) → (place : ℕ) → result ≢ Err (Damaged place)
-undamaged (Ok shared) memory place is = cc
-undamaged (Err fault) memory place is =
-    let other : Memory ≡ Damaged place = sym memory ∙ same_Err {A = Option (List SharedRow)} fault (Damaged place) is in cc
-
 module _ (past : Past) (audit : Audit) (entry : Entry) (query : Query) (old new : Removal) (before : KeeperState) (s0 : ℕ) where
-  no_entry : (history : History) → IsPastOf past history → (entry.seq ≡ 0) ⊎ (past.count < entry.seq) → StandsIn meaning history entry → ⊥
-  no_entry history its (inl zero) stands =
-      let number = entry_has_its_number meaning history its.valid stands.place entry stands.stands in omega (arith, zero, number)
-  no_entry history its (inr beyond) stands =
-      let number = entry_has_its_number meaning history its.valid stands.place entry stands.stands in
-      let within = slice_get_within history stands.place entry stands.stands in
-      let count = its.count in
-      omega (arith, beyond, number, within, count)
-
   -- an entry that is none of the history
   pub examines_nothing : IsReady true before → (entry.seq ≡ 0) ⊎ (past.count < entry.seq) → Examines removal_terms past audit entry query (Ok None) old new before before s0 s0
   examines_nothing ready none = record {
@@ -71,7 +45,7 @@ module _ (past : Past) (audit : Audit) (entry : Entry) (query : Query) (old new 
       fits_still = tt;
       undamaged = λ place e. absurd cc;
       once = tt;
-      finds = λ stands. absurd (no_entry history its none stands);
+      finds = λ stands. absurd (no_entry past entry history its none stands);
     };
   }
 
@@ -107,8 +81,7 @@ module _ (past : Past) (audit : Audit) (entry : Entry) (query : Query) (old new 
         (λ tells history kept its audit_is. subst (FindsServing history audit entry query) (sym is) (λ user purpose recipient text asked means. tt))
 
     finds_by : (both : BothRows) → one ≡ Ok both → names_all query audit ≡ true → (result : Shared)
-        → IfOk result (λ shared. (history : History) → AreThen past number history query audit both.query both.audit → (user purpose recipient : Name) (text : Txt) → entry.act ≡ Asked user purpose recipient text
-        → (let context : Context = record { purpose = purpose; recipient = recipient; moment = entry.moment } in shared ≡ first_serving (take number history) context query audit))
+        → IfOk result (λ shared. (history : History) → AreThen past number history query audit both.query both.audit → IsServing (take number history) audit entry query shared)
         → after.tells → (history : History) → map stored history ≡ before.kept → IsPastOf past history → IsAuditOf history audit → FindsServing history audit entry query result
     finds_by both one_is names (Err fault) shares tells history kept its audit_is = λ user purpose recipient text is means. tt
     finds_by both one_is names (Ok shared) shares tells history kept its audit_is = λ user purpose recipient text is means.
@@ -128,8 +101,7 @@ module _ (past : Past) (audit : Audit) (entry : Entry) (query : Query) (old new 
 
     -- what is shared over the rows that are read, is found
     pub examines_shared : (both : BothRows) → one ≡ Ok both → names_all query audit ≡ true → (result : Shared) → IfErr result (λ fault. fault ≡ Memory)
-        → IfOk result (λ shared. (history : History) → AreThen past number history query audit both.query both.audit → (user purpose recipient : Name) (text : Txt) → entry.act ≡ Asked user purpose recipient text
-        → (let context : Context = record { purpose = purpose; recipient = recipient; moment = entry.moment } in shared ≡ first_serving (take number history) context query audit))
+        → IfOk result (λ shared. (history : History) → AreThen past number history query audit both.query both.audit → IsServing (take number history) audit entry query shared)
         → Examines removal_terms past audit entry query result old new before after s0 s1
     examines_shared both is names result memory shares =
         examines result (only_memory result memory ∙ sym (ap (λ r. has_failed (reading_as_call r)) is)) (λ place e. absurd (undamaged result memory place e)) (finds_by both is names result shares)

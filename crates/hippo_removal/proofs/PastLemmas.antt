@@ -1,19 +1,18 @@
 -- Rows after the first entries of a history, and what is shared over them.
-use Rattle.std.proofs.Common.{◌≡◌, ◌∙◌, sym, ap, refl, arith, ℕ, suc, Bool, true, false, ◌&&◌, List, [], ◌∷◌, ◌++◌, map, filter_map, length, take, Option, None, Some}
-use Rattle.std.specs.Prelude.{ℤ, find, flat_map, nat_lt, is_some}
+use Rattle.std.proofs.Common.{◌≡◌, ◌∙◌, sym, ap, refl, arith, ℕ, suc, true, false, ◌&&◌, List, [], ◌∷◌, ◌++◌, map, filter_map, length, take, Option, None, Some}
+use Rattle.std.specs.Prelude.{ℤ, flat_map, nat_lt, is_some}
 use Rattle.std.specs.List.{AllByRecursion, cons_option}
 use Rattle.std.specs.Option.{option_map_or}
 use Rattle.std.proofs.lemmas.Bool.{and_parts, false≢true}
 use Rattle.std.proofs.lemmas.Bool.Decides.{nat_tests}
 use Rattle.hippo_values.specs.declared.names.Name.{Name}
 use Rattle.hippo_model.specs.declared.audit.Audit.{Audit}
-use Rattle.hippo_model.specs.declared.audit.SharedRow.{SharedRow}
 use Rattle.hippo_model.specs.declared.born_row.BornRow.{BornRow}
 use Rattle.hippo_model.specs.declared.policy.TableRules.{TableRules}
 use Rattle.hippo_model.specs.declared.query.Query.{Query}
 use Rattle.hippo_model.specs.declared.schema.Schema.{Schema}
-use Rattle.hippo_model.specs.Answers.{product, audit_answer, unmasked_combinations}
-use Rattle.hippo_model.specs.Audits.{needs, query_needs, audit_needs, has_tuple, serves, first_serving}
+use Rattle.hippo_model.specs.Answers.{product}
+use Rattle.hippo_model.specs.Audits.{first_serving}
 use Rattle.hippo_model.specs.Histories.{schema_at}
 use Rattle.hippo_model.specs.Masking.{Choices}
 use Rattle.hippo_model.specs.Rules.{choice_at}
@@ -30,6 +29,7 @@ use Rattle.hippo_rewrite.proofs.FittingRows.{schema_named}
 use Rattle.hippo_shared.specs.HistoryLaws.{sets_at}
 use Rattle.hippo_audit_job.specs.declared.past.Past.{Past}
 use Rattle.hippo_examining.specs.Examining.{AreOfHistory}
+use Rattle.hippo_combine.proofs.ExaminerLemmas.{nothing_of_audit}
 use Rattle.hippo_combine.proofs.PastLemmas.{front_valid, lasting, no_rows_yet, are_common}
 use Rattle.hippo_removal.specs.Removals.{have_rows, rows_then, AreThen}
 
@@ -105,19 +105,8 @@ module _ (number : ℕ) (history : History) (valid : is_valid meaning history �
 
   -- and nothing serves
   module _ (context : Context) (query : Query) (audit : Audit) where
-    no_audit : (mine others shown : Bool) → others ≡ false → (mine && others && shown) ≡ false
-    no_audit true others shown is = rw is refl
-    no_audit false others shown is = refl
-
-    find_none : {A : Type 0} (test : A → Bool) → ((x : A) → test x ≡ false) → (xs : List A) → find test xs ≡ None
-    find_none test fails [] = refl
-    find_none test fails (x ∷ xs) = rw (fails x) (find_none test fails xs)
-
-    unneeded : unmasked_combinations front audit ≡ [] → (tuple : List SharedRow) → audit_needs front audit tuple ≡ false
-    unneeded none tuple = ap (needs (audit_answer audit) (has_tuple front audit.tables tuple)) none
-
     pub nothing_serves : have_rows (rows_then number history audit.tables) ≡ false → first_serving front context query audit ≡ None
-    nothing_serves none = find_none (serves front context query audit) (λ tuple. no_audit (query_needs front context query tuple) (audit_needs front audit tuple) _ (unneeded (none_of_all audit.tables none) tuple)) _
+    nothing_serves none = nothing_of_audit front context query audit (none_of_all audit.tables none)
 
   -- the schemas that are known
   known_same : (known : KnownNames) → known ≡ known_at history → (table : Name) → IsCreated table → table_of known table ≡ schema_at front table

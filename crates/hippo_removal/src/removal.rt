@@ -1,13 +1,11 @@
 //! The examiner by removal.
 ghost use Rattle.std.specs.Prelude.{◌≡◌, ◌<◌, true, nat_lt, length, take, IfOk, IfErr};
 ghost use Rattle.std.specs.List.{list_all};
-ghost use Rattle.hippo_values.specs.Texts.{Txt as TextValue};
-ghost use Rattle.hippo_values.specs.declared.names.Name.{Name as NameValue};
-ghost use Rattle.hippo_model.specs.declared.entry.Act.TheVariants.{Asked};
 ghost use Rattle.hippo_model.specs.Terms.{History};
 ghost use Rattle.hippo_model.specs.Verdicts.{Context};
 ghost use Rattle.hippo_backlog.specs.declared.faults.ReadFault.TheVariants.{Memory as NoMemory};
 ghost use Rattle.hippo_model.specs.Audits.{first_serving};
+ghost use Rattle.hippo_audit_job.specs.Examining.{IsServing};
 ghost use Rattle.hippo_removal.specs.Removals.{have_rows, AreThen};
 
 use crate::sharing::first_serving;
@@ -101,11 +99,7 @@ fn shared_over(
     ensures memory { IfErr result (λ fault. fault ≡ NoMemory) }
     ensures serves { IfOk result (λ shared. (history : History)
         → AreThen past.now number history query.now audit.now both.now.query both.now.audit
-        → (user purpose recipient : NameValue) (text : TextValue)
-        → entry.now.act ≡ Asked user purpose recipient text
-        → let context : Context = record
-        { purpose = purpose; recipient = recipient; moment = entry.now.moment } in
-        shared ≡ first_serving (take number history) context query.now audit.now) }
+        → IsServing (take number history) audit.now entry.now query.now shared) }
 {
     let Act::Asked {
         purpose,

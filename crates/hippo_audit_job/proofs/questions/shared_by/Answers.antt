@@ -12,5 +12,5 @@ returns-then-names_all g c = record {
 pub returns-else-names_all : goal.returns-else-names_all
 returns-else-names_all g c = record {
   looks = λ asked.
-      LooksAt-unnamed g.X.Examiner.terms c.args.past.now c.args.audit.now c.args.entry.now c.args.examiner.now (g.P.Keeper.state c.args.keeper.now) c.args.steps.now c.requires.ready c.requires.sound c.requires.order c.args.query.now asked (sym c.names_all.ensures ∙ c.if-names_all.false);
+      LooksAt-unnamed g.X.Examiner.terms c.args.past.now c.args.audit.now c.args.entry.now c.args.examiner.now (g.P.Keeper.state c.args.keeper.now) c.args.steps.now c.requires.may.ready c.requires.may.is_sound c.requires.may.order c.args.query.now asked (sym c.names_all.ensures ∙ c.if-names_all.false);
 }

@@ -3,8 +3,8 @@ use Rattle.std.proofs.Common.{true, take}
 use Rattle.hippo_keeper.specs.Keeping.{IsReady}
 use Rattle.hippo_backlog.specs.declared.faults.ReadFault.{ReadFault}
 use Rattle.hippo_keeper.proofs.Results.{well}
-use Rattle.hippo_combine.specs.Held.{AreHeldAt, AreHeldUpTo}
-use Rattle.hippo_combine.specs.Bringing.{AreKnown, Brings}
+use Rattle.hippo_combine.specs.Held.{AreHeldUpTo}
+use Rattle.hippo_combine.specs.Bringing.{AreHeldIfKnown, Brings}
 use Rattle.hippo_combine.proofs.bringing.bring_all.Given as goal
 
 abbrev pub invariant-loop-table : goal.invariant-loop-table
@@ -13,5 +13,5 @@ invariant-loop-table g l = record {
   up_to : AreHeldUpTo l.number l.tables.items;
   brings : Brings l.past l.number (well ReadFault) l.initial.tables.items l.tables.items
       (g.P.Keeper.state l.initial.keeper) (g.P.Keeper.state l.keeper) l.initial.steps l.steps;
-  held : AreKnown l.past.catalog.now.names (take l.table-index l.names) → AreHeldAt l.number (take l.table-index l.names) l.tables.items;
+  held : AreHeldIfKnown l.past l.number (take l.table-index l.names) l.tables.items;
 }

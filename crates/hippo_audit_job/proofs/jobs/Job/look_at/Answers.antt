@@ -8,20 +8,18 @@ overflow_sub-self g c =
     let above = number_above g.X.Examiner.terms c.args.self.now c.requires.sound c.args.entry c.requires.first in
     omega (arith, above)
 
-pub find_flag-requires-clause-ready : goal.find_flag-requires-clause-ready
-find_flag-requires-clause-ready g c = c.requires.ready
-
-pub find_flag-requires-clause-sound : goal.find_flag-requires-clause-sound
-find_flag-requires-clause-sound g c = c.requires.sound.examiner_is
-
-pub find_flag-requires-clause-order : goal.find_flag-requires-clause-order
-find_flag-requires-clause-order g c =
+pub find_flag-requires : goal.find_flag-requires
+find_flag-requires g c =
     let above = number_above g.X.Examiner.terms c.args.self.now c.requires.sound c.args.entry c.requires.first in
     let order = c.requires.sound.asked in
-    omega (arith, above, order)
-
-pub find_flag-requires-clause-tables : goal.find_flag-requires-clause-tables
-find_flag-requires-clause-tables g c = c.requires.sound.tables
+    record {
+      may = record {
+        ready = c.requires.ready;
+        is_sound = c.requires.sound.examiner_is;
+        order = omega (arith, above, order);
+        tables = c.requires.sound.tables;
+      };
+    }
 
 pub add-requires : goal.add-requires
 add-requires g c =

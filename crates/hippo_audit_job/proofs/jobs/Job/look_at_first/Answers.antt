@@ -9,7 +9,7 @@ use Rattle.hippo_audit_job.proofs.jobs.Job.look_at_first.Goals as goal
 
 pub returns-in_default-clause-looks : goal.returns-in_default-clause-looks
 returns-in_default-clause-looks g c =
-    LooksOn-none g.X.Examiner.terms c.args.upto c.args.past.now c.args.self.now (g.P.Keeper.state c.args.keeper.now) c.args.steps.now c.requires.ready c.requires.sound c.requires.forward (Ok false) (λ e. absurd cc) (λ history kept stands fits number e. absurd cc)
+    LooksOn-none g.X.Examiner.terms c.args.upto c.args.past.now c.args.self.now (g.P.Keeper.state c.args.keeper.now) c.args.steps.now c.requires.may.ready c.requires.may.is_sound c.requires.may.forward (Ok false) (λ e. absurd cc) (λ history kept stands fits number e. absurd cc)
 
 pub returns-in_default-clause-past : goal.returns-in_default-clause-past
 returns-in_default-clause-past g c =
@@ -25,7 +25,7 @@ returns-in_default-clause-others g c =
 
 pub returns-then-upto-kept-clause-looks : goal.returns-then-upto-kept-clause-looks
 returns-then-upto-kept-clause-looks g c =
-    LooksOn-none g.X.Examiner.terms c.args.upto c.args.past.now c.args.self.now (g.P.Keeper.state c.args.keeper.now) c.args.steps.now c.requires.ready c.requires.sound c.requires.forward (Ok false) (λ e. absurd cc) (λ history kept stands fits number e. absurd cc)
+    LooksOn-none g.X.Examiner.terms c.args.upto c.args.past.now c.args.self.now (g.P.Keeper.state c.args.keeper.now) c.args.steps.now c.requires.may.ready c.requires.may.is_sound c.requires.may.forward (Ok false) (λ e. absurd cc) (λ history kept stands fits number e. absurd cc)
 
 pub returns-then-upto-kept-clause-past : goal.returns-then-upto-kept-clause-past
 returns-then-upto-kept-clause-past g c =
@@ -41,11 +41,11 @@ returns-then-upto-kept-clause-others g c =
 
 pub look_at-requires-clause-ready : goal.look_at-requires-clause-ready
 look_at-requires-clause-ready g c =
-    c.requires.ready
+    c.requires.may.ready
 
 pub look_at-requires-clause-sound : goal.look_at-requires-clause-sound
 look_at-requires-clause-sound g c =
-    c.requires.sound
+    c.requires.may.is_sound
 
 pub look_at-requires-clause-first : goal.look_at-requires-clause-first
 look_at-requires-clause-first g c =
@@ -55,7 +55,7 @@ pub look_at-requires-clause-within : goal.look_at-requires-clause-within
 look_at-requires-clause-within g c =
     let number = form_number c.in-Some.kept.now c.in-Ok.entry c.in-Ok.ensures in
     let up = c.if-upto-kept.false in
-    let within = c.requires.within in
+    let within = c.requires.may.within in
     omega (arith, number, up, within)
 
 pub returns-in-Ok-look_at-clause-looks : goal.returns-in-Ok-look_at-clause-looks
@@ -96,7 +96,7 @@ returns-in-Err-look_at-clause-others g c =
 
 pub returns-in-Err-clause-looks : goal.returns-in-Err-clause-looks
 returns-in-Err-clause-looks g c =
-    LooksOn-undecoded g.X.Examiner.terms Bool c.args.self.now c.requires.sound c.args.upto c.args.past.now (g.P.Keeper.state c.args.keeper.now) c.args.steps.now c.requires.forward c.requires.ready c.in-Some.kept.now (sym c.in-Some.ensures) c.in-Err.fault c.in-Err.ensures
+    LooksOn-undecoded g.X.Examiner.terms Bool c.args.self.now c.requires.may.is_sound c.args.upto c.args.past.now (g.P.Keeper.state c.args.keeper.now) c.args.steps.now c.requires.may.forward c.requires.may.ready c.in-Some.kept.now (sym c.in-Some.ensures) c.in-Err.fault c.in-Err.ensures
 
 pub returns-in-Err-clause-past : goal.returns-in-Err-clause-past
 returns-in-Err-clause-past g c =

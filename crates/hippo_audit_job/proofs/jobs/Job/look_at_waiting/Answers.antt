@@ -1,27 +1,16 @@
 -- One question after the other is looked at.
 use Rattle.std.proofs.Common.{refl, Bool}
-use Rattle.hippo_audit_job.proofs.LoopLemmas.{LooksOn-start, LooksOn-more, LooksOn-stop, ready_after, IsAsFar-then}
+use Rattle.hippo_audit_job.proofs.LoopLemmas.{LooksOn-start, LooksOn-more, LooksOn-stop, MayLook-after, IsAsFar-then}
 use Rattle.hippo_audit_job.proofs.jobs.Job.look_at_waiting.Goals as goal
 
 pub loop-fault-init : goal.loop-fault-init
 loop-fault-init g c =
-    (LooksOn-start g.X.Examiner.terms c.args.upto c.args.past.now c.args.self.now (g.P.Keeper.state c.args.keeper.now) c.args.steps.now c.requires.ready c.requires.sound c.requires.forward, record { reached_is = refl; unbroken_is = refl })
+    (LooksOn-start g.X.Examiner.terms c.args.upto c.args.past.now c.args.self.now (g.P.Keeper.state c.args.keeper.now) c.args.steps.now c.requires.may, record { reached_is = refl; unbroken_is = refl })
 
-pub look_at_first-requires-clause-ready : goal.look_at_first-requires-clause-ready
-look_at_first-requires-clause-ready g c =
-    ready_after g.X.Examiner.terms c.args.upto c.args.past.now c.args.self.now c.loop-fault.self (g.P.Keeper.state c.args.keeper.now) (g.P.Keeper.state c.loop-fault.keeper) c.args.steps.now c.loop-fault.steps c.loop-fault.invariant.0
-
-pub look_at_first-requires-clause-sound : goal.look_at_first-requires-clause-sound
-look_at_first-requires-clause-sound g c =
-    c.loop-fault.invariant.0.is_sound
-
-pub look_at_first-requires-clause-forward : goal.look_at_first-requires-clause-forward
-look_at_first-requires-clause-forward g c =
-    c.loop-fault.invariant.0.limit
-
-pub look_at_first-requires-clause-within : goal.look_at_first-requires-clause-within
-look_at_first-requires-clause-within g c =
-    rw c.loop-fault.invariant.0.same_length c.requires.within
+pub look_at_first-requires : goal.look_at_first-requires
+look_at_first-requires g c = record {
+  may = MayLook-after g.X.Examiner.terms c.args.upto c.args.past.now c.args.self.now c.loop-fault.self (g.P.Keeper.state c.args.keeper.now) (g.P.Keeper.state c.loop-fault.keeper) c.args.steps.now c.loop-fault.steps c.requires.may c.loop-fault.invariant.0;
+}
 
 pub loop-fault-smaller : goal.loop-fault-smaller
 loop-fault-smaller g c =

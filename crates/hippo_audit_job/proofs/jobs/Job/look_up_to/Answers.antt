@@ -4,28 +4,17 @@ use Rattle.hippo_backlog.specs.declared.faults.ReadFault.{ReadFault}
 use Rattle.hippo_keeper.proofs.Results.{err_of, well}
 use Rattle.hippo_audit_job.proofs.StepLemmas.{LooksOn-read}
 use Rattle.hippo_audit_job.proofs.PassedLemmas.{LooksOn-passed, none_waiting, less_read}
-use Rattle.hippo_audit_job.proofs.LoopLemmas.{LooksOn-start, LooksOn-more, LooksOn-stop, ready_after}
+use Rattle.hippo_audit_job.proofs.LoopLemmas.{LooksOn-start, LooksOn-more, LooksOn-stop, ready_after, MayLook-after}
 use Rattle.hippo_audit_job.proofs.jobs.Job.look_up_to.Goals as goal
 
 pub loop-fault-init : goal.loop-fault-init
 loop-fault-init g c =
-    (LooksOn-start g.X.Examiner.terms c.args.upto c.args.past.now c.args.self.now (g.P.Keeper.state c.args.keeper.now) c.args.steps.now c.requires.ready c.requires.sound c.requires.forward, refl)
+    (LooksOn-start g.X.Examiner.terms c.args.upto c.args.past.now c.args.self.now (g.P.Keeper.state c.args.keeper.now) c.args.steps.now c.requires.may, refl)
 
-pub look_at_waiting-requires-clause-ready : goal.look_at_waiting-requires-clause-ready
-look_at_waiting-requires-clause-ready g c =
-    ready_after g.X.Examiner.terms c.args.upto c.args.past.now c.args.self.now c.loop-fault.self (g.P.Keeper.state c.args.keeper.now) (g.P.Keeper.state c.loop-fault.keeper) c.args.steps.now c.loop-fault.steps c.loop-fault.invariant.0
-
-pub look_at_waiting-requires-clause-sound : goal.look_at_waiting-requires-clause-sound
-look_at_waiting-requires-clause-sound g c =
-    c.loop-fault.invariant.0.is_sound
-
-pub look_at_waiting-requires-clause-forward : goal.look_at_waiting-requires-clause-forward
-look_at_waiting-requires-clause-forward g c =
-    c.loop-fault.invariant.0.limit
-
-pub look_at_waiting-requires-clause-within : goal.look_at_waiting-requires-clause-within
-look_at_waiting-requires-clause-within g c =
-    rw c.loop-fault.invariant.0.same_length c.requires.within
+pub look_at_waiting-requires : goal.look_at_waiting-requires
+look_at_waiting-requires g c = record {
+  may = MayLook-after g.X.Examiner.terms c.args.upto c.args.past.now c.args.self.now c.loop-fault.self (g.P.Keeper.state c.args.keeper.now) (g.P.Keeper.state c.loop-fault.keeper) c.args.steps.now c.loop-fault.steps c.requires.may c.loop-fault.invariant.0;
+}
 
 pub returns-in-Err-clause-looks : goal.returns-in-Err-clause-looks
 returns-in-Err-clause-looks g c =
@@ -39,7 +28,7 @@ pub returns-then-has_read-clause-looks : goal.returns-then-has_read-clause-looks
 returns-then-has_read-clause-looks g c =
     let whole = LooksOn-more g.X.Examiner.terms c.args.upto c.args.past.now c.args.self.now c.loop-fault.self c.look_at_waiting.new.self (g.P.Keeper.state c.args.keeper.now) (g.P.Keeper.state c.loop-fault.keeper) (g.P.Keeper.state c.look_at_waiting.new.keeper) c.args.steps.now c.loop-fault.steps c.look_at_waiting.new.steps c.loop-fault.invariant.0 c.in-Ok.field-0 c.in-Ok.ensures.looks in
     let length_is = whole.same_length in
-    let within = c.requires.within in
+    let within = c.requires.may.within in
     LooksOn-more g.X.Examiner.terms c.args.upto c.args.past.now c.args.self.now c.look_at_waiting.new.self (record c.look_at_waiting.new.self { place = c.args.upto }) (g.P.Keeper.state c.args.keeper.now) (g.P.Keeper.state c.look_at_waiting.new.keeper) (g.P.Keeper.state c.look_at_waiting.new.keeper) c.args.steps.now c.look_at_waiting.new.steps c.look_at_waiting.new.steps whole {B = Unit {0}} tt
     (LooksOn-passed g.X.Examiner.terms c.args.upto c.args.past.now c.look_at_waiting.new.self (g.P.Keeper.state c.look_at_waiting.new.keeper) c.look_at_waiting.new.steps (ready_after g.X.Examiner.terms c.args.upto c.args.past.now c.args.self.now c.look_at_waiting.new.self (g.P.Keeper.state c.args.keeper.now) (g.P.Keeper.state c.look_at_waiting.new.keeper) c.args.steps.now c.look_at_waiting.new.steps whole) whole.is_sound whole.limit (omega (arith, length_is, within)) c.in-Ok.ensures.past (sym c.has_read.ensures ∙ c.if-has_read.true))
 
@@ -66,7 +55,7 @@ loop-fault-smaller g c =
     let less = less_read c.args.upto c.look_at_waiting.new.self.questions (sym c.has_read.ensures ∙ c.if-has_read.false) in
     let same = c.in-Ok.ensures.others.reached_is in
     let length_is = whole.same_length in
-    let within = c.requires.within in
+    let within = c.requires.may.within in
     let more = c.in-Ok-read_ahead.ensures.reads.onward (omega (arith, less, length_is, within)) in
     let smaller : c.args.upto - c.read_ahead.new.questions.reached < c.args.upto - c.loop-fault.self.questions.reached = omega (arith, less, same, more) in
     smaller

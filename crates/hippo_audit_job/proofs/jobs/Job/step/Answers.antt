@@ -6,24 +6,18 @@ use Rattle.hippo_audit_job.specs.Jobs.{open_audit, step_end, LooksOn}
 use Rattle.hippo_audit_job.proofs.LoopLemmas.{LooksOn-marked, and_done, and_failed}
 use Rattle.hippo_audit_job.proofs.jobs.Job.step.Goals as goal
 
-pub look_up_to-requires-clause-ready : goal.look_up_to-requires-clause-ready
-look_up_to-requires-clause-ready g c =
-    c.requires.ready
-
-pub look_up_to-requires-clause-sound : goal.look_up_to-requires-clause-sound
-look_up_to-requires-clause-sound g c =
-    c.requires.sound
-
-pub look_up_to-requires-clause-forward : goal.look_up_to-requires-clause-forward
-look_up_to-requires-clause-forward g c =
+pub look_up_to-requires : goal.look_up_to-requires
+look_up_to-requires g c =
     let within = c.requires.sound.within in
     let last = c.step_end-upto.ensures in
-    omega (arith, within, last)
-
-pub look_up_to-requires-clause-within : goal.look_up_to-requires-clause-within
-look_up_to-requires-clause-within g c =
-    let last = c.step_end-upto.ensures in
-    omega (arith, last)
+    record {
+      may = record {
+        ready = c.requires.ready;
+        is_sound = c.requires.sound;
+        forward = omega (arith, within, last);
+        within = omega (arith, last);
+      };
+    }
 
 pub returns-in-Ok : goal.returns-in-Ok
 returns-in-Ok g c =

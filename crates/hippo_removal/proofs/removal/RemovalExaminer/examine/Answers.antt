@@ -5,7 +5,7 @@ use Rattle.hippo_removal.proofs.removal.RemovalExaminer.examine.Goals as goal
 
 pub returns-in_default : goal.returns-in_default
 returns-in_default g c = record {
-  examines = examines_nothing c.args.past.now c.args.audit.now c.args.entry.now c.args.query.now c.args.self.now c.args.self.now (g.P.Keeper.state c.args.keeper.now) c.args.steps.now c.requires.ready c.in_default.ensures;
+  examines = examines_nothing c.args.past.now c.args.audit.now c.args.entry.now c.args.query.now c.args.self.now c.args.self.now (g.P.Keeper.state c.args.keeper.now) c.args.steps.now c.requires.may.ready c.in_default.ensures;
 }
 
 pub returns-in_err-both : goal.returns-in_err-both
