@@ -2,11 +2,12 @@
 ghost use Rattle.std.specs.Prelude.{◌≡◌, ◌∷◌, [], IfOk, Some, length, map, option_map};
 ghost use Rattle.hippo_model.specs.Terms.{History};
 ghost use Rattle.hippo_model.specs.Histories.{schema_at};
-ghost use Rattle.hippo_model.specs.RowSets.{kept_at};
+ghost use Rattle.hippo_keyed_rows.specs.RowSets.{kept_at};
 ghost use Rattle.hippo_tables.specs.Standing.{TablesStandFor};
 ghost use Rattle.hippo_answering.specs.States.{AreKeptTables, schemas_at};
 
-use hippo_model::{Lent, LentSchemas, Names, RowSet, Schema, Sets, Sizes};
+use hippo_model::{Lent, LentSchemas, Names, Schema, Sizes};
+use hippo_rows::{RowSet, Sets};
 use hippo_tables::Tables;
 use hippo_values::{Memory, Name, Sequence};
 use std::alloc::Global;

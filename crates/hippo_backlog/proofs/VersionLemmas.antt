@@ -15,16 +15,16 @@ use Rattle.hippo_model.specs.declared.entry.Entry.{Entry}
 use Rattle.hippo_model.specs.declared.schema.Schema.{Schema}
 use Rattle.hippo_model.specs.declared.stored.StoredEntry.{StoredEntry}
 use Rattle.hippo_model.specs.Terms.{History, Meaning}
-use Rattle.hippo_model.specs.Changes.{with_renewed_row, changed}
+use Rattle.hippo_keyed_rows.specs.Changes.{with_renewed_row, changed}
 use Rattle.hippo_model.specs.HandedOver.{is_sought_version, IsFit}
 use Rattle.hippo_model.specs.Keepable.{is_keepable}
 use Rattle.hippo_model.specs.Rows.{key_of}
-use Rattle.hippo_model.specs.RowSets.{KeyedRows, kept_at, with_row, without_row, row_with}
+use Rattle.hippo_keyed_rows.specs.RowSets.{KeyedRows, kept_at, with_row, without_row, row_with}
 use Rattle.hippo_model.specs.StoredForms.{table_changed, stored}
 use Rattle.hippo_model.specs.Stores.{IsStoreOf}
 use Rattle.hippo_model.specs.Validity.{is_valid}
 use Rattle.hippo_model.specs.Versions.{row_fits, version_fits}
-use Rattle.hippo_model.proofs.ChangesOfRows.{changed-kept_at}
+use Rattle.hippo_keyed_rows.proofs.ChangesOfRows.{changed-kept_at}
 use Rattle.hippo_laws.proofs.ActCodes.{stored_again}
 use Rattle.hippo_entry.specs.Forms.{HasForm}
 use Rattle.hippo_keeper.specs.declared.faults.KeeperFault.{KeeperFault}

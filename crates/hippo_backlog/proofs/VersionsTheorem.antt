@@ -17,7 +17,7 @@ use Rattle.hippo_model.specs.declared.entry.Entry.{Entry}
 use Rattle.hippo_model.specs.Terms.{History, Meaning, Key}
 use Rattle.hippo_model.specs.Histories.{last_word, schema_created, schema_at}
 use Rattle.hippo_model.specs.Rows.{key_of, key_named, names_key, row_left, row_at, is_insert, born_at, born_row_at, with_key, keys_named, table_rows}
-use Rattle.hippo_model.specs.RowSets.{kept_at}
+use Rattle.hippo_keyed_rows.specs.RowSets.{kept_at}
 use Rattle.hippo_model.specs.StoredForms.{table_changed}
 use Rattle.hippo_model.specs.Validity.{is_acceptable, is_table_version, may_follow, is_valid}
 use Rattle.hippo_model.specs.Versions.{is_version, row_fits, key_fits, version_fits}

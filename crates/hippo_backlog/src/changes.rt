@@ -1,15 +1,16 @@
 //! A version taken into a table's rows.
 ghost use Rattle.std.specs.Prelude.{◌≡◌, ◌&&◌, Ok, is_some, option_map, bytes_eq};
 ghost use Rattle.hippo_model.specs.declared.entry.Act.TheVariants.{Insert, Update, Delete};
-ghost use Rattle.hippo_model.specs.Changes.{changed};
+ghost use Rattle.hippo_keyed_rows.specs.Changes.{changed};
 ghost use Rattle.hippo_model.specs.Rows.{key_of};
-ghost use Rattle.hippo_model.specs.RowSets.{row_with};
+ghost use Rattle.hippo_keyed_rows.specs.RowSets.{row_with};
 ghost use Rattle.hippo_model.specs.Versions.{row_fits, key_fits};
 ghost use Rattle.hippo_backlog.specs.Taking.{Becomes, result_of_fit, TakesVersion};
 
 use crate::faults::ReadFault;
 use hippo_entry::decode;
-use hippo_model::{Act, Cells, Entry, RowSet, Schema, StoredEntry};
+use hippo_model::{Act, Cells, Entry, Schema, StoredEntry};
+use hippo_rows::RowSet;
 use hippo_tables::{key_fits, row_fits};
 use hippo_values::{Memory, Moment, Name};
 use std::alloc::Global;

@@ -1,7 +1,7 @@
 -- Why an audit expression is refused, and what it means.
 use Rattle.std.specs.Prelude.{ℤ, MatchOption, Bool, false, not, ◌||◌, List, ◌++◌, map, flat_map, length, int_le, Option, is_none, unwrap_or}
 use Rattle.std.specs.Option.{option_map_or}
-use Rattle.hippo_values.specs.Dates.{IsMomentText}
+use Rattle.hippo_text_forms.specs.Dates.{IsMomentText}
 use Rattle.hippo_values.specs.Moments.{first_moment}
 use Rattle.hippo_values.specs.Texts.{Txt}
 use Rattle.hippo_values.specs.declared.moments.Moment.{Moment}

@@ -25,7 +25,7 @@ use Rattle.hippo_model.specs.Columns.{named_column, query_columns, same_column, 
 use Rattle.hippo_model.specs.Histories.{schema_created, schema_at}
 use Rattle.hippo_model.specs.Keepable.{act_is_keepable}
 use Rattle.hippo_model.specs.Rows.{table_rows}
-use Rattle.hippo_model.specs.RowSets.{KeyedRows, kept_at}
+use Rattle.hippo_keyed_rows.specs.RowSets.{KeyedRows, kept_at}
 use Rattle.hippo_model.specs.StoredForms.{table_changed}
 use Rattle.hippo_model.specs.Terms.{History, Place}
 use Rattle.hippo_model.specs.Validity.{is_acceptable, is_valid, table_passes}

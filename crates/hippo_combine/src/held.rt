@@ -5,7 +5,8 @@ ghost use Rattle.hippo_audit_job.specs.Examining.{shown_count};
 ghost use Rattle.hippo_combine.specs.Held.{lives_of, schema_held, rows_held, has_some, are_held, all_taken};
 
 use hippo_intervals::Lives;
-use hippo_model::{Lent, LentSchemas, Sets};
+use hippo_model::{Lent, LentSchemas};
+use hippo_rows::Sets;
 use hippo_values::{Memory, Name};
 use std::alloc::Global;
 

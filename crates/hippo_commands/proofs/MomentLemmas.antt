@@ -4,8 +4,8 @@ use Rattle.std.proofs.lemmas.Bool.{cases_Bool, cases_order, both_ways}
 use Rattle.std.proofs.lemmas.Int.{ints}
 use Rattle.std.proofs.lemmas.Slice.Eq.{bytes_eq-Decides}
 use Rattle.hippo_values.specs.Moments.{IsMoment}
-use Rattle.hippo_values.specs.Dates.{moment_text, IsMomentText}
-use Rattle.hippo_values.proofs.MomentTextLemmas.{IsMomentText-unique}
+use Rattle.hippo_text_forms.specs.Dates.{moment_text, IsMomentText}
+use Rattle.hippo_text_forms.proofs.MomentTextLemmas.{IsMomentText-unique}
 use Rattle.hippo_commands.specs.CommandLaws.{MomentsAreRead}
 use Rattle.hippo_commands.specs.Moments.{moment_after, moment_among, moment_in}
 

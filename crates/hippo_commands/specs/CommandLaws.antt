@@ -1,7 +1,7 @@
 -- What holds of the reading of lines.
 use Rattle.std.specs.Prelude.{◌≡◌, ◌↔◌, List, Ok}
 use Rattle.hippo_values.specs.Texts.{Txt}
-use Rattle.hippo_values.specs.Dates.{IsMomentText}
+use Rattle.hippo_text_forms.specs.Dates.{IsMomentText}
 use Rattle.hippo_values.specs.declared.moments.Moment.{Moment}
 use Rattle.std.specs.Prelude.{Some}
 use Rattle.hippo_lexer.specs.declared.kinds.Token.{Token}

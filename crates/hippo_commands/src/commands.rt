@@ -12,7 +12,8 @@ use crate::statements::statement_in;
 use hippo_io::Line;
 use hippo_lines::{LineForm, line_form};
 use hippo_report::{Refusal, Speaker};
-use hippo_values::{Moment, read_moment};
+use hippo_text_forms::read_moment;
+use hippo_values::Moment;
 use std::alloc::Global;
 
 fn moment_in(text: &str) -> Option<Moment>

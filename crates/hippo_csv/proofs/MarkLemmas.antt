@@ -10,11 +10,11 @@ use Rattle.std.specs.Str.{IsAscii}
 use Rattle.std.proofs.lemmas.Bool.Decides.{nat_tests}
 use Rattle.std.proofs.lemmas.Fmt.{IsAscii-decimal}
 use Rattle.std.proofs.lemmas.Int.{ints}
-use Rattle.hippo_values.specs.Dates.{day_text}
+use Rattle.hippo_text_forms.specs.Dates.{day_text}
 use Rattle.hippo_values.specs.Moments.{is_signed_number, IsDayNumber}
 use Rattle.hippo_values.specs.declared.values.Value.{Value}
 use Rattle.hippo_values.specs.declared.values.Value.TheVariants as values
-use Rattle.hippo_values.proofs.DateTextLemmas.{date_text-of_day, IsAscii-date_text}
+use Rattle.hippo_text_forms.proofs.DateTextLemmas.{date_text-of_day, IsAscii-date_text}
 use Rattle.hippo_lexer.proofs.NumberLemmas.{fits-signed}
 use Rattle.hippo_model.specs.declared.cells.Cell.TheVariants.{Shown}
 use Rattle.hippo_model.specs.Keepable.{value_is_keepable}

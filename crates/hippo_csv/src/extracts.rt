@@ -2,7 +2,7 @@
 ghost use Rattle.std.specs.Prelude.{◌≡◌, ◌++◌, ◌∷◌, [], map, flat_map, codes, decimal, OnOk, OnErr};
 ghost use Rattle.csv.specs.Records.{fields_of};
 ghost use Rattle.csv.specs.Writing.{default_writer, row_text, writer_under};
-ghost use Rattle.hippo_values.specs.Printing.{KeepsFront};
+ghost use Rattle.hippo_text_forms.specs.Printing.{KeepsFront};
 ghost use Rattle.hippo_model.specs.declared.cells.Cell.TheVariants.{Shown, Denied};
 ghost use Rattle.hippo_report.specs.Cells.{cell_text};
 ghost use Rattle.hippo_csv.specs.Records.{cell_field, extract_line};
@@ -10,7 +10,8 @@ ghost use Rattle.hippo_csv.specs.Extracting.{IsBetween};
 
 use csv::{Error, StringRecord, Writer, WriterBuilder};
 use hippo_model::{Cell, CellRow};
-use hippo_values::{Memory, RoomyTxt, Txt, Value, print_value};
+use hippo_text_forms::print_value;
+use hippo_values::{Memory, RoomyTxt, Txt, Value};
 use itoa::Buffer;
 use std::alloc::Global;
 use std::slice;

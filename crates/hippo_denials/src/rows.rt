@@ -10,8 +10,9 @@ ghost use Rattle.hippo_denials.specs.Listing.{rules_context, denial_columns, lis
 
 use crate::columns::{Listed, listed_columns};
 use crate::faults::ListFault;
-use hippo_model::{Cells, Query, RowSet, Schema, Verdict};
+use hippo_model::{Cells, Query, Schema, Verdict};
 use hippo_policy::PolicyBook;
+use hippo_rows::RowSet;
 use hippo_values::{Duplicate, Memory, Moment, Name, Sequence, Value};
 use std::alloc::Global;
 use std::marker::Model;

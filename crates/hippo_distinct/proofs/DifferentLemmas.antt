@@ -14,7 +14,7 @@ use Rattle.hippo_model.specs.declared.cells.Cell.TheVariants.{Shown, Denied}
 use Rattle.hippo_model.specs.Terms.{ShownRow}
 use Rattle.hippo_model.specs.Bags.{same_cell, same_row}
 use Rattle.hippo_model.specs.Forms.{different_rows}
-use Rattle.hippo_model.proofs.Orders.{same_exact}
+use Rattle.hippo_keyed_rows.proofs.Orders.{same_exact}
 use Rattle.hippo_distinct.specs.DistinctRows.{stands_in}
 use Rattle.hippo_values.specs.declared.values.Value.{Value}
 

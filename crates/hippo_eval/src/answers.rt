@@ -6,7 +6,8 @@ ghost use Rattle.hippo_eval.specs.Walks.{rows_of};
 ghost use Rattle.hippo_eval.specs.Answering.{IsAnswered};
 
 use crate::gathering::{Gatherer, gather};
-use hippo_model::{Answer, CellRow, ChoiceView, Masked, Sets};
+use hippo_model::{Answer, CellRow, ChoiceView, Masked};
+use hippo_rows::Sets;
 use hippo_values::{Memory, Sequence};
 use std::alloc::Global;
 

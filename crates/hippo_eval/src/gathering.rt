@@ -9,7 +9,8 @@ ghost use Rattle.hippo_eval.specs.Answering.{IsAnswered};
 use crate::answers::EvalFault;
 use crate::queries::{passes, project};
 use crate::walks::{Onward, Visitor, walk};
-use hippo_model::{Answer, CellRow, ChoiceView, Combo, Masked, Sets};
+use hippo_model::{Answer, CellRow, ChoiceView, Combo, Masked};
+use hippo_rows::Sets;
 use hippo_values::Memory;
 use std::alloc::Global;
 

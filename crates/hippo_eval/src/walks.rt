@@ -4,7 +4,8 @@ ghost use Rattle.hippo_model.specs.Terms.{Combination};
 ghost use Rattle.hippo_model.specs.Answers.{product};
 ghost use Rattle.hippo_eval.specs.Walks.{rows_of, combinations_behind, KeptAfter};
 
-use hippo_model::{Combo, Sets};
+use hippo_model::Combo;
+use hippo_rows::Sets;
 use hippo_values::Memory;
 use std::alloc::Global;
 

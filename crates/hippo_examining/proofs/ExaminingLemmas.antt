@@ -11,7 +11,7 @@ use Rattle.hippo_model.specs.declared.query.Form.TheVariants.{Plain}
 use Rattle.hippo_model.specs.declared.query.Masked.{Masked}
 use Rattle.hippo_model.specs.declared.query.Query.{Query}
 use Rattle.hippo_model.specs.Masking.{Choices}
-use Rattle.hippo_model.specs.RowSets.{KeyedRows}
+use Rattle.hippo_keyed_rows.specs.RowSets.{KeyedRows}
 use Rattle.hippo_rewrite.specs.Rewriting.{rewritten_query}
 use Rattle.hippo_shared.specs.Sharing.{first_shared}
 use Rattle.hippo_shared.specs.Needs.{first_needed}

@@ -12,7 +12,7 @@ use Rattle.hippo_model.specs.declared.schema.Schema.{Schema}
 use Rattle.hippo_model.specs.Terms.{History, Combination, ShownRow, Place}
 use Rattle.hippo_model.specs.Histories.{schema_at}
 use Rattle.hippo_model.specs.Rows.{cell_at, key_of}
-use Rattle.hippo_model.specs.RowSets.{KeyedRows, key_in}
+use Rattle.hippo_keyed_rows.specs.RowSets.{KeyedRows, key_in}
 use Rattle.hippo_model.specs.Forms.{value_in}
 use Rattle.hippo_model.specs.Answers.{cell_in}
 use Rattle.hippo_model.specs.Audits.{key_at as key_at_history}

@@ -16,7 +16,7 @@ use Rattle.hippo_model.specs.declared.query.Operand.TheVariants.{Column as Colum
 use Rattle.hippo_model.specs.declared.query.Out.{Out}
 use Rattle.hippo_model.specs.declared.query.Out.TheVariants.{Column, Min, Max}
 use Rattle.hippo_model.specs.declared.query.Ref.{Ref}
-use Rattle.hippo_model.specs.RowSets.{KeyedRows}
+use Rattle.hippo_keyed_rows.specs.RowSets.{KeyedRows}
 use Rattle.hippo_model.specs.Masking.{Choices}
 use Rattle.hippo_model.proofs.Truths.{truths}
 use Rattle.hippo_shared.specs.Needs.{first_needed}

@@ -19,15 +19,15 @@ use Rattle.hippo_model.specs.declared.schema.Schema.{Schema}
 use Rattle.hippo_model.specs.Terms.{History, Combination, Key, Place}
 use Rattle.hippo_model.specs.Histories.{schema_at}
 use Rattle.hippo_model.specs.Rows.{born_row_at}
-use Rattle.hippo_model.specs.RowSets.{KeyedRows, IsAscending, kept_at, key_in}
+use Rattle.hippo_keyed_rows.specs.RowSets.{KeyedRows, IsAscending, kept_at, key_in}
 use Rattle.hippo_model.specs.Rules.{choice_at}
 use Rattle.hippo_model.specs.Verdicts.{Context, verdict}
 use Rattle.hippo_model.specs.Views.{is_shown, cell_by}
 use Rattle.hippo_model.specs.Answers.{product}
 use Rattle.hippo_model.specs.Audits.{is_seen, row_named}
 use Rattle.hippo_model.specs.Masking.{masked_cell, is_shown_cell}
-use Rattle.hippo_model.proofs.Orders.{cells_total, same_exact}
-use Rattle.hippo_model.proofs.RowsAfter.{IsAscending-table_rows, row_with-table_rows}
+use Rattle.hippo_keyed_rows.proofs.Orders.{cells_total, same_exact}
+use Rattle.hippo_keyed_rows.proofs.RowsAfter.{IsAscending-table_rows, row_with-table_rows}
 use Rattle.hippo_rewrite.specs.Rewriting.{masked_column}
 use Rattle.hippo_rewrite.specs.RewritingLaws.{rules_at, ColumnsShowVerdicts}
 use Rattle.hippo_rewrite.proofs.FittingRows.{schema_named}

@@ -9,9 +9,10 @@ use crate::laws::needed_serves_first;
 use hippo_distinct::first_alone;
 use hippo_groups::first_changing;
 use hippo_model::{
-    Audit, ChoiceView, Exprs, Form, Masked, Query, Ref, Refs, RulesInForce, Sets, SharedTuple,
+    Audit, ChoiceView, Exprs, Form, Masked, Query, Ref, Refs, RulesInForce, SharedTuple,
 };
 use hippo_rewrite::{mask_columns, rewrite};
+use hippo_rows::Sets;
 use hippo_shared::{Audited, first_shared, place_in};
 use hippo_values::{Memory, Name, Sequence};
 use std::alloc::Global;

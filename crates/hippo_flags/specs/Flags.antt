@@ -7,7 +7,7 @@ use Rattle.serde_json.specs.Find.{of_integer}
 use Rattle.serde_json.specs.View.{items_of}
 use Rattle.serde_json.specs.Written.{compact_text}
 use Rattle.hippo_values.specs.Texts.{Txt}
-use Rattle.hippo_values.specs.Dates.{day_text, moment_text}
+use Rattle.hippo_text_forms.specs.Dates.{day_text, moment_text}
 use Rattle.hippo_values.specs.declared.values.Value.{Value}
 use Rattle.hippo_values.specs.declared.values.Value.TheVariants.{Null, Int, Text, Day}
 use Rattle.hippo_model.specs.declared.audit.Flag.{Flag}

@@ -2,7 +2,7 @@
 ghost use Rattle.std.specs.Prelude.{◌≡◌, IfOk, codes};
 ghost use Rattle.csv.specs.Records.{fields_of};
 ghost use Rattle.csv.specs.Writing.{default_writer, row_text};
-ghost use Rattle.hippo_values.specs.Dates.{moment_text};
+ghost use Rattle.hippo_text_forms.specs.Dates.{moment_text};
 ghost use Rattle.hippo_report.specs.Cells.{separated_text, shared_text};
 ghost use Rattle.hippo_flags.specs.Flags.{flag_fields};
 

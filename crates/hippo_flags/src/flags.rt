@@ -2,7 +2,7 @@
 ghost use Rattle.std.specs.Prelude.{◌≡◌, ◌++◌, codes, OnOk, OnErr};
 ghost use Rattle.csv.specs.Writing.{default_writer, row_text};
 ghost use Rattle.serde_json.specs.Written.{compact_text};
-ghost use Rattle.hippo_values.specs.Printing.{KeepsFront};
+ghost use Rattle.hippo_text_forms.specs.Printing.{KeepsFront};
 ghost use Rattle.hippo_report.specs.Cells.{tuple_text};
 ghost use Rattle.hippo_flags.specs.Flags.{question_text, flag_text, flag_data, flag_fields, formatted_flag, flag_line};
 
@@ -10,7 +10,8 @@ use crate::csv_flags::flag_bytes;
 use crate::json_flags::flag_json;
 use hippo_model::Flag;
 use hippo_report::{Format, Printed, append_later, append_pieces, append_whole};
-use hippo_values::{Memory, RoomyTxt, moment_text};
+use hippo_text_forms::moment_text;
+use hippo_values::{Memory, RoomyTxt};
 use itoa::Buffer;
 use std::alloc::Global;
 use std::marker::Model;
@@ -24,7 +25,7 @@ struct DatedFlag<'a> {
 
 impl<'a> Model for DatedFlag<'a> {
     ghost use Rattle.std.specs.Prelude.{◌≡◌};
-    ghost use Rattle.hippo_values.specs.Dates.{moment_text};
+    ghost use Rattle.hippo_text_forms.specs.Dates.{moment_text};
     ghost use Rattle.hippo_model.specs.declared.audit.Flag.{Flag as FlaggedQuestion};
 
     ghost Value = { FlaggedQuestion };

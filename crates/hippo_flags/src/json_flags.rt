@@ -3,11 +3,12 @@ ghost use Rattle.std.specs.Prelude.{◌≡◌, ◌∷◌, [], map, IfOk, string_
 ghost use Rattle.serde_json.specs.Data.{string, array};
 ghost use Rattle.serde_json.specs.View.{view, items_of};
 ghost use Rattle.serde_json.specs.Written.{compact_text};
-ghost use Rattle.hippo_values.specs.Dates.{day_text, moment_text};
+ghost use Rattle.hippo_text_forms.specs.Dates.{day_text, moment_text};
 ghost use Rattle.hippo_flags.specs.Flags.{shared_data, flag_data};
 
 use hippo_model::{Flag, SharedRow};
-use hippo_values::{DayNumber, Value, day_text, moment_text};
+use hippo_text_forms::{day_text, moment_text};
+use hippo_values::{DayNumber, Value};
 use serde_json::json;
 use std::alloc::{AllocError, Global};
 

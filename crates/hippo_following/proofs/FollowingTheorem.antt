@@ -23,7 +23,7 @@ use Rattle.hippo_model.specs.Rows.{key_of, row_at, last_at}
 use Rattle.hippo_model.specs.Terms.{History, Meaning, Row, Key}
 use Rattle.hippo_model.specs.Validity.{is_valid, days_fit, has_columns, column_passes, key_column_fits, subject_column_fits, is_well_formed}
 use Rattle.hippo_model.specs.Versions.{is_live, key_fits, version_fits}
-use Rattle.hippo_model.proofs.RowsAfter.{key_of-row_at}
+use Rattle.hippo_keyed_rows.proofs.RowsAfter.{key_of-row_at}
 use Rattle.hippo_catalog.specs.Catalogs.{known_at, table_of}
 use Rattle.hippo_catalog.specs.ChangesRefused.{places_named, unknown_columns, in_table, unknown_item_if_any, rule_refused, rule_item_refused, insert_refused, update_refused, key_refused, key_changed, assignments_refused, change_refused}
 use Rattle.hippo_catalog.specs.ChangesWanted.{key_written, table_made, wanted_by}

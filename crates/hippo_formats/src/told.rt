@@ -1,6 +1,6 @@
 //! An entry as a line in each format.
 ghost use Rattle.std.specs.Prelude.{◌≡◌, ◌++◌, option_copied, IfOk, OnOk, codes};
-ghost use Rattle.hippo_values.specs.Dates.{moment_text};
+ghost use Rattle.hippo_text_forms.specs.Dates.{moment_text};
 ghost use Rattle.hippo_telling.specs.Telling.{told_act};
 ghost use Rattle.hippo_formats.specs.Formats.{json_line, csv_line, entry_data, entry_fields, entry_by};
 
@@ -9,7 +9,8 @@ use crate::records::{append_record, entry_record};
 use hippo_model::{Act, Entry, Schema};
 use hippo_report::Format;
 use hippo_telling::{entry_line, tell_act};
-use hippo_values::{Memory, Moment, Txt, moment_text};
+use hippo_text_forms::moment_text;
+use hippo_values::{Memory, Moment, Txt};
 use std::alloc::Global;
 
 /// Adds a moment.

@@ -12,7 +12,7 @@ use Rattle.hippo_model.specs.Answers.{product}
 use Rattle.hippo_model.specs.Bags.{same_bag}
 use Rattle.hippo_model.specs.Forms.{grouped_rows}
 use Rattle.hippo_model.specs.Masking.{Choices}
-use Rattle.hippo_model.specs.RowSets.{KeyedRows, IsAscending, key_in}
+use Rattle.hippo_keyed_rows.specs.RowSets.{KeyedRows, IsAscending, key_in}
 use Rattle.hippo_eval.specs.Answering.{masked_rows}
 use Rattle.hippo_eval.specs.Walks.{rows_of}
 use Rattle.hippo_join.specs.Finding.{has_places}

@@ -13,7 +13,7 @@ use Rattle.hippo_model.specs.Terms.{Combination, ShownRow, Place}
 use Rattle.hippo_model.specs.Conditions.{is_null}
 use Rattle.hippo_model.specs.Forms.{value_in, least_value, greatest_value}
 use Rattle.hippo_model.specs.Masking.{Choices, is_guarded, masked_passes, masked_items}
-use Rattle.hippo_model.specs.RowSets.{KeyedRows}
+use Rattle.hippo_keyed_rows.specs.RowSets.{KeyedRows}
 use Rattle.hippo_shared.specs.declared.marks.Mark.TheVariants.{Unmarked}
 use Rattle.hippo_shared.specs.Marks.{row_places, mark_of, is_one}
 use Rattle.hippo_groups.specs.declared.group_marks.Best.{Best}

@@ -19,10 +19,10 @@ use Rattle.hippo_model.specs.Terms.{History, Row, Place}
 use Rattle.hippo_model.specs.Histories.{schema_at}
 use Rattle.hippo_model.specs.Hits.{own_conditions, hits}
 use Rattle.hippo_model.specs.Rows.{row_left}
-use Rattle.hippo_model.specs.RowSets.{KeyedRows, kept_at}
+use Rattle.hippo_keyed_rows.specs.RowSets.{KeyedRows, kept_at}
 use Rattle.hippo_model.specs.StoredForms.{table_changed}
 use Rattle.hippo_model.specs.Versions.{is_version}
-use Rattle.hippo_model.proofs.ChangesOfRows.{kept_at-no_version, kept_at-other_table}
+use Rattle.hippo_keyed_rows.proofs.ChangesOfRows.{kept_at-no_version, kept_at-other_table}
 use Rattle.hippo_tables.proofs.StandingLemmas.{schema_at-named}
 use Rattle.hippo_hits.specs.declared.counts.AuditHits.{AuditHits}
 use Rattle.hippo_hits.specs.Rows.{hit_of, hits_among, table_hits}

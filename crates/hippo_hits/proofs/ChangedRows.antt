@@ -17,11 +17,11 @@ use Rattle.hippo_model.specs.declared.schema.Schema.{Schema}
 use Rattle.hippo_model.specs.Terms.{History, Row, Key, Place}
 use Rattle.hippo_model.specs.Hits.{is_hit}
 use Rattle.hippo_model.specs.Rows.{key_of, row_at, row_left, born_at, born_row_at, insert_key, with_key, key_named, keys_named, table_rows}
-use Rattle.hippo_model.specs.RowSets.{IsBelowAll, IsAscending, key_in, put_row, take_row, row_with, kept_at}
+use Rattle.hippo_keyed_rows.specs.RowSets.{IsBelowAll, IsAscending, key_in, put_row, take_row, row_with, kept_at}
 use Rattle.hippo_model.specs.StoredForms.{table_changed}
 use Rattle.hippo_model.specs.Versions.{is_version}
-use Rattle.hippo_model.proofs.KeptRows.{flipped, shown, IsBelowAll-from_below}
-use Rattle.hippo_model.proofs.RowsAfter.{table_rows-Insert, table_rows-Update, table_rows-Delete, row_with-table_rows, IsAscending-table_rows}
+use Rattle.hippo_keyed_rows.proofs.KeptRows.{flipped, shown, IsBelowAll-from_below}
+use Rattle.hippo_keyed_rows.proofs.RowsAfter.{table_rows-Insert, table_rows-Update, table_rows-Delete, row_with-table_rows, IsAscending-table_rows}
 use Rattle.hippo_hits.specs.Rows.{hit_of, hits_among}
 
 -- the row that stood in a table

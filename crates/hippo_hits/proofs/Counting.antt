@@ -9,9 +9,9 @@ use Rattle.hippo_model.specs.Terms.{History, Row, Key, Place}
 use Rattle.hippo_model.specs.Histories.{schema_at}
 use Rattle.hippo_model.specs.Hits.{own_conditions, hits}
 use Rattle.hippo_model.specs.Rows.{key_of, row_at, born_at}
-use Rattle.hippo_model.specs.RowSets.{KeyedRows, find_row, row_with, kept_at}
-use Rattle.hippo_model.proofs.KeptRows.{shown, slice_get-find_row}
-use Rattle.hippo_model.proofs.RowsAfter.{row_with-table_rows}
+use Rattle.hippo_keyed_rows.specs.RowSets.{KeyedRows, find_row, row_with, kept_at}
+use Rattle.hippo_keyed_rows.proofs.KeptRows.{shown, slice_get-find_row}
+use Rattle.hippo_keyed_rows.proofs.RowsAfter.{row_with-table_rows}
 use Rattle.hippo_tables.specs.declared.tables.Tables.{Tables}
 use Rattle.hippo_tables.specs.Standing.{TablesStandFor}
 use Rattle.hippo_hits.specs.Rows.{table_hits}

@@ -11,7 +11,7 @@ use Rattle.hippo_model.specs.Terms.{History, Row, Place}
 use Rattle.hippo_model.specs.Conditions.{truth, is_true}
 use Rattle.hippo_model.specs.Hits.{value_in_row, is_hit}
 use Rattle.hippo_model.specs.Histories.{schema_at}
-use Rattle.hippo_model.specs.RowSets.{KeyedRows, kept_at}
+use Rattle.hippo_keyed_rows.specs.RowSets.{KeyedRows, kept_at}
 
 -- columns all belong to a table
 abbrev pub are_of : Place → List Ref → Bool

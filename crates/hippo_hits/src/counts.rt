@@ -7,7 +7,8 @@ ghost use Rattle.hippo_hits.specs.Rows.{hits_among, table_hits};
 ghost use Rattle.hippo_hits.specs.Counts.{AreHits, HasNone, changed_count, audit_place, changed_counts, changed_hits};
 
 use crate::own::hit_of;
-use hippo_model::{Audit, Cells, RowSet};
+use hippo_model::{Audit, Cells};
+use hippo_rows::RowSet;
 use hippo_tables::Tables;
 use hippo_values::{Memory, Name};
 use std::alloc::Global;

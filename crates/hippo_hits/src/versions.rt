@@ -2,12 +2,13 @@
 ghost use Rattle.std.specs.Prelude.{◌≡◌, option_map, option_copied};
 ghost use Rattle.hippo_model.specs.Terms.{History};
 ghost use Rattle.hippo_model.specs.Rows.{key_of};
-ghost use Rattle.hippo_model.specs.RowSets.{row_with};
+ghost use Rattle.hippo_keyed_rows.specs.RowSets.{row_with};
 ghost use Rattle.hippo_tables.specs.Standing.{TablesStandFor};
 ghost use Rattle.hippo_hits.specs.Counts.{row_like, taken_in, taken_back};
 
 use crate::counts::AuditHits;
-use hippo_model::{Act, Cells, RowSet};
+use hippo_model::{Act, Cells};
+use hippo_rows::RowSet;
 use hippo_tables::Tables;
 use hippo_values::Name;
 

@@ -16,12 +16,12 @@ use Rattle.hippo_model.specs.declared.query.Expr.{Expr}
 use Rattle.hippo_model.specs.declared.query.Masked.{Masked}
 use Rattle.hippo_model.specs.declared.query.Ref.{Ref}
 use Rattle.hippo_model.specs.Terms.{Key, Place}
-use Rattle.hippo_model.specs.RowSets.{KeyedRows, IsAscending, key_in, find_row}
+use Rattle.hippo_keyed_rows.specs.RowSets.{KeyedRows, IsAscending, key_in, find_row}
 use Rattle.hippo_model.specs.Rows.{cell_at, key_of}
 use Rattle.hippo_model.specs.Conditions.{is_true, is_null, outer_parts}
 use Rattle.hippo_model.specs.Masking.{Choices, raw_value}
-use Rattle.hippo_model.proofs.Orders.{cells_total}
-use Rattle.hippo_model.proofs.KeptRows.{find_row-found}
+use Rattle.hippo_keyed_rows.proofs.Orders.{cells_total}
+use Rattle.hippo_keyed_rows.proofs.KeptRows.{find_row-found}
 use Rattle.hippo_model.proofs.Truths.{truth-Compare}
 use Rattle.hippo_eval.specs.MaskedTruth.{masked_value}
 use Rattle.hippo_join.specs.declared.keys.Span.{Span}

@@ -12,7 +12,7 @@ use Rattle.hippo_model.specs.declared.query.Expr.{Expr}
 use Rattle.hippo_model.specs.declared.query.Expr.TheVariants.{Keep, Null, Aged, Case, Literal}
 use Rattle.hippo_model.specs.declared.query.Ref.{Ref}
 use Rattle.hippo_model.specs.Terms.{Combination, Place}
-use Rattle.hippo_model.specs.RowSets.{KeyedRows}
+use Rattle.hippo_keyed_rows.specs.RowSets.{KeyedRows}
 use Rattle.hippo_model.specs.Conditions.{greatest, is_true, is_null}
 use Rattle.hippo_model.specs.Masking.{Choices}
 use Rattle.hippo_model.proofs.Truths.{truth-Among}

@@ -13,7 +13,7 @@ use Rattle.hippo_values.specs.declared.values.Value.{Value}
 use Rattle.hippo_values.specs.Order.{value_cmp}
 use Rattle.hippo_values.specs.OrderLaws.{value_total}
 use Rattle.hippo_model.specs.Terms.{Place}
-use Rattle.hippo_model.specs.RowSets.{KeyedRows}
+use Rattle.hippo_keyed_rows.specs.RowSets.{KeyedRows}
 use Rattle.hippo_join.specs.Lookups.{value_at_place, IsIndex}
 use Rattle.hippo_join.proofs.ExistenceLemmas.{get_or_default}
 

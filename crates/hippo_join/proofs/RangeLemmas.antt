@@ -21,9 +21,9 @@ use Rattle.hippo_model.specs.declared.query.CondOf.TheVariants as conditions
 use Rattle.hippo_model.specs.declared.query.Expr.{Expr}
 use Rattle.hippo_model.specs.declared.query.Masked.{Masked}
 use Rattle.hippo_model.specs.declared.query.Ref.{Ref}
-use Rattle.hippo_model.specs.declared.ranges.Bound.{Bound}
+use Rattle.hippo_rows.specs.declared.ranges.Bound.{Bound}
 use Rattle.hippo_model.specs.Terms.{Combination, Key, Place}
-use Rattle.hippo_model.specs.RowSets.{KeyedRows}
+use Rattle.hippo_keyed_rows.specs.RowSets.{KeyedRows}
 use Rattle.hippo_model.specs.Conditions.{is_true, is_null, outer_parts}
 use Rattle.hippo_model.specs.Masking.{Choices, raw_value}
 use Rattle.hippo_model.proofs.Truths.{truth-Compare, truth-Between}

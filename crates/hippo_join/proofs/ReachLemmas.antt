@@ -18,7 +18,7 @@ use Rattle.hippo_join.specs.declared.stages.Stage.{Stage}
 use Rattle.hippo_join.specs.Lookups.{value_at_place}
 use Rattle.hippo_model.specs.declared.query.Masked.{Masked}
 use Rattle.hippo_model.specs.Terms.{Place}
-use Rattle.hippo_model.specs.RowSets.{KeyedRows}
+use Rattle.hippo_keyed_rows.specs.RowSets.{KeyedRows}
 use Rattle.hippo_model.specs.Conditions.{outer_parts}
 use Rattle.hippo_model.specs.Masking.{Choices}
 use Rattle.hippo_join.specs.declared.ties.Tie.{Tie}

@@ -6,9 +6,9 @@ use Rattle.hippo_values.specs.declared.values.Value.{Value}
 use Rattle.hippo_model.specs.declared.query.Expr.{Expr}
 use Rattle.hippo_model.specs.declared.query.Expr.TheVariants.{Literal}
 use Rattle.hippo_model.specs.declared.query.Masked.{Masked}
-use Rattle.hippo_model.specs.declared.ranges.Bound.{Bound}
+use Rattle.hippo_rows.specs.declared.ranges.Bound.{Bound}
 use Rattle.hippo_model.specs.Terms.{Place}
-use Rattle.hippo_model.specs.RowSets.{KeyedRows}
+use Rattle.hippo_keyed_rows.specs.RowSets.{KeyedRows}
 use Rattle.hippo_model.specs.Conditions.{outer_parts}
 use Rattle.hippo_model.specs.Masking.{Choices}
 use Rattle.hippo_join.specs.Places.{chosen_rows, Fits}

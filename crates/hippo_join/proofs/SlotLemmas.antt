@@ -14,7 +14,7 @@ use Rattle.hippo_model.specs.declared.query.Expr.{Expr}
 use Rattle.hippo_model.specs.declared.query.Expr.TheVariants.{Keep, Null, Aged, Case, Literal}
 use Rattle.hippo_model.specs.declared.query.Ref.{Ref}
 use Rattle.hippo_model.specs.Terms.{Combination, Place}
-use Rattle.hippo_model.specs.RowSets.{KeyedRows}
+use Rattle.hippo_keyed_rows.specs.RowSets.{KeyedRows}
 use Rattle.hippo_model.specs.Rows.{cell_at}
 use Rattle.hippo_model.specs.Masking.{Choices, raw_value, is_younger, masked_cell, agrees_by, shown_if}
 use Rattle.hippo_model.specs.Verdicts.{number_in}

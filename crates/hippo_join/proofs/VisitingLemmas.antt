@@ -14,7 +14,7 @@ use Rattle.std.proofs.lemmas.List.Kept.{AllPairs-from_increasing, IsStrictlySort
 use Rattle.std.proofs.lemmas.Option.{slice_get-get_or}
 use Rattle.hippo_model.specs.declared.query.Masked.{Masked}
 use Rattle.hippo_model.specs.Terms.{Combination, Place}
-use Rattle.hippo_model.specs.RowSets.{KeyedRows}
+use Rattle.hippo_keyed_rows.specs.RowSets.{KeyedRows}
 use Rattle.hippo_model.specs.Masking.{Choices}
 use Rattle.hippo_values.specs.declared.memory.Memory.{Memory}
 use Rattle.hippo_eval.specs.Walks.{KeptAfter}

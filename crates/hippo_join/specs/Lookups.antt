@@ -4,8 +4,8 @@ use Rattle.std.specs.List.Sorted.{IsSortedByKey}
 use Rattle.hippo_values.specs.declared.values.Value.{Value}
 use Rattle.hippo_values.specs.Order.{value_cmp}
 use Rattle.hippo_model.specs.Terms.{Place}
-use Rattle.hippo_model.specs.RowSets.{KeyedRows}
-pub use Rattle.hippo_model.specs.RowSets.{value_at_place}
+use Rattle.hippo_keyed_rows.specs.RowSets.{KeyedRows}
+pub use Rattle.hippo_keyed_rows.specs.RowSets.{value_at_place}
 
 -- places that stand by the values in a column
 abbrev pub IsByColumn : KeyedRows → Place → List Place → Type 0

@@ -4,8 +4,8 @@ use Rattle.std.specs.List.{range_with_len}
 use Rattle.std.specs.Option.{option_map_or}
 use Rattle.hippo_model.specs.declared.query.Masked.{Masked}
 use Rattle.hippo_model.specs.Terms.{Combination, Place}
-use Rattle.hippo_model.specs.RowSets.{KeyedRows}
-pub use Rattle.hippo_model.specs.RowSets.{blank, row_at_place}
+use Rattle.hippo_keyed_rows.specs.RowSets.{KeyedRows}
+pub use Rattle.hippo_keyed_rows.specs.RowSets.{blank, row_at_place}
 use Rattle.hippo_model.specs.Answers.{product}
 use Rattle.hippo_model.specs.Masking.{Choices, is_guarded, masked_passes}
 

@@ -10,10 +10,10 @@ use Rattle.hippo_model.specs.declared.query.CondOf.{CondOf}
 use Rattle.hippo_model.specs.declared.query.Expr.{Expr}
 use Rattle.hippo_model.specs.declared.query.Ref.{Ref}
 use Rattle.hippo_model.specs.Terms.{Place}
-use Rattle.hippo_model.specs.RowSets.{KeyedRows}
+use Rattle.hippo_keyed_rows.specs.RowSets.{KeyedRows}
 use Rattle.hippo_model.specs.Conditions.{is_null}
 use Rattle.hippo_model.specs.Masking.{Choices, raw_value}
-pub use Rattle.hippo_model.specs.Ranges.{bounding, KeepsBound, HasFront, IsEdge}
+pub use Rattle.hippo_rows.specs.Ranges.{bounding, KeepsBound, HasFront, IsEdge}
 use Rattle.hippo_join.specs.Places.{chosen_rows, Fits}
 use Rattle.hippo_join.specs.Ties.{holds}
 

@@ -3,7 +3,7 @@ use Rattle.std.specs.Prelude.{◌≡◌, true, List, map, slice_get, Option, Som
 use Rattle.std.specs.List.{All, Contains}
 use Rattle.hippo_model.specs.declared.query.Masked.{Masked}
 use Rattle.hippo_model.specs.Terms.{Place}
-use Rattle.hippo_model.specs.RowSets.{KeyedRows}
+use Rattle.hippo_keyed_rows.specs.RowSets.{KeyedRows}
 use Rattle.hippo_model.specs.Masking.{Choices}
 use Rattle.hippo_join.specs.declared.stages.Stage.{Stage}
 use Rattle.hippo_join.specs.Places.{chosen_rows, Fits, stands}

@@ -6,7 +6,8 @@ ghost use Rattle.hippo_eval.specs.Walks.{rows_of};
 
 use crate::visiting::walk_joined;
 use hippo_eval::{EvalFault, Gatherer, Onward, Visitor, limited, project};
-use hippo_model::{Answer, ChoiceView, Combo, Masked, Sets};
+use hippo_model::{Answer, ChoiceView, Combo, Masked};
+use hippo_rows::Sets;
 use hippo_values::Memory;
 use std::alloc::Global;
 

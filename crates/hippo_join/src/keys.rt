@@ -15,7 +15,8 @@ use crate::known::slot_at;
 use crate::lookups::value_at;
 use crate::sides::Side;
 use crate::ties::{column_of, outer_parts};
-use hippo_model::{Cells, ChoiceView, CondOf, Expr, Ref, RowSet};
+use hippo_model::{Cells, ChoiceView, CondOf, Expr, Ref};
+use hippo_rows::RowSet;
 use hippo_values::{CompareOp, Duplicate, Memory, Sequence, Value};
 use std::alloc::Global;
 

@@ -8,7 +8,8 @@ ghost use Rattle.hippo_join.specs.Lists.{is_literal, IsListedBy};
 ghost use Rattle.hippo_join.specs.Lookups.{value_at_place};
 
 use crate::keys::shows_column;
-use hippo_model::{Bound, CondOf, Expr, Ref, RowSet};
+use hippo_model::{CondOf, Expr, Ref};
+use hippo_rows::{Bound, RowSet};
 use hippo_values::{Memory, Value};
 use std::alloc::Global;
 

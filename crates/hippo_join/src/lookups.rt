@@ -8,10 +8,10 @@ ghost use Rattle.hippo_values.specs.declared.values.Value.TheVariants.{Null};
 ghost use Rattle.hippo_values.specs.Order.{value_cmp};
 ghost use Rattle.hippo_model.specs.Conditions.{is_null};
 ghost use Rattle.hippo_model.specs.Terms.{Place};
-ghost use Rattle.hippo_model.specs.RowSets.{KeyedRows};
+ghost use Rattle.hippo_keyed_rows.specs.RowSets.{KeyedRows};
 ghost use Rattle.hippo_join.specs.Lookups.{value_at_place, IsByColumn, IsIndex};
 
-use hippo_model::RowSet;
+use hippo_rows::RowSet;
 use hippo_values::{Duplicate, Memory, Value};
 use std::alloc::Global;
 use std::cell::Cell;

@@ -6,7 +6,7 @@ ghost use Rattle.hippo_values.specs.declared.values.Value.{Value as AnyValue};
 ghost use Rattle.hippo_values.specs.declared.values.Value.TheVariants.{Null};
 ghost use Rattle.hippo_model.specs.declared.query.CondOf.TheVariants.{Compare, Between};
 ghost use Rattle.hippo_model.specs.Conditions.{outer_parts, is_null};
-ghost use Rattle.hippo_model.specs.RowSets.{KeyedRows};
+ghost use Rattle.hippo_keyed_rows.specs.RowSets.{KeyedRows};
 ghost use Rattle.hippo_join.specs.Keys.{IsKeyTold, IsWithin};
 ghost use Rattle.hippo_join.specs.Ranges.{bounding, flipped_operator, IsBoundedBy, IsEdge};
 
@@ -14,7 +14,8 @@ use crate::keys::{Span, shows_column};
 use crate::lookups::is_null;
 use crate::sides::Side;
 use crate::ties::outer_parts;
-use hippo_model::{Bound, Cells, ChoiceView, CondOf, Expr, Ref, RowSet};
+use hippo_model::{Cells, ChoiceView, CondOf, Expr, Ref};
+use hippo_rows::{Bound, RowSet};
 use hippo_values::{CompareOp, Duplicate, Memory, Value};
 use std::alloc::Global;
 

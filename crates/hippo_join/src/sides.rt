@@ -12,7 +12,8 @@ ghost use Rattle.hippo_join.specs.Ties.{holds};
 use crate::known::{knows, knows_expr, slot_at};
 use crate::ties::outer_parts;
 use hippo_eval::{is_shown, test};
-use hippo_model::{BornRow, ChoiceView, Combo, CondOf, Expr, Guard, Masked, RowSet, Sets};
+use hippo_model::{BornRow, ChoiceView, Combo, CondOf, Expr, Guard, Masked};
+use hippo_rows::{RowSet, Sets};
 use hippo_values::{Memory, Truth};
 use std::alloc::Global;
 

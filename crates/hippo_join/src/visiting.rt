@@ -10,7 +10,8 @@ use crate::orders::tables_below;
 use crate::sides::Side;
 use crate::walking::PlaceVisitor;
 use hippo_eval::{Onward, Visitor};
-use hippo_model::{ChoiceView, Combo, Masked, Sets};
+use hippo_model::{ChoiceView, Combo, Masked};
+use hippo_rows::Sets;
 use hippo_values::Memory;
 use std::alloc::Global;
 

@@ -26,7 +26,7 @@ use std::alloc::Global;
 pub(crate) trait PlaceVisitor {
     ghost use Rattle.std.specs.Prelude.{◌≡◌, [], ◌∷◌, List, map, Some, IfOk};
     ghost use Rattle.hippo_model.specs.Terms.{Combination, Place};
-    ghost use Rattle.hippo_model.specs.RowSets.{KeyedRows};
+    ghost use Rattle.hippo_keyed_rows.specs.RowSets.{KeyedRows};
     ghost use Rattle.hippo_join.specs.Places.{chosen_rows};
     ghost use Rattle.hippo_join.specs.Visiting.{KeptOn};
 

@@ -2,7 +2,7 @@
 use Rattle.std.proofs.Common.{◌≡◌, ◌+◌, ◌≤◌, ◌<◌, ◌^◌, ℕ, ℤ, [], true, Option, Some, None, Result, Ok, Err, IsOk, is_err, length, decimal, codes, refl, ap, arith, length-append}
 use Rattle.std.proofs.lemmas.Fmt.{length-decimal-le}
 use Rattle.hippo_values.specs.Texts.{Txt}
-use Rattle.hippo_values.specs.Dates.{day_text, time_text, moment_text}
+use Rattle.hippo_text_forms.specs.Dates.{day_text, time_text, moment_text}
 use Rattle.hippo_report.specs.declared.refusal.Refusal.TheVariants.{MomentBack, NoSession, SessionsOnly, ConsoleOnly, NoCursor, JobLimit, NoJob, NoWatch, Memory}
 use Rattle.hippo_report.specs.Notices.{done_line, number_line}
 use Rattle.hippo_report.specs.declared.speaker.Speaker.{Speaker}

@@ -1,8 +1,8 @@
 -- The entries of an order of the patients by their postal code.
 use Rattle.std.proofs.Common.{◌≡◌, pos, [], ◌∷◌, refl}
 use Rattle.hippo_values.specs.declared.values.Value.TheVariants.{Null, Int}
-use Rattle.hippo_model.specs.RowSets.{KeyedRows}
-use Rattle.hippo_model.specs.ColumnOrders.{order_key, HasOrderKey}
+use Rattle.hippo_keyed_rows.specs.RowSets.{KeyedRows}
+use Rattle.hippo_rows.specs.ColumnOrders.{order_key, HasOrderKey}
 use Rattle.hippo_laws.proofs.ExampleHistories.{ada, bob, born_in_the_morning}
 
 -- Bob's row has no code, so his entry is the first one

@@ -4,10 +4,10 @@ use Rattle.std.specs.Bool.{then_some}
 use Rattle.hippo_model.specs.declared.entry.Entry.{Entry}
 use Rattle.hippo_model.specs.declared.schema.Schema.{Schema}
 use Rattle.hippo_model.specs.Terms.{History}
-use Rattle.hippo_model.specs.RowSets.{kept_at}
+use Rattle.hippo_keyed_rows.specs.RowSets.{kept_at}
 use Rattle.hippo_model.specs.StoredForms.{table_changed}
 use Rattle.hippo_model.specs.Versions.{is_version, version_fits}
-use Rattle.hippo_model.specs.Changes.{changed}
+use Rattle.hippo_keyed_rows.specs.Changes.{changed}
 
 -- an entry changes the kept rows of a history to those of the history with it where it is a version
 -- that fits, and to none where it is not

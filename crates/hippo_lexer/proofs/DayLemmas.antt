@@ -4,8 +4,8 @@ use Rattle.std.proofs.lemmas.Bool.{cases_Bool, cases_order, both_ways}
 use Rattle.std.proofs.lemmas.Int.{ints}
 use Rattle.std.proofs.lemmas.Slice.Eq.{bytes_eq-Decides}
 use Rattle.hippo_values.specs.Moments.{IsDayNumber}
-use Rattle.hippo_values.specs.Dates.{day_text, IsDayText}
-use Rattle.hippo_values.proofs.DateTextLemmas.{IsDayText-unique}
+use Rattle.hippo_text_forms.specs.Dates.{day_text, IsDayText}
+use Rattle.hippo_text_forms.proofs.DateTextLemmas.{IsDayText-unique}
 use Rattle.hippo_lexer.specs.Cutting.{nth_day, day_among, day_of}
 
 -- what is found among the first n days is the text's day

@@ -3,7 +3,7 @@ use Rattle.std.proofs.Common.{◌≡◌, ℕ, ◌+◌, true, false, not, ◌&&�
 use Rattle.std.specs.Char.{is_ascii_alphabetic, is_ascii_digit}
 use Rattle.std.proofs.lemmas.Bool.{and_parts, both_ways, not-true}
 use Rattle.std.proofs.lemmas.List.{append_assoc, length-append}
-use Rattle.hippo_values.specs.Dates.{IsDayText}
+use Rattle.hippo_text_forms.specs.Dates.{IsDayText}
 use Rattle.hippo_values.specs.declared.keywords.Keyword.{Keyword}
 use Rattle.hippo_values.specs.declared.keywords.Keyword.TheVariants.{KDate}
 use Rattle.hippo_lexer.specs.declared.kinds.Symbol.{Symbol}

@@ -10,7 +10,7 @@ use Rattle.hippo_values.specs.declared.words.Word.{Word}
 use Rattle.hippo_values.specs.declared.words.Word.TheVariants as words
 use Rattle.hippo_values.specs.Names.{is_word_byte}
 use Rattle.hippo_values.specs.Words.{word_of}
-use Rattle.hippo_values.specs.Dates.{day_text}
+use Rattle.hippo_text_forms.specs.Dates.{day_text}
 use Rattle.hippo_values.specs.Moments.{first_day, day_count, is_signed_number}
 use Rattle.hippo_values.specs.declared.keywords.Keyword.TheVariants.{KDate}
 use Rattle.hippo_lexer.specs.declared.kinds.Symbol.{Symbol}

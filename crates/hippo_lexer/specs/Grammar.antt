@@ -5,7 +5,7 @@ use Rattle.std.specs.List.{list_all}
 use Rattle.std.specs.Char.{is_ascii_alphabetic, is_ascii_digit}
 use Rattle.std.specs.Str.Parse.{digits_value}
 use Rattle.hippo_values.specs.Names.{lower_case, unsupported_words, is_among, is_word_byte, is_word, is_name, keyword_of}
-use Rattle.hippo_values.specs.Dates.{IsDayText}
+use Rattle.hippo_text_forms.specs.Dates.{IsDayText}
 use Rattle.hippo_values.specs.Limits.{name_limit}
 use Rattle.hippo_values.specs.Moments.{IsSignedNumber}
 use Rattle.hippo_values.specs.declared.keywords.Keyword.{Keyword}
@@ -16,7 +16,7 @@ use Rattle.hippo_lexer.specs.declared.kinds.TokenKind.TheVariants as kinds
 use Rattle.hippo_lexer.specs.declared.kinds.Token.{Token}
 use Rattle.hippo_lexer.specs.declared.faults.LexFault.{LexFault}
 use Rattle.hippo_lexer.specs.declared.faults.LexFault.TheVariants as faults
-pub use Rattle.hippo_values.specs.Quoting.{quoted_text}
+pub use Rattle.hippo_text_forms.specs.Quoting.{quoted_text}
 use Rattle.hippo_lexer.specs.Spelling.{is_blank, is_quote, is_minus, begins_with, sign_of, doubled_quotes}
 
 -- a word, and what stands behind does not go on with it

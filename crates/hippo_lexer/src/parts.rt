@@ -8,7 +8,8 @@ ghost use Rattle.hippo_lexer.specs.Cutting.{GivesOutcome, kind_of_word, word_kin
 use crate::faults::LexFault;
 use crate::kinds::TokenKind;
 use crate::signs::sign_first;
-use hippo_values::{DayNumber, Keyword, Memory, Txt, Word, read_day, read_word};
+use hippo_text_forms::read_day;
+use hippo_values::{DayNumber, Keyword, Memory, Txt, Word, read_word};
 use std::alloc::Global;
 
 fn is_word_byte(byte: u8) -> bool

@@ -2,13 +2,7 @@ pub mod Values
 pub mod Terms
 pub mod Histories
 pub mod Rows
-pub mod Pieces
-pub mod RowSets
-pub mod Searches
-pub mod ColumnOrders
-pub mod Ranges
 pub mod Versions
-pub mod Changes
 pub mod Rules
 pub mod Verdicts
 pub mod Views

@@ -1,7 +1,6 @@
 //! Lists of loans.
 ghost use Rattle.std.specs.Prelude.{◌≡◌, ◌<◌, ◌↔◌, [], ◌∷◌, ◌++◌, length, slice_get, Some, IsTrue, OnOk, OnErr};
 
-use crate::row_set::RowSet;
 use crate::schema::Schema;
 use hippo_values::Memory;
 use std::alloc::Global;
@@ -12,9 +11,6 @@ use std::marker::Model;
 pub struct Lent<'a, T> {
     loans: Vec<&'a T>,
 }
-
-/// The rows of each of a statement's tables, in the order of FROM.
-pub type Sets<'a> = Lent<'a, RowSet>;
 
 /// The schema of each of a statement's tables, in the order of FROM.
 pub type LentSchemas<'a> = Lent<'a, Schema>;

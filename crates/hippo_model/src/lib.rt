@@ -4,18 +4,13 @@
 mod audit;
 mod born_row;
 mod cells;
-mod column_order;
 mod combo;
 mod entry;
-mod keyed_set;
 mod lent;
 mod name_fault;
 mod operands;
-mod pieces;
 mod policy;
 mod query;
-mod ranges;
-mod row_set;
 mod schema;
 mod statement;
 mod stored;
@@ -26,17 +21,14 @@ pub use born_row::BornRow;
 pub use cells::{Answer, Cell, CellRow, Cells};
 pub use combo::{ChoiceView, Combo, Plan, Sizes};
 pub use entry::{Act, Entry, History, ItemKind};
-pub use lent::{Lent, LentSchemas, Sets};
+pub use lent::{Lent, LentSchemas};
 pub use name_fault::NameFault;
 pub use operands::{Change, changed_condition};
-pub use pieces::Pieces;
 pub use policy::{Authorization, Gate, Gates, RuleAt, RulesInForce, TableRules, Verdict};
 pub use query::{
     CondOf, Expr, Exprs, Form, Guard, Guards, Masked, Operand, Operands, Out, Outs, Query, Ref,
     Refs, Shape,
 };
-pub use ranges::Bound;
-pub use row_set::RowSet;
 pub use schema::{Column, ColumnKind, Columns, Names, Places, Schema};
 pub use statement::{
     RawAudit, RawColumn, RawColumns, RawCond, RawForm, RawItem, RawItems, RawOperand, RawOut,

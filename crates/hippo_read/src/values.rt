@@ -2,9 +2,9 @@
 
 use hippo_lexer::TokenKind;
 use hippo_lexer::lexer::tokens;
+use hippo_text_forms::{day_text, moment_text, print_value, read_day, read_moment};
 use hippo_values::{
-    CompareOp, Duplicate, Memory, Name, Truth, Txt, Value, compare, day_text, moment_text,
-    print_value, read_day, read_moment, truth_and, truth_not, truth_or,
+    CompareOp, Duplicate, Memory, Name, Truth, Txt, Value, compare, truth_and, truth_not, truth_or,
 };
 use std::alloc::{AllocError, Global};
 

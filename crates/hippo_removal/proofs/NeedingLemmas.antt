@@ -14,7 +14,7 @@ use Rattle.hippo_model.specs.Answers.{product}
 use Rattle.hippo_model.specs.Bags.{same_bag}
 use Rattle.hippo_model.specs.Forms.{rows_by_form}
 use Rattle.hippo_model.specs.Masking.{Choices, is_guarded, masked_passes, masked_items}
-use Rattle.hippo_model.specs.RowSets.{KeyedRows}
+use Rattle.hippo_keyed_rows.specs.RowSets.{KeyedRows}
 use Rattle.hippo_model.specs.Terms.{Combination, ShownRow}
 use Rattle.hippo_eval.specs.Answering.{masked_rows}
 use Rattle.hippo_eval.specs.Walks.{rows_of}

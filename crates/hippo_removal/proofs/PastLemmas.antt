@@ -16,7 +16,7 @@ use Rattle.hippo_model.specs.Audits.{first_serving}
 use Rattle.hippo_model.specs.Histories.{schema_at}
 use Rattle.hippo_model.specs.Masking.{Choices}
 use Rattle.hippo_model.specs.Rules.{choice_at}
-use Rattle.hippo_model.specs.RowSets.{KeyedRows, kept_at}
+use Rattle.hippo_keyed_rows.specs.RowSets.{KeyedRows, kept_at}
 use Rattle.hippo_model.specs.Terms.{History, ShownRow}
 use Rattle.hippo_model.specs.Validity.{is_valid}
 use Rattle.hippo_model.specs.Verdicts.{Context}

@@ -14,7 +14,7 @@ use Rattle.hippo_model.specs.declared.query.Form.{Form}
 use Rattle.hippo_model.specs.declared.query.Masked.{Masked}
 use Rattle.hippo_model.specs.Answers.{product}
 use Rattle.hippo_model.specs.Masking.{Choices}
-use Rattle.hippo_model.specs.RowSets.{KeyedRows, key_in}
+use Rattle.hippo_keyed_rows.specs.RowSets.{KeyedRows, key_in}
 use Rattle.hippo_model.specs.Terms.{Combination, Key}
 use Rattle.hippo_eval.specs.Walks.{rows_of}
 use Rattle.hippo_eval.proofs.WalkLemmas.{drop_at}

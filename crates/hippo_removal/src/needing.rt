@@ -8,7 +8,8 @@ use crate::bags::same_bag;
 use crate::forms::formed;
 use crate::tuples::has_tuple;
 use hippo_eval::{Onward, Visitor, passes, project, walk};
-use hippo_model::{Answer, ChoiceView, Combo, Form, Masked, Names, Sets, SharedTuple};
+use hippo_model::{Answer, ChoiceView, Combo, Form, Masked, Names, SharedTuple};
+use hippo_rows::Sets;
 use hippo_values::{Memory, Sequence};
 use std::alloc::Global;
 

@@ -6,7 +6,8 @@ ghost use Rattle.hippo_shared.specs.Sharing.{query_has};
 
 use crate::tuples::has_tuple;
 use hippo_eval::{Onward, Visitor, cell, passes, walk};
-use hippo_model::{ChoiceView, Combo, Expr, Exprs, Masked, Sets, SharedTuple};
+use hippo_model::{ChoiceView, Combo, Expr, Exprs, Masked, SharedTuple};
+use hippo_rows::Sets;
 use hippo_values::Memory;
 use std::alloc::Global;
 

@@ -14,10 +14,11 @@ use hippo_eval::{Onward, Visitor, unmasked_condition, walk};
 use hippo_examining::laws::needed_serves_first;
 use hippo_examining::to_be_seen;
 use hippo_model::{
-    Audit, ChoiceView, Combo, Expr, Exprs, Form, Lent, Masked, Names, Query, RowSet, RulesInForce,
-    Sets, SharedRow, SharedTuple,
+    Audit, ChoiceView, Combo, Expr, Exprs, Form, Lent, Masked, Names, Query, RulesInForce,
+    SharedRow, SharedTuple,
 };
 use hippo_rewrite::rewrite;
+use hippo_rows::{RowSet, Sets};
 use hippo_shared::{Audited, place_in};
 use hippo_values::{Duplicate, Memory, Name, Sequence};
 use std::alloc::Global;

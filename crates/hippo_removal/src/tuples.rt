@@ -2,13 +2,14 @@
 ghost use Rattle.std.specs.Prelude.{◌≡◌, ◌∷◌, [], map, slice_index_or, option_copied, IfOk};
 ghost use Rattle.hippo_values.specs.Order.{same_cells};
 ghost use Rattle.hippo_model.specs.Rows.{cell_at};
-ghost use Rattle.hippo_model.specs.RowSets.{key_in};
+ghost use Rattle.hippo_keyed_rows.specs.RowSets.{key_in};
 ghost use Rattle.hippo_eval.specs.LentCells.{or_null};
 ghost use Rattle.hippo_join.specs.Places.{blank};
 ghost use Rattle.hippo_shared.specs.Sharing.{rows_named, shared_key_in, has_tuple_in, common_tables};
 ghost use Rattle.hippo_removal.specs.Removing.{tuple_of};
 
-use hippo_model::{Cells, Combo, Names, Sets, SharedRow, SharedTuple};
+use hippo_model::{Cells, Combo, Names, SharedRow, SharedTuple};
+use hippo_rows::Sets;
 use hippo_shared::place_in;
 use hippo_values::{Duplicate, Memory, Sequence, Value};
 use std::alloc::Global;

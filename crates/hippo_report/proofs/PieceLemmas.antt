@@ -3,7 +3,7 @@ use Rattle.std.proofs.Common.{◌≡◌, ◌∙◌, ◌+◌, ◌≤◌, ◌<◌,
 use Rattle.std.proofs.lemmas.List.{length-append, drop_more, take-append-drop}
 use Rattle.std.proofs.Math.ListN.{get_or}
 use Rattle.std.proofs.Math.Seq.{take-append_seam}
-use Rattle.hippo_values.specs.Printing.{KeepsFront}
+use Rattle.hippo_text_forms.specs.Printing.{KeepsFront}
 use Rattle.std.specs.List.{concat}
 
 -- where the whole fits into the room, so does a piece of it

@@ -1,7 +1,7 @@
 //! Parts of a reply that are added to a text.
 ghost use Rattle.std.specs.Prelude.{◌≡◌, ◌+◌, ◌≤◌, ◌++◌, length, map, take, decimal, IsOk, OnOk, OnErr};
 ghost use Rattle.std.specs.List.{concat};
-ghost use Rattle.hippo_values.specs.Printing.{KeepsFront};
+ghost use Rattle.hippo_text_forms.specs.Printing.{KeepsFront};
 
 use hippo_values::{Memory, RoomyTxt};
 

@@ -1,10 +1,11 @@
 //! What a reply prints of values, cells and shared rows.
 ghost use Rattle.std.specs.Prelude.{◌≡◌, ◌++◌, ◌∷◌, [], flat_map, decimal, codes, OnOk, OnErr};
-ghost use Rattle.hippo_values.specs.Printing.{value_text, KeepsFront};
+ghost use Rattle.hippo_text_forms.specs.Printing.{value_text, KeepsFront};
 ghost use Rattle.hippo_report.specs.Cells.{separated_text, cell_text, keyed_text, shared_text};
 
 use hippo_model::{Cell, Cells, SharedRow};
-use hippo_values::{Memory, Name, RoomyTxt, Value, print_value};
+use hippo_text_forms::print_value;
+use hippo_values::{Memory, Name, RoomyTxt, Value};
 use itoa::Buffer;
 
 /// A part of a reply.

@@ -1,13 +1,14 @@
 //! The reply to a line that is not carried out.
 ghost use Rattle.std.specs.Prelude.{◌≡◌, ◌+◌, ◌≤◌, ◌++◌, None, Some, length, IsOk, OnOk, OnErr};
-ghost use Rattle.hippo_values.specs.Dates.{moment_text};
+ghost use Rattle.hippo_text_forms.specs.Dates.{moment_text};
 ghost use Rattle.hippo_report.specs.Refusals.{fault_title, fault_detail, refusal_title, refusal_detail, detail_text, said_of, refusal_line};
 
 use crate::pieces::append_pieces;
 use crate::refusal::{Detail, Refusal};
 use crate::speaker::Speaker;
 use hippo_model::NameFault;
-use hippo_values::{Memory, Moment, RoomyTxt, moment_text};
+use hippo_text_forms::moment_text;
+use hippo_values::{Memory, Moment, RoomyTxt};
 use itoa::Buffer;
 
 fn fault_title(fault: &NameFault) -> &'static str

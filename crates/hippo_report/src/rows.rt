@@ -1,6 +1,6 @@
 //! Rows of answers, and cells that were denied.
 ghost use Rattle.std.specs.Prelude.{◌≡◌, ◌++◌, flat_map, OnOk, OnErr};
-ghost use Rattle.hippo_values.specs.Printing.{KeepsFront};
+ghost use Rattle.hippo_text_forms.specs.Printing.{KeepsFront};
 ghost use Rattle.hippo_report.specs.Cells.{answer_line, denied_line};
 
 use crate::pieces::append_pieces;

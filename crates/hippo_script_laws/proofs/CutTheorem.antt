@@ -10,13 +10,13 @@ use Rattle.std.proofs.lemmas.List.{append_assoc}
 use Rattle.std.proofs.lemmas.List.Folds.{list_all-append}
 use Rattle.std.proofs.lemmas.Str.{IsUtf8-append, IsUtf8-from_is_utf8, is_utf8-from_IsUtf8}
 use Rattle.jiff_core.proofs.SignedLemmas.{signed_arith}
-use Rattle.hippo_values.specs.Dates.{clock_text, day_text, moment_text, time_text}
+use Rattle.hippo_text_forms.specs.Dates.{clock_text, day_text, moment_text, time_text}
 use Rattle.hippo_values.specs.Limits.{line_limit}
 use Rattle.hippo_values.specs.Moments.{is_moment}
 use Rattle.hippo_values.specs.Texts.{Txt}
 use Rattle.hippo_values.specs.declared.moments.Moment.{Moment}
 use Rattle.hippo_values.specs.declared.names.Name.{Name}
-use Rattle.hippo_values.proofs.MomentTextLemmas.{IsDayNumber-of_moment, day_of, second_of}
+use Rattle.hippo_text_forms.proofs.MomentTextLemmas.{IsDayNumber-of_moment, day_of, second_of}
 use Rattle.hippo_io.specs.Lines.{line_of, lines, pieces, text_line, text_or_not, too_long_line, with_first_byte}
 use Rattle.hippo_lexer.specs.Spelling.{is_blank}
 use Rattle.hippo_model.specs.declared.entry.Act.{Act}

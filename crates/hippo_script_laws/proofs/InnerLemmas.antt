@@ -9,16 +9,16 @@ use Rattle.std.proofs.lemmas.Int.{ints}
 use Rattle.std.proofs.lemmas.List.{append_assoc}
 use Rattle.std.proofs.lemmas.List.Folds.{list_all-append}
 use Rattle.std.proofs.lemmas.Str.{IsUtf8-append, IsUtf8-from_ascii, IsUtf8-from_is_utf8}
-use Rattle.hippo_values.specs.Dates.{date_text, day_of_month, day_text, month_of, year_of}
+use Rattle.hippo_text_forms.specs.Dates.{date_text, day_of_month, day_text, month_of, year_of}
 use Rattle.hippo_values.specs.Limits.{text_limit}
 use Rattle.hippo_values.specs.Moments.{IsDayNumber, first_day, is_day, is_signed_number, last_day}
 use Rattle.hippo_values.specs.Names.{is_name, is_word_byte}
-use Rattle.hippo_values.specs.Quoting.{doubled_quotes, is_quote}
+use Rattle.hippo_text_forms.specs.Quoting.{doubled_quotes, is_quote}
 use Rattle.hippo_values.specs.Texts.{Txt, is_plain}
 use Rattle.hippo_values.specs.declared.names.Name.{Name}
 use Rattle.hippo_values.specs.declared.values.Value.{Value}
 use Rattle.hippo_values.specs.declared.values.Value.TheVariants as values
-use Rattle.hippo_values.proofs.DateTextLemmas.{IsAscii-date_text, date_text-of_day}
+use Rattle.hippo_text_forms.proofs.DateTextLemmas.{IsAscii-date_text, date_text-of_day}
 use Rattle.hippo_lexer.proofs.FrontLemmas.{small_digit, small_word_byte}
 use Rattle.hippo_lexer.proofs.NumberLemmas.{fits-signed}
 use Rattle.hippo_model.specs.Keepable.{is_folded_name, value_is_keepable}

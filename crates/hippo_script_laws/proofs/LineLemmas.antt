@@ -6,7 +6,7 @@ use Rattle.std.specs.List.{filter, list_all, slice_split}
 use Rattle.std.proofs.lemmas.Bool.{and_from, and_parts, both_ways, lt-ltb, ne_eqb, not_from_false, not-true}
 use Rattle.std.proofs.lemmas.Int.{ints}
 use Rattle.std.proofs.lemmas.Slice.Eq.{bytes_eq-Decides}
-use Rattle.hippo_values.specs.Dates.{clock_text, date_text, day_of_month, day_text, moment_text, month_of, time_text, year_of}
+use Rattle.hippo_text_forms.specs.Dates.{clock_text, date_text, day_of_month, day_text, moment_text, month_of, time_text, year_of}
 use Rattle.hippo_values.specs.Moments.{IsMoment, day_seconds, first_moment, is_moment, last_moment}
 use Rattle.hippo_values.specs.Names.{begins_with_letter, lower_case, is_name, is_word_byte, name_of}
 use Rattle.hippo_values.specs.Texts.{Txt}

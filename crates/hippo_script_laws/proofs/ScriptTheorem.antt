@@ -6,7 +6,7 @@ use Rattle.std.specs.Option.{option_map_or}
 use Rattle.std.proofs.lemmas.Bool.{and_from, and_parts, or_right}
 use Rattle.std.proofs.lemmas.Bool.Decides.{Decides-int_eq}
 use Rattle.std.proofs.lemmas.List.{append-nil, append_assoc, length-append, map-append}
-use Rattle.hippo_values.specs.Dates.{moment_text}
+use Rattle.hippo_text_forms.specs.Dates.{moment_text}
 use Rattle.hippo_values.specs.Moments.{is_moment}
 use Rattle.hippo_values.specs.Texts.{Txt}
 use Rattle.hippo_values.specs.declared.moments.Moment.{Moment}

@@ -2,7 +2,7 @@
 use Rattle.std.specs.Prelude.{◌≡◌, ◌≤◌, ℕ, Bool, true, false, not, ◌&&◌, ◌||◌, ◌==◌, List, [], ◌∷◌, ◌++◌, filter, map, flat_map, length, int_le, nat_le, slice_get, slice_range, Option, Some, None, is_none, if◌then◌else◌, codes}
 use Rattle.std.specs.List.{last_or, list_all}
 use Rattle.std.specs.Option.{option_map_or}
-use Rattle.hippo_values.specs.Dates.{moment_text}
+use Rattle.hippo_text_forms.specs.Dates.{moment_text}
 use Rattle.hippo_values.specs.Limits.{line_limit}
 use Rattle.hippo_values.specs.Texts.{Txt}
 use Rattle.hippo_values.specs.declared.moments.Moment.{Moment}

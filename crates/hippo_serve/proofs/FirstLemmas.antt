@@ -3,7 +3,7 @@ use Rattle.std.proofs.Common.{◌≡◌, ◌<◌, ℕ, Bool, true, false, List, 
 use Rattle.std.proofs.lemmas.Bool.{lt-ltb}
 use Rattle.std.specs.Bool.{then_some}
 use Rattle.std.specs.Prelude.{nat_lt, int_lt, option_and_then}
-use Rattle.hippo_values.specs.Dates.{moment_text}
+use Rattle.hippo_text_forms.specs.Dates.{moment_text}
 use Rattle.hippo_values.specs.Texts.{Txt}
 use Rattle.hippo_values.specs.declared.moments.Moment.{Moment}
 use Rattle.hippo_io.specs.Lines.{LineText, text_line, lines}

@@ -1,6 +1,6 @@
 -- The lines that a job asks for: a run those that it reads, and a load those that it makes of them.
 use Rattle.std.specs.Prelude.{ℕ, List, ◌∷◌, ◌++◌, length, map, nat_lt, codes, if◌then◌else◌}
-use Rattle.hippo_values.specs.Dates.{moment_text}
+use Rattle.hippo_text_forms.specs.Dates.{moment_text}
 use Rattle.hippo_values.specs.Limits.{line_limit}
 use Rattle.hippo_values.specs.Texts.{Txt}
 use Rattle.hippo_values.specs.declared.moments.Moment.{Moment}

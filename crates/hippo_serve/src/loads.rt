@@ -3,7 +3,8 @@ ghost use Rattle.std.specs.Prelude.{◌≡◌, ◌+◌, ◌≤◌, ◌++◌, len
 ghost use Rattle.hippo_values.specs.Limits.{line_limit};
 ghost use Rattle.hippo_serve.specs.Loads.{made_room, load_text, at_line};
 
-use hippo_values::{Memory, Moment, Name, RoomyTxt, moment_text};
+use hippo_text_forms::moment_text;
+use hippo_values::{Memory, Moment, Name, RoomyTxt};
 
 // The most bytes of a line that a load asks for: `0 load TABLE RECORD`.
 const MADE_ROOM: usize = 65_607;

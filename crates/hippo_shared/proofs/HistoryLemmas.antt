@@ -15,7 +15,7 @@ use Rattle.hippo_model.specs.declared.schema.Schema.{Schema}
 use Rattle.hippo_model.specs.Terms.{History, Combination, Row, ShownRow}
 use Rattle.hippo_model.specs.Histories.{schema_at}
 use Rattle.hippo_model.specs.Rows.{key_of, table_rows}
-use Rattle.hippo_model.specs.RowSets.{KeyedRows, kept_at, key_in}
+use Rattle.hippo_keyed_rows.specs.RowSets.{KeyedRows, kept_at, key_in}
 use Rattle.hippo_model.specs.Views.{unmasked_at}
 use Rattle.hippo_model.specs.Forms.{value_in}
 use Rattle.hippo_model.specs.Answers.{product, passes, unmasked_combinations}

@@ -7,8 +7,8 @@ use Rattle.std.proofs.lemmas.Bool.{false≢true}
 use Rattle.hippo_values.specs.Order.{cells_cmp}
 use Rattle.hippo_model.specs.declared.born_row.BornRow.{BornRow}
 use Rattle.hippo_model.specs.Terms.{Key, Place}
-use Rattle.hippo_model.specs.RowSets.{IsAscending, IsBelowAll, key_in}
-use Rattle.hippo_model.proofs.Orders.{cells_total}
+use Rattle.hippo_keyed_rows.specs.RowSets.{IsAscending, IsBelowAll, key_in}
+use Rattle.hippo_keyed_rows.proofs.Orders.{cells_total}
 use Rattle.hippo_join.specs.Places.{row_at_place}
 
 not_below_itself : (a b : Key) → cells_cmp a b ≡ Less → ¬ (a ≡ b)

@@ -16,8 +16,8 @@ use Rattle.hippo_values.specs.Order.{cells_cmp, same_cells}
 use Rattle.hippo_model.specs.declared.born_row.BornRow.{BornRow}
 use Rattle.hippo_model.specs.Terms.{Row, Place, Combination}
 use Rattle.hippo_model.specs.Rows.{key_of}
-use Rattle.hippo_model.specs.RowSets.{KeyedRows, IsAscending, key_in, find_row}
-use Rattle.hippo_model.proofs.Orders.{cells_total}
+use Rattle.hippo_keyed_rows.specs.RowSets.{KeyedRows, IsAscending, key_in, find_row}
+use Rattle.hippo_keyed_rows.proofs.Orders.{cells_total}
 use Rattle.hippo_join.specs.Finding.{has_places}
 use Rattle.hippo_join.specs.Places.{row_at_place}
 use Rattle.hippo_join.proofs.FoundLemmas.{same_places as equal_places}

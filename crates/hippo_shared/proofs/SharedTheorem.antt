@@ -10,7 +10,7 @@ use Rattle.hippo_model.specs.declared.audit.SharedRow.{SharedRow}
 use Rattle.hippo_model.specs.declared.query.Expr.{Expr}
 use Rattle.hippo_model.specs.declared.query.Masked.{Masked}
 use Rattle.hippo_model.specs.Terms.{Combination, Place}
-use Rattle.hippo_model.specs.RowSets.{KeyedRows, IsAscending, key_in}
+use Rattle.hippo_keyed_rows.specs.RowSets.{KeyedRows, IsAscending, key_in}
 use Rattle.hippo_model.specs.Answers.{product, passes}
 use Rattle.hippo_model.specs.Masking.{Choices, is_guarded, masked_passes}
 use Rattle.hippo_eval.specs.Unmasked.{all_shown}

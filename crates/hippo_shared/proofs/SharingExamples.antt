@@ -17,7 +17,7 @@ use Rattle.hippo_model.specs.declared.query.Masked.{Masked}
 use Rattle.hippo_model.specs.declared.query.Operand.{Operand}
 use Rattle.hippo_model.specs.declared.query.Operand.TheVariants.{Column, Literal}
 use Rattle.hippo_model.specs.declared.query.Ref.{Ref}
-use Rattle.hippo_model.specs.RowSets.{KeyedRows}
+use Rattle.hippo_keyed_rows.specs.RowSets.{KeyedRows}
 use Rattle.hippo_model.specs.Masking.{Choices}
 use Rattle.hippo_model.proofs.Truths.{truths}
 use Rattle.hippo_shared.specs.Sharing.{first_shared}

@@ -13,8 +13,8 @@ use Rattle.hippo_values.specs.Order.{same_cells}
 use Rattle.hippo_model.specs.declared.audit.SharedRow.{SharedRow}
 use Rattle.hippo_model.specs.declared.born_row.BornRow.{BornRow}
 use Rattle.hippo_model.specs.Terms.{Key, Place}
-use Rattle.hippo_model.specs.RowSets.{KeyedRows, IsAscending, key_in}
-use Rattle.hippo_model.proofs.Orders.{cells_total, same_exact}
+use Rattle.hippo_keyed_rows.specs.RowSets.{KeyedRows, IsAscending, key_in}
+use Rattle.hippo_keyed_rows.proofs.Orders.{cells_total, same_exact}
 use Rattle.hippo_join.specs.Places.{blank, row_at_place, chosen_rows, in_range, places_of}
 use Rattle.hippo_join.proofs.ProductLemmas.{each_row, map-map, map-flat_map}
 use Rattle.hippo_join.proofs.SlotLemmas.{row-at, length-in_range}

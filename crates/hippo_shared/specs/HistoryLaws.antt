@@ -8,7 +8,7 @@ use Rattle.hippo_model.specs.declared.audit.SharedRow.{SharedRow}
 use Rattle.hippo_model.specs.declared.query.Query.{Query}
 use Rattle.hippo_model.specs.Terms.{History}
 use Rattle.hippo_model.specs.Histories.{schema_at}
-use Rattle.hippo_model.specs.RowSets.{KeyedRows, kept_at}
+use Rattle.hippo_keyed_rows.specs.RowSets.{KeyedRows, kept_at}
 use Rattle.hippo_model.specs.Audits.{common, virtual_tuples as tuples_at, audit_needs}
 use Rattle.hippo_shared.specs.Sharing.{common_tables, virtual_tuples_in, audit_has}
 

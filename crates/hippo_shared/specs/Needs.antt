@@ -11,7 +11,7 @@ use Rattle.hippo_model.specs.Answers.{product}
 use Rattle.hippo_model.specs.Bags.{same_bag}
 use Rattle.hippo_model.specs.Forms.{rows_by_form}
 use Rattle.hippo_model.specs.Masking.{Choices}
-use Rattle.hippo_model.specs.RowSets.{KeyedRows}
+use Rattle.hippo_keyed_rows.specs.RowSets.{KeyedRows}
 use Rattle.hippo_eval.specs.Answering.{masked_rows}
 use Rattle.hippo_eval.specs.Walks.{rows_of}
 use Rattle.hippo_shared.specs.Sharing.{common_tables, virtual_tuples_in, has_tuple_in, query_has, audit_has}

@@ -12,7 +12,7 @@ use Rattle.hippo_model.specs.declared.query.Masked.{Masked}
 use Rattle.hippo_model.specs.Terms.{Combination, Key, Place}
 use Rattle.hippo_model.specs.Answers.{product, passes}
 use Rattle.hippo_model.specs.Masking.{Choices, is_guarded, masked_passes}
-use Rattle.hippo_model.specs.RowSets.{KeyedRows, key_in}
+use Rattle.hippo_keyed_rows.specs.RowSets.{KeyedRows, key_in}
 use Rattle.hippo_eval.specs.Unmasked.{all_shown}
 use Rattle.hippo_eval.specs.Walks.{rows_of}
 use Rattle.hippo_join.specs.Existence.{are_shown}

@@ -1,5 +1,6 @@
 //! An audit beside a query, over the rows of both.
-use hippo_model::{Audit, Sets};
+use hippo_model::Audit;
+use hippo_rows::Sets;
 
 /// An audit, the rows of a query's tables and of its own, each in the order of FROM, and the
 /// choices of patients.

@@ -14,7 +14,8 @@ use crate::sharing::{AuditSide, audit_side, know_order, sides_of, unmasked_query
 use crate::told::first_candidate;
 use crate::tuples::tuple_at;
 use hippo_join::{Side, blank_row, open_slots};
-use hippo_model::{ChoiceView, Exprs, Masked, Places, Sets, SharedTuple};
+use hippo_model::{ChoiceView, Exprs, Masked, Places, SharedTuple};
+use hippo_rows::Sets;
 use hippo_values::Memory;
 use std::alloc::Global;
 use std::collections::BTreeSet;

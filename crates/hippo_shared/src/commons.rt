@@ -5,7 +5,8 @@ ghost use Rattle.hippo_model.specs.Terms.{Place};
 ghost use Rattle.hippo_shared.specs.Sharing.{common_tables, place_in};
 
 use hippo_join::{Side, Stage, order_behind, push_if};
-use hippo_model::{ChoiceView, Sets, Sizes};
+use hippo_model::{ChoiceView, Sizes};
+use hippo_rows::Sets;
 use hippo_values::{Memory, Name, Sequence};
 use std::alloc::Global;
 

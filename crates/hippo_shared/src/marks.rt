@@ -4,7 +4,8 @@ ghost use Rattle.hippo_model.specs.Terms.{Place};
 ghost use Rattle.hippo_join.specs.Finding.{has_places};
 ghost use Rattle.hippo_shared.specs.Marks.{row_place, row_places, mark_of, has_no_other, is_one};
 
-use hippo_model::{Combo, Places, Sets};
+use hippo_model::{Combo, Places};
+use hippo_rows::Sets;
 use hippo_values::{Memory, Sequence};
 use std::alloc::Global;
 use std::collections::BTreeSet;

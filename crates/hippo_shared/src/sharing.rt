@@ -1,7 +1,7 @@
 //! The first virtual tuple that a query and an audit share.
 ghost use Rattle.std.specs.Prelude.{◌≡◌, IfOk, map};
 ghost use Rattle.std.specs.List.{All};
-ghost use Rattle.hippo_model.specs.RowSets.{IsAscending, key_in};
+ghost use Rattle.hippo_keyed_rows.specs.RowSets.{IsAscending, key_in};
 ghost use Rattle.hippo_shared.specs.Audited.{HasRowsFor};
 ghost use Rattle.hippo_shared.specs.Searching.{HaveCommon};
 ghost use Rattle.hippo_shared.specs.Sharing.{first_shared};
@@ -14,7 +14,8 @@ use crate::told::first_places;
 use crate::tuples::tuple_at;
 use hippo_eval::unmasked_condition;
 use hippo_join::{Side, blank_row};
-use hippo_model::{Audit, BornRow, ChoiceView, Exprs, Masked, Sets, SharedTuple};
+use hippo_model::{Audit, BornRow, ChoiceView, Exprs, Masked, SharedTuple};
+use hippo_rows::Sets;
 use hippo_values::{Memory, Sequence};
 use std::alloc::Global;
 

@@ -1,6 +1,6 @@
 //! The lines of one entry.
 ghost use Rattle.std.specs.Prelude.{◌≡◌, ◌++◌, option_copied, OnOk, codes};
-ghost use Rattle.hippo_values.specs.Dates.{moment_text};
+ghost use Rattle.hippo_text_forms.specs.Dates.{moment_text};
 ghost use Rattle.hippo_telling.specs.Telling.{told_act};
 ghost use Rattle.hippo_showing.specs.ByNames.{schema_named, shown_as};
 ghost use Rattle.hippo_showing.specs.Showing.{console_lines, session_lines, act_lines, stands_at, clock_line};

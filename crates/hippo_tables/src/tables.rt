@@ -6,14 +6,15 @@ ghost use Rattle.hippo_model.specs.Terms.{History};
 ghost use Rattle.hippo_model.specs.declared.entry.Entry.{Entry as HistoryEntry};
 ghost use Rattle.hippo_model.specs.Histories.{schema_at};
 ghost use Rattle.hippo_model.specs.Rows.{key_of};
-ghost use Rattle.hippo_model.specs.RowSets.{kept_at};
+ghost use Rattle.hippo_keyed_rows.specs.RowSets.{kept_at};
 ghost use Rattle.hippo_tables.specs.KeptTables.{KeptTable, after_insert, after_update, after_delete};
 ghost use Rattle.hippo_tables.specs.Before.{before_of, renewed_table};
 ghost use Rattle.hippo_tables.specs.Finished.{live_row, live_number};
 ghost use Rattle.hippo_tables.specs.Standing.{TablesStandFor, RemembersTables, TablesAdd, TablesAreAsBefore, Makes, InsertsIntoTable, Updates, Deletes, is_delete, leaves_tables, kept_table, with_change};
 
 use crate::table::{Before, Table};
-use hippo_model::{Act, Cells, Entry, RowSet, Schema};
+use hippo_model::{Act, Cells, Entry, Schema};
+use hippo_rows::RowSet;
 use hippo_values::{Duplicate, Memory, Moment, Name};
 use std::alloc::Global;
 use std::collections::HashMap;

@@ -1,6 +1,6 @@
 -- The statements that made some entries.
 use Rattle.std.proofs.Common.{◌≡◌, pos, negsuc, true, false, [], ◌∷◌, ◌++◌, Some, None, refl, codes, decimal}
-use Rattle.hippo_values.specs.Dates.{day_text, moment_text}
+use Rattle.hippo_text_forms.specs.Dates.{day_text, moment_text}
 use Rattle.hippo_values.specs.Texts.{Txt}
 use Rattle.hippo_values.specs.declared.moments.Moment.{Moment}
 use Rattle.hippo_values.specs.declared.values.Value.TheVariants.{Null, Int, Text, Day}

@@ -3,8 +3,8 @@ use Rattle.std.specs.Prelude.{ℕ, ℤ, ◌++◌, Bool, true, false, not, List, 
 use Rattle.std.specs.Fmt.{signed_decimal}
 use Rattle.std.specs.List.{list_any, range_with_len, zip}
 use Rattle.std.specs.Option.{option_map_or}
-use Rattle.hippo_values.specs.Dates.{day_text, moment_text}
-use Rattle.hippo_values.specs.Quoting.{quoted_text}
+use Rattle.hippo_text_forms.specs.Dates.{day_text, moment_text}
+use Rattle.hippo_text_forms.specs.Quoting.{quoted_text}
 use Rattle.hippo_values.specs.Texts.{Txt}
 use Rattle.hippo_values.specs.declared.names.Name.{Name}
 use Rattle.hippo_values.specs.declared.values.Value.{Value}

@@ -1,6 +1,6 @@
 //! The statement that an act came of.
 ghost use Rattle.std.specs.Prelude.{◌≡◌, ◌++◌, option_copied, OnOk, OnErr};
-ghost use Rattle.hippo_values.specs.Printing.{KeepsFront};
+ghost use Rattle.hippo_text_forms.specs.Printing.{KeepsFront};
 ghost use Rattle.hippo_telling.specs.Telling.{columns_of, key_places, told_act, table_named};
 
 use crate::columns::append_named;

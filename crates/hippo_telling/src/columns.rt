@@ -1,6 +1,6 @@
 //! Columns by their places, alone and with values.
 ghost use Rattle.std.specs.Prelude.{◌≡◌, ◌++◌, OnOk, OnErr};
-ghost use Rattle.hippo_values.specs.Printing.{KeepsFront};
+ghost use Rattle.hippo_text_forms.specs.Printing.{KeepsFront};
 ghost use Rattle.hippo_telling.specs.Telling.{name_at, names_text, assigned_text};
 
 use crate::joining::{Spelling, append_joined};

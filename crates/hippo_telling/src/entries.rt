@@ -1,12 +1,13 @@
 //! An entry as a line.
 ghost use Rattle.std.specs.Prelude.{◌≡◌, ◌++◌, option_copied, OnOk, OnErr};
-ghost use Rattle.hippo_values.specs.Dates.{moment_text};
-ghost use Rattle.hippo_values.specs.Printing.{KeepsFront};
+ghost use Rattle.hippo_text_forms.specs.Dates.{moment_text};
+ghost use Rattle.hippo_text_forms.specs.Printing.{KeepsFront};
 ghost use Rattle.hippo_telling.specs.Telling.{entry_line};
 
 use crate::acts::tell_act;
 use hippo_model::{Entry, Schema};
-use hippo_values::{Memory, Moment, RoomyTxt, moment_text};
+use hippo_text_forms::moment_text;
+use hippo_values::{Memory, Moment, RoomyTxt};
 use itoa::Buffer;
 use std::alloc::Global;
 

@@ -1,6 +1,6 @@
 //! Lists with a separator between their members.
 ghost use Rattle.std.specs.Prelude.{◌≡◌, ◌++◌, flat_map, OnOk, OnErr};
-ghost use Rattle.hippo_values.specs.Printing.{KeepsFront};
+ghost use Rattle.hippo_text_forms.specs.Printing.{KeepsFront};
 ghost use Rattle.hippo_report.specs.Cells.{separated_text};
 
 use hippo_values::{Memory, RoomyTxt};

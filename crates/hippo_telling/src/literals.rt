@@ -1,11 +1,12 @@
 //! Values as literals.
 ghost use Rattle.std.specs.Prelude.{◌≡◌, ◌++◌, codes, OnOk, OnErr};
-ghost use Rattle.hippo_values.specs.Dates.{day_text};
-ghost use Rattle.hippo_values.specs.Printing.{KeepsFront};
+ghost use Rattle.hippo_text_forms.specs.Dates.{day_text};
+ghost use Rattle.hippo_text_forms.specs.Printing.{KeepsFront};
 ghost use Rattle.hippo_telling.specs.Telling.{literal_text, literals_text};
 
 use crate::joining::{Spelling, append_joined};
-use hippo_values::{DayNumber, Memory, RoomyTxt, Value, day_text, print_value};
+use hippo_text_forms::{day_text, print_value};
+use hippo_values::{DayNumber, Memory, RoomyTxt, Value};
 
 fn append_day<const ROOM: usize>(day: DayNumber, out: &mut RoomyTxt<ROOM>) -> Result<(), Memory>
     ensures ok { OnOk result (out.new ≡ out.old

@@ -2,7 +2,7 @@
 ghost use Rattle.std.specs.Prelude.{◌≡◌, ◌++◌, filter, flat_map, nat_eq, OnOk, OnErr, IfOk, codes};
 ghost use Rattle.std.specs.List.{list_any, range_with_len, zip};
 ghost use Rattle.hippo_model.specs.Rows.{cell_at};
-ghost use Rattle.hippo_values.specs.Printing.{KeepsFront};
+ghost use Rattle.hippo_text_forms.specs.Printing.{KeepsFront};
 ghost use Rattle.hippo_report.specs.Cells.{comma};
 ghost use Rattle.hippo_telling.specs.Telling.{is_set, assigned_text, literals_text, row_text, key_text, insert_text, update_text, delete_text};
 

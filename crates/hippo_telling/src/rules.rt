@@ -1,6 +1,6 @@
 //! Users, rules, choices and questions.
 ghost use Rattle.std.specs.Prelude.{◌≡◌, ◌++◌, codes, option_copied, OnOk, OnErr};
-ghost use Rattle.hippo_values.specs.Printing.{KeepsFront};
+ghost use Rattle.hippo_text_forms.specs.Printing.{KeepsFront};
 ghost use Rattle.hippo_telling.specs.Telling.{item_kind_text, item_text, grant_text, rule_text, with_text, retention_text, allow_text, agreed_text, choice_text, asked_text};
 
 use crate::columns::{append_listed, append_named};

@@ -1,6 +1,6 @@
 //! Tables that are created.
 ghost use Rattle.std.specs.Prelude.{◌≡◌, ◌++◌, OnOk, OnErr};
-ghost use Rattle.hippo_values.specs.Printing.{KeepsFront};
+ghost use Rattle.hippo_text_forms.specs.Printing.{KeepsFront};
 ghost use Rattle.hippo_report.specs.Cells.{separated_text, comma};
 ghost use Rattle.hippo_telling.specs.Telling.{kind_text, not_null_text, column_definition, names_text, subject_text, create_text};
 

@@ -24,7 +24,7 @@ use Rattle.hippo_model.specs.Terms.{History, Key, Meaning, Place, Row}
 use Rattle.hippo_model.specs.Validity.{all_differ, column_passes, create_fits, creates_table, days_fit, has_columns, has_subject, is_acceptable, is_integer, is_purpose, is_recipient, is_valid, is_well_formed, item_fits, key_column_fits, pair_exists, rule_fits, subject_column_fits, table_passes}
 use Rattle.hippo_model.specs.Values.{fits}
 use Rattle.hippo_model.specs.Versions.{is_live, key_fits, row_fits, version_fits}
-use Rattle.hippo_model.proofs.Orders.{same_exact}
+use Rattle.hippo_keyed_rows.proofs.Orders.{same_exact}
 use Rattle.hippo_laws.proofs.ValidFronts.{entries_before, front_is_valid}
 use Rattle.hippo_catalog.specs.Catalogs.{KnownNames, known_at, table_of}
 use Rattle.hippo_catalog.specs.ChangesRefused.{count_refused, create_refused, delete_refused, in_table, insert_refused, rule_item_refused, kind_refused, null_refused, rule_refused, subject_refused, text_refused, unknown_columns, unknown_item_if_any, update_refused}

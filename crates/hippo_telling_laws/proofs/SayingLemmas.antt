@@ -5,7 +5,7 @@ use Rattle.std.proofs.lemmas.List.{append-nil}
 use Rattle.std.proofs.lemmas.Slice.Eq.{bytes_eq-Decides}
 use Rattle.std.specs.Prelude.{bytes_eq}
 use Rattle.hippo_values.specs.Names.{lower_case, is_name, is_word, is_word_byte, keyword_of}
-use Rattle.hippo_values.specs.Quoting.{quoted_text}
+use Rattle.hippo_text_forms.specs.Quoting.{quoted_text}
 use Rattle.hippo_values.specs.Texts.{Txt}
 use Rattle.hippo_values.specs.declared.keywords.Keyword as words
 use Rattle.hippo_values.specs.declared.keywords.Keyword.TheVariants.{KDate}

@@ -9,10 +9,10 @@ use Rattle.std.proofs.lemmas.Bool.Decides.{nat_tests}
 use Rattle.std.proofs.lemmas.Fmt.{decimal_is_IsNumeral}
 use Rattle.std.proofs.lemmas.Int.{ints}
 use Rattle.std.proofs.lemmas.Str.Parse.{digit_at}
-use Rattle.hippo_values.specs.Dates.{year_of, month_of, day_of_month, date_text, day_text}
+use Rattle.hippo_text_forms.specs.Dates.{year_of, month_of, day_of_month, date_text, day_text}
 use Rattle.hippo_values.specs.Moments.{first_day, last_day, is_day, is_signed_number, IsSignedNumber, IsDayNumber}
 use Rattle.hippo_values.specs.Names.{keywords}
-use Rattle.hippo_values.specs.Quoting.{is_quote, doubled_quotes, quoted_text}
+use Rattle.hippo_text_forms.specs.Quoting.{is_quote, doubled_quotes, quoted_text}
 use Rattle.hippo_values.specs.Texts.{Txt}
 use Rattle.hippo_values.specs.declared.values.Value.{Value}
 use Rattle.hippo_values.specs.declared.values.Value.TheVariants as values

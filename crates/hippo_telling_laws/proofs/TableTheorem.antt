@@ -7,7 +7,7 @@ use Rattle.std.proofs.lemmas.Bool.{and_parts, and_from, or_from, both_ways, case
 use Rattle.std.proofs.lemmas.List.{append_assoc}
 use Rattle.std.proofs.lemmas.Slice.Eq.{bytes_eq-Decides}
 use Rattle.hippo_values.specs.Limits.{column_limit}
-use Rattle.hippo_values.specs.Quoting.{is_quote}
+use Rattle.hippo_text_forms.specs.Quoting.{is_quote}
 use Rattle.hippo_values.specs.Texts.{Txt}
 use Rattle.hippo_values.specs.Names.{keywords}
 use Rattle.hippo_values.specs.declared.names.Name.{Name}

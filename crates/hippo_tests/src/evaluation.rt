@@ -1,5 +1,6 @@
 use hippo_eval::{EvalFault, evaluate};
-use hippo_model::{ChoiceView, CondOf, Expr, Exprs, Masked, Names, Ref, RowSet, Sets};
+use hippo_model::{ChoiceView, CondOf, Expr, Exprs, Masked, Names, Ref};
+use hippo_rows::{RowSet, Sets};
 use hippo_values::{Memory, Moment, Name, Sequence, Value};
 use std::alloc::Global;
 

@@ -1,9 +1,3 @@
-mod AsciiLemmas
-mod ClockTextLemmas
-pub mod DateTextLemmas
-pub mod DatesLemmas
-pub mod MomentTextLemmas
+pub mod AsciiLemmas
 pub mod KeywordLemmas
 mod NamesLemmas
-mod OptionLemmas
-pub mod PrintingLemmas

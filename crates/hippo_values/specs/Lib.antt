@@ -1,11 +1,8 @@
-pub mod Dates
 pub mod Limits
 pub mod Moments
 pub mod Names
 pub mod Order
 pub mod OrderLaws
-pub mod Printing
-pub mod Quoting
 pub mod Texts
 pub mod Truths
 pub mod Words

@@ -2,13 +2,11 @@
 #![tactic(auto)]
 
 mod boxed;
-mod dates;
 mod keywords;
 mod limits;
 mod memory;
 mod moments;
 mod names;
-mod printing;
 mod roomy_sequence;
 mod sequence;
 mod texts;
@@ -17,7 +15,6 @@ mod values;
 mod words;
 
 pub use boxed::Boxed;
-pub use dates::{day_text, moment_text, read_day, read_moment};
 pub use keywords::{Keyword, Reserved, reserved_of};
 pub use limits::{
     COLUMN_LIMIT, CURSOR_LIMIT, DEPTH_LIMIT, FETCH_LIMIT, FROM_LIMIT, ITEM_LIMIT, JOB_LIMIT,
@@ -27,7 +24,6 @@ pub use limits::{
 pub use memory::{Duplicate, Memory};
 pub use moments::{DayNumber, Moment};
 pub use names::{Name, is_name};
-pub use printing::print_value;
 pub use roomy_sequence::RoomySequence;
 pub use sequence::Sequence;
 pub use texts::{RoomyTxt, Txt, keeps_text_rule};

@@ -17,7 +17,7 @@ use Rattle.hippo_model.specs.Audits.{is_candidate, shared_by, shared_tuple, firs
 use Rattle.hippo_model.specs.Columns.{names_all}
 use Rattle.hippo_model.specs.Histories.{schema_at}
 use Rattle.hippo_model.specs.Masking.{Choices}
-use Rattle.hippo_model.specs.RowSets.{KeyedRows, kept_at}
+use Rattle.hippo_keyed_rows.specs.RowSets.{KeyedRows, kept_at}
 use Rattle.hippo_model.specs.Rules.{choice_at}
 use Rattle.hippo_model.specs.Terms.{History}
 use Rattle.hippo_model.specs.Verdicts.{Context}

@@ -1,11 +1,12 @@
 //! The line by which a watch says what it flags.
 ghost use Rattle.std.specs.Prelude.{◌≡◌, ◌++◌, flat_map, codes, decimal, OnOk};
-ghost use Rattle.hippo_values.specs.Printing.{value_text};
+ghost use Rattle.hippo_text_forms.specs.Printing.{value_text};
 ghost use Rattle.hippo_report.specs.Cells.{comma, separated_text, shared_text, tuple_text};
 ghost use Rattle.hippo_watch.specs.AlarmLines.{alarm_text};
 
 use hippo_model::{SharedRow, SharedTuple};
-use hippo_values::{Memory, RoomyTxt, Value, print_value};
+use hippo_text_forms::print_value;
+use hippo_values::{Memory, RoomyTxt, Value};
 use itoa::Buffer;
 
 // The values, each behind a comma.

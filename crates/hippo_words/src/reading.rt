@@ -12,7 +12,8 @@ use crate::calls::{Call, Job, Setting};
 use clap::ArgMatches;
 use hippo_programs::{format_of, text_of, texts_of};
 use hippo_report::Format;
-use hippo_values::{Memory, Moment, Name, Txt, read_moment};
+use hippo_text_forms::read_moment;
+use hippo_values::{Memory, Moment, Name, Txt};
 use std::alloc::Global;
 
 fn setting_with(matches: &ArgMatches<'_>, format: Format) -> Result<Setting, Memory>

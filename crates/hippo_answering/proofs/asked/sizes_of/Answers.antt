@@ -1,7 +1,7 @@
 -- One size more.
 use Rattle.std.proofs.Common.{[], ◌∷◌, ◌++◌, ◌∙◌, ap, sym, length, map}
 use Rattle.std.proofs.lemmas.List.{map-append}
-use Rattle.hippo_model.specs.RowSets.{KeyedRows}
+use Rattle.hippo_keyed_rows.specs.RowSets.{KeyedRows}
 use Rattle.hippo_eval.proofs.WalkLemmas.{take_row}
 use Rattle.hippo_answering.proofs.asked.sizes_of.Goals as goal
 

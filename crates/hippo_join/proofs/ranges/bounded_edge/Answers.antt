@@ -1,7 +1,7 @@
 -- Rows within the bound stand on its side of the end.
 use Rattle.std.proofs.Common.{◌∷◌, ◌++◌, [], ap, sym, ◌∙◌, Bool}
-use Rattle.hippo_model.specs.Ranges.{stands_low}
-use Rattle.hippo_model.proofs.RangeLemmas.{bounded-edge}
+use Rattle.hippo_rows.specs.Ranges.{stands_low}
+use Rattle.hippo_rows.proofs.RangeLemmas.{bounded-edge}
 use Rattle.hippo_join.proofs.ranges.bounded_edge.Goals as goal
 
 pub returns : goal.returns

@@ -1,5 +1,5 @@
 -- Rows that begin with these values stand behind the lower end, and before the upper one.
-use Rattle.hippo_model.proofs.RangeLemmas.{front-edge}
+use Rattle.hippo_rows.proofs.RangeLemmas.{front-edge}
 use Rattle.hippo_join.proofs.ranges.front_edge.Goals as goal
 
 pub returns-else-is_empty : goal.returns-else-is_empty

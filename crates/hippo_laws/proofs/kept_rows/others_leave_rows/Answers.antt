@@ -1,4 +1,4 @@
-use Rattle.hippo_model.proofs.ChangesOfRows as changes
+use Rattle.hippo_keyed_rows.proofs.ChangesOfRows as changes
 use Rattle.hippo_laws.proofs.kept_rows.others_leave_rows.Goals as goal
 
 pub returns : goal.returns

@@ -1,7 +1,7 @@
 -- The text so far and then the columns that are left are all, and the old text stands in front.
 use Rattle.std.proofs.Common.{◌≡◌, ◌++◌, flat_map, length, drop}
 use Rattle.std.specs.List.{zip}
-use Rattle.hippo_values.specs.Printing.{KeepsFront}
+use Rattle.hippo_text_forms.specs.Printing.{KeepsFront}
 use Rattle.hippo_telling.specs.Telling.{assigned_text}
 use Rattle.hippo_telling.proofs.rows.append_key_later.Given as goal
 

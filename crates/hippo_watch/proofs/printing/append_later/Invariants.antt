@@ -1,7 +1,7 @@
 -- What is printed so far, and what is left.
 use Rattle.std.proofs.Common.{◌≡◌, ◌++◌, drop}
 use Rattle.std.specs.Prelude.{flat_map}
-use Rattle.hippo_values.specs.Printing.{value_text}
+use Rattle.hippo_text_forms.specs.Printing.{value_text}
 use Rattle.hippo_report.specs.Cells.{comma}
 use Rattle.hippo_watch.proofs.printing.append_later.Given as goal
 

@@ -1,7 +1,7 @@
 -- What is sorted has the places that it had, and the tie is one of all that counts.
 use Rattle.std.proofs.Common.{◌≡◌, Some, map, sym, ap, subst, ◌∙◌}
 use Rattle.std.proofs.lemmas.List.Sorted.{Contains-permutation}
-use Rattle.hippo_model.specs.RowSets.{KeyedRows}
+use Rattle.hippo_keyed_rows.specs.RowSets.{KeyedRows}
 use Rattle.hippo_join.specs.Lookups.{value_at_place, IsIndex}
 use Rattle.hippo_join.proofs.ReachLemmas.{tie-counts}
 use Rattle.hippo_join.proofs.sides.Side.listed_stage.Goals as goal

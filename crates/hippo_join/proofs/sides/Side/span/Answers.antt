@@ -2,7 +2,7 @@
 use Rattle.std.proofs.Common.{◌≡◌, ℕ, ◌≤◌, ◌∙◌, arith, List, length, take, Some, sym, subst, ltb-false}
 use Rattle.std.specs.Prelude.{slice_get}
 use Rattle.hippo_model.specs.Conditions.{outer_parts}
-use Rattle.hippo_model.specs.RowSets.{KeyedRows}
+use Rattle.hippo_keyed_rows.specs.RowSets.{KeyedRows}
 use Rattle.hippo_model.specs.Terms.{Place}
 use Rattle.hippo_join.specs.Keys.{IsKeyTold}
 use Rattle.hippo_join.proofs.KeyLemmas.{within-told}

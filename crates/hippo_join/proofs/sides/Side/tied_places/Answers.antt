@@ -4,7 +4,7 @@ use Rattle.std.specs.Prelude.{slice_get}
 use Rattle.std.specs.List.{Contains}
 use Rattle.hippo_values.specs.declared.values.Value.{Value}
 use Rattle.hippo_model.specs.Terms.{Place}
-use Rattle.hippo_model.specs.RowSets.{KeyedRows}
+use Rattle.hippo_keyed_rows.specs.RowSets.{KeyedRows}
 use Rattle.hippo_join.specs.Lookups.{IsIndex}
 use Rattle.hippo_join.proofs.PruneLemmas.{in-range}
 use Rattle.hippo_join.proofs.ReachLemmas.{order-tied, not-null, of-some, set-at}

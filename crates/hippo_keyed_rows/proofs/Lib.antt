@@ -1,0 +1,11 @@
+pub mod KeptRows
+pub mod KeyOrder
+pub mod Orders
+pub mod KeysInOrder
+pub mod RowsAfter
+pub mod TableRows
+pub mod ChangesOfRows
+pub mod PiecesLemmas
+pub mod PieceSearch
+pub mod RowsByKey
+pub mod FreePlaces

@@ -1,0 +1,4 @@
+pub mod Pieces
+pub mod RowSets
+pub mod Searches
+pub mod Changes

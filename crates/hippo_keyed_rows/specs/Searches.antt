@@ -1,0 +1,18 @@
+-- What a search among a table's kept rows looks for.
+use Rattle.std.specs.Prelude.{List}
+use Rattle.std.specs.declared.cmp.Ordering.{Ordering}
+use Rattle.hippo_values.specs.Order.{cells_cmp}
+use Rattle.hippo_model.specs.declared.born_row.BornRow.{BornRow}
+use Rattle.hippo_keyed_rows.specs.declared.keyed_set.Sought.{Sought}
+use Rattle.hippo_keyed_rows.specs.declared.keyed_set.Sought.TheVariants.{Key as ByKey, Row as ByRow}
+use Rattle.hippo_model.specs.Terms.{Key, Place}
+use Rattle.hippo_model.specs.Rows.{key_of}
+
+-- the key of the row that is looked for
+abbrev pub key_sought : List Place → Sought → Key
+key_sought places (ByKey key) = key.now
+key_sought places (ByRow row) = key_of places row.now
+
+-- a kept row against the one that is looked for, by their keys
+abbrev pub sought_order : List Place → Sought → BornRow → Ordering
+sought_order places sought kept = cells_cmp (key_of places kept.row) (key_sought places sought)

@@ -1,0 +1,302 @@
+//! A table's rows in the order of their keys.
+ghost use Rattle.std.specs.Prelude.{◌≡◌, ◌<◌, ◌≤◌, ◌↔◌, [], true, length, map, option_map, slice_get, Some, IsTrue, OnOk, OnErr, IsOk, IsSome, IfSome, MatchOption};
+ghost use Rattle.std.specs.List.Sorted.{IsSearchInRange, IsBinarySearchResult};
+ghost use Rattle.hippo_values.specs.Order.{value_cmp, cells_cmp};
+ghost use Rattle.hippo_model.specs.declared.born_row.BornRow.{BornRow};
+ghost use Rattle.hippo_model.specs.Rows.{cell_at, key_of};
+ghost use Rattle.hippo_keyed_rows.specs.Pieces.{begins_low, PartsLow};
+ghost use Rattle.hippo_keyed_rows.specs.Searches.{sought_order};
+ghost use Rattle.hippo_keyed_rows.specs.RowSets.{IsAscending, IsFree, key_in, with_row, without_row, find_row};
+
+use crate::pieces::{Piece, Pieces, start};
+use hippo_model::{BornRow, Cells, Places};
+use hippo_values::{Memory, Moment, Value};
+use std::alloc::Global;
+use std::cmp::Ordering;
+use std::marker::Model;
+
+/// The value in a row's column, which is null past the row's end, against another value.
+pub fn cell_order(row: &[Value], place: usize, other: &Value) -> Ordering
+    ensures { result ≡ value_cmp (cell_at row.now place) other.now }
+{
+    row.get(place).unwrap_or(&Value::Null).cmp(other)
+}
+
+// A row's key against another.
+fn key_order(places: &[usize], row: &[Value], key: &[Value]) -> Ordering
+    ensures { result ≡ cells_cmp (key_of places.now row.now) key.now }
+{
+    for (place, value) in places.iter().zip(key) {
+        let order = cell_order(row, *place, value);
+        if order.is_ne() {
+            return order;
+        }
+    }
+    places.len().cmp(&key.len())
+}
+
+// Two rows by their keys.
+fn row_order(places: &[usize], row: &[Value], other: &[Value]) -> Ordering
+    ensures { result ≡ cells_cmp (key_of places.now row.now) (key_of places.now other.now) }
+{
+    for place in places {
+        let order = cell_order(row, *place, other.get(*place).unwrap_or(&Value::Null));
+        if order.is_ne() {
+            return order;
+        }
+    }
+    Ordering::Equal
+}
+
+// What a search looks for: the row with a key, or the row with the key of another.
+#[derive(Clone, Copy)]
+enum Sought<'a> {
+    Key(&'a [Value]),
+    Row(&'a [Value]),
+}
+
+// A kept row against the one that is looked for, by their keys.
+fn sought_order(kept: &BornRow, places: &[usize], sought: &Sought<'_>) -> Ordering
+    ensures { result ≡ sought_order places.now sought.now kept.now }
+{
+    match sought {
+        Sought::Key(key) => key_order(places, kept.row.as_slice(), key),
+        Sought::Row(row) => row_order(places, kept.row.as_slice(), row),
+    }
+}
+
+// Whether a piece begins with a row that does not stand behind the one that is looked for.
+fn begins_low(piece: &Piece<BornRow>, places: &[usize], sought: &Sought<'_>) -> bool
+    ensures { result ≡ begins_low (sought_order places.now sought.now) piece.now.members.items }
+{
+    match piece.members.first() {
+        None => false,
+        Some(kept) => sought_order(kept, places, sought).is_le(),
+    }
+}
+
+// How many pieces begin so, where those that do come first.
+fn low_pieces(pieces: &[Piece<BornRow>], places: &[usize], sought: &Sought<'_>) -> usize
+    ensures bound { result ≤ length pieces.now }
+    ensures parted { PartsLow (sought_order places.now sought.now) pieces.now result }
+{
+    pieces.partition_point(|piece| begins_low(piece, places, sought))
+}
+
+// The place of the row that is looked for in a piece, or else where it would stand.
+fn search_piece(
+    piece: &Piece<BornRow>,
+    places: &[usize],
+    sought: &Sought<'_>,
+) -> Result<usize, usize>
+    ensures range { IsSearchInRange result (length piece.now.members.items) }
+    ensures place { IsBinarySearchResult (sought_order places.now sought.now)
+        piece.now.members.items result }
+{
+    piece
+        .members
+        .binary_search_by(|kept| sought_order(kept, places, sought))
+}
+
+// Where a key stands among all rows, or where it would.
+fn search(rows: &Pieces<BornRow>, places: &[usize], sought: &Sought<'_>) -> Result<usize, usize>
+    ensures range { IsSearchInRange result (length rows.now) }
+    ensures place { IsBinarySearchResult (sought_order places.now sought.now) rows.now result }
+{
+    if rows.len() == 0 {
+        return Err(0);
+    }
+    let pieces = rows.pieces.as_slice();
+    let low = low_pieces(pieces, places, sought);
+    if low == 0 {
+        return Err(0);
+    }
+    let start = start(pieces, low - 1);
+    match search_piece(&pieces[low - 1], places, sought) {
+        Ok(place) => Ok(start + place),
+        Err(place) => Err(start + place),
+    }
+}
+
+/// The rows of a table in the order of their keys, each with the moment at which it was born.
+#[derive(Debug, Drop)]
+pub struct KeyedSet {
+    key: Places,
+    rows: Pieces<BornRow>,
+}
+
+impl Model for KeyedSet {
+    ghost use Rattle.std.specs.Prelude.{map};
+    ghost use Rattle.hippo_keyed_rows.specs.RowSets.{KeyedRows, IsAscending, key_in};
+
+    ghost Value = { KeyedRows };
+
+    ghost view = { λ set. record {
+      key = set.key;
+      rows = set.rows;
+    } };
+
+    ghost invariant = { λ set. IsAscending (map (key_in set.key) set.rows) };
+}
+
+impl KeyedSet {
+    /// No rows, for a table whose key has these places; takes no memory.
+    pub fn new(alloc: Global, key: Places) -> KeyedSet
+        ensures { result ≡ record { key = key; rows = [] } }
+    {
+        KeyedSet {
+            key,
+            rows: Pieces::new(alloc),
+        }
+    }
+
+    /// Puts a row at its place in the order of keys, instead of a row with its key. The set is
+    /// unchanged where memory is short, which it never is over a row with the key.
+    pub fn put(&mut self, row: Cells, born: Moment) -> Result<(), Memory>
+        ensures ok { OnOk result (self.new
+            ≡ with_row (record { row = row; born = born }) self.old) }
+        ensures err { OnErr result (self.new ≡ self.old) }
+        ensures replaces { IsSome (find_row self.old.key (key_of self.old.key row) self.old.rows)
+            → IsOk result }
+    {
+        let sought = Sought::Row(row.as_slice());
+        match search(&self.rows, self.key.as_slice(), &sought) {
+            Ok(place) => {
+                self.rows.set(place, BornRow { row, born });
+                Ok(())
+            }
+            Err(place) => Ok(self.rows.insert(place, BornRow { row, born })?),
+        }
+    }
+
+    /// Where a row comes to stand once it is put in, none where a row has its key.
+    pub fn place_for(&self, row: &Cells) -> Option<usize>
+        ensures { MatchOption result
+            (IsSome (find_row self.now.key (key_of self.now.key row.now) self.now.rows))
+            (λ place. IsFree self.now row.now place) }
+    {
+        let sought = Sought::Row(row.as_slice());
+        match search(&self.rows, self.key.as_slice(), &sought) {
+            Ok(_) => None,
+            Err(place) => Some(place),
+        }
+    }
+
+    /// Puts a row where it comes to stand.
+    pub fn insert_at(&mut self, place: usize, row: Cells, born: Moment) -> Result<(), Memory>
+        requires { IsFree self.old row place }
+        ensures ok { OnOk result (self.new
+            ≡ with_row (record { row = row; born = born }) self.old) }
+        ensures err { OnErr result (self.new ≡ self.old) }
+    {
+        self.rows.insert(place, BornRow { row, born })?;
+        Ok(())
+    }
+
+    /// Puts a row in the place of the one that has its key, which is handed out.
+    pub fn replace(&mut self, place: usize, row: Cells, born: Moment) -> BornRow
+        requires { find_row self.old.key (key_of self.old.key row) self.old.rows ≡ Some place }
+        ensures set { self.new ≡ with_row (record { row = row; born = born }) self.old }
+        ensures old { slice_get self.old.rows place ≡ Some result }
+    {
+        self.rows.replace(place, BornRow { row, born })
+    }
+
+    /// Takes away the row with a key, if there is one.
+    pub fn take(&mut self, key: &Cells)
+        ensures { self.new ≡ without_row key.now self.old }
+    {
+        let sought = Sought::Key(key.as_slice());
+        if let Ok(place) = search(&self.rows, self.key.as_slice(), &sought) {
+            self.rows.remove(place);
+        }
+    }
+
+    /// The place of the row with a key, none exactly where no row has it.
+    pub fn find(&self, key: &Cells) -> Option<usize>
+        ensures place { result ≡ find_row self.now.key key.now self.now.rows }
+        ensures range { IfSome result (λ place. place < length self.now.rows) }
+        ensures order { IsAscending (map (key_in self.now.key) self.now.rows) }
+    {
+        self.find_values(key.as_slice())
+    }
+
+    /// The place of the row with these values of its key, none exactly where no row has them.
+    pub fn find_values(&self, key: &[Value]) -> Option<usize>
+        ensures place { result ≡ find_row self.now.key key.now self.now.rows }
+        ensures range { IfSome result (λ place. place < length self.now.rows) }
+        ensures order { IsAscending (map (key_in self.now.key) self.now.rows) }
+    {
+        search(&self.rows, self.key.as_slice(), &Sought::Key(key)).ok()
+    }
+
+    /// The place of the row that has the same key as this one, none exactly where no row has it.
+    pub fn find_like(&self, row: &Cells) -> Option<usize>
+        ensures place { result ≡ find_row self.now.key (key_of self.now.key row.now) self.now.rows }
+        ensures range { IfSome result (λ place. place < length self.now.rows) }
+    {
+        search(
+            &self.rows,
+            self.key.as_slice(),
+            &Sought::Row(row.as_slice()),
+        )
+        .ok()
+    }
+
+    /// The number of rows.
+    pub fn len(&self) -> usize
+        ensures rows { result ≡ length self.now.rows }
+        ensures order { IsAscending (map (key_in self.now.key) self.now.rows) }
+    {
+        self.rows.len()
+    }
+
+    /// Whether there is no row.
+    pub fn is_empty(&self) -> bool
+        ensures none { IsTrue result ↔ (self.now.rows ≡ []) }
+        ensures order { IsAscending (map (key_in self.now.key) self.now.rows) }
+    {
+        self.rows.is_empty()
+    }
+
+    /// The places of the key's columns.
+    pub fn key(&self) -> &Places
+        ensures { result.now ≡ self.now.key }
+    {
+        &self.key
+    }
+
+    /// Whether a column is the first of the key.
+    pub fn begins_with(&self, column: usize) -> bool
+        ensures { result ≡ true → slice_get self.now.key 0 ≡ Some column }
+    {
+        match self.key.as_slice().first() {
+            Some(first) => *first == column,
+            None => false,
+        }
+    }
+
+    /// The row at a place, counted from 0.
+    pub fn row(&self, place: usize) -> &Cells
+        requires { place < length self.now.rows }
+        ensures { option_map (λ kept. kept.row) (slice_get self.now.rows place) ≡ Some result.now }
+    {
+        &self.rows.get(place).row
+    }
+
+    /// The row at a place with the moment at which it was born.
+    pub fn born_row(&self, place: usize) -> &BornRow
+        requires { place < length self.now.rows }
+        ensures { slice_get self.now.rows place ≡ Some result.now }
+    {
+        self.rows.get(place)
+    }
+
+    /// The moment at which the row at a place was born.
+    pub fn born(&self, place: usize) -> Moment
+        requires { place < length self.now.rows }
+        ensures { option_map (λ kept. kept.born) (slice_get self.now.rows place) ≡ Some result }
+    {
+        self.rows.get(place).born
+    }
+}

@@ -1,6 +1,0 @@
--- The rows within the bounds stand between the ends.
-use Rattle.hippo_model.proofs.PlacesWithinLemmas.{own-within}
-use Rattle.hippo_model.proofs.ranges.own_places.Goals as goal
-
-pub returns-clause-all : goal.returns-clause-all
-returns-clause-all c = own-within c.args.set.now c.args.column c.args.low c.args.high _ _ _ c.ends_within-start.ensures.low c.ends_within-start.ensures.high c.in_ok-places.ensures.all

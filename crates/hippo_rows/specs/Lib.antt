@@ -1,0 +1,2 @@
+pub mod ColumnOrders
+pub mod Ranges

@@ -1,0 +1,6 @@
+mod ClockTextLemmas
+pub mod DateTextLemmas
+pub mod DatesLemmas
+pub mod MomentTextLemmas
+mod OptionLemmas
+pub mod PrintingLemmas

@@ -1,0 +1,18 @@
+-- How a value is printed.
+use Rattle.std.specs.Prelude.{◌≡◌, ℕ, List, length, take, codes}
+use Rattle.std.specs.Fmt.{signed_decimal}
+use Rattle.hippo_text_forms.specs.Dates.{day_text}
+use Rattle.hippo_text_forms.specs.Quoting.{quoted_text}
+use Rattle.hippo_values.specs.declared.values.Value.{Value}
+use Rattle.hippo_values.specs.declared.values.Value.TheVariants.{Null, Int, Text, Day}
+
+-- the printed form of a value
+abbrev pub value_text : Value → List ℕ
+value_text Null = codes "NULL"
+value_text (Int number) = signed_decimal number
+value_text (Text text) = quoted_text text
+value_text (Day day) = day_text day
+
+-- the new text begins with the old one
+abbrev pub KeepsFront : List ℕ → List ℕ → Type 0
+KeepsFront old new = take (length old) new ≡ old

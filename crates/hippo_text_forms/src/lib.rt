@@ -1,0 +1,8 @@
+//! Values, days and moments as text, and back.
+#![tactic(auto)]
+
+mod dates;
+mod printing;
+
+pub use dates::{day_text, moment_text, read_day, read_moment};
+pub use printing::print_value;

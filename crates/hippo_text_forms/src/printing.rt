@@ -1,0 +1,82 @@
+//! How a value is printed.
+ghost use Rattle.std.specs.Prelude.{◌≡◌, ◌+◌, ◌≤◌, ◌++◌, length, IsOk, OnOk, OnErr};
+ghost use Rattle.std.specs.Fmt.{signed_decimal};
+ghost use Rattle.hippo_text_forms.specs.Dates.{day_text};
+ghost use Rattle.hippo_text_forms.specs.Printing.{value_text, KeepsFront};
+ghost use Rattle.hippo_text_forms.specs.Quoting.{doubled_quotes, quoted_text};
+
+use crate::dates;
+use hippo_values::{DayNumber, Memory, RoomyTxt, Value};
+use itoa::Buffer;
+
+fn append_integer<const ROOM: usize>(number: i64, out: &mut RoomyTxt<ROOM>) -> Result<(), Memory>
+    ensures ok { OnOk result (out.new ≡ out.old ++ signed_decimal number) }
+    ensures err { OnErr result (KeepsFront out.old out.new) }
+    ensures room { length out.old + length (signed_decimal number) ≤ ROOM → IsOk result }
+{
+    out.append(Buffer::new().format(number))
+}
+
+fn append_doubled<const ROOM: usize>(text: &str, out: &mut RoomyTxt<ROOM>) -> Result<(), Memory>
+    ensures ok { OnOk result (out.new ≡ out.old ++ doubled_quotes text.now) }
+    ensures err { OnErr result (KeepsFront out.old out.new) }
+    ensures room { length out.old + length (doubled_quotes text.now) ≤ ROOM → IsOk result }
+{
+    let mut rest = text;
+    while let Some((before, after)) = rest.split_once('\'') {
+        out.append(before)?;
+        out.append("''")?;
+        rest = after;
+    }
+    out.append(rest)
+}
+
+fn append_quoted<const ROOM: usize>(text: &str, out: &mut RoomyTxt<ROOM>) -> Result<(), Memory>
+    ensures ok { OnOk result (out.new ≡ out.old ++ quoted_text text.now) }
+    ensures err { OnErr result (KeepsFront out.old out.new) }
+    ensures room { length out.old + length (quoted_text text.now) ≤ ROOM → IsOk result }
+{
+    out.push('\'')?;
+    append_doubled(text, out)?;
+    out.push('\'')
+}
+
+fn append_day<const ROOM: usize>(day: DayNumber, out: &mut RoomyTxt<ROOM>) -> Result<(), Memory>
+    ensures ok { OnOk result (out.new ≡ out.old ++ day_text day) }
+    ensures err { OnErr result (KeepsFront out.old out.new) }
+    ensures room { length out.old + length (day_text day) ≤ ROOM → IsOk result }
+{
+    match str::from_utf8(&dates::day_text(day)) {
+        Ok(text) => out.append(text),
+        Err(_) => unreachable!(),
+    }
+}
+
+fn append_value<const ROOM: usize>(value: &Value, out: &mut RoomyTxt<ROOM>) -> Result<(), Memory>
+    ensures ok { OnOk result (out.new ≡ out.old ++ value_text value.now) }
+    ensures err { OnErr result (KeepsFront out.old out.new) }
+    ensures room { length out.old + length (value_text value.now) ≤ ROOM → IsOk result }
+{
+    match value {
+        Value::Null => out.append("NULL"),
+        Value::Int(number) => append_integer(*number, out),
+        Value::Text(text) => append_quoted(text.as_str(), out),
+        Value::Day(day) => append_day(*day, out),
+    }
+}
+
+/// Adds the printed form of a value at the end: `NULL`, a decimal number, a text between quotes
+/// with each quote in it doubled, or a day as `YYYY-MM-DD`. Within the text's room it takes no
+/// memory.
+pub fn print_value<const ROOM: usize>(value: &Value, out: &mut RoomyTxt<ROOM>) -> Result<(), Memory>
+    ensures ok { OnOk result (out.new ≡ out.old ++ value_text value.now) }
+    ensures err { OnErr result (out.new ≡ out.old) }
+    ensures room { length out.old + length (value_text value.now) ≤ ROOM → IsOk result }
+{
+    let length = out.as_str().len();
+    let printed = append_value(value, out);
+    if printed.is_err() {
+        out.truncate(length);
+    }
+    printed
+}
