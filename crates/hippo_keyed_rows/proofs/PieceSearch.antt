@@ -1,6 +1,7 @@
 -- A search in a list in pieces: first for the piece, then in it.
-use Rattle.std.proofs.Common.{◌≡◌, ℕ, zero, suc, ◌+◌, ◌-◌, ◌<◌, ◌≤◌, true, false, List, [], ◌∷◌, length, get_or, inl, inr, sym, ap, ◌∙◌, refl, subst, arith, add-zero}
-use Rattle.std.specs.Ordering.{is_le, ordering_index}
+use Rattle.std.proofs.Common.{◌≡◌, ℕ, suc, ◌+◌, ◌-◌, ◌<◌, ◌≤◌, true, false, List, [], ◌∷◌, length, get_or, inl, inr, sym, ap, ◌∙◌, refl, subst, arith, add-zero}
+use Rattle.std.specs.Option.{option_map_or}
+use Rattle.std.specs.Ordering.{is_le, is_lt, ordering_index}
 use Rattle.std.specs.declared.cmp.Ordering.{Ordering}
 use Rattle.std.specs.declared.cmp.Ordering.TheVariants.{Less, Equal, Greater}
 use Rattle.std.specs.List.{AllWithin, HoldsAt}
@@ -8,9 +9,10 @@ use Rattle.std.specs.List.Sorted.{IsNonDecreasingBy, IsPartitionPoint}
 use Rattle.std.proofs.lemmas.Bool.{cases_lt, false≢true}
 use Rattle.std.proofs.lemmas.List.{length-map}
 use Rattle.std.proofs.lemmas.List.Concat.{get_or-flat_map}
+use Rattle.std.proofs.lemmas.Option.{slice_get-get_or}
 use Rattle.hippo_keyed_rows.specs.declared.pieces.Piece.{Piece}
-use Rattle.hippo_keyed_rows.specs.Pieces.{contents, all_members, start_of, AreFull, begins_low, PartsLow}
-use Rattle.hippo_keyed_rows.proofs.PiecesLemmas.{piece_at, start_of-next, start_of-rises, start_of-end, start_of-within}
+use Rattle.hippo_keyed_rows.specs.Pieces.{contents, all_members, start_of, AreFull, begins_low, ends_below, PartsLow}
+use Rattle.hippo_keyed_rows.proofs.PiecesLemmas.{some_member, full_at, piece_at, start_of-next, start_of-rises, start_of-end, start_of-within}
 
 greater_from : (o : Ordering) → 2 ≤ ordering_index o → o ≡ Greater
 greater_from Less high = absurd (omega arith)
@@ -21,6 +23,11 @@ less_from : (o : Ordering) → ordering_index o ≤ 0 → o ≡ Less
 less_from Less low = refl
 less_from Equal low = absurd (omega arith)
 less_from Greater low = absurd (omega arith)
+
+least_from_test : (o : Ordering) → is_lt o ≡ true → ordering_index o ≤ 0
+least_from_test Less test = omega arith
+least_from_test Equal test = absurd (false≢true test)
+least_from_test Greater test = absurd (false≢true test)
 
 high_from_test : (o : Ordering) → is_le o ≡ false → 2 ≤ ordering_index o
 high_from_test Less test = absurd (false≢true (sym test))
@@ -36,15 +43,6 @@ test_from_low : (o : Ordering) → ordering_index o ≤ 1 → is_le o ≡ true
 test_from_low Less low = refl
 test_from_low Equal low = refl
 test_from_low Greater low = absurd (omega arith)
-
-some_member : {A : Type 0} (members : List A) → 0 < length members → A
-some_member [] some = absurd (omega arith)
-some_member (first ∷ rest) some = first
-
-full_at : {A : Type 0} (contents : List (List A)) → AreFull contents → (i : ℕ) → i < length contents → 0 < length (get_or contents i [])
-full_at [] full i within = absurd (omega arith)
-full_at (first ∷ rest) full zero within = full.0
-full_at (first ∷ rest) full (suc i) within = full_at rest full.1 i (omega arith)
 
 module _ {A : Type 0} (order : A → Ordering) where
   begins_low-first : (members : List A) (d : A) → 0 < length members → begins_low order members ≡ is_le (order (get_or members 0 d))
@@ -125,6 +123,17 @@ module _ {A : Type 0} (order : A → Ordering) where
   abbrev pub Parts : List A → ℕ → Type 0
   Parts members place = IsNonDecreasingBy (λ member. ordering_index (order member)) members
       → IsPartitionPoint (λ member. order member ≡ Less) (λ member. order member ≡ Greater) members place
+
+  -- where the last member is below what is sought, so are all
+  pub missing_behind : (members : List A) → ends_below order members ≡ true → Parts members (length members)
+  missing_behind members below rises = (all_less, λ k d low inside. absurd (omega arith))
+    where
+      all_less : AllWithin (λ member. order member ≡ Less) members 0 (length members)
+      all_less k d from inside =
+          let last = length members - 1 in
+          let end = sym (ap (λ found. option_map_or (λ member. is_lt (order member)) found true) (slice_get-get_or members last d (omega arith))) ∙ below in
+          let least = least_from_test (order (get_or members last d)) end in
+          less_from (order (get_or members k d)) (omega (arith, least, rises k last d (omega arith) (omega arith)))
 
   -- The pieces are those of these rows, and so many of them begin low.
   module _ (rows : List A) {value : List (Piece A)} (pieces : List (Piece A)) (same : pieces ≡ value) (invariant : AreFull (contents value)) (view : all_members (contents value) ≡ rows)

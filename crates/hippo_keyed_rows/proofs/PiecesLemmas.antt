@@ -3,10 +3,10 @@ use Rattle.std.proofs.Common.{◌≡◌, ℕ, zero, suc, ◌+◌, ◌-◌, ◌<�
 use Rattle.std.specs.Prelude.{◌==◌}
 use Rattle.std.specs.List.{insert, remove}
 use Rattle.std.specs.List.Sorted.{IsNonDecreasingBy, IsPartitionPoint}
-use Rattle.std.proofs.lemmas.List.{length-append, length-map, length-set, map-append, map-set, get_or-map, set_split, set-get_or, set-append_left, set-append_right, append_assoc, take-map, take_more_set, drop-set-lt}
+use Rattle.std.proofs.lemmas.List.{get_or_default, length-append, length-map, length-set, map-append, map-set, get_or-map, set_split, set-get_or, set-append_left, set-append_right, append_assoc, take-map, take_more_set, drop-set-lt}
 use Rattle.std.proofs.lemmas.List.Concat.{flat_map-append, get_or-flat_map}
 use Rattle.std.proofs.lemmas.List.Edits.{length-insert, insert-append_left, insert-append_right, remove-append_left, remove-append_right}
-use Rattle.std.proofs.lemmas.Option.{slice_get-get_or}
+use Rattle.std.proofs.lemmas.Option.{slice_get-get_or, slice_get_within, get_or_from_slice_get}
 use Rattle.std.proofs.lemmas.Bool.{cases_lt}
 use Rattle.std.proofs.lemmas.Bool.Decides.{nat_tests}
 use Rattle.hippo_keyed_rows.specs.declared.pieces.Piece.{Piece}
@@ -29,6 +29,15 @@ zero_from_test n test = grind (arith, nat_tests)
 
 pub some_from_test : (n : ℕ) → false ≡ (n == 0) → 0 < n
 some_from_test n test = grind (arith, nat_tests)
+
+pub some_member : {A : Type 0} (members : List A) → 0 < length members → A
+some_member [] some = absurd (omega arith)
+some_member (first ∷ rest) some = first
+
+pub full_at : {A : Type 0} (contents : List (List A)) → AreFull contents → (i : ℕ) → i < length contents → 0 < length (get_or contents i [])
+full_at [] full i within = absurd (omega arith)
+full_at (first ∷ rest) full zero within = full.0
+full_at (first ∷ rest) full (suc i) within = full_at rest full.1 i (omega arith)
 
 plus_less : (n m : ℕ) → n + m - n ≡ m
 plus_less n m = omega arith
@@ -311,6 +320,27 @@ module _ {A : Type 0} where
   pub length-from_full : (contents : List (List A)) → AreFull contents → 0 < length contents → 0 < length (all_members contents)
   length-from_full [] full some = absurd (omega arith)
   length-from_full (first ∷ rest) full some = omega (arith, full.0, length-append first (all_members rest))
+
+  -- the last member of all is that of the last piece
+  last_of_all : (contents : List (List A)) (i : ℕ) (d : A) → suc i ≡ length contents → 0 < length (get_or contents i []) → slice_get (get_or contents i []) (length (get_or contents i []) - 1) ≡ slice_get (all_members contents) (length (all_members contents) - 1)
+  last_of_all contents i d last some =
+      let members = get_or contents i [] in
+      let j = length members - 1 in
+      let member = get_or members j d in
+      let end : length (all_members contents) - 1 ≡ start_of contents i + j = omega (arith, start_of-next contents i (omega arith), start_of-end contents (suc i) (omega arith)) in
+      slice_get-get_or members j d (omega arith)
+      ∙ sym (ap (slice_get (all_members contents)) end
+      ∙ slice_get-all_members contents i j (omega arith) member (omega arith) (get_or_default members j d member (omega arith)))
+
+  pub last_member : (pieces : List (Piece A)) → AreFull (contents pieces) → (piece : Piece A) → Some piece ≡ slice_get pieces (length pieces - 1) → slice_get piece.members.items (length piece.members.items - 1) ≡ slice_get (all_members (contents pieces)) (length (all_members (contents pieces)) - 1)
+  last_member pieces full piece found =
+      let i = length pieces - 1 in
+      let within : i < length pieces = slice_get_within pieces i piece (sym found) in
+      let held : get_or (contents pieces) i [] ≡ piece.members.items = piece_read pieces i piece within (sym (get_or_from_slice_get pieces i piece piece (sym found))) in
+      let size : length (contents pieces) ≡ length pieces = length-map pieces (λ (piece : Piece A). piece.members.items) in
+      let some : 0 < length (get_or (contents pieces) i []) = full_at (contents pieces) full i (omega (arith, size)) in
+      subst (λ (members : List A). slice_get members (length members - 1) ≡ slice_get (all_members (contents pieces)) (length (all_members (contents pieces)) - 1)) held
+      (last_of_all (contents pieces) i (some_member (get_or (contents pieces) i []) some) (omega (arith, size)) some)
 
   -- a piece that is cut in two, behind others and before others
   module _ (old lower upper : Piece A) (is : IsCutInTwo old lower upper) (back : List (Piece A)) where

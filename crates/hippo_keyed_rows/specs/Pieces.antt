@@ -1,8 +1,9 @@
 -- A list that is held in pieces.
-use Rattle.std.specs.Prelude.{◌≡◌, ℕ, ◌+◌, ◌<◌, ◌≤◌, Bool, true, false, List, [], ◌∷◌, length, map, take, slice_index_or, ◌++◌}
+use Rattle.std.specs.Prelude.{◌≡◌, ℕ, ◌+◌, ◌-◌, ◌<◌, ◌≤◌, Bool, true, false, List, [], ◌∷◌, length, map, take, slice_get, slice_index_or, ◌++◌}
+use Rattle.std.specs.Option.{option_map_or}
 use Rattle.std.specs.List.{flat_map}
 use Rattle.std.specs.List.Sorted.{IsPartitionPoint, IsPartitionedBy}
-use Rattle.std.specs.Ordering.{is_le}
+use Rattle.std.specs.Ordering.{is_le, is_lt}
 use Rattle.std.specs.declared.cmp.Ordering.{Ordering}
 use Rattle.hippo_keyed_rows.specs.declared.pieces.Piece.{Piece}
 
@@ -54,6 +55,11 @@ pub record IsCutInTwo {A : Type 0} (old lower upper : Piece A) : Type 0 where
 abbrev pub begins_low : {A : Type 0} → (A → Ordering) → List A → Bool
 begins_low order [] = false
 begins_low order (first ∷ rest) = is_le (order first)
+
+-- whether a list ends with a member that is below what is sought, or has none
+abbrev pub ends_below : {A : Type 0} → (A → Ordering) → List A → Bool
+ends_below order members =
+    option_map_or (λ member. is_lt (order member)) (slice_get members (length members - 1)) true
 
 -- so many pieces begin low, where those that do come first
 abbrev pub PartsLow : {A : Type 0} → (A → Ordering) → List (Piece A) → ℕ → Type 0

@@ -4,7 +4,7 @@ ghost use Rattle.std.specs.List.Sorted.{IsSearchInRange, IsBinarySearchResult};
 ghost use Rattle.hippo_values.specs.Order.{value_cmp, cells_cmp};
 ghost use Rattle.hippo_model.specs.declared.born_row.BornRow.{BornRow};
 ghost use Rattle.hippo_model.specs.Rows.{cell_at, key_of};
-ghost use Rattle.hippo_keyed_rows.specs.Pieces.{begins_low, PartsLow};
+ghost use Rattle.hippo_keyed_rows.specs.Pieces.{begins_low, ends_below, PartsLow};
 ghost use Rattle.hippo_keyed_rows.specs.Searches.{sought_order};
 ghost use Rattle.hippo_keyed_rows.specs.RowSets.{IsAscending, IsFree, key_in, with_row, without_row, find_row};
 
@@ -98,13 +98,24 @@ fn search_piece(
         .binary_search_by(|kept| sought_order(kept, places, sought))
 }
 
+// Whether all rows stand before the one that is looked for, as most often when one is put in.
+fn stands_behind_all(rows: &Pieces<BornRow>, places: &[usize], sought: &Sought<'_>) -> bool
+    ensures { result ≡ ends_below (sought_order places.now sought.now) rows.now }
+{
+    match rows.last() {
+        None => true,
+        Some(kept) => sought_order(kept, places, sought).is_lt(),
+    }
+}
+
 // Where a key stands among all rows, or where it would.
 fn search(rows: &Pieces<BornRow>, places: &[usize], sought: &Sought<'_>) -> Result<usize, usize>
     ensures range { IsSearchInRange result (length rows.now) }
     ensures place { IsBinarySearchResult (sought_order places.now sought.now) rows.now result }
 {
-    if rows.len() == 0 {
-        return Err(0);
+    let len = rows.len();
+    if stands_behind_all(rows, places, sought) {
+        return Err(len);
     }
     let pieces = rows.pieces.as_slice();
     let low = low_pieces(pieces, places, sought);

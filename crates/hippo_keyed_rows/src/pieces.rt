@@ -1,5 +1,5 @@
 //! A long list in pieces, so that an edit in its middle moves one piece alone.
-ghost use Rattle.std.specs.Prelude.{◌≡◌, ◌+◌, ◌^◌, ◌<◌, ◌≤◌, [], ◌∷◌, length, map, take, slice_get, slice_set, slice_index_or, Some, IsTrue, ◌↔◌, OnOk, OnErr, MatchOption};
+ghost use Rattle.std.specs.Prelude.{◌≡◌, ◌+◌, ◌-◌, ◌^◌, ◌<◌, ◌≤◌, [], ◌∷◌, length, map, take, slice_get, slice_set, slice_index_or, option_copied, Some, IsTrue, ◌↔◌, OnOk, OnErr, MatchOption};
 ghost use Rattle.std.specs.List.{insert, remove};
 ghost use Rattle.hippo_keyed_rows.specs.Pieces.{contents, all_members, start_of, IsMarked, AreFull, IsReached, IsCutInTwo};
 
@@ -207,6 +207,13 @@ impl<T> Pieces<T> {
     {
         let (index, start) = reaching(&self.pieces, place);
         &self.pieces[index].members[place - start]
+    }
+
+    // The last member, if there is one.
+    pub(crate) fn last(&self) -> Option<&T>
+        ensures { option_copied result ≡ slice_get self.now (length self.now - 1) }
+    {
+        self.pieces.last()?.members.last()
     }
 }
 
