@@ -1,10 +1,7 @@
 -- The lines of replies, counted by their second words, and the drill's summary.
 use Rattle.std.specs.Prelude.{ℕ, Bool, ◌==◌, List, [], ◌++◌, length, codes, decimal, bytes_eq}
 use Rattle.std.specs.List.{count_by, sum_by, slice_split, before_first, after_first}
-use Rattle.hippo_values.specs.Texts.{Txt}
-
-abbrev pub is_space : ℕ → Bool
-is_space byte = byte == 32
+use Rattle.hippo_values.specs.Texts.{Txt, is_space}
 
 abbrev pub is_feed : ℕ → Bool
 is_feed byte = byte == 10

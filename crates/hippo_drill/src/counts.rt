@@ -1,8 +1,8 @@
 //! The lines of replies, counted by their second words.
 ghost use Rattle.std.specs.Prelude.{◌≡◌, ◌+◌, List, ℕ, [], ◌∷◌, ◌++◌, length, codes, bytes_eq, string_bytes, OnOk, OnErr, IfOk};
 ghost use Rattle.std.specs.List.{before_first, after_first};
-ghost use Rattle.hippo_values.specs.Texts.{Txt as Text};
-ghost use Rattle.hippo_drill.specs.Counting.{is_space, second_word, lines_with, summary_of};
+ghost use Rattle.hippo_values.specs.Texts.{Txt as Text, is_space};
+ghost use Rattle.hippo_drill.specs.Counting.{second_word, lines_with, summary_of};
 ghost use Rattle.hippo_drill.specs.Tallies.{counts_of};
 
 use hippo_values::Memory;

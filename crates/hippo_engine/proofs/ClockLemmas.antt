@@ -4,6 +4,7 @@ use Rattle.std.specs.Prelude.{int_le, int_lt, nat_lt, length, ok_or}
 use Rattle.std.proofs.lemmas.Int.{ints}
 use Rattle.hippo_values.specs.declared.moments.Moment.{Moment}
 use Rattle.hippo_values.specs.Texts.{Txt}
+use Rattle.hippo_values.specs.Results.{◌>>=◌}
 use Rattle.hippo_model.specs.Terms.{History}
 use Rattle.hippo_audit_job.specs.Jobs.{OpenAudit}
 use Rattle.hippo_report.specs.declared.speaker.Speaker.{Speaker}
@@ -14,7 +15,7 @@ use Rattle.hippo_world.specs.Worlds.{World, at_number}
 use Rattle.hippo_lines.specs.Forms.{steps}
 use Rattle.hippo_commands.specs.Commands.{Command, make_request, who_commands}
 use Rattle.hippo_commands.specs.Commands as commands
-use Rattle.hippo_judging.specs.Checks.{Checked, ◌>>=◌, refused_if, by_console}
+use Rattle.hippo_judging.specs.Checks.{Checked, refused_if, by_console}
 use Rattle.hippo_judging.specs.Deeds.{Deed}
 use Rattle.hippo_judging.specs.Deeds as deeds
 use Rattle.hippo_judging.specs.Judging.{judged}

@@ -3,6 +3,7 @@ use Rattle.std.proofs.Common.{◌≡◌, ◌∙◌, ◌⊎◌, ◌≤◌, ℕ, �
 use Rattle.std.specs.Prelude.{◌==◌, ◌&&◌, nat_lt, codes, flat_map, if◌then◌else◌, ok_or, option_map, is_ok, OnOk}
 use Rattle.std.proofs.lemmas.Bool.{false≢true}
 use Rattle.hippo_values.specs.Texts.{Txt}
+use Rattle.hippo_values.specs.Results.{◌>>=◌}
 use Rattle.hippo_model.specs.declared.audit.Audit.{Audit}
 use Rattle.hippo_model.specs.Audits.{flags_between}
 use Rattle.hippo_model.specs.Terms.{History}
@@ -39,7 +40,7 @@ use Rattle.hippo_world.proofs.AuditLemmas.{all_with, one_has, IsLooking-begun, I
 use Rattle.hippo_engine.specs.declared.engine.Engine.{Engine}
 use Rattle.hippo_engine.specs.declared.faults.EngineFault.{EngineFault}
 use Rattle.hippo_engine.specs.Auditing.{reading_end}
-use Rattle.hippo_judging.specs.Checks.{Checked, ◌>>=◌}
+use Rattle.hippo_judging.specs.Checks.{Checked}
 use Rattle.hippo_engine.specs.Carrying.{AtWork, line_as_call, is_carried, shown_effect, AddsNothing, Carries}
 use Rattle.hippo_judging.specs.Deeds.{Deed}
 use Rattle.hippo_judging.specs.Deeds as deeds

@@ -16,6 +16,7 @@ use Rattle.hippo_values.specs.Texts.{Txt}
 use Rattle.hippo_values.specs.Moments.{is_signed_number, is_moment, is_day}
 use Rattle.hippo_values.specs.declared.values.Value.{Value}
 use Rattle.hippo_values.specs.declared.values.Value.TheVariants.{Null, Int, Text, Day}
+use Rattle.hippo_values.specs.Options.{◌>>=◌}
 use Rattle.hippo_model.specs.declared.schema.Column.{Column}
 use Rattle.hippo_model.specs.declared.schema.ColumnKind.{ColumnKind}
 use Rattle.hippo_model.specs.declared.schema.ColumnKind.TheVariants.{Integer, Text as TextColumn, Date}
@@ -35,7 +36,7 @@ use Rattle.hippo_model.specs.Keepable.{is_folded_name, is_text, has_count, is_sh
 use Rattle.hippo_model.specs.Keepable.{cells_are_keepable, places_are_keepable, columns_are_keepable, key_is_keepable}
 use Rattle.hippo_model.specs.Keepable.{subject_is_keepable, schema_is_keepable, item_is_keepable, days_are_keepable}
 use Rattle.hippo_model.specs.Keepable.{question_is_keepable, rule_is_keepable, act_is_keepable, is_keepable}
-use Rattle.hippo_entry.specs.Readings.{◌>>=◌, leading_byte, leading_list, leading_value, stored_column_kind, bool_of}
+use Rattle.hippo_entry.specs.Readings.{leading_byte, leading_list, leading_value, stored_column_kind, bool_of}
 use Rattle.hippo_entry.specs.Readings.{item_kind_of, subject_of_byte, leading_stored_column, leading_schema, leading_create}
 use Rattle.hippo_entry.specs.Readings.{change_of, leading_change, leading_new_name, leading_new_item, grant_of}
 use Rattle.hippo_entry.specs.Readings.{leading_stored_grant, leading_stored_item, leading_days, leading_allow, leading_revoke}

@@ -17,9 +17,10 @@ use Rattle.std.proofs.lemmas.Str.{is_utf8-from_IsUtf8, IsUtf8-from_ascii}
 use Rattle.std.proofs.lemmas.Str.Ascii.{IsAscii-nil, IsAscii-cons}
 use Rattle.hippo_values.specs.declared.names.Name.{Name}
 use Rattle.hippo_values.specs.Names.{lower_case, is_word_byte, begins_with_letter, is_word, is_name}
+use Rattle.hippo_values.specs.Options.{◌>>=◌}
 use Rattle.hippo_model.specs.StoredForms.{name_bytes, text_bytes, list_bytes}
 use Rattle.hippo_model.specs.Keepable.{is_folded_name, is_text}
-use Rattle.hippo_entry.specs.Readings.{◌>>=◌, leading_bytes, leading_stored_number, leading_signed, leading_text, leading_stored_name}
+use Rattle.hippo_entry.specs.Readings.{leading_bytes, leading_stored_number, leading_signed, leading_text, leading_stored_name}
 use Rattle.hippo_entry.specs.Readings.{leading_parts, leading_list}
 
 -- where a part that fits was written, the reading gives the part, and what stands behind it

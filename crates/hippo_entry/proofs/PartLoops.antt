@@ -2,9 +2,10 @@
 use Rattle.std.proofs.Common.{◌≡◌, ℕ, suc, ◌-◌, ◌+◌, ◌≤◌, ◌<◌, List, [], ◌∷◌, ◌++◌, Option, Some, None, refl, sym, ap}
 use Rattle.std.proofs.Common.{◌∙◌, append_assoc, arith}
 use Rattle.std.proofs.lemmas.List.{append-nil}
+use Rattle.hippo_values.specs.Options.{◌>>=◌}
 use Rattle.hippo_entry.specs.declared.fault.Fault.{Fault}
 use Rattle.hippo_entry.specs.declared.fault.Fault.TheVariants as fault
-use Rattle.hippo_entry.specs.Readings.{◌>>=◌, FailsReading, leading_parts}
+use Rattle.hippo_entry.specs.Readings.{FailsReading, leading_parts}
 
 module _ {A : Type 0} (reading : List ℕ → Option (A × List ℕ)) where
   -- what was read before, and what is still read

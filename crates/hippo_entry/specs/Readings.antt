@@ -11,6 +11,7 @@ use Rattle.hippo_values.specs.Names.{name_of}
 use Rattle.hippo_values.specs.Moments.{is_day, is_moment}
 use Rattle.hippo_values.specs.declared.values.Value.{Value}
 use Rattle.hippo_values.specs.declared.values.Value.TheVariants.{Null, Int, Text, Day}
+use Rattle.hippo_values.specs.Options.{◌>>=◌}
 use Rattle.hippo_model.specs.declared.schema.Column.{Column}
 use Rattle.hippo_model.specs.declared.schema.ColumnKind.{ColumnKind}
 use Rattle.hippo_model.specs.declared.schema.ColumnKind.TheVariants.{Integer, Text as TextColumn, Date}
@@ -24,11 +25,6 @@ use Rattle.hippo_model.specs.declared.entry.ItemKind.TheVariants.{OptIn, OptOut}
 use Rattle.hippo_model.specs.Terms.{Row, Place}
 use Rattle.hippo_entry.specs.declared.fault.Fault.{Fault}
 use Rattle.hippo_entry.specs.declared.fault.Fault.TheVariants as fault
-
-infixl 10 ◌>>=◌
--- one and then the next, where both are there
-abbrev pub ◌>>=◌ : {A B : Type 0} → Option A → (A → Option B) → Option B
-found >>= next = option_and_then next found
 
 -- a part that stands first, and the bytes behind it
 abbrev pub Reading : Type 0 → Type 0

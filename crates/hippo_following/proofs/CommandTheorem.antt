@@ -8,16 +8,17 @@ use Rattle.std.proofs.lemmas.List.Sums.{passes_at_first}
 use Rattle.std.proofs.lemmas.Str.{IsUtf8-drop, IsCharBoundary-after_ascii}
 use Rattle.hippo_values.specs.Limits.{session_limit}
 use Rattle.hippo_values.specs.Names.{lower_case}
-use Rattle.hippo_values.specs.Texts.{Txt}
+use Rattle.hippo_values.specs.Texts.{Txt, is_space}
 use Rattle.hippo_values.specs.declared.moments.Moment.{Moment}
+use Rattle.hippo_values.specs.Options.{◌>>=◌}
 use Rattle.hippo_lexer.specs.Cutting.{outcome_of}
 use Rattle.hippo_lexer.specs.Words.{words_check}
 use Rattle.hippo_lexer.specs.declared.faults.LexFault.{LexFault}
 use Rattle.hippo_lexer.specs.declared.faults.SyntaxFault.{SyntaxFault}
 use Rattle.hippo_lexer.specs.declared.kinds.Token.{Token}
-use Rattle.hippo_lines.specs.Forms.{Request, Form, says_nothing, sets_clock, makes_request, makes_statement, ◌>>=◌, short_word_of, request_by, form_in, form_with, session_form, at_of, is_silent, form_by, line_form}
+use Rattle.hippo_lines.specs.Forms.{Request, Form, says_nothing, sets_clock, makes_request, makes_statement, short_word_of, request_by, form_in, form_with, session_form, at_of, is_silent, form_by, line_form}
 use Rattle.hippo_lines.specs.Numbers.{numeral_value}
-use Rattle.hippo_lines.specs.Words.{is_space, words_of, around_space, only}
+use Rattle.hippo_lines.specs.Words.{words_of, around_space, only}
 use Rattle.hippo_lines.specs.declared.short_words.ShortWord.{ShortWord}
 use Rattle.hippo_lines.proofs.FormLemmas.{makes_statement-within}
 use Rattle.hippo_model.specs.declared.statement.Stmt.{Stmt}

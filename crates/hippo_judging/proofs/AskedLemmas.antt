@@ -3,6 +3,7 @@ use Rattle.std.proofs.Common.{◌≡◌, ◌∙◌, refl, sym, ap, subst, ℕ, �
 use Rattle.hippo_values.specs.Limits.{line_limit}
 use Rattle.hippo_values.specs.Moments.{is_moment}
 use Rattle.hippo_values.specs.Texts.{Txt}
+use Rattle.hippo_values.specs.Results.{◌>>=◌}
 use Rattle.hippo_model.specs.declared.entry.Act.TheVariants.{Asked}
 use Rattle.hippo_model.specs.declared.entry.Entry.{Entry}
 use Rattle.hippo_model.specs.declared.name_fault.NameFault.{NameFault}
@@ -34,7 +35,7 @@ use Rattle.hippo_judging.specs.declared.asking.WrittenQuestion.{WrittenQuestion}
 use Rattle.hippo_judging.specs.Asking.{question_of, statement_asked, written_command, written_text, deed_asked, IsAnswerable}
 use Rattle.hippo_judging.proofs.FindingLemmas.{is_there, refused_or_short}
 use Rattle.hippo_report.specs.declared.refusal.Refusal.{Refusal}
-use Rattle.hippo_judging.specs.Checks.{Checked, Refuses, ◌>>=◌, open_session, allowed_by, by_authorized_user as authorized, unless_refused, has_room}
+use Rattle.hippo_judging.specs.Checks.{Checked, Refuses, open_session, allowed_by, by_authorized_user as authorized, unless_refused, has_room}
 use Rattle.hippo_judging.specs.Deeds.{Deed, Question}
 use Rattle.hippo_judging.specs.Deeds as deeds
 use Rattle.hippo_judging.specs.Judging.{question_in, delivery_for, deed_for, judged_question, judged}

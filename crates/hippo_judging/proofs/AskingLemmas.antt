@@ -3,6 +3,7 @@ use Rattle.std.proofs.Common.{◌≡◌, ◌≢◌, ◌⊎◌, ◌∙◌, inl, i
 use Rattle.std.specs.Prelude.{ℕ, length, is_none, is_some, flat_map, unwrap_or, slice_get}
 use Rattle.hippo_values.specs.Texts.{Txt}
 use Rattle.hippo_values.specs.declared.names.Name.{Name}
+use Rattle.hippo_values.specs.Results.{◌>>=◌}
 use Rattle.hippo_model.specs.declared.name_fault.NameFault.{NameFault}
 use Rattle.hippo_model.specs.declared.name_fault.NameFault.TheVariants.{UnknownTable, Memory as NoRoom}
 use Rattle.hippo_model.specs.declared.query.Query.{Query}
@@ -25,7 +26,7 @@ use Rattle.hippo_replay.specs.declared.state.State.{State}
 use Rattle.hippo_replay.specs.Standing.{StandsFor}
 use Rattle.hippo_world.specs.declared.sessions.Session.{Session}
 use Rattle.hippo_judging.specs.Deeds.{Deed, Question}
-use Rattle.hippo_judging.specs.Checks.{Checked, Finds, ◌>>=◌, open_session, by_authorized_user, unless_refused, has_room}
+use Rattle.hippo_judging.specs.Checks.{Checked, Finds, open_session, by_authorized_user, unless_refused, has_room}
 use Rattle.hippo_judging.specs.declared.asking.Asking.{Asking}
 use Rattle.hippo_judging.specs.declared.asking.Delivery.{Delivery}
 use Rattle.hippo_judging.specs.declared.asking.Handing.{Handing}

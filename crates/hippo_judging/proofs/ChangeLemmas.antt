@@ -3,6 +3,7 @@ use Rattle.std.proofs.Common.{◌≡◌, inl, inr, refl, ap, ℕ, Option, Some, 
 use Rattle.std.specs.Prelude.{ok_or}
 use Rattle.std.proofs.lemmas.Bool.{false≢true}
 use Rattle.hippo_values.specs.Texts.{Txt}
+use Rattle.hippo_values.specs.Results.{◌>>=◌}
 use Rattle.hippo_model.specs.declared.statement.Stmt.{Stmt}
 use Rattle.hippo_model.specs.declared.statement.Stmt.TheVariants as stmt
 use Rattle.hippo_model.specs.declared.statement.Wanted.{Wanted}
@@ -14,7 +15,7 @@ use Rattle.hippo_report.specs.declared.speaker.Speaker.{Speaker}
 use Rattle.hippo_report.specs.declared.refusal.Refusal.TheVariants as refusals
 use Rattle.hippo_world.specs.Worlds.{World}
 use Rattle.hippo_commands.specs.Commands.{make_statement}
-use Rattle.hippo_judging.specs.Checks.{Refuses, Checked, ◌>>=◌}
+use Rattle.hippo_judging.specs.Checks.{Refuses, Checked}
 use Rattle.hippo_judging.specs.Deeds.{Deed}
 use Rattle.hippo_judging.specs.Judging.{judged, judged_change}
 

@@ -3,6 +3,7 @@ use Rattle.std.proofs.Common.{◌≡◌, ◌∙◌, ◌≤◌, ◌<◌, ◌^◌,
 use Rattle.std.specs.Prelude.{ok_or, option_map}
 use Rattle.std.proofs.lemmas.Bool.{false≢true}
 use Rattle.hippo_values.specs.Texts.{Txt}
+use Rattle.hippo_values.specs.Results.{◌>>=◌}
 use Rattle.hippo_model.specs.declared.audit.Audit.{Audit}
 use Rattle.hippo_model.specs.declared.entry.Entry.{Entry}
 use Rattle.hippo_model.specs.declared.statement.RawAudit.{RawAudit}
@@ -40,7 +41,7 @@ use Rattle.hippo_judging.specs.declared.deeds.Deed.{Deed}
 use Rattle.hippo_judging.specs.declared.deeds.Deed.TheVariants as kinds
 use Rattle.hippo_judging.specs.declared.deeds.Question.{Question}
 use Rattle.hippo_judging.specs.declared.deeds.Unjudged.{Unjudged}
-use Rattle.hippo_judging.specs.Checks.{Checked, Refuses, ◌>>=◌, by_console, by_session, open_session, job_at, held_watch, reply_room}
+use Rattle.hippo_judging.specs.Checks.{Checked, Refuses, by_console, by_session, open_session, job_at, held_watch, reply_room}
 use Rattle.hippo_judging.specs.Deeds as deeds
 use Rattle.hippo_judging.specs.Changes.{IsChange}
 use Rattle.hippo_judging.specs.Findings.{AddsNextEntry, IsJudged, IsRefused, MayBeAsked, IsAuditOfState, Does, FindsDeed, deed_by, begun_with, set_with, without_reading, Judges, may_do_nothing}

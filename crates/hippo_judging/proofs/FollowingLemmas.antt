@@ -4,6 +4,7 @@ use Rattle.std.specs.Prelude.{int_le, ok_or}
 use Rattle.std.proofs.lemmas.Bool.{and_parts, lt-ltb}
 use Rattle.hippo_values.specs.Moments.{first_moment, last_moment, is_moment}
 use Rattle.hippo_values.specs.declared.moments.Moment.{Moment}
+use Rattle.hippo_values.specs.Results.{◌>>=◌}
 use Rattle.hippo_model.specs.declared.entry.Act.{Act}
 use Rattle.hippo_model.specs.declared.entry.Entry.{Entry}
 use Rattle.hippo_model.specs.declared.name_fault.NameFault.{NameFault}
@@ -30,7 +31,7 @@ use Rattle.hippo_world.specs.declared.worlds.World.{World as HeldWorld}
 use Rattle.hippo_world.specs.Worlds.{World}
 use Rattle.hippo_world.specs.Holding.{world_of}
 use Rattle.hippo_judging.specs.Changes.{FindsChange}
-use Rattle.hippo_judging.specs.Checks.{Checked, ◌>>=◌, unless_refused, act_made, has_room}
+use Rattle.hippo_judging.specs.Checks.{Checked, unless_refused, act_made, has_room}
 use Rattle.hippo_judging.specs.Deeds.{Deed}
 use Rattle.hippo_judging.specs.Deeds as deeds
 use Rattle.hippo_judging.specs.Judging.{judged_wanted, judged_change}

@@ -2,6 +2,7 @@
 use Rattle.std.proofs.Common.{◌≡◌, ◌∙◌, inl, inr, sym, ap, subst, Result, Ok}
 use Rattle.hippo_values.specs.Texts.{Txt}
 use Rattle.hippo_values.specs.declared.names.Name.{Name}
+use Rattle.hippo_values.specs.Results.{◌>>=◌}
 use Rattle.hippo_model.specs.declared.entry.Entry.{Entry}
 use Rattle.hippo_model.specs.declared.statement.Stmt.{Stmt}
 use Rattle.hippo_model.specs.Terms.{History}
@@ -10,7 +11,7 @@ use Rattle.hippo_report.specs.declared.refusal.Refusal.{Refusal}
 use Rattle.hippo_report.specs.declared.speaker.Speaker.TheVariants.{Console}
 use Rattle.hippo_world.specs.Worlds.{World}
 use Rattle.hippo_judging.specs.Changes.{FindsChange}
-use Rattle.hippo_judging.specs.Checks.{Checked, Refuses, ◌>>=◌}
+use Rattle.hippo_judging.specs.Checks.{Checked, Refuses}
 use Rattle.hippo_judging.specs.Deeds.{Deed}
 use Rattle.hippo_judging.specs.Judging.{judged_change, loaded_insert, judged_load}
 

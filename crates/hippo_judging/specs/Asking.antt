@@ -2,6 +2,7 @@
 use Rattle.std.specs.Prelude.{◌≡◌, ℕ, ◌+◌, nat_le, Bool, true, false, Option, Some, None, Ok, Err}
 use Rattle.hippo_values.specs.Texts.{Txt}
 use Rattle.hippo_values.specs.declared.moments.Moment.{Moment}
+use Rattle.hippo_values.specs.Results.{◌>>=◌}
 use Rattle.hippo_model.specs.declared.entry.Entry.{Entry}
 use Rattle.hippo_model.specs.declared.query.Query.{Query}
 use Rattle.hippo_model.specs.declared.statement.RawSelect.{RawSelect}
@@ -19,7 +20,7 @@ use Rattle.hippo_judging.specs.declared.asking.Delivery.{Delivery}
 use Rattle.hippo_judging.specs.declared.asking.Handing.{Handing}
 use Rattle.hippo_judging.specs.declared.asking.Handing.TheVariants.{Rows, Records, Cursor}
 use Rattle.hippo_judging.specs.declared.asking.WrittenQuestion.{WrittenQuestion}
-use Rattle.hippo_judging.specs.Checks.{Checked, ◌>>=◌, refused_if}
+use Rattle.hippo_judging.specs.Checks.{Checked, refused_if}
 use Rattle.hippo_judging.specs.Deeds.{Deed, Question, question_act}
 use Rattle.hippo_judging.specs.Judging.{text_between, delivery_for, deed_for}
 

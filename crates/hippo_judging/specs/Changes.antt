@@ -1,6 +1,7 @@
 -- What the checks of a statement that changes something find: the entry that it adds, or why it is
 -- refused.
 use Rattle.std.specs.Prelude.{◌≡◌, Result, Ok, MatchResult, ok_or}
+use Rattle.hippo_values.specs.Results.{◌>>=◌}
 use Rattle.hippo_model.specs.declared.entry.Act.{Act}
 use Rattle.hippo_model.specs.declared.entry.Entry.{Entry}
 use Rattle.hippo_model.specs.declared.statement.Stmt.{Stmt}
@@ -12,7 +13,7 @@ use Rattle.hippo_catalog.specs.ChangesWanted.{wanted_by}
 use Rattle.hippo_report.specs.declared.refusal.Refusal.{Refusal}
 use Rattle.hippo_report.specs.declared.refusal.Refusal.TheVariants.{BadSyntax}
 use Rattle.hippo_world.specs.Worlds.{World}
-use Rattle.hippo_judging.specs.Checks.{Checked, Refuses, ◌>>=◌, unless_refused, has_room}
+use Rattle.hippo_judging.specs.Checks.{Checked, Refuses, unless_refused, has_room}
 use Rattle.hippo_judging.specs.Deeds.{Deed, next_entry}
 use Rattle.hippo_judging.specs.Deeds as deeds
 

@@ -3,6 +3,7 @@ use Rattle.std.specs.Prelude.{◌≡◌, ◌⊎◌, ℕ, ℤ, pos, Bool, nat_le,
 use Rattle.std.specs.Ordering.{int_eq}
 use Rattle.hippo_model.specs.declared.audit.Pair.{Pair}
 use Rattle.hippo_values.specs.declared.names.Name.{Name}
+use Rattle.hippo_values.specs.Results.{◌>>=◌}
 use Rattle.hippo_model.specs.declared.entry.Act.{Act}
 use Rattle.hippo_model.specs.HandedOver.{is_question}
 use Rattle.hippo_model.specs.declared.entry.Entry.{Entry}
@@ -36,12 +37,6 @@ Refuses checked refusal = (checked ≡ Err refusal) ⊎ (refusal ≡ Memory)
 abbrev pub Finds : {A B : Type 0} → (A → B) → Checked B → Checked A → Type 0
 Finds view checked (Ok found) = checked ≡ Ok (view found)
 Finds view checked (Err refusal) = Refuses checked refusal
-
-infixl 10 ◌>>=◌
--- one check, and then the next
-abbrev pub ◌>>=◌ : {A B : Type 0} → Checked A → (A → Checked B) → Checked B
-(Ok found) >>= next = next found
-(Err refusal) >>= next = Err refusal
 
 -- refused where this holds
 abbrev pub refused_if : Bool → Refusal → Checked (Unit {0})

@@ -4,6 +4,7 @@ use Rattle.std.specs.Option.{option_map_or}
 use Rattle.std.specs.Result.{result_map_both}
 use Rattle.hippo_values.specs.Texts.{Txt}
 use Rattle.hippo_values.specs.declared.names.Name.{Name}
+use Rattle.hippo_values.specs.Results.{◌>>=◌}
 use Rattle.hippo_model.specs.declared.audit.Audit.{Audit}
 use Rattle.hippo_model.specs.declared.audit.Pair.{Pair}
 use Rattle.hippo_model.specs.declared.name_fault.NameFault.TheVariants as faults
@@ -39,7 +40,7 @@ use Rattle.hippo_judging.specs.declared.asking.Handing.{Handing}
 use Rattle.hippo_judging.specs.declared.asking.Handing.TheVariants.{Rows, Records, Cursor}
 use Rattle.hippo_judging.specs.Deeds.{Deed, Question}
 use Rattle.hippo_judging.specs.Deeds as deeds
-use Rattle.hippo_judging.specs.Checks.{Checked, ◌>>=◌, refused_if, by_console, by_session, open_session, may_log_in, by_authorized_user, unless_refused, act_made, has_room, question_at}
+use Rattle.hippo_judging.specs.Checks.{Checked, refused_if, by_console, by_session, open_session, may_log_in, by_authorized_user, unless_refused, act_made, has_room, question_at}
 
 -- the clock does not go back
 abbrev pub judged_clock : World → ℤ → Checked Deed

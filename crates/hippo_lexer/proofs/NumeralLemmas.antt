@@ -11,8 +11,9 @@ use Rattle.hippo_values.specs.Names.{is_word_byte}
 use Rattle.hippo_lexer.specs.declared.kinds.TokenKind.TheVariants as kinds
 use Rattle.hippo_lexer.specs.declared.faults.LexFault.TheVariants as faults
 use Rattle.hippo_lexer.specs.Spelling.{is_minus, begins_with}
-use Rattle.hippo_lexer.specs.Cutting.{digits_len, sign_len, number_len, if_in_range, number_of, number_first, ◌>>=◌}
+use Rattle.hippo_lexer.specs.Cutting.{digits_len, sign_len, number_len, if_in_range, number_of, number_first}
 use Rattle.hippo_values.specs.Moments.{is_signed_number, IsSignedNumber}
+use Rattle.hippo_values.specs.Results.{◌>>=◌}
 use Rattle.hippo_lexer.specs.Grammar.{AreDigits, IsNumber, plain, negative}
 use Rattle.hippo_lexer.proofs.NumberLemmas.{fits-signed, signed-fits}
 use Rattle.hippo_lexer.proofs.PrefixLemmas.{all-front, ends-front, len-front}

@@ -6,13 +6,14 @@ use Rattle.std.proofs.lemmas.List.{append_assoc, length-append}
 use Rattle.hippo_text_forms.specs.Dates.{IsDayText}
 use Rattle.hippo_values.specs.declared.keywords.Keyword.{Keyword}
 use Rattle.hippo_values.specs.declared.keywords.Keyword.TheVariants.{KDate}
+use Rattle.hippo_values.specs.Results.{◌>>=◌}
 use Rattle.hippo_lexer.specs.declared.kinds.Symbol.{Symbol}
 use Rattle.hippo_lexer.specs.declared.kinds.TokenKind.{TokenKind}
 use Rattle.hippo_lexer.specs.declared.kinds.TokenKind.TheVariants as kinds
 use Rattle.hippo_lexer.specs.declared.faults.LexFault.{LexFault}
 use Rattle.hippo_lexer.specs.declared.faults.LexFault.TheVariants as faults
 use Rattle.hippo_lexer.specs.Spelling.{is_blank, is_quote, is_minus, begins_with, sign_of}
-use Rattle.hippo_lexer.specs.Cutting.{◌>>=◌, word_kind, is_date, day_first, date_first, word_first, number_first, quoted_first, sign_first, token_first}
+use Rattle.hippo_lexer.specs.Cutting.{word_kind, is_date, day_first, date_first, word_first, number_first, quoted_first, sign_first, token_first}
 use Rattle.hippo_lexer.specs.Grammar.{IsToken, a_keyword, a_refused_word, a_name, a_number, a_quoted_text, a_day, a_sign, IsFault, long_word, letter_behind, large, lone_minus, unclosed, no_day, stray, IsNumber, IsWholeWord, IsQuotedBehind, OpensDay, quoted_text}
 use Rattle.hippo_lexer.proofs.DayLemmas.{day_of-day, day_of-no_day}
 use Rattle.hippo_lexer.proofs.NumeralLemmas.{number_begins, number-token, number-letter, number-large, lone-minus}

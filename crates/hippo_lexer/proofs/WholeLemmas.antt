@@ -6,10 +6,11 @@ use Rattle.std.proofs.lemmas.Bool.Decides.{nat_tests}
 use Rattle.std.proofs.lemmas.List.{take_at, drop_at, take-append-drop}
 use Rattle.hippo_values.specs.Names.{is_word_byte, is_word}
 use Rattle.hippo_values.specs.declared.keywords.Keyword.TheVariants.{KDate}
+use Rattle.hippo_values.specs.Results.{◌>>=◌}
 use Rattle.hippo_lexer.specs.declared.kinds.TokenKind.TheVariants as kinds
 use Rattle.hippo_lexer.specs.declared.faults.LexFault.TheVariants as faults
 use Rattle.hippo_lexer.specs.Spelling.{is_blank, is_quote, begins_with}
-use Rattle.hippo_lexer.specs.Cutting.{◌>>=◌, word_len, blanks_len, word_kind, is_date, quoted_first, day_first, date_first, word_first}
+use Rattle.hippo_lexer.specs.Cutting.{word_len, blanks_len, word_kind, is_date, quoted_first, day_first, date_first, word_first}
 use Rattle.hippo_lexer.specs.Grammar.{IsWholeWord, IsQuotedBehind, quoted_text}
 use Rattle.hippo_lexer.proofs.PrefixLemmas.{all-front, ends-front, len-front}
 use Rattle.hippo_lexer.proofs.QuotedLemmas.{quoted_first-is, quoted_first-unclosed, quoted_or_open}

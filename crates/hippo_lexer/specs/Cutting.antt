@@ -13,6 +13,7 @@ use Rattle.hippo_values.specs.Words.{word_of}
 use Rattle.hippo_text_forms.specs.Dates.{day_text}
 use Rattle.hippo_values.specs.Moments.{first_day, day_count, is_signed_number}
 use Rattle.hippo_values.specs.declared.keywords.Keyword.TheVariants.{KDate}
+use Rattle.hippo_values.specs.Results.{◌>>=◌}
 use Rattle.hippo_lexer.specs.declared.kinds.Symbol.{Symbol}
 use Rattle.hippo_lexer.specs.declared.kinds.TokenKind.{TokenKind}
 use Rattle.hippo_lexer.specs.declared.kinds.TokenKind.TheVariants as kinds
@@ -20,11 +21,6 @@ use Rattle.hippo_lexer.specs.declared.kinds.Token.{Token}
 use Rattle.hippo_lexer.specs.declared.faults.LexFault.{LexFault}
 use Rattle.hippo_lexer.specs.declared.faults.LexFault.TheVariants as faults
 use Rattle.hippo_lexer.specs.Spelling.{is_blank, is_quote, is_minus, begins_with, sign_of}
-
-infixl 10 ◌>>=◌
-abbrev pub ◌>>=◌ : {A B : Type 0} → Result A LexFault → (A → Result B LexFault) → Result B LexFault
-(Ok x) >>= f = f x
-(Err fault) >>= f = Err fault
 
 -- What a call gives is this, or want of memory.
 abbrev pub FailsOutcome : {A : Type 0} → LexFault → Result A LexFault → Type 0

@@ -5,13 +5,14 @@ use Rattle.std.specs.Bool.{then_some}
 use Rattle.std.specs.List.{position_or_len, before_first, after_first}
 use Rattle.std.proofs.lemmas.Bool.{ltb-true}
 use Rattle.std.proofs.lemmas.List.{length-drop}
-use Rattle.hippo_values.specs.Texts.{Txt}
+use Rattle.hippo_values.specs.Texts.{Txt, is_space}
 use Rattle.hippo_values.specs.Names.{lower_case}
 use Rattle.hippo_lines.specs.declared.short_words.ShortWord.{ShortWord}
 use Rattle.hippo_values.specs.Limits.{session_limit}
-use Rattle.hippo_lines.specs.Words.{is_space, words_of, around_space, only}
+use Rattle.hippo_values.specs.Options.{◌>>=◌}
+use Rattle.hippo_lines.specs.Words.{words_of, around_space, only}
 use Rattle.hippo_lines.specs.Numbers.{numeral_value}
-use Rattle.hippo_lines.specs.Forms.{Request, Form, says_nothing, sets_clock, makes_request, makes_statement, ◌>>=◌, short_word_of, request_by, form_in, form_with, session_form, at_of, is_silent, form_by, line_form}
+use Rattle.hippo_lines.specs.Forms.{Request, Form, says_nothing, sets_clock, makes_request, makes_statement, short_word_of, request_by, form_in, form_with, session_form, at_of, is_silent, form_by, line_form}
 
 -- the text of a statement
 abbrev text_in : Option Form → Txt

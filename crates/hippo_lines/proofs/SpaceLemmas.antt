@@ -7,7 +7,8 @@ use Rattle.std.proofs.lemmas.Bool.Decides.{nat_tests}
 use Rattle.std.proofs.lemmas.List.{take_all, drop_all}
 use Rattle.std.proofs.lemmas.List.Sums.{prefix_len_passes, prefix_len-le-length}
 use Rattle.std.proofs.lemmas.Str.{IsCharBoundary-start, IsCharBoundary-after_ascii}
-use Rattle.hippo_lines.specs.Words.{is_space, is_filled, words_of, around_space, trimmed_text}
+use Rattle.hippo_values.specs.Texts.{is_space}
+use Rattle.hippo_lines.specs.Words.{is_filled, words_of, around_space, trimmed_text}
 
 -- a text may be cut behind spaces
 cut_at : (text : List ℕ) (n : ℕ) → IsUtf8 text → n ≤ length text → (0 < n → get_or text (n - 1) 0 < 128) → IsCharBoundary text n

@@ -3,12 +3,13 @@ use Rattle.std.specs.Prelude.{ℕ, Bool, false, ◌||◌, ◌==◌, List, [], �
 use Rattle.std.specs.List.{list_all}
 use Rattle.std.specs.Map.{lookup}
 use Rattle.hippo_values.specs.declared.names.Name.{Name}
-use Rattle.hippo_values.specs.Texts.{Txt}
+use Rattle.hippo_values.specs.Texts.{Txt, is_space}
 use Rattle.hippo_values.specs.Names.{lower_case, name_of}
 use Rattle.hippo_lines.specs.declared.short_words.ShortWord.{ShortWord}
 use Rattle.hippo_lines.specs.declared.short_words.ShortWord.TheVariants.{Login, Logout, Fetch, Close, Step, Drop, Unwatch, Load}
 use Rattle.hippo_values.specs.Limits.{session_limit, cursor_limit, job_limit, watch_limit, fetch_limit, step_limit}
-use Rattle.hippo_lines.specs.Words.{words_of, is_space, around_space, trimmed_text, only, two, three}
+use Rattle.hippo_values.specs.Options.{◌>>=◌}
+use Rattle.hippo_lines.specs.Words.{words_of, around_space, trimmed_text, only, two, three}
 use Rattle.hippo_lines.specs.Numbers.{numeral_value}
 
 -- the request that a short word and the words behind it make
@@ -28,11 +29,6 @@ pub data Form : Type 0 where
   sets_clock : Txt → Form
   makes_request : ℕ → Request → Form
   makes_statement : ℕ → Txt → Form
-
-infixl 10 ◌>>=◌
--- one and then the next, where both are there
-abbrev pub ◌>>=◌ : {A B : Type 0} → Option A → (A → Option B) → Option B
-found >>= next = option_and_then next found
 
 -- login USER PURPOSE RECIPIENT
 abbrev pub login_of : List Txt → Option Request

@@ -2,10 +2,7 @@
 use Rattle.std.specs.Prelude.{ℕ, Bool, true, false, ◌==◌, List, [], ◌∷◌, length, drop, nat_lt, Option, Some, None, option_map}
 use Rattle.std.specs.List.{filter, slice_split, prefix_len, position_or_len, before_first, after_first}
 use Rattle.std.specs.Bool.{then_some}
-use Rattle.hippo_values.specs.Texts.{Txt}
-
-abbrev pub is_space : ℕ → Bool
-is_space byte = byte == 32
+use Rattle.hippo_values.specs.Texts.{Txt, is_space}
 
 abbrev pub is_filled : Txt → Bool
 is_filled [] = false

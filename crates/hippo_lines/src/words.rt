@@ -1,7 +1,8 @@
 //! Words of a text, which have spaces between them.
 ghost use Rattle.std.specs.Prelude.{◌≡◌, [], ◌∷◌, option_map, option_copied, MatchOption};
 ghost use Rattle.std.specs.List.{list_all, prefix_len};
-ghost use Rattle.hippo_lines.specs.Words.{is_space, words_of, around_space, trimmed_text, only, two, three};
+ghost use Rattle.hippo_values.specs.Texts.{is_space};
+ghost use Rattle.hippo_lines.specs.Words.{words_of, around_space, trimmed_text, only, two, three};
 
 fn spaces_len(bytes: &[u8]) -> usize
     ensures { result ≡ prefix_len is_space bytes.now }

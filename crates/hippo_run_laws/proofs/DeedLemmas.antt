@@ -14,6 +14,7 @@ use Rattle.hippo_model.specs.declared.statement.Wanted.{Wanted}
 use Rattle.hippo_model.specs.Terms.{History}
 use Rattle.hippo_values.specs.Texts.{Txt}
 use Rattle.hippo_values.specs.declared.names.Name.{Name}
+use Rattle.hippo_values.specs.Results.{◌>>=◌}
 use Rattle.hippo_catalog.specs.Catalogs.{known_at}
 use Rattle.hippo_catalog.specs.ChangesRefused.{change_refused}
 use Rattle.hippo_catalog.specs.ChangesWanted.{wanted_by}
@@ -34,7 +35,7 @@ use Rattle.hippo_judging.specs.declared.asking.Handing.{Handing}
 use Rattle.hippo_judging.specs.declared.asking.Handing.TheVariants.{Rows, Records, Cursor}
 use Rattle.hippo_judging.specs.Deeds.{Deed, Question}
 use Rattle.hippo_judging.specs.Deeds as deeds
-use Rattle.hippo_judging.specs.Checks.{Checked, ◌>>=◌, refused_if, by_console, by_session, open_session, may_log_in, unless_refused, act_made, has_room, question_at}
+use Rattle.hippo_judging.specs.Checks.{Checked, refused_if, by_console, by_session, open_session, may_log_in, unless_refused, act_made, has_room, question_at}
 use Rattle.hippo_judging.specs.Judging.{judged, judged_login, judged_logout, judged_fetch, judged_close, judged_step, judged_drop, judged_unwatch, judged_wanted, judged_change, loaded_insert, judged_load, text_between, question_in, delivery_for, deed_for, judged_question, audit_in, judged_begin, judged_watch}
 
 -- a job that is stepped stands at its number, and what begins gets a free one

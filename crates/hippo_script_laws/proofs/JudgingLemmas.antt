@@ -7,6 +7,7 @@ use Rattle.std.proofs.lemmas.Int.{ints}
 use Rattle.hippo_values.specs.Texts.{Txt}
 use Rattle.hippo_values.specs.declared.moments.Moment.{Moment}
 use Rattle.hippo_values.specs.declared.names.Name.{Name}
+use Rattle.hippo_values.specs.Results.{◌>>=◌}
 use Rattle.hippo_model.specs.declared.audit.Pair.{Pair}
 use Rattle.hippo_model.specs.declared.entry.Act.{Act}
 use Rattle.hippo_model.specs.declared.name_fault.NameFault.{NameFault}
@@ -31,7 +32,7 @@ use Rattle.hippo_world.specs.Worlds.{World, new_session, with_session}
 use Rattle.hippo_judging.specs.declared.asking.Handing.TheVariants.{Rows}
 use Rattle.hippo_report.specs.declared.speaker.Speaker.TheVariants.{Console}
 use Rattle.hippo_report.specs.declared.speaker.Speaker.TheVariants as speaker
-use Rattle.hippo_judging.specs.Checks.{◌>>=◌, Checked, act_made, allowed_by, by_authorized_user, has_room, unless_refused, open_session, refused_if}
+use Rattle.hippo_judging.specs.Checks.{Checked, act_made, allowed_by, by_authorized_user, has_room, unless_refused, open_session, refused_if}
 use Rattle.hippo_judging.specs.Deeds as deeds
 use Rattle.hippo_judging.specs.Deeds.{Question}
 use Rattle.hippo_judging.specs.Judging.{deed_for, delivery_for, judged_change, judged_clock, judged_login, judged_logout, judged_question, judged_statement, judged_wanted, question_in}

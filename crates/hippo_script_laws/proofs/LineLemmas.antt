@@ -9,15 +9,16 @@ use Rattle.std.proofs.lemmas.Slice.Eq.{bytes_eq-Decides}
 use Rattle.hippo_text_forms.specs.Dates.{clock_text, date_text, day_of_month, day_text, moment_text, month_of, time_text, year_of}
 use Rattle.hippo_values.specs.Moments.{IsMoment, day_seconds, first_moment, is_moment, last_moment}
 use Rattle.hippo_values.specs.Names.{begins_with_letter, lower_case, is_name, is_word_byte, name_of}
-use Rattle.hippo_values.specs.Texts.{Txt}
+use Rattle.hippo_values.specs.Texts.{Txt, is_space}
 use Rattle.hippo_values.specs.declared.moments.Moment.{Moment}
 use Rattle.hippo_values.specs.declared.names.Name.{Name}
+use Rattle.hippo_values.specs.Options.{◌>>=◌}
 use Rattle.hippo_io.specs.Lines.{text_line}
 use Rattle.hippo_model.specs.declared.statement.Stmt.{Stmt}
 use Rattle.hippo_model.specs.Keepable.{is_folded_name}
 use Rattle.hippo_report.specs.declared.refusal.Refusal.TheVariants.{BadSyntax}
-use Rattle.hippo_lines.specs.Words.{is_filled, is_space, words_of, only}
-use Rattle.hippo_lines.specs.Forms.{◌>>=◌, makes_request, logs_in, logs_out, sets_clock, makes_statement, short_word_of, form_with, line_form}
+use Rattle.hippo_lines.specs.Words.{is_filled, words_of, only}
+use Rattle.hippo_lines.specs.Forms.{makes_request, logs_in, logs_out, sets_clock, makes_statement, short_word_of, form_with, line_form}
 use Rattle.hippo_report.specs.declared.speaker.Speaker.TheVariants.{Console, Session}
 use Rattle.hippo_commands.specs.Commands.{make_request, make_statement, set_clock, command_of, command_by, clock_command, state_command, statement_among, statement_by, statement_in}
 use Rattle.hippo_commands.proofs.MomentLemmas.{moments_are_read}

@@ -10,7 +10,7 @@ use Rattle.std.proofs.lemmas.List.{append-nil, length-append}
 use Rattle.std.proofs.lemmas.Option.{same_Some}
 use Rattle.std.proofs.lemmas.Slice.Eq.{bytes_eq-Decides}
 use Rattle.hippo_values.specs.Names.{lower_case, keyword_of, keywords}
-use Rattle.hippo_values.specs.Texts.{Txt}
+use Rattle.hippo_values.specs.Texts.{Txt, is_space}
 use Rattle.hippo_values.specs.declared.keywords.Keyword as words
 use Rattle.hippo_values.specs.declared.keywords.Keyword.TheVariants.{KSelect}
 use Rattle.hippo_lexer.specs.declared.faults.LexFault.{LexFault}
@@ -21,7 +21,7 @@ use Rattle.hippo_lexer.specs.Grammar.{IsCut, IsOutcome, IsToken, a_keyword, at_b
 use Rattle.hippo_lexer.specs.Spelling.{begins_with, is_blank}
 use Rattle.hippo_lexer.specs.Words.{words_check}
 use Rattle.hippo_lines.specs.Forms.{short_words}
-use Rattle.hippo_lines.specs.Words.{is_filled, is_space, words_of}
+use Rattle.hippo_lines.specs.Words.{is_filled, words_of}
 use Rattle.hippo_model.specs.declared.statement.RawSelect.{RawSelect}
 use Rattle.hippo_model.specs.declared.statement.Stmt.TheVariants as stmt
 use Rattle.hippo_spj_reader.specs.Front.{Kinds, kinds, same_keyword}

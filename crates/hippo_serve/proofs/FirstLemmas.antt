@@ -6,6 +6,7 @@ use Rattle.std.specs.Prelude.{nat_lt, int_lt, option_and_then}
 use Rattle.hippo_text_forms.specs.Dates.{moment_text}
 use Rattle.hippo_values.specs.Texts.{Txt}
 use Rattle.hippo_values.specs.declared.moments.Moment.{Moment}
+use Rattle.hippo_values.specs.Results.{◌>>=◌}
 use Rattle.hippo_io.specs.Lines.{LineText, text_line, lines}
 use Rattle.hippo_lines.specs.Forms.{Form, sets_clock, form_by, at_of, line_form}
 use Rattle.hippo_lines.specs.Words.{words_of, only}
@@ -19,7 +20,7 @@ use Rattle.hippo_commands.specs.Commands.{Command, clock_command, command_by, co
 use Rattle.hippo_engine.specs.declared.engine.Engine.{Engine}
 use Rattle.hippo_engine.specs.declared.faults.EngineFault.TheVariants.{Write}
 use Rattle.hippo_engine.specs.Carrying.{AtWork, BreaksOff}
-use Rattle.hippo_judging.specs.Checks.{refused_if, ◌>>=◌}
+use Rattle.hippo_judging.specs.Checks.{refused_if}
 use Rattle.hippo_judging.specs.Deeds as deeds
 use Rattle.hippo_engine.specs.Effects.{judgement_effect, effect_of}
 use Rattle.hippo_engine.specs.Ledgers.{reads_kept}

@@ -6,10 +6,11 @@ use denote.Enum.Bare.{same_true}
 use Rattle.hippo_values.specs.contracts.keywords.Keyword as keywords
 use Rattle.hippo_lexer.specs.contracts.kinds.Symbol as symbols
 use Rattle.hippo_values.specs.declared.keywords.Keyword as words
+use Rattle.hippo_values.specs.Options.{◌>>=◌}
 use Rattle.hippo_lexer.specs.declared.kinds.Symbol as signs
 use Rattle.hippo_lexer.specs.declared.kinds.TokenKind.{TokenKind}
 use Rattle.hippo_lexer.specs.declared.kinds.TokenKind.TheVariants.{Word, Keyword, Symbol}
-use Rattle.hippo_spj_reader.specs.Promises.{◌>>=◌, either}
+use Rattle.hippo_spj_reader.specs.Promises.{either}
 use Rattle.hippo_spj_reader.specs.Front.{after_keyword, after_symbol, after_word, same_keyword, same_symbol, leading_name}
 
 -- what two found together, one after the other, each of them found

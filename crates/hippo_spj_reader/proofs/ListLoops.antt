@@ -1,11 +1,12 @@
 -- A loop over the parts of a list, part by part.
 use Rattle.std.proofs.Common.{◌≡◌, ℕ, zero, suc, ◌<◌, ◌≤◌, List, [], ◌∷◌, ◌++◌, length, Option, Some, None, refl, sym, ◌∙◌, ap, arith, append_assoc}
 use Rattle.std.proofs.lemmas.List.{length-map}
+use Rattle.hippo_values.specs.Options.{◌>>=◌}
 use Rattle.hippo_lexer.specs.declared.kinds.Token.{Token}
 use Rattle.hippo_lexer.specs.declared.kinds.TokenKind.{TokenKind}
 use Rattle.hippo_lexer.specs.declared.faults.SyntaxFault.{SyntaxFault}
 use Rattle.hippo_lexer.specs.declared.faults.SyntaxFault.TheVariants as fault
-use Rattle.hippo_spj_reader.specs.Promises.{◌>>=◌, Fails}
+use Rattle.hippo_spj_reader.specs.Promises.{Fails}
 use Rattle.hippo_spj_reader.specs.Front.{kinds}
 use Rattle.hippo_spj_reader.specs.ListFinder.{further_parts, leading_list, with_front_parts}
 

@@ -10,11 +10,11 @@ use Rattle.hippo_model.specs.declared.statement.RawOperand.{RawOperand}
 use Rattle.hippo_model.specs.declared.statement.RawOperand.TheVariants.{Column, Literal}
 use Rattle.hippo_values.specs.contracts.keywords.Keyword as keywords
 use Rattle.hippo_values.specs.declared.keywords.Keyword.TheVariants.{KNull, KNot}
+use Rattle.hippo_values.specs.Options.{◌>>=◌}
 use Rattle.hippo_lexer.specs.declared.kinds.Symbol as signs
 use Rattle.hippo_lexer.specs.declared.kinds.Symbol.TheVariants.{Dot, LeftParen, Equal, NotEqual, Less, LessEqual, Greater, GreaterEqual}
 use Rattle.hippo_lexer.specs.declared.kinds.TokenKind.{TokenKind}
 use Rattle.hippo_lexer.specs.declared.kinds.TokenKind.TheVariants.{Keyword, Number, Quoted, Day, Symbol}
-use Rattle.hippo_spj_reader.specs.Promises.{◌>>=◌}
 use Rattle.hippo_spj_reader.specs.Front.{after_keyword, after_symbol, same_keyword, leading_literal}
 use Rattle.hippo_spj_reader.specs.ConditionGrammar.{IsColumn, bare, qualified, IsLiteral, number, quoted_literal, day, null, IsOperand, column, literal, IsOperator, equal, not_equal, less, less_equal, greater_sign, greater_equal}
 use Rattle.hippo_spj_reader.specs.ConditionFinder.{leading_column, begins_with_name, leading_operand, operator_of, leading_operator}

@@ -1,11 +1,11 @@
 -- The loop over the tables of FROM, table by table.
 use Rattle.std.proofs.Common.{◌≡◌, ℕ, zero, suc, ◌<◌, List, [], ◌∷◌, ◌++◌, length, Option, Some, None, option_to_list, refl, sym, ◌∙◌, arith, append_assoc}
 use Rattle.std.proofs.lemmas.List.{length-map}
+use Rattle.hippo_values.specs.Options.{◌>>=◌}
 use Rattle.hippo_lexer.specs.declared.kinds.Token.{Token}
 use Rattle.hippo_lexer.specs.declared.kinds.TokenKind.{TokenKind}
 use Rattle.hippo_spj_reader.specs.declared.selects.JoinedTable.{JoinedTable}
 use Rattle.hippo_spj_reader.specs.declared.selects.Sources.{Sources}
-use Rattle.hippo_spj_reader.specs.Promises.{◌>>=◌}
 use Rattle.hippo_spj_reader.specs.ConditionGrammar.{RawCond}
 use Rattle.hippo_spj_reader.specs.Front.{kinds, leading_name}
 use Rattle.hippo_spj_reader.specs.SelectFinder.{with_first_table, leading_joined, leading_all_joined, leading_sources}

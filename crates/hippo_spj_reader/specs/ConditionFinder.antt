@@ -7,10 +7,11 @@ use Rattle.hippo_model.specs.declared.statement.RawColumn.{RawColumn}
 use Rattle.hippo_model.specs.declared.statement.RawOperand.{RawOperand}
 use Rattle.hippo_model.specs.declared.statement.RawOperand.TheVariants.{Column, Literal}
 use Rattle.hippo_values.specs.declared.keywords.Keyword.TheVariants.{KAnd, KBetween, KIn, KIs, KNot, KNull, KOr}
+use Rattle.hippo_values.specs.Options.{◌>>=◌}
 use Rattle.hippo_lexer.specs.declared.kinds.Symbol as signs
 use Rattle.hippo_lexer.specs.declared.kinds.Symbol.TheVariants.{LeftParen, RightParen, Comma, Dot, Equal, NotEqual, Less, LessEqual, Greater, GreaterEqual}
 use Rattle.hippo_lexer.specs.declared.kinds.TokenKind.TheVariants.{Word, Symbol}
-use Rattle.hippo_spj_reader.specs.Promises.{◌>>=◌, either}
+use Rattle.hippo_spj_reader.specs.Promises.{either}
 use Rattle.hippo_spj_reader.specs.Front.{Kinds, Finder, after_keyword, after_symbol, leading_name, leading_literal}
 use Rattle.hippo_spj_reader.specs.ListFinder.{leading_list}
 use Rattle.hippo_spj_reader.specs.ConditionGrammar.{RawCond, any_of, all_of}

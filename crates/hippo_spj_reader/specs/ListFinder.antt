@@ -1,7 +1,8 @@
 -- The list that can be found at the front of the tokens, part by part: the longest one.
 use Rattle.std.specs.Prelude.{ℕ, zero, suc, List, [], ◌∷◌, ◌++◌, length, Option, Some, None}
+use Rattle.hippo_values.specs.Options.{◌>>=◌}
 use Rattle.hippo_spj_reader.specs.Front.{Kinds, Finder}
-use Rattle.hippo_spj_reader.specs.Promises.{◌>>=◌, either}
+use Rattle.hippo_spj_reader.specs.Promises.{either}
 
 module _ {X : Type 0} (leading_part : Finder X) (after_part : Kinds → Option Kinds) where
   -- at most this many parts, as long as something leads from one to the next

@@ -1,15 +1,11 @@
 -- What a reader promises, against what can be found at the front of its tokens.
 use Rattle.std.specs.Prelude.{◌≡◌, ◌<◌, ◌≤◌, List, [], ◌∷◌, length, Option, Some, None, option_and_then, option_map, IfSome, IfOk, IfErr, Result, Ok, Err}
+use Rattle.hippo_values.specs.Options.{◌>>=◌}
 use denote.Ref.{Bor}
 use Rattle.hippo_lexer.specs.declared.faults.SyntaxFault.{SyntaxFault}
 use Rattle.hippo_lexer.specs.declared.faults.SyntaxFault.TheVariants as fault
 use Rattle.hippo_lexer.specs.declared.kinds.Token.{Token}
 use Rattle.hippo_spj_reader.specs.Front.{Kinds, Finder, kinds}
-
-infixl 10 ◌>>=◌
--- one and then the next, where both find something
-abbrev pub ◌>>=◌ : {A B : Type 0} → Option A → (A → Option B) → Option B
-found >>= next = option_and_then next found
 
 -- the first where it finds something, else the other
 abbrev pub either : {A B : Type 0} → Option A → (A → B) → B → B

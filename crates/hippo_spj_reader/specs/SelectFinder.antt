@@ -9,6 +9,7 @@ use Rattle.hippo_model.specs.declared.statement.RawOut.{RawOut}
 use Rattle.hippo_model.specs.declared.statement.RawOut.TheVariants as out
 use Rattle.hippo_model.specs.declared.statement.RawSelect.{RawSelect}
 use Rattle.hippo_values.specs.declared.keywords.Keyword.TheVariants.{KDistinct, KFrom, KGroup, KInner, KJoin, KMax, KMin, KOn, KSelect, KWhere}
+use Rattle.hippo_values.specs.Options.{◌>>=◌}
 use Rattle.hippo_lexer.specs.declared.kinds.Symbol.TheVariants.{Comma, Dot, LeftParen, RightParen, Star}
 use Rattle.hippo_spj_reader.specs.declared.selects.Draft.{Draft}
 use Rattle.hippo_spj_reader.specs.declared.selects.JoinedTable.{JoinedTable}
@@ -16,7 +17,7 @@ use Rattle.hippo_spj_reader.specs.declared.selects.Member.{Member}
 use Rattle.hippo_spj_reader.specs.declared.selects.Member.TheVariants as member
 use Rattle.hippo_spj_reader.specs.declared.selects.Scope.{Scope}
 use Rattle.hippo_spj_reader.specs.declared.selects.Sources.{Sources}
-use Rattle.hippo_spj_reader.specs.Promises.{◌>>=◌, either}
+use Rattle.hippo_spj_reader.specs.Promises.{either}
 use Rattle.hippo_spj_reader.specs.ConditionGrammar.{RawCond}
 use Rattle.hippo_spj_reader.specs.ConditionFinder.{leading_column, leading_condition}
 use Rattle.hippo_spj_reader.specs.Front.{Kinds, Finder, after_keyword, after_symbol, after_word, leading_name}

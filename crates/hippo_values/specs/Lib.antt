@@ -1,8 +1,11 @@
+pub mod CellTexts
 pub mod Limits
 pub mod Moments
 pub mod Names
+pub mod Options
 pub mod Order
 pub mod OrderLaws
+pub mod Results
 pub mod Texts
 pub mod Truths
 pub mod Words

@@ -14,3 +14,6 @@ is_plain byte = nat_le 32 byte && not (byte == 127)
 -- a text in a cell has at most 4096 bytes and no control character of ASCII
 abbrev pub keeps_text_rule : List ℕ → Bool
 keeps_text_rule text = nat_le (length text) text_limit && list_all is_plain text
+
+abbrev pub is_space : ℕ → Bool
+is_space byte = byte == 32

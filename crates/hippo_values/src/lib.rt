@@ -2,6 +2,7 @@
 #![tactic(auto)]
 
 mod boxed;
+mod cell_texts;
 mod keywords;
 mod limits;
 mod memory;
@@ -15,6 +16,7 @@ mod values;
 mod words;
 
 pub use boxed::Boxed;
+pub use cell_texts::CellText;
 pub use keywords::{Keyword, Reserved, reserved_of};
 pub use limits::{
     COLUMN_LIMIT, CURSOR_LIMIT, DEPTH_LIMIT, FETCH_LIMIT, FROM_LIMIT, ITEM_LIMIT, JOB_LIMIT,

@@ -4,9 +4,9 @@ ghost use Rattle.hippo_values.specs.Order.{kind_rank, value_cmp};
 ghost use Rattle.hippo_values.specs.OrderLaws.{value_total, value_ties, value_po};
 ghost use Rattle.hippo_values.specs.declared.values.Value as Value;
 
+use crate::cell_texts::CellText;
 use crate::memory::{Duplicate, Memory};
 use crate::moments::DayNumber;
-use crate::texts::Txt;
 use std::alloc::Global;
 use std::cmp::Ordering;
 
@@ -16,7 +16,7 @@ use std::cmp::Ordering;
 pub enum Value {
     Null,
     Int(i64),
-    Text(Txt),
+    Text(CellText),
     Day(DayNumber),
 }
 
@@ -71,7 +71,7 @@ impl Duplicate for Value {
     }
 }
 
-fn copied_text(alloc: Global, text: &Txt) -> Result<Value, Memory>
+fn copied_text(alloc: Global, text: &CellText) -> Result<Value, Memory>
     ensures { IfOk result (λ made. made ≡ Value.Text text.now) }
 {
     Ok(Value::Text(text.copy(alloc)?))

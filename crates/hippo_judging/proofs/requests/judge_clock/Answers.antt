@@ -1,9 +1,10 @@
 -- A moment before the clock is refused, which is short.
 use Rattle.std.proofs.Common.{None, Ok, sym, ap, ◌∙◌}
 use Rattle.std.specs.Prelude.{Bool}
+use Rattle.hippo_values.specs.Results.{◌>>=◌}
 use Rattle.hippo_report.specs.declared.refusal.Refusal.TheVariants.{MomentBack}
 use Rattle.hippo_commands.specs.Commands as commands
-use Rattle.hippo_judging.specs.Checks.{refused_if, ◌>>=◌}
+use Rattle.hippo_judging.specs.Checks.{refused_if}
 use Rattle.hippo_judging.specs.Deeds as deeds
 use Rattle.hippo_judging.proofs.FindingLemmas.{refused_so}
 use Rattle.hippo_judging.proofs.LengthLemmas.{moment_back_fits}

@@ -1,11 +1,12 @@
 use Rattle.std.proofs.Common.{refl, sym, subst, ap, ◌∙◌, Ok}
 use Rattle.std.specs.Prelude.{ok_or}
+use Rattle.hippo_values.specs.Results.{◌>>=◌}
 use Rattle.hippo_model.specs.declared.statement.Stmt.TheVariants as stmt
 use Rattle.hippo_commands.specs.Commands as commands
 use Rattle.hippo_report.specs.declared.refusal.Refusal.TheVariants.{JobLimit}
 use Rattle.hippo_world.specs.Holding.{world_of}
 use Rattle.hippo_world.specs.Worlds.{free_number}
-use Rattle.hippo_judging.specs.Checks.{Checked, ◌>>=◌}
+use Rattle.hippo_judging.specs.Checks.{Checked}
 use Rattle.hippo_report.specs.declared.speaker.Speaker.TheVariants.{Console}
 use Rattle.hippo_judging.specs.Deeds as deeds
 use Rattle.hippo_judging.specs.declared.deeds.Deed.{Deed}

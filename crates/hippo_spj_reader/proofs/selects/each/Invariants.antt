@@ -1,7 +1,7 @@
 -- What was made and what is left make the whole list.
 use Rattle.std.proofs.Common.{◌≡◌, ◌++◌, Some}
 use Rattle.std.specs.Vec.Iter.{into_iter_items}
-use Rattle.hippo_spj_reader.specs.Promises.{◌>>=◌}
+use Rattle.hippo_values.specs.Options.{◌>>=◌}
 use Rattle.hippo_spj_reader.specs.SelectFinder.{each_of}
 use Rattle.hippo_spj_reader.proofs.selects.each.Given as goal
 
