@@ -14,14 +14,14 @@ use hippo_spj_reader::{
     ColumnPart, Commas, NamePart, Part, after_keyword, after_where, expect_keyword, expect_symbol,
     list, name, split, whole, whole_condition,
 };
-use hippo_values::{Duplicate, Memory, Sequence, Txt};
+use hippo_values::{Memory, Sequence, Txt};
 use std::alloc::Global;
 
 fn quoted(alloc: Global, tokens: &[Token]) -> Result<(Txt, &[Token]), SyntaxFault>
     ensures { Reads leading_quoted tokens.now result }
 {
     match split(tokens) {
-        Some((TokenKind::Quoted(text), rest)) => Ok((text.copy(alloc)?, rest)),
+        Some((TokenKind::Quoted(text), rest)) => Ok((Txt::from_str(alloc, text.as_str())?, rest)),
         _ => Err(SyntaxFault::BadSyntax),
     }
 }

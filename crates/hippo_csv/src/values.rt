@@ -15,7 +15,7 @@ use crate::faults::CsvFault;
 use crate::fields::Fields;
 use hippo_model::{Cells, ColumnKind, Schema};
 use hippo_text_forms::read_day;
-use hippo_values::{DayNumber, Memory, Txt, Value};
+use hippo_values::{CellText, DayNumber, Memory, Value};
 use std::alloc::Global;
 
 fn without_sign(bytes: &[u8]) -> &[u8]
@@ -91,7 +91,7 @@ fn filled_value(alloc: Global, kind: ColumnKind, text: &str) -> Result<Option<Va
 {
     match kind {
         ColumnKind::Integer => Ok(integer_value(text)),
-        ColumnKind::Text => Ok(Some(Value::Text(Txt::from_str(alloc, text)?))),
+        ColumnKind::Text => Ok(Some(Value::Text(CellText::from_str(alloc, text)?))),
         ColumnKind::Date => Ok(day_value(text)),
     }
 }

@@ -148,7 +148,7 @@ fn write_question(act: &Act, text: &Txt, out: &mut Vec<u8>) -> Result<(), Memory
         ≡ out.old.items ++ (names_bytes act.now ++ text_bytes text.now)) }
 {
     write_names(act, out)?;
-    write_text(text, out)
+    write_text(text.as_str(), out)
 }
 
 fn write_rule(

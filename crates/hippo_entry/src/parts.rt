@@ -5,7 +5,7 @@ ghost use Rattle.hippo_model.specs.StoredForms.{number_bytes, signed_bytes, name
 ghost use Rattle.hippo_model.specs.StoredForms.{place_bytes, value_bytes, column_kind, column_bytes};
 
 use hippo_model::{Column, ColumnKind};
-use hippo_values::{Memory, Name, Sequence, Txt, Value};
+use hippo_values::{Memory, Name, Sequence, Value};
 
 /// A part of an entry that has bytes of its own.
 pub trait Part {
@@ -64,12 +64,12 @@ pub fn write_signed(number: i64, out: &mut Vec<u8>) -> Result<(), Memory>
 }
 
 /// Adds a text at the end, its length in front of it.
-pub fn write_text(text: &Txt, out: &mut Vec<u8>) -> Result<(), Memory>
+pub fn write_text(text: &str, out: &mut Vec<u8>) -> Result<(), Memory>
     ensures { OnOk result (out.new.items ≡ out.old.items ++ text_bytes text.now) }
 {
     let length = four_bytes(text.len())?;
     out.extend_from_slice(&length.to_be_bytes())?;
-    out.extend_from_slice(text.as_str().as_bytes())?;
+    out.extend_from_slice(text.as_bytes())?;
     Ok(())
 }
 
@@ -111,7 +111,7 @@ impl Part for Value {
             }
             Value::Text(text) => {
                 out.push(2)?;
-                write_text(text, out)
+                write_text(text.as_str(), out)
             }
             Value::Day(day) => {
                 out.push(3)?;

@@ -9,7 +9,7 @@ ghost use Rattle.hippo_entry.specs.Readings.{leading_stored_column, leading_sche
 
 use crate::fault::Fault;
 use hippo_model::{Column, ColumnKind, ItemKind, Schema};
-use hippo_values::{DayNumber, Name, Sequence, Txt, Value};
+use hippo_values::{CellText, DayNumber, Name, Sequence, Txt, Value};
 use std::alloc::Global;
 
 /// A part of an entry that can be read.
@@ -187,7 +187,7 @@ impl Readable for Value {
             }
             2 => {
                 let (text, rest) = read_text(alloc, rest)?;
-                Ok((Value::Text(text), rest))
+                Ok((Value::Text(CellText::from_str(alloc, text.as_str())?), rest))
             }
             3 => {
                 let (number, rest) = read_short(rest)?;

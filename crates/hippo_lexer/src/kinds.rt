@@ -1,5 +1,5 @@
 //! What a token says, and where it stands.
-use hippo_values::{DayNumber, Keyword, Name, Sequence, Txt};
+use hippo_values::{CellText, DayNumber, Keyword, Name, Sequence, Txt};
 
 /// A sign of one or two bytes.
 #[derive(Clone, Copy, Debug, PartialEq, Eq)]
@@ -29,7 +29,7 @@ pub enum TokenKind {
     Unsupported(Txt),
     Number(i64),
     /// The text between two `'`, in which each `''` stands for one `'`.
-    Quoted(Txt),
+    Quoted(CellText),
     Day(DayNumber),
     Symbol(Symbol),
 }

@@ -1,5 +1,5 @@
 //! The first token of a text by its kind: words, numbers, quoted texts, days and signs.
-ghost use Rattle.std.specs.Prelude.{◌≡◌, true, ◌+◌, ◌<◌, ◌≤◌, ◌^◌, length, drop, IfOk, IfSome};
+ghost use Rattle.std.specs.Prelude.{◌≡◌, true, ◌+◌, ◌++◌, ◌<◌, ◌≤◌, ◌^◌, length, drop, IfOk, IfSome};
 ghost use Rattle.std.specs.Char.{is_ascii_alphabetic};
 ghost use Rattle.hippo_values.specs.Names.{is_word_byte, is_word};
 ghost use Rattle.hippo_lexer.specs.Spelling.{is_blank, begins_with};
@@ -9,7 +9,7 @@ use crate::faults::LexFault;
 use crate::kinds::TokenKind;
 use crate::signs::sign_first;
 use hippo_text_forms::read_day;
-use hippo_values::{DayNumber, Keyword, Memory, Txt, Word, read_word};
+use hippo_values::{CellText, DayNumber, Keyword, Memory, Txt, Word, read_word};
 use std::alloc::Global;
 
 fn is_word_byte(byte: u8) -> bool
@@ -67,18 +67,30 @@ fn word_kind(alloc: Global, word: &str) -> Result<Option<TokenKind>, Memory>
     }
 }
 
+// A text whose last run is found.
+fn ended(alloc: Global, front: Txt, run: &str) -> Result<CellText, Memory>
+    ensures { IfOk result (λ text. text ≡ front ++ run.now) }
+{
+    if front.len() == 0 {
+        return CellText::from_str(alloc, run);
+    }
+    let mut text = front;
+    text.append(run)?;
+    CellText::from_str(alloc, text.as_str())
+}
+
 // Behind an opening quote: the text up to the closing one, and the length with that one.
-fn closing(alloc: Global, behind: &str) -> Result<Option<(Txt, usize)>, Memory>
+fn closing(alloc: Global, behind: &str) -> Result<Option<(CellText, usize)>, Memory>
     ensures found { IfOk result (λ found. found ≡ closing behind.now) }
     ensures within { IfOk result (λ found. IfSome found (λ quoted. quoted.1 ≤ length behind.now)) }
 {
     let mut text = Txt::new(alloc);
     let mut rest = behind;
     while let Some((run, after)) = rest.split_once('\'') {
-        text.append(run)?;
         match after.strip_prefix('\'') {
-            None => return Ok(Some((text, behind.len() - after.len()))),
+            None => return Ok(Some((ended(alloc, text, run)?, behind.len() - after.len()))),
             Some(next) => {
+                text.append(run)?;
                 text.append("'")?;
                 rest = next;
             }
@@ -89,7 +101,7 @@ fn closing(alloc: Global, behind: &str) -> Result<Option<(Txt, usize)>, Memory>
 
 // The text in quotes at the front, and its length with them.
 #[tactic(auto, unfolding(crate::specs::Cutting::quoted_first))]
-fn quoted_first(alloc: Global, text: &str) -> Result<Option<(Txt, usize)>, Memory>
+fn quoted_first(alloc: Global, text: &str) -> Result<Option<(CellText, usize)>, Memory>
     ensures found { IfOk result (λ found. found ≡ quoted_first text.now) }
     ensures within { IfOk result (λ found. IfSome found (λ quoted. quoted.1 ≤ length text.now)) }
 {
@@ -156,7 +168,7 @@ fn number_first(place: usize, text: &str) -> Result<(TokenKind, usize), LexFault
 }
 
 // The day that a text writes.
-fn day_of(text: &Txt) -> Option<DayNumber>
+fn day_of(text: &CellText) -> Option<DayNumber>
     ensures { result ≡ day_of text.now }
 {
     read_day(text.as_str())
@@ -168,7 +180,7 @@ fn day_of(text: &Txt) -> Option<DayNumber>
 fn day_first(
     place: usize,
     len: usize,
-    quoted: Txt,
+    quoted: CellText,
     quoted_len: usize,
 ) -> Result<(TokenKind, usize), LexFault>
     requires { len + quoted_len < 2 ^ 64 }
