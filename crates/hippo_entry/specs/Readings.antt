@@ -1,7 +1,7 @@
 -- How an entry is read from bytes, part by part. What is read from a body is its entry only where
 -- the bytes of that entry are the body: nothing here looks at what stands behind the last part.
 use Rattle.std.specs.Prelude.{◌≡◌, ℕ, zero, suc, ◌-◌, ◌==◌, ◌||◌, ℤ, Bool, true, false, nat_lt, List, [], ◌∷◌, length}
-use Rattle.std.specs.Prelude.{take, drop, Option, Some, None, option_and_then, if◌then◌else◌, Result, Ok, Err}
+use Rattle.std.specs.Prelude.{take, drop, Option, Some, None, if◌then◌else◌, Result, Ok, Err}
 use denote.Ref.{Bor}
 use Rattle.std.specs.Int.{Width, w32, w64, byte_len, from_be_bytes, cast_signed}
 use Rattle.std.specs.Str.{is_utf8}

@@ -1,5 +1,5 @@
 -- What a parsed number is.
-use Rattle.std.proofs.Common.{◌≡◌, ℕ, Bool, true, cond, List, [], ◌∷◌, Some, None, Result, Ok, Err, refl, arith, w64, ℤ, pos, neg_ℤ, int_le, inl, inr, rules}
+use Rattle.std.proofs.Common.{◌≡◌, ℕ, Bool, true, List, [], ◌∷◌, Result, Ok, Err, refl, arith, w64, ℤ, pos, neg_ℤ, int_le, inl, inr, rules}
 use Rattle.std.specs.Result.{result_ok, OkIff}
 use Rattle.std.specs.Bool.{then_some}
 use Rattle.std.specs.List.{list_all}
