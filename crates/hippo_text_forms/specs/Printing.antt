@@ -1,5 +1,5 @@
--- How a value is printed.
-use Rattle.std.specs.Prelude.{◌≡◌, ℕ, List, length, take, codes}
+-- How a value is printed, and what a printer does to a text.
+use Rattle.std.specs.Prelude.{◌≡◌, ℕ, ◌++◌, List, length, take, codes, Result, OnOk, OnErr}
 use Rattle.std.specs.Fmt.{signed_decimal}
 use Rattle.hippo_text_forms.specs.Dates.{day_text}
 use Rattle.hippo_text_forms.specs.Quoting.{quoted_text}
@@ -16,3 +16,9 @@ value_text (Day day) = day_text day
 -- the new text begins with the old one
 abbrev pub KeepsFront : List ℕ → List ℕ → Type 0
 KeepsFront old new = take (length old) new ≡ old
+
+-- a text is added behind the old one, which stays in front where the call fails
+pub record AddsText {A E : Type 0} (text : List ℕ) (result : Result A E) (old new : List ℕ)
+    : Type 0 where
+  pub ok : OnOk result (new ≡ old ++ text)
+  pub err : OnErr result (KeepsFront old new)

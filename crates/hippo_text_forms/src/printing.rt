@@ -2,7 +2,7 @@
 ghost use Rattle.std.specs.Prelude.{◌≡◌, ◌+◌, ◌≤◌, ◌++◌, length, IsOk, OnOk, OnErr};
 ghost use Rattle.std.specs.Fmt.{signed_decimal};
 ghost use Rattle.hippo_text_forms.specs.Dates.{day_text};
-ghost use Rattle.hippo_text_forms.specs.Printing.{value_text, KeepsFront};
+ghost use Rattle.hippo_text_forms.specs.Printing.{value_text, AddsText};
 ghost use Rattle.hippo_text_forms.specs.Quoting.{doubled_quotes, quoted_text};
 
 use crate::dates;
@@ -10,16 +10,14 @@ use hippo_values::{DayNumber, Memory, RoomyTxt, Value};
 use itoa::Buffer;
 
 fn append_integer<const ROOM: usize>(number: i64, out: &mut RoomyTxt<ROOM>) -> Result<(), Memory>
-    ensures ok { OnOk result (out.new ≡ out.old ++ signed_decimal number) }
-    ensures err { OnErr result (KeepsFront out.old out.new) }
+    ensures adds { AddsText (signed_decimal number) result out.old out.new }
     ensures room { length out.old + length (signed_decimal number) ≤ ROOM → IsOk result }
 {
     out.append(Buffer::new().format(number))
 }
 
 fn append_doubled<const ROOM: usize>(text: &str, out: &mut RoomyTxt<ROOM>) -> Result<(), Memory>
-    ensures ok { OnOk result (out.new ≡ out.old ++ doubled_quotes text.now) }
-    ensures err { OnErr result (KeepsFront out.old out.new) }
+    ensures adds { AddsText (doubled_quotes text.now) result out.old out.new }
     ensures room { length out.old + length (doubled_quotes text.now) ≤ ROOM → IsOk result }
 {
     let mut rest = text;
@@ -32,8 +30,7 @@ fn append_doubled<const ROOM: usize>(text: &str, out: &mut RoomyTxt<ROOM>) -> Re
 }
 
 fn append_quoted<const ROOM: usize>(text: &str, out: &mut RoomyTxt<ROOM>) -> Result<(), Memory>
-    ensures ok { OnOk result (out.new ≡ out.old ++ quoted_text text.now) }
-    ensures err { OnErr result (KeepsFront out.old out.new) }
+    ensures adds { AddsText (quoted_text text.now) result out.old out.new }
     ensures room { length out.old + length (quoted_text text.now) ≤ ROOM → IsOk result }
 {
     out.push('\'')?;
@@ -42,8 +39,7 @@ fn append_quoted<const ROOM: usize>(text: &str, out: &mut RoomyTxt<ROOM>) -> Res
 }
 
 fn append_day<const ROOM: usize>(day: DayNumber, out: &mut RoomyTxt<ROOM>) -> Result<(), Memory>
-    ensures ok { OnOk result (out.new ≡ out.old ++ day_text day) }
-    ensures err { OnErr result (KeepsFront out.old out.new) }
+    ensures adds { AddsText (day_text day) result out.old out.new }
     ensures room { length out.old + length (day_text day) ≤ ROOM → IsOk result }
 {
     match str::from_utf8(&dates::day_text(day)) {
@@ -53,8 +49,7 @@ fn append_day<const ROOM: usize>(day: DayNumber, out: &mut RoomyTxt<ROOM>) -> Re
 }
 
 fn append_value<const ROOM: usize>(value: &Value, out: &mut RoomyTxt<ROOM>) -> Result<(), Memory>
-    ensures ok { OnOk result (out.new ≡ out.old ++ value_text value.now) }
-    ensures err { OnErr result (KeepsFront out.old out.new) }
+    ensures adds { AddsText (value_text value.now) result out.old out.new }
     ensures room { length out.old + length (value_text value.now) ≤ ROOM → IsOk result }
 {
     match value {

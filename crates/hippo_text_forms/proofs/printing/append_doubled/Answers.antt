@@ -14,10 +14,13 @@ loop-before-preserved g c =
       front = KeepsFront-step _ c.loop-before.out c.in-Some.before.now c.append.new.self c.append-in-Some.new.self c.loop-before.invariant.front c.in_ok-append.ensures.ok c.in_ok-append-2.ensures.ok;
     }
 
-pub returns-clause-ok : goal.returns-clause-ok
-returns-clause-ok g c =
+pub returns-clause-adds : goal.returns-clause-adds
+returns-clause-adds g c =
     let none = split_parts 39 c.loop-before.rest.now None c.in_default.ensures.cases (omega arith) in
-    on_ok_weaker _ (doubled_quotes-last c.args.out.now c.args.text.now c.loop-before.out c.loop-before.rest.now _ c.loop-before.invariant.whole none) c.append-2.ensures.ok
+    record {
+      ok = on_ok_weaker _ (doubled_quotes-last c.args.out.now c.args.text.now c.loop-before.out c.loop-before.rest.now _ c.loop-before.invariant.whole none) c.append-2.ensures.ok;
+      err = search rules;
+    }
 
 pub returns-in_err-append-clause-room : goal.returns-in_err-append-clause-room
 returns-in_err-append-clause-room g c = λ fits.
