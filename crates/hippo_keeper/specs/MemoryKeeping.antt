@@ -1,10 +1,11 @@
 -- What a keeper in memory is, and what a call does to it.
-use Rattle.std.specs.Prelude.{◌≡◌, ℕ, Bool, true, false, not, ◌&&◌, ◌||◌, ◌==◌, List, [], ◌∷◌, ◌++◌, find, Option, option_map, is_ok, Result, if◌then◌else◌, ⊤}
+use Rattle.std.specs.Prelude.{◌≡◌, ℕ, ◌≤◌, Bool, true, false, not, ◌&&◌, ◌||◌, ◌==◌, List, [], ◌∷◌, ◌++◌, find, Option, option_map, is_some, is_ok, Result, IfOk, if◌then◌else◌, ⊤}
 use Rattle.std.specs.Option.{option_map_or}
 use Rattle.hippo_io.specs.Faults.{next_count}
 use Rattle.hippo_model.specs.declared.stored.StoredEntry.{StoredEntry}
 use Rattle.hippo_keeper.specs.Answering.{has_failed, wants_memory}
 use Rattle.hippo_keeper.specs.Keeping.{Store, Survivors, KeeperState}
+use Rattle.hippo_keeper.specs.Selecting.{IsHandedOver}
 use Rattle.hippo_keeper.specs.declared.faults.KeeperFail.{KeeperFail}
 use Rattle.hippo_keeper.specs.declared.faults.KeeperFault.{KeeperFault}
 
@@ -66,6 +67,16 @@ abbrev pub memory_after_append : {A : Type 0} → Result A KeeperFault → Store
     → MemoryStore
 memory_after_append result entry store =
     record (memory_after_answer result store) { kept = kept_after result entry store }
+
+-- what a read does: it fails just where the call is to fail, keeps what is kept, and answers what
+-- was asked for
+pub record ReadsInMemory (test : StoredEntry → Bool) (after max : ℕ)
+    (result : Result Store KeeperFault)
+    (old new : MemoryStore) : Type 0 where
+  pub store : new ≡ memory_after_answer result old
+  pub fails : has_failed result ≡ is_some (next_failure old)
+  pub faults : old.faults ≤ new.faults
+  pub read : IfOk result (IsHandedOver ⊤ test after max old.kept)
 
 -- what a start finds, whatever the name, and what survives a stop: the kept list
 abbrev pub FindsInMemory : MemoryStore → List ℕ → Store → Type 0

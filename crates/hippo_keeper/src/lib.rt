@@ -10,4 +10,5 @@ mod steps;
 pub use faults::{KeeperFail, KeeperFails, KeeperFault};
 pub use keeper::Keeper;
 pub use memory_keeper::MemoryKeeper;
+pub use selection::count_versions;
 pub use steps::Steps;

@@ -1,9 +1,9 @@
 //! A keeper in memory that tells what it keeps, and fails where it is told to.
-ghost use Rattle.std.specs.Prelude.{◌≡◌, ℕ, ◌+◌, ◌≤◌, true, false, List, [], filter, Some, is_some, nat_lt, IfOk, OnOk, OnErr, ⊤};
+ghost use Rattle.std.specs.Prelude.{◌≡◌, ℕ, ◌+◌, ◌≤◌, true, false, List, [], filter, Some, is_some, nat_lt, OnOk, OnErr};
 ghost use Rattle.hippo_keeper.specs.Answering.{has_failed, wants_memory};
 ghost use Rattle.hippo_keeper.specs.Keeping.{Store, RisesAbove, next_number};
-ghost use Rattle.hippo_keeper.specs.MemoryKeeping.{new_store, next_failure, memory_after_call, memory_after_fault, memory_after_answer, memory_after_start, memory_after_append, with_entry, FindsInMemory, SurvivesInMemory, memory_keeper_state};
-ghost use Rattle.hippo_keeper.specs.Selecting.{is_any, is_stored_version_of, was_asked_in, is_selected, versions_read, IsHandedOver};
+ghost use Rattle.hippo_keeper.specs.MemoryKeeping.{new_store, next_failure, memory_after_call, memory_after_fault, memory_after_start, memory_after_append, with_entry, ReadsInMemory, FindsInMemory, SurvivesInMemory, memory_keeper_state};
+ghost use Rattle.hippo_keeper.specs.Selecting.{is_any, is_stored_version_of, was_asked_in, is_selected, versions_read};
 
 use crate::faults::{KeeperFails, KeeperFault};
 use crate::keeper::Keeper;
@@ -125,11 +125,8 @@ impl MemoryKeeper {
         after: u64,
         max: u64,
     ) -> Result<StoredList, KeeperFault>
-        ensures store { self.new ≡ memory_after_answer result self.old }
-        ensures fails { has_failed result ≡ is_some (next_failure self.old) }
-        ensures faults { self.old.faults ≤ self.new.faults }
-        ensures read { IfOk result (IsHandedOver ⊤ (is_selected selection.now) after max
-            self.old.kept) }
+        ensures reads { ReadsInMemory (is_selected selection.now) after max result self.old
+            self.new }
     {
         if self.begin_call().is_some() {
             return Err(self.fail());
@@ -197,10 +194,7 @@ impl Keeper for MemoryKeeper {
         max: u64,
         steps: &mut Steps<L>,
     ) -> Result<StoredList, KeeperFault>
-        ensures store { self.new ≡ memory_after_answer result self.old }
-        ensures fails { has_failed result ≡ is_some (next_failure self.old) }
-        ensures faults { self.old.faults ≤ self.new.faults }
-        ensures read { IfOk result (IsHandedOver ⊤ is_any after max self.old.kept) }
+        ensures reads { ReadsInMemory is_any after max result self.old self.new }
         ensures steps { steps.new ≡ steps.old + versions_read result }
     {
         let list = self.read(alloc, &Selection::All, after, max)?;
@@ -216,11 +210,8 @@ impl Keeper for MemoryKeeper {
         max: u64,
         steps: &mut Steps<L>,
     ) -> Result<StoredList, KeeperFault>
-        ensures store { self.new ≡ memory_after_answer result self.old }
-        ensures fails { has_failed result ≡ is_some (next_failure self.old) }
-        ensures faults { self.old.faults ≤ self.new.faults }
-        ensures read { IfOk result (IsHandedOver ⊤ (is_stored_version_of table.now) after max
-            self.old.kept) }
+        ensures reads { ReadsInMemory (is_stored_version_of table.now) after max result self.old
+            self.new }
         ensures steps { steps.new ≡ steps.old + versions_read result }
     {
         let list = self.read(alloc, &Selection::VersionsOf(table.as_str()), after, max)?;
@@ -236,10 +227,7 @@ impl Keeper for MemoryKeeper {
         after: u64,
         max: u64,
     ) -> Result<StoredList, KeeperFault>
-        ensures store { self.new ≡ memory_after_answer result self.old }
-        ensures fails { has_failed result ≡ is_some (next_failure self.old) }
-        ensures faults { self.old.faults ≤ self.new.faults }
-        ensures read { IfOk result (IsHandedOver ⊤ (was_asked_in from to) after max self.old.kept) }
+        ensures reads { ReadsInMemory (was_asked_in from to) after max result self.old self.new }
     {
         self.read(alloc, &Selection::AskedIn(from, to), after, max)
     }

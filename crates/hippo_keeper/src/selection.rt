@@ -70,7 +70,7 @@ pub(crate) fn select(
 }
 
 /// One step for each version among the entries.
-pub(crate) fn count_versions<L: Ledger>(entries: &[StoredEntry], steps: &mut Steps<L>)
+pub fn count_versions<L: Ledger>(entries: &[StoredEntry], steps: &mut Steps<L>)
     ensures { steps.new ≡ steps.old + stored_versions entries.now }
 {
     for entry in entries {
