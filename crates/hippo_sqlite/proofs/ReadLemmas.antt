@@ -8,41 +8,24 @@ use Rattle.sqlite_value.specs.Order.{Row}
 use Rattle.sqlite_trees.specs.Tree.{IsAscending}
 use Rattle.sqlite_trees.specs.Objects.{number_in}
 use Rattle.sqlite_keyed.proofs.ListLemmas.{ascending-filter}
-use Rattle.sqlite_sql.specs.Term.{col}
-use Rattle.sqlite.specs.Listing.{understood}
 use Rattle.sqlite.specs.State.{State, Shown}
-use Rattle.sqlite.proofs.Callers.{IsPlain, reads_as}
+use Rattle.sqlite.proofs.Callers.{reads_as}
 use Rattle.hippo_model.specs.declared.stored.StoredEntry.{StoredEntry}
 use Rattle.hippo_keeper.specs.Selecting.{handed_over}
 use Rattle.hippo_sqlite.specs.declared.statements.Question.{Question}
-use Rattle.hippo_sqlite.specs.declared.statements.Question.TheVariants.{All, VersionsOf, AskedIn}
-use Rattle.hippo_sqlite.specs.Queries.{read_sql, params_of, test_of, all_sql, versions_sql, questions_sql}
+use Rattle.hippo_sqlite.specs.Queries.{read_sql, params_of, test_of}
 use Rattle.hippo_sqlite.specs.Tables.{HistoryRow, stored_row, shown_row, entry_in, entries_in, AreInOrder, AreAbove, history_schema}
-use Rattle.hippo_sqlite.proofs.TextLemmas.{query, select, all_terms, backlog_terms, asked_terms, all_is, backlog_is, asked_is, all_plain, backlog_plain, asked_plain, all_reads, backlog_reads, asked_reads}
+use Rattle.hippo_sqlite.proofs.TextLemmas.{query, select, terms_of, limit_of, read_is, read_plain, no_listing}
 use Rattle.hippo_sqlite.proofs.OrderLemmas.{handed}
 use Rattle.hippo_sqlite.proofs.SelectLemmas.{shows}
-use Rattle.hippo_sqlite.proofs.TestLemmas.{all_passes, backlog_passes, asked_passes}
-
-pub question_plain : (question : Question) → IsPlain (understood history_schema (read_sql question))
-question_plain All = all_plain
-question_plain (VersionsOf table) = backlog_plain
-question_plain (AskedIn from to) = asked_plain
-
--- the rows that a read is about
-abbrev pub passes : Question → ℕ → HistoryRow → Bool
-passes question after row = nat_lt after (entry_in (stored_row row)).seq && test_of question (entry_in (stored_row row))
+use Rattle.hippo_sqlite.proofs.TestLemmas.{passes, passes_terms, limit_is}
 
 pub shown_is : (question : Question) (old new : State) (after max : ℕ) (rows : List HistoryRow) (found : List Row) → old.now.schema ≡ history_schema → old.now.trees 0 ≡ map stored_row rows → AreInOrder rows
     → Shown (read_sql question) (params_of question after max) old new found → found ≡ take max (map shown_row (filter (passes question after) rows))
-shown_is All old new after max rows found schema are order shown =
-    let read = reads_as all_sql (params_of All after max) old new history_schema schema (select (query all_terms (col 0 1))) all_is all_plain all_reads found shown in
-    shows all_terms (col 0 1) (params_of All after max) old.now.trees max (passes All after) rows found are order.rise (all_passes after max) refl (read.answer Null)
-shown_is (VersionsOf table) old new after max rows found schema are order shown =
-    let read = reads_as versions_sql (params_of (VersionsOf table) after max) old new history_schema schema (select (query backlog_terms (col 0 2))) backlog_is backlog_plain backlog_reads found shown in
-    shows backlog_terms (col 0 2) (params_of (VersionsOf table) after max) old.now.trees max (passes (VersionsOf table) after) rows found are order.rise (backlog_passes table.now after max) refl (read.answer Null)
-shown_is (AskedIn from to) old new after max rows found schema are order shown =
-    let read = reads_as questions_sql (params_of (AskedIn from to) after max) old new history_schema schema (select (query asked_terms (col 0 3))) asked_is asked_plain asked_reads found shown in
-    shows asked_terms (col 0 3) (params_of (AskedIn from to) after max) old.now.trees max (passes (AskedIn from to) after) rows found are order.rise (asked_passes from to after max) refl (read.answer Null)
+shown_is question old new after max rows found schema are order shown =
+    let params = params_of question after max in
+    let read = reads_as (read_sql question) params old new history_schema schema (select (query (terms_of question) (limit_of question))) (read_is question) (read_plain question) (no_listing question) found shown in
+    shows (terms_of question) (limit_of question) params old.now.trees max (passes question after) rows found are order.rise (passes_terms question after max) (limit_is question after max) (read.answer Null)
 
 -- ---- the rows that are shown are above the number, in order
 

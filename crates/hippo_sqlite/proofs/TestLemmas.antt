@@ -12,10 +12,12 @@ use Rattle.sqlite_sql.specs.declared.ops.BinaryOp.TheVariants.{Compare}
 use Rattle.sqlite_sql.specs.declared.ops.CompareOp.{CompareOp}
 use Rattle.sqlite_sql.specs.declared.ops.CompareOp.TheVariants.{Eq, Ge, Gt, Le}
 use Rattle.sqlite_sql.specs.Ops.{binary, is_true, from_truth, test}
-use Rattle.sqlite_sql.specs.Term.{holds}
-use Rattle.hippo_keeper.specs.Selecting.{is_any, is_stored_version_of, was_asked_in}
+use Rattle.sqlite_sql.specs.Term.{eval, holds}
 use Rattle.hippo_sqlite.specs.Tables.{HistoryRow, stored_row, kind_in, entry_in}
-use Rattle.hippo_sqlite.proofs.TextLemmas.{all_terms, backlog_terms, asked_terms}
+use Rattle.hippo_sqlite.specs.declared.statements.Question.{Question}
+use Rattle.hippo_sqlite.specs.declared.statements.Question.TheVariants.{All, VersionsOf, AskedIn}
+use Rattle.hippo_sqlite.specs.Queries.{params_of, test_of}
+use Rattle.hippo_sqlite.proofs.TextLemmas.{terms_of, limit_of}
 
 truth_of : (b : Bool) → is_true (from_truth (Rattle.std.proofs.Common.Some b)) ≡ b
 truth_of true = refl
@@ -82,25 +84,22 @@ moved true false c false = refl
 moved false b c true = refl
 moved false b c false = refl
 
-abbrev pub passes_all : ℕ → HistoryRow → Bool
-passes_all after row = nat_lt after (entry_in (stored_row row)).seq && is_any (entry_in (stored_row row))
+-- the rows that a read is about
+abbrev pub passes : Question → ℕ → HistoryRow → Bool
+passes question after row = nat_lt after (entry_in (stored_row row)).seq && test_of question (entry_in (stored_row row))
 
-abbrev pub passes_backlog : List ℕ → ℕ → HistoryRow → Bool
-passes_backlog table after row = nat_lt after (entry_in (stored_row row)).seq && is_stored_version_of table (entry_in (stored_row row))
-
-abbrev pub passes_asked : ℤ → ℤ → ℕ → HistoryRow → Bool
-passes_asked from to after row = nat_lt after (entry_in (stored_row row)).seq && was_asked_in from to (entry_in (stored_row row))
-
-pub all_passes : (after max : ℕ) (row : HistoryRow) → list_all (holds ((Int (pos after) ∷ Int (pos max) ∷ []) ∷ stored_row row ∷ [])) all_terms ≡ passes_all after row
-all_passes after max row = λ i. (compare_int Gt row.number (pos after) ∙ is_above row.number after) i && true
-
-pub backlog_passes : (table : List ℕ) (after max : ℕ) (row : HistoryRow) → list_all (holds ((Text table ∷ Int (pos after) ∷ Int (pos max) ∷ []) ∷ stored_row row ∷ [])) backlog_terms ≡ passes_backlog table after row
-backlog_passes table after max row =
-    (λ i. compare_text row.table table i && (compare_int Ge row.kind (pos 2) i && (compare_int Le row.kind (pos 4) i && ((compare_int Gt row.number (pos after) ∙ is_above row.number after) i && true))))
-    ∙ turned (bytes_eq row.table table) (is_ge (int_cmp row.kind (pos 2))) (is_le (int_cmp row.kind (pos 4))) (nat_lt after (number_in (Int row.number)))
-    ∙ ap (λ version. nat_lt after (number_in (Int row.number)) && (version && bytes_eq row.table table)) (is_version row.kind)
-
-pub asked_passes : (from to : ℤ) (after max : ℕ) (row : HistoryRow) → list_all (holds ((Int from ∷ Int to ∷ Int (pos after) ∷ Int (pos max) ∷ []) ∷ stored_row row ∷ [])) asked_terms ≡ passes_asked from to after row
-asked_passes from to after max row =
+pub passes_terms : (question : Question) (after max : ℕ) (row : HistoryRow) → list_all (holds (params_of question after max ∷ stored_row row ∷ [])) (terms_of question) ≡ passes question after row
+passes_terms All after max row = λ i. (compare_int Gt row.number (pos after) ∙ is_above row.number after) i && true
+passes_terms (VersionsOf table) after max row =
+    (λ i. compare_text row.table table.now i && (compare_int Ge row.kind (pos 2) i && (compare_int Le row.kind (pos 4) i && ((compare_int Gt row.number (pos after) ∙ is_above row.number after) i && true))))
+    ∙ turned (bytes_eq row.table table.now) (is_ge (int_cmp row.kind (pos 2))) (is_le (int_cmp row.kind (pos 4))) (nat_lt after (number_in (Int row.number)))
+    ∙ ap (λ version. nat_lt after (number_in (Int row.number)) && (version && bytes_eq row.table table.now)) (is_version row.kind)
+passes_terms (AskedIn from to) after max row =
     (λ i. (compare_int Eq row.kind (pos 13) ∙ is_question row.kind) i && ((compare_int Ge row.moment from ∙ reaches row.moment from) i && ((compare_int Le row.moment to ∙ within row.moment to) i && ((compare_int Gt row.number (pos after) ∙ is_above row.number after) i && true))))
     ∙ moved (kind_in (Int row.kind) == 13) (int_le from row.moment) (int_le row.moment to) (nat_lt after (number_in (Int row.number)))
+
+-- how many rows it may show
+pub limit_is : (question : Question) (after max : ℕ) → eval (limit_of question) (params_of question after max ∷ []) ≡ Int (pos max)
+limit_is All after max = refl
+limit_is (VersionsOf table) after max = refl
+limit_is (AskedIn from to) after max = refl

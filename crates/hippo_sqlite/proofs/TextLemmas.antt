@@ -14,7 +14,9 @@ use Rattle.sqlite_resolve.specs.Compile.{table_defined_by}
 use Rattle.sqlite_tied.specs.Compute.{everything}
 use Rattle.sqlite.specs.Listing.{understood, reads_listing}
 use Rattle.sqlite.proofs.Callers.{IsPlain, command_of, statement_of}
-use Rattle.hippo_sqlite.specs.Queries.{create_sql, insert_sql, all_sql, versions_sql, questions_sql}
+use Rattle.hippo_sqlite.specs.declared.statements.Question.{Question}
+use Rattle.hippo_sqlite.specs.declared.statements.Question.TheVariants.{All, VersionsOf, AskedIn}
+use Rattle.hippo_sqlite.specs.Queries.{create_sql, insert_sql, read_sql}
 use Rattle.hippo_sqlite.specs.Tables.{history_table, history_schema, empty_schema}
 
 pub create_is : (command_of (understood empty_schema create_sql) ≡ CreateTable) × (table_defined_by create_sql ≡ Ok history_table)
@@ -54,30 +56,39 @@ pub insert_is : command_of (understood history_schema insert_sql) ≡ Insert 0 (
 unfolding understood everything
 insert_is = refl
 
-abbrev pub all_terms : List Term
-all_terms = compared (Compare Gt Binary) 0 0 ∷ []
-
-abbrev pub backlog_terms : List Term
-backlog_terms =
+-- what a read filters by, and which parameter says how many rows it may show
+abbrev pub terms_of : Question → List Term
+terms_of All = compared (Compare Gt Binary) 0 0 ∷ []
+terms_of (VersionsOf table) =
     compared (Compare Eq Binary) 4 0 ∷ op2 (Compare Ge Binary) (col 1 3) (lit (Int (pos 2))) ∷ op2 (Compare Le Binary) (col 1 3) (lit (Int (pos 4)))
     ∷ compared (Compare Gt Binary) 0 1 ∷ []
-
-abbrev pub asked_terms : List Term
-asked_terms =
+terms_of (AskedIn from to) =
     op2 (Compare Eq Binary) (col 1 3) (lit (Int (pos 13))) ∷ compared (Compare Ge Binary) 2 0 ∷ compared (Compare Le Binary) 2 1
     ∷ compared (Compare Gt Binary) 0 2 ∷ []
 
-pub all_is : command_of (understood history_schema all_sql) ≡ select (query all_terms (col 0 1))
-unfolding understood everything
-all_is = refl
+abbrev pub limit_of : Question → Term
+limit_of All = col 0 1
+limit_of (VersionsOf table) = col 0 2
+limit_of (AskedIn from to) = col 0 3
 
-pub backlog_is : command_of (understood history_schema versions_sql) ≡ select (query backlog_terms (col 0 2))
+-- each read is this query, is plain, and reads no listing
+pub read_is : (question : Question) → command_of (understood history_schema (read_sql question)) ≡ select (query (terms_of question) (limit_of question))
 unfolding understood everything
-backlog_is = refl
+read_is All = refl
+read_is (VersionsOf table) = refl
+read_is (AskedIn from to) = refl
 
-pub asked_is : command_of (understood history_schema questions_sql) ≡ select (query asked_terms (col 0 3))
+pub read_plain : (question : Question) → IsPlain (understood history_schema (read_sql question))
 unfolding understood everything
-asked_is = refl
+read_plain All = (refl, refl)
+read_plain (VersionsOf table) = (refl, refl)
+read_plain (AskedIn from to) = (refl, refl)
+
+pub no_listing : (question : Question) → reads_listing history_schema (read_sql question) ≡ false
+unfolding understood everything
+no_listing All = refl
+no_listing (VersionsOf table) = refl
+no_listing (AskedIn from to) = refl
 
 pub create_plain : IsPlain (understood empty_schema create_sql)
 unfolding understood everything
@@ -94,27 +105,3 @@ statement_is = refl
 pub insert_plain : IsPlain (understood history_schema insert_sql)
 unfolding understood everything
 insert_plain = (refl, refl)
-
-pub all_plain : IsPlain (understood history_schema all_sql)
-unfolding understood everything
-all_plain = (refl, refl)
-
-pub backlog_plain : IsPlain (understood history_schema versions_sql)
-unfolding understood everything
-backlog_plain = (refl, refl)
-
-pub asked_plain : IsPlain (understood history_schema questions_sql)
-unfolding understood everything
-asked_plain = (refl, refl)
-
-pub all_reads : reads_listing history_schema all_sql ≡ false
-unfolding understood everything
-all_reads = refl
-
-pub backlog_reads : reads_listing history_schema versions_sql ≡ false
-unfolding understood everything
-backlog_reads = refl
-
-pub asked_reads : reads_listing history_schema questions_sql ≡ false
-unfolding understood everything
-asked_reads = refl

@@ -1,5 +1,5 @@
 //! The entries that rows of the table stand for.
-ghost use Rattle.std.specs.Prelude.{◌≡◌, ℕ, ◌+◌, ◌≤◌, ◌<◌, ℤ, pos, List, length, map, Some, option_copied, IfOk, IfSome};
+ghost use Rattle.std.specs.Prelude.{◌≡◌, ℕ, ◌≤◌, ◌<◌, ℤ, pos, List, length, map, Some, option_copied, IfOk, IfSome};
 ghost use Rattle.std.specs.declared.cmp.Ordering.TheVariants.{Less};
 ghost use Rattle.std.specs.List.{AllByRecursion};
 ghost use Rattle.std.specs.Ordering.{int_cmp};
@@ -7,24 +7,15 @@ ghost use Rattle.sqlite_value.specs.declared.value.Value.TheVariants.{Int, Text,
 ghost use Rattle.sqlite_value.specs.Order.{column};
 ghost use Rattle.sqlite_trees.specs.Objects.{number_in};
 ghost use Rattle.hippo_keeper.specs.Keeping.{RisesAbove};
-ghost use Rattle.hippo_keeper.specs.Selecting.{is_stored_version, stored_versions};
 ghost use Rattle.hippo_sqlite.specs.Tables.{HistoryRow, shown_row, stored_row, entry_in, kind_in, AreInOrder, AreAbove};
 
-use hippo_keeper::{KeeperFault, Steps};
+use hippo_keeper::KeeperFault;
 use hippo_model::{StoredEntry, StoredList};
 use hippo_values::{Bytes, Memory, Txt};
 use sqlite::Row;
 use sqlite::types::ValueRef;
 use std::alloc::Global;
 use std::str;
-use std::sync::ledger::Ledger;
-
-// The kinds of the entries that insert, update or delete a row.
-const INSERT: u8 = 2;
-
-const UPDATE: u8 = 3;
-
-const DELETE: u8 = 4;
 
 /// Why rows give no entries.
 #[derive(Clone, Copy, Debug)]
@@ -156,22 +147,4 @@ pub(crate) fn entries_of(
         last = number;
     }
     Ok(list)
-}
-
-// Whether an entry inserts, updates or deletes a row.
-fn is_version(entry: &StoredEntry) -> bool
-    ensures { result ≡ is_stored_version entry.now }
-{
-    matches!(entry.kind, INSERT | UPDATE | DELETE)
-}
-
-/// One step for each version among the entries.
-pub(crate) fn count_versions<L: Ledger>(entries: &[StoredEntry], steps: &mut Steps<L>)
-    ensures { steps.new ≡ steps.old + stored_versions entries.now }
-{
-    for entry in entries {
-        if is_version(entry) {
-            steps.tick();
-        }
-    }
 }

@@ -5,17 +5,17 @@ ghost use Rattle.sqlite.specs.Held.{state};
 ghost use Rattle.hippo_keeper.specs.Answering.{has_failed};
 ghost use Rattle.hippo_keeper.specs.Keeping.{RisesAbove, next_number};
 ghost use Rattle.hippo_keeper.specs.Selecting.{handed_over, is_any, is_stored_version_of, was_asked_in, versions_read};
-ghost use Rattle.hippo_sqlite.specs.Contents.{AppendsTo, LooksAtStore, HasRead};
+ghost use Rattle.hippo_sqlite.specs.Contents.{AppendsTo, HasRead};
 ghost use Rattle.hippo_sqlite.specs.Links.{linked_contents, link_contents};
 ghost use Rattle.hippo_sqlite.specs.Outcomes.{HasExecuted, HasLooked, IsLinked};
 ghost use Rattle.hippo_sqlite.specs.Queries.{insert_sql, read_sql, params_of, test_of};
 ghost use Rattle.hippo_sqlite.specs.Standings.{IsStarted};
 ghost use Rattle.hippo_sqlite.specs.Tables.{HistoryRow, row_of, values_of, stored_row, entries_in, AreInOrder, history_schema, is_foreign};
 
-use crate::entries::{count_versions, entries_of};
+use crate::entries::entries_of;
 use crate::standing::fault_of;
 use crate::statements::{Question, create_history, insert, select};
-use hippo_keeper::{Keeper, KeeperFails, KeeperFault, MemoryKeeper, Steps};
+use hippo_keeper::{Keeper, KeeperFails, KeeperFault, MemoryKeeper, Steps, count_versions};
 use hippo_model::{StoredEntry, StoredList};
 use hippo_values::{Moment, Name};
 use sqlite::{Alter, Connection};
@@ -180,13 +180,8 @@ impl<S: Alter + Drop> Linked<S> {
     ) -> Result<StoredList, KeeperFault>
         requires limit { max ≤ 1000 }
         requires rests { (linked_contents S.Store self.old).rests }
-        ensures few { IfOk result (λ list. length list ≤ max) }
-        ensures order { IfOk result (RisesAbove after) }
-        ensures looks { LooksAtStore result (linked_contents S.Store self.old)
+        ensures { HasRead (test_of question.now) after max result (linked_contents S.Store self.old)
             (linked_contents S.Store self.new) }
-        ensures told { IfOk result (λ list. (linked_contents S.Store self.new).tells
-            → list ≡ handed_over (test_of question.now) after max
-            (linked_contents S.Store self.old).kept) }
     {
         if after >= NUMBERS {
             return Ok(StoredList::new(alloc));
@@ -255,7 +250,6 @@ impl<S: Alter + Drop> Link<S> {
         max: u64,
         steps: &mut Steps<L>,
     ) -> Result<StoredList, KeeperFault>
-        requires some { 0 < max }
         requires limit { max ≤ 1000 }
         requires rests { (link_contents S.Store self.old).rests }
         ensures reads { HasRead is_any after max result (link_contents S.Store self.old)
@@ -278,7 +272,6 @@ impl<S: Alter + Drop> Link<S> {
         max: u64,
         steps: &mut Steps<L>,
     ) -> Result<StoredList, KeeperFault>
-        requires some { 0 < max }
         requires limit { max ≤ 1000 }
         requires rests { (link_contents S.Store self.old).rests }
         ensures reads { HasRead (is_stored_version_of table.now) after max result
@@ -306,7 +299,6 @@ impl<S: Alter + Drop> Link<S> {
         after: u64,
         max: u64,
     ) -> Result<StoredList, KeeperFault>
-        requires some { 0 < max }
         requires limit { max ≤ 1000 }
         requires rests { (link_contents S.Store self.old).rests }
         ensures reads { HasRead (was_asked_in from to) after max result

@@ -1,44 +1,43 @@
 -- What the query did changes nothing that is told, and its entries are those of the history.
-use Rattle.std.proofs.Common.{◌∙◌, sym, ap, subst₂, arith}
+use Rattle.std.proofs.Common.{◌∙◌, sym, ap, subst₂, arith, rules}
 use Rattle.hippo_keeper.specs.Selecting.{handed_over}
 use Rattle.hippo_sqlite.specs.Contents.{LooksAtStore, connection_contents}
 use Rattle.hippo_sqlite.specs.Links.{linked_contents}
 use Rattle.hippo_sqlite.specs.Queries.{read_sql, params_of, test_of}
 use Rattle.hippo_sqlite.proofs.ContentsLemmas.{look_linked, look_away, told_history, ok_weaker}
 use Rattle.hippo_sqlite.proofs.OrderLemmas.{none_handed}
-use Rattle.hippo_sqlite.proofs.ReadLemmas.{question_plain}
+use Rattle.hippo_sqlite.proofs.TextLemmas.{read_plain}
 use Rattle.hippo_sqlite.proofs.link.Linked.read.Goals as goal
 
-pub returns-then-after-ge-NUMBERS-clause-looks : goal.returns-then-after-ge-NUMBERS-clause-looks
-returns-then-after-ge-NUMBERS-clause-looks g c =
+pub returns-then-after-ge-NUMBERS : goal.returns-then-after-ge-NUMBERS
+returns-then-after-ge-NUMBERS g c =
     let old = c.args.self.now in
-    look_away g.S.Store g.met.S.Store.settled g.met.S.Store.stays g.met.S.Store.survives old.connection old.connection old.opened.value old.told.value old.told.value c.requires.rests c.new.result
+    let question = c.args.question.now in
+    record {
+      few = search rules;
+      order = search rules;
+      looks = look_away g.S.Store g.met.S.Store.settled g.met.S.Store.stays g.met.S.Store.survives old.connection old.connection old.opened.value old.told.value old.told.value c.requires.rests c.new.result;
+      told = λ tells.
+          let h = told_history g.S.Store g.met.S.Store.settled g.met.S.Store.stays g.met.S.Store.survives old.connection old.connection old.opened.value old.told.value old.told.value c.requires.rests tells in
+          c.new.ensures ∙ none_handed (test_of question) c.args.after c.args.max h.0.rows (omega (arith, c.if-after-ge-NUMBERS.true)) h.0.order
+          ∙ ap (handed_over (test_of question) c.args.after c.args.max) (sym h.1);
+    }
 
-pub returns-then-after-ge-NUMBERS-clause-told : goal.returns-then-after-ge-NUMBERS-clause-told
-returns-then-after-ge-NUMBERS-clause-told g c tells =
-    let old = c.args.self.now in
-    let h = told_history g.S.Store g.met.S.Store.settled g.met.S.Store.stays g.met.S.Store.survives old.connection old.connection old.opened.value old.told.value old.told.value c.requires.rests tells in
-    c.new.ensures ∙ none_handed (test_of c.args.question.now) c.args.after c.args.max h.0.rows (omega (arith, c.if-after-ge-NUMBERS.true)) h.0.order
-    ∙ ap (handed_over (test_of c.args.question.now) c.args.after c.args.max) (sym h.1)
-
-pub returns-clause-looks : goal.returns-clause-looks
-returns-clause-looks g c =
+pub returns : goal.returns
+returns g c =
     let old = c.args.self.now in
     let new = c.note.new.self in
     let question = c.args.question.now in
+    let found = c.find-answer.ensures in
     let done = look_linked g.S.Store g.met.S.Store.settled g.met.S.Store.stays g.met.S.Store.survives old.connection c.find-answer.new.connection old.opened.value old.told.value new.told.value c.requires.rests
-    (read_sql question) (params_of question c.args.after c.args.max) c.find-answer.result (question_plain question) c.find-answer.ensures.survives c.find-answer.ensures.looked c.note.ensures.told in
-    subst₂ (λ now opened. LooksAtStore c.find-answer.result (linked_contents g.S.Store old) (connection_contents g.S.Store now new.told.value opened.value))
-    (sym c.note.ensures.connection) (sym c.note.ensures.opened) done
-
-pub returns-clause-told : goal.returns-clause-told
-returns-clause-told g c =
-    let old = c.args.self.now in
-    let new = c.note.new.self in
-    let question = c.args.question.now in
-    let done = look_linked g.S.Store g.met.S.Store.settled g.met.S.Store.stays g.met.S.Store.survives old.connection c.find-answer.new.connection old.opened.value old.told.value new.told.value c.requires.rests
-    (read_sql question) (params_of question c.args.after c.args.max) c.find-answer.result (question_plain question) c.find-answer.ensures.survives c.find-answer.ensures.looked c.note.ensures.told in
-    ok_weaker c.find-answer.result _ _ (λ list told tells.
-    let still = subst₂ (λ now opened. (connection_contents g.S.Store now new.told.value opened.value).tells) c.note.ensures.connection c.note.ensures.opened tells in
-    let h = told_history g.S.Store g.met.S.Store.settled g.met.S.Store.stays g.met.S.Store.survives old.connection old.connection old.opened.value old.told.value old.told.value c.requires.rests (done.on.told still) in
-    told still.0 h.0.rows h.0.schema h.0.are h.0.order ∙ ap (handed_over (test_of question) c.args.after c.args.max) (sym h.1)) c.find-answer.ensures.told
+    (read_sql question) (params_of question c.args.after c.args.max) c.find-answer.result (read_plain question) found.survives found.looked c.note.ensures.told in
+    record {
+      few = found.few;
+      order = found.order;
+      looks = subst₂ (λ now opened. LooksAtStore c.find-answer.result (linked_contents g.S.Store old) (connection_contents g.S.Store now new.told.value opened.value))
+          (sym c.note.ensures.connection) (sym c.note.ensures.opened) done;
+      told = ok_weaker c.find-answer.result _ _ (λ list told tells.
+          let still = subst₂ (λ now opened. (connection_contents g.S.Store now new.told.value opened.value).tells) c.note.ensures.connection c.note.ensures.opened tells in
+          let h = told_history g.S.Store g.met.S.Store.settled g.met.S.Store.stays g.met.S.Store.survives old.connection old.connection old.opened.value old.told.value old.told.value c.requires.rests (done.on.told still) in
+          told still.0 h.0.rows h.0.schema h.0.are h.0.order ∙ ap (handed_over (test_of question) c.args.after c.args.max) (sym h.1)) found.told;
+    }
