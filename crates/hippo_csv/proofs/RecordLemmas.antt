@@ -1,13 +1,14 @@
 -- Records: the fields of one, in turn, and how a text that is just one is read.
 use Rattle.std.proofs.Common.{◌≡◌, ℕ, zero, suc, ◌+◌, List, [], ◌∷◌, ◌++◌, length, take, Option, Some, None, ◌∙◌, refl, sym, ap, arith, true, false}
 use Rattle.csv.specs.Machine.{next_record}
-use Rattle.csv.specs.Reading.{default_config, records, records_from, records_next, Reached, ReadRecord, source_of, reader_config, reader_state}
+use Rattle.csv.specs.Reading.{default_config, records, records_from, records_next, Reached, ReadRecord, source_of, reader_state}
 use Rattle.csv.specs.Records.{field_at}
 use Rattle.csv.specs.declared.parser.State.{State}
 use Rattle.csv.specs.declared.reader.Reader.{Reader}
 use Rattle.csv.proofs.ReadFacts.{rows-end, rows-more}
 use Rattle.csv.specs.declared.parser.State.TheVariants as st
 use Rattle.hippo_csv.specs.Records.{only_member}
+use Rattle.hippo_csv.specs.Extracting.{IsAtStart}
 
 -- the fields up to a place and the one there are those up to the next place
 pub one_field_more : (fields : List (List ℕ)) (place : ℕ) (field : List ℕ) → field_at fields place ≡ Some field
@@ -54,22 +55,16 @@ further_record [] rest fields more state (read, first, same, behind) = absurd cc
 further_record (byte ∷ text) rest fields more state (read, first, same, (second, next, also, end)) =
     rw (first_record (length (byte ∷ text)) st.StartRecord (byte ∷ text), first, next) refl
 
--- a reader at the beginning of a text
-pub record Begins {R : Type 0} (told : R → Option (List ℕ)) (reader : Reader R) (text : List ℕ) : Type 0 where
-  pub config : reader_config reader ≡ default_config
-  pub state : reader_state reader ≡ st.StartRecord
-  pub source : source_of told reader ≡ Some text
-
 -- nothing is read
 pub none_read : {R : Type 0} (told : R → Option (List ℕ)) (reader after : Reader R) (text : List ℕ) (fields : List (List ℕ))
-    → Begins told reader text → ReadRecord told reader after false fields → None ≡ only_member (records default_config text)
+    → IsAtStart told reader text → ReadRecord told reader after false fields → None ≡ only_member (records default_config text)
 none_read told reader after text fields begins read =
     let none = rows-end told reader after fields default_config text begins.config begins.source read in
     rw (first_record (length text) st.StartRecord text, rw begins.state at none) refl
 
 -- what the first read leaves to a second one
 one_read : {R : Type 0} (told : R → Option (List ℕ)) (reader after : Reader R) (text : List ℕ) (fields : List (List ℕ))
-    → Begins told reader text → ReadRecord told reader after true fields
+    → IsAtStart told reader text → ReadRecord told reader after true fields
     → (rest : List ℕ) × (source_of told after ≡ Some rest) × Reached default_config st.StartRecord text (fields ∷ []) (reader_state after) rest
 unfolding Reached
 one_read told reader after text fields begins read =
@@ -77,7 +72,7 @@ one_read told reader after text fields begins read =
 
 -- one record is read, and then nothing
 pub only_one_read : {R : Type 0} (told : R → Option (List ℕ)) (reader after end : Reader R) (text : List ℕ) (fields more : List (List ℕ))
-    → Begins told reader text → ReadRecord told reader after true fields → ReadRecord told after end false more
+    → IsAtStart told reader text → ReadRecord told reader after true fields → ReadRecord told after end false more
     → Some fields ≡ only_member (records default_config text)
 only_one_read told reader after end text fields more begins read none =
     let (rest, source, reached) = one_read told reader after text fields begins read in
@@ -86,7 +81,7 @@ only_one_read told reader after end text fields more begins read none =
 
 -- two records are read
 pub two_read : {R : Type 0} (told : R → Option (List ℕ)) (reader after end : Reader R) (text : List ℕ) (fields more : List (List ℕ))
-    → Begins told reader text → ReadRecord told reader after true fields → ReadRecord told after end true more
+    → IsAtStart told reader text → ReadRecord told reader after true fields → ReadRecord told after end true more
     → None ≡ only_member (records default_config text)
 two_read told reader after end text fields more begins read next =
     let (rest, source, reached) = one_read told reader after text fields begins read in

@@ -1,10 +1,10 @@
 -- Values, each of which is there or not.
-use Rattle.std.proofs.Common.{◌≡◌, ◌∙◌, ℕ, zero, suc, ◌+◌, ◌≤◌, true, false, List, [], ◌∷◌, ◌++◌, map, length, take, drop, Option, Some, None, Result, Ok, Err, refl, sym, ap, arith, filter_map, slice_get, nat_lt, ok_or}
+use Rattle.std.proofs.Common.{◌≡◌, ◌∙◌, ℕ, zero, suc, ◌+◌, ◌<◌, ◌≤◌, true, false, List, [], ◌∷◌, ◌++◌, map, length, take, drop, Option, Some, None, Result, Ok, Err, refl, sym, ap, arith, filter_map, slice_get, get_or, nat_lt, ok_or}
 use Rattle.std.specs.Prelude.{is_none}
 use Rattle.std.specs.List.{position_or_len, zip}
 use Rattle.std.proofs.lemmas.Bool.Decides.{nat_tests}
 use Rattle.std.proofs.lemmas.List.{length-append, length-map, length-take, map-append, take-append-drop, take_all, take_more, drop_more}
-use Rattle.std.proofs.lemmas.Option.{slice_get_within, get_or_from_slice_get}
+use Rattle.std.proofs.lemmas.Option.{slice_get_read, slice_get_within, get_or_from_slice_get}
 use Rattle.hippo_values.specs.declared.values.Value.{Value}
 use Rattle.hippo_model.specs.declared.schema.Column.{Column}
 use Rattle.hippo_model.specs.Terms.{Row}
@@ -39,13 +39,20 @@ one-missing row rest =
     rw (missing-behind row rest, within) refl
 
 -- the value of the field at a place
-pub value-there : (columns : List Column) (fields : List (List ℕ)) (place : ℕ) (column : Column) (field : List ℕ)
+value-there : (columns : List Column) (fields : List (List ℕ)) (place : ℕ) (column : Column) (field : List ℕ)
     → slice_get columns place ≡ Some column → slice_get fields place ≡ Some field
     → slice_get (map (λ (column, field). field_value column.kind field) (zip columns fields)) place ≡ Some (field_value column.kind field)
 value-there [] fields place column field there also = absurd cc
 value-there (first ∷ columns) [] place column field there also = absurd cc
 value-there (first ∷ columns) (text ∷ fields) zero column field there also = cc
 value-there (first ∷ columns) (text ∷ fields) (suc place) column field there also = value-there columns fields place column field there also
+
+-- the same, where a loop over the fields has read it
+pub value-read : (columns : List Column) (fields : List (List ℕ)) (place : ℕ) (column : Column) (field text : List ℕ)
+    → slice_get columns place ≡ Some column → place < length fields → field ≡ get_or fields place field → text ≡ field
+    → slice_get (map (λ (column, field). field_value column.kind field) (zip columns fields)) place ≡ Some (field_value column.kind text)
+value-read columns fields place column field text there within item is =
+    rw is (value-there columns fields place column field there (slice_get_read fields (length fields) place field refl within item))
 
 values-few : (columns : List Column) (fields : List (List ℕ))
     → length (map (λ (column, field). field_value column.kind field) (zip columns fields)) ≤ length fields

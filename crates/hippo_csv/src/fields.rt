@@ -1,23 +1,32 @@
 //! The fields of a text that is one record.
-ghost use Rattle.std.specs.Prelude.{◌≡◌, IfOk, option_map};
+ghost use Rattle.std.specs.Prelude.{◌≡◌, Some, IfOk, option_map};
+ghost use Rattle.csv.specs.Reading.{strip_bom};
 ghost use Rattle.csv.specs.Records.{fields_of};
+ghost use Rattle.hippo_csv.specs.Extracting.{IsAtStart};
 ghost use Rattle.hippo_csv.specs.Records.{record_fields};
 
-use csv::{ByteRecord, Error, ReaderBuilder, StringRecord};
+use csv::{ByteRecord, Error, Reader, ReaderBuilder, StringRecord};
 use hippo_values::{Memory, Sequence, Txt};
 use std::alloc::Global;
 
 /// The fields of a record.
 pub type Fields = Sequence<Txt>;
 
-// The one record that a text is. Its records may differ in length, so that no fault tells of that.
+// A reader of a text whose records may differ in length, so that no fault tells of that.
+fn reader_of(alloc: Global, text: &[u8]) -> Reader<&[u8]>
+    ensures { IsAtStart (λ left. Some left.now) result (strip_bom text.now) }
+{
+    ReaderBuilder::new()
+        .has_headers(false)
+        .flexible(true)
+        .from_reader(alloc, text)
+}
+
+// The one record that a text is.
 fn only_record(alloc: Global, text: &[u8]) -> Result<Option<StringRecord>, Error>
     ensures { IfOk result (λ found. option_map fields_of found ≡ record_fields text.now) }
 {
-    let mut reader = ReaderBuilder::new()
-        .has_headers(false)
-        .flexible(true)
-        .from_reader(alloc, text);
+    let mut reader = reader_of(alloc, text);
     let mut record = StringRecord::new(alloc);
     if !reader.read_record(&mut record)? {
         return Ok(None);
