@@ -3,6 +3,7 @@ ghost use Rattle.std.specs.Prelude.{◌≡◌, option_copied, IfOk, OnOk, string
 ghost use Rattle.serde_json.specs.Data.{put, string, number, unsigned};
 ghost use Rattle.serde_json.specs.View.{view, members_view};
 ghost use Rattle.serde_json.specs.Written.{compact_text};
+ghost use Rattle.hippo_text_forms.specs.Dates.{moment_text};
 ghost use Rattle.hippo_policy.specs.Rulings.{ruling_of, opt_in_of};
 ghost use Rattle.hippo_telling.specs.Telling.{told_act};
 ghost use Rattle.hippo_formats.specs.Formats.{statement_data, question_data, entry_data, rule_number, ruling_word, rule_item, rule_days, number_data, text_data, opt_data, rule_data};
@@ -10,8 +11,8 @@ ghost use Rattle.hippo_formats.specs.Formats.{statement_data, question_data, ent
 use crate::members::{put_days, put_name, put_number, put_opt, put_text};
 use crate::questions::{Question, question_of};
 use crate::rulings::{Names, days_of, item_of, number_of, opt_of, ruling_word};
-use crate::told::told_text;
-use hippo_model::{Act, RuleAt, Schema};
+use crate::told::{moment_of, told_text};
+use hippo_model::{Entry, RuleAt, Schema};
 use hippo_values::Memory;
 use serde_json::{Map, Value};
 use std::alloc::{AllocError, Global};
@@ -82,32 +83,30 @@ fn question_data(
 fn told_data(
     alloc: Global,
     schema: Option<&Schema>,
-    entry: u64,
+    entry: &Entry,
     moment: &str,
-    act: &Act,
 ) -> Result<Value, Memory>
     ensures { IfOk result (λ made.
-        view made ≡ statement_data entry moment.now
-        (told_act (option_copied schema.entry) act.now)) }
+        view made ≡ statement_data entry.now.seq moment.now
+        (told_act (option_copied schema.entry) entry.now.act)) }
 {
-    let statement = told_text(alloc, schema, act)?;
-    Ok(statement_data(alloc, entry, moment, statement.as_str())?)
+    let statement = told_text(alloc, schema, &entry.act)?;
+    Ok(statement_data(alloc, entry.seq, moment, statement.as_str())?)
 }
 
 #[tactic(auto, using(crate::proofs::QuestionLemmas::statement_as_object))]
 fn entry_data(
     alloc: Global,
     schema: Option<&Schema>,
-    entry: u64,
+    entry: &Entry,
     moment: &str,
-    act: &Act,
 ) -> Result<Value, Memory>
     ensures { IfOk result (λ made. view made
-        ≡ entry_data (option_copied schema.entry) entry moment.now act.now) }
+        ≡ entry_data (option_copied schema.entry) entry.now.seq moment.now entry.now.act) }
 {
-    match question_of(act) {
-        None => told_data(alloc, schema, entry, moment, act),
-        Some(question) => Ok(question_data(alloc, entry, moment, &question)?),
+    match question_of(&entry.act) {
+        None => told_data(alloc, schema, entry, moment),
+        Some(question) => Ok(question_data(alloc, entry.seq, moment, &question)?),
     }
 }
 
@@ -116,15 +115,14 @@ fn entry_data(
 pub(crate) fn entry_json(
     alloc: Global,
     schema: Option<&Schema>,
-    entry: u64,
-    moment: &str,
-    act: &Act,
+    entry: &Entry,
 ) -> Result<String, Memory>
-    ensures { IfOk result (λ text.
-        string_bytes text ≡ compact_text
-        (entry_data (option_copied schema.entry) entry moment.now act.now)) }
+    ensures { IfOk result (λ text. string_bytes text
+        ≡ compact_text (entry_data (option_copied schema.entry) entry.now.seq
+        (moment_text entry.now.moment) entry.now.act)) }
 {
-    let object = entry_data(alloc, schema, entry, moment, act)?;
+    let moment = moment_of(alloc, &entry.moment)?;
+    let object = entry_data(alloc, schema, entry, moment.as_str())?;
     Ok(object.to_string(alloc)?)
 }
 

@@ -2,15 +2,16 @@
 ghost use Rattle.std.specs.Prelude.{◌≡◌, ◌∷◌, ◌++◌, [], unwrap_or, decimal, option_copied, IfOk, OnOk};
 ghost use Rattle.std.specs.Option.{option_map_or};
 ghost use Rattle.csv.specs.Records.{fields_of};
+ghost use Rattle.hippo_text_forms.specs.Dates.{moment_text};
 ghost use Rattle.hippo_policy.specs.Rulings.{ruling_of, opt_in_of};
 ghost use Rattle.hippo_telling.specs.Telling.{told_act};
 ghost use Rattle.hippo_formats.specs.Formats.{csv_line, entry_fields, rule_number, ruling_word, rule_item, rule_days, opt_word, rule_fields};
 
 use crate::questions::{Question, question_of};
 use crate::rulings::{Names, days_of, item_of, number_of, opt_of, opt_word, ruling_word};
-use crate::told::told_text;
+use crate::told::{moment_of, told_text};
 use csv::{Error, StringRecord, WriterBuilder};
-use hippo_model::{Act, RuleAt, Schema};
+use hippo_model::{Entry, RuleAt, Schema};
 use hippo_values::{Memory, Txt};
 use itoa::Buffer;
 use std::alloc::{AllocError, Global};
@@ -112,33 +113,45 @@ fn statement_record(
 fn told_record(
     alloc: Global,
     schema: Option<&Schema>,
-    entry: u64,
+    entry: &Entry,
     moment: &str,
-    act: &Act,
 ) -> Result<StringRecord, Memory>
-    ensures { IfOk result (λ made. fields_of made ≡ decimal entry ∷ moment.now ∷ [] ∷ [] ∷ []
-        ∷ told_act (option_copied schema.entry) act.now ∷ []) }
+    ensures { IfOk result (λ made. fields_of made
+        ≡ decimal entry.now.seq ∷ moment.now ∷ [] ∷ [] ∷ []
+        ∷ told_act (option_copied schema.entry) entry.now.act ∷ []) }
 {
-    let statement = told_text(alloc, schema, act)?;
-    Ok(statement_record(alloc, entry, moment, statement.as_str())?)
+    let statement = told_text(alloc, schema, &entry.act)?;
+    Ok(statement_record(alloc, entry.seq, moment, statement.as_str())?)
+}
+
+#[tactic(auto, using(crate::proofs::QuestionLemmas::statement_as_fields))]
+fn entry_fields(
+    alloc: Global,
+    schema: Option<&Schema>,
+    entry: &Entry,
+    moment: &str,
+) -> Result<StringRecord, Memory>
+    ensures { IfOk result (λ made. fields_of made
+        ≡ entry_fields (option_copied schema.entry) entry.now.seq moment.now entry.now.act) }
+{
+    match question_of(&entry.act) {
+        None => told_record(alloc, schema, entry, moment),
+        Some(question) => Ok(question_record(alloc, entry.seq, moment, &question)?),
+    }
 }
 
 /// An entry; who asks is empty where nobody does.
-#[tactic(auto, using(crate::proofs::QuestionLemmas::statement_as_fields))]
 pub(crate) fn entry_record(
     alloc: Global,
     schema: Option<&Schema>,
-    entry: u64,
-    moment: &str,
-    act: &Act,
+    entry: &Entry,
 ) -> Result<StringRecord, Memory>
-    ensures { IfOk result (λ made.
-        fields_of made ≡ entry_fields (option_copied schema.entry) entry moment.now act.now) }
+    ensures { IfOk result (λ made. fields_of made
+        ≡ entry_fields (option_copied schema.entry) entry.now.seq (moment_text entry.now.moment)
+        entry.now.act) }
 {
-    match question_of(act) {
-        None => told_record(alloc, schema, entry, moment, act),
-        Some(question) => Ok(question_record(alloc, entry, moment, &question)?),
-    }
+    let moment = moment_of(alloc, &entry.moment)?;
+    entry_fields(alloc, schema, entry, moment.as_str())
 }
 
 fn push_days(fields: &mut StringRecord, days: Option<u32>) -> Result<(), AllocError>

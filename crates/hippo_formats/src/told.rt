@@ -2,7 +2,7 @@
 ghost use Rattle.std.specs.Prelude.{◌≡◌, ◌++◌, option_copied, IfOk, OnOk, codes};
 ghost use Rattle.hippo_text_forms.specs.Dates.{moment_text};
 ghost use Rattle.hippo_telling.specs.Telling.{told_act};
-ghost use Rattle.hippo_formats.specs.Formats.{json_line, csv_line, entry_data, entry_fields, entry_by};
+ghost use Rattle.hippo_formats.specs.Formats.{entry_by};
 
 use crate::objects::entry_json;
 use crate::records::{append_record, entry_record};
@@ -23,7 +23,8 @@ pub fn append_moment(moment: &Moment, out: &mut Txt) -> Result<(), Memory>
     }
 }
 
-fn moment_of(alloc: Global, moment: &Moment) -> Result<Txt, Memory>
+/// A moment, as every line shows it.
+pub(crate) fn moment_of(alloc: Global, moment: &Moment) -> Result<Txt, Memory>
     ensures { IfOk result (λ text. text ≡ moment_text moment.now) }
 {
     let mut text = Txt::new(alloc);
@@ -48,36 +49,6 @@ pub(crate) fn append_text_line(text: &str, out: &mut Txt) -> Result<(), Memory>
     out.append("\n")
 }
 
-fn append_object(
-    alloc: Global,
-    schema: Option<&Schema>,
-    entry: &Entry,
-    moment: &str,
-    out: &mut Txt,
-) -> Result<(), Memory>
-    ensures { OnOk result (out.new ≡ out.old
-        ++ json_line (entry_data (option_copied schema.entry) entry.now.seq moment.now
-        entry.now.act)) }
-{
-    let text = entry_json(alloc, schema, entry.seq, moment, &entry.act)?;
-    append_text_line(text.as_str(), out)
-}
-
-fn append_fields(
-    alloc: Global,
-    schema: Option<&Schema>,
-    entry: &Entry,
-    moment: &str,
-    out: &mut Txt,
-) -> Result<(), Memory>
-    ensures { OnOk result (out.new ≡ out.old
-        ++ csv_line (entry_fields (option_copied schema.entry) entry.now.seq moment.now
-        entry.now.act)) }
-{
-    let fields = entry_record(alloc, schema, entry.seq, moment, &entry.act)?;
-    append_record(alloc, &fields, out)
-}
-
 fn append_json(
     alloc: Global,
     schema: Option<&Schema>,
@@ -85,11 +56,10 @@ fn append_json(
     out: &mut Txt,
 ) -> Result<(), Memory>
     ensures { OnOk result (out.new ≡ out.old
-        ++ json_line (entry_data (option_copied schema.entry) entry.now.seq
-        (moment_text entry.now.moment) entry.now.act)) }
+        ++ entry_by Format.Json (option_copied schema.entry) entry.now) }
 {
-    let moment = moment_of(alloc, &entry.moment)?;
-    append_object(alloc, schema, entry, moment.as_str(), out)
+    let text = entry_json(alloc, schema, entry)?;
+    append_text_line(text.as_str(), out)
 }
 
 fn append_csv(
@@ -99,11 +69,10 @@ fn append_csv(
     out: &mut Txt,
 ) -> Result<(), Memory>
     ensures { OnOk result (out.new ≡ out.old
-        ++ csv_line (entry_fields (option_copied schema.entry) entry.now.seq
-        (moment_text entry.now.moment) entry.now.act)) }
+        ++ entry_by Format.Csv (option_copied schema.entry) entry.now) }
 {
-    let moment = moment_of(alloc, &entry.moment)?;
-    append_fields(alloc, schema, entry, moment.as_str(), out)
+    let fields = entry_record(alloc, schema, entry)?;
+    append_record(alloc, &fields, out)
 }
 
 /// Adds an entry as a line in a format.
