@@ -2,7 +2,7 @@
 ghost use Rattle.std.specs.Prelude.{◌≡◌, ◌++◌, codes, OnOk, OnErr};
 ghost use Rattle.csv.specs.Writing.{default_writer, row_text};
 ghost use Rattle.serde_json.specs.Written.{compact_text};
-ghost use Rattle.hippo_text_forms.specs.Printing.{KeepsFront};
+ghost use Rattle.hippo_text_forms.specs.Printing.{AddsText};
 ghost use Rattle.hippo_report.specs.Cells.{tuple_text};
 ghost use Rattle.hippo_flags.specs.Flags.{question_text, flag_text, flag_data, flag_fields, formatted_flag, flag_line};
 
@@ -39,8 +39,7 @@ fn append_question<const ROOM: usize>(
     dated: &DatedFlag<'_>,
     out: &mut RoomyTxt<ROOM>,
 ) -> Result<(), Memory>
-    ensures ok { OnOk result (out.new ≡ out.old ++ question_text dated.now) }
-    ensures err { OnErr result (KeepsFront out.old out.new) }
+    ensures adds { AddsText (question_text dated.now) result out.old out.new }
 {
     append_pieces(
         &[
@@ -62,8 +61,7 @@ fn append_text<const ROOM: usize>(
     dated: &DatedFlag<'_>,
     out: &mut RoomyTxt<ROOM>,
 ) -> Result<(), Memory>
-    ensures ok { OnOk result (out.new ≡ out.old ++ flag_text dated.now) }
-    ensures err { OnErr result (KeepsFront out.old out.new) }
+    ensures adds { AddsText (flag_text dated.now) result out.old out.new }
 {
     append_question(dated, out)?;
     append_later(" ", dated.flag.shared.as_slice(), out)?;
@@ -75,9 +73,8 @@ fn append_json<const ROOM: usize>(
     dated: &DatedFlag<'_>,
     out: &mut RoomyTxt<ROOM>,
 ) -> Result<(), Memory>
-    ensures ok { OnOk result (out.new ≡ out.old
-        ++ (compact_text (flag_data dated.now) ++ codes "\n")) }
-    ensures err { OnErr result (KeepsFront out.old out.new) }
+    ensures adds { AddsText (compact_text (flag_data dated.now) ++ codes "\n")
+        result out.old out.new }
 {
     let text = flag_json(alloc, dated.flag, dated.moment)?;
     out.append(text.as_str())?;
@@ -90,9 +87,8 @@ fn append_csv<const ROOM: usize>(
     dated: &DatedFlag<'_>,
     out: &mut RoomyTxt<ROOM>,
 ) -> Result<(), Memory>
-    ensures ok { OnOk result (out.new ≡ out.old
-        ++ row_text default_writer (flag_fields dated.now)) }
-    ensures err { OnErr result (KeepsFront out.old out.new) }
+    ensures adds { AddsText (row_text default_writer (flag_fields dated.now))
+        result out.old out.new }
 {
     let bytes = flag_bytes(alloc, dated.flag, dated.moment)?;
     match str::from_utf8(bytes.as_slice()) {
@@ -108,8 +104,7 @@ fn append_dated<const ROOM: usize>(
     dated: &DatedFlag<'_>,
     out: &mut RoomyTxt<ROOM>,
 ) -> Result<(), Memory>
-    ensures ok { OnOk result (out.new ≡ out.old ++ flag_line format dated.now) }
-    ensures err { OnErr result (KeepsFront out.old out.new) }
+    ensures adds { AddsText (flag_line format dated.now) result out.old out.new }
 {
     out.append("0 flag ")?;
     match format {
@@ -131,8 +126,7 @@ fn append_flag<const ROOM: usize>(
     line: &FlagLine<'_>,
     out: &mut RoomyTxt<ROOM>,
 ) -> Result<(), Memory>
-    ensures ok { OnOk result (out.new ≡ out.old ++ flag_line line.now.format line.now.flag.now) }
-    ensures err { OnErr result (KeepsFront out.old out.new) }
+    ensures adds { AddsText (flag_line line.now.format line.now.flag.now) result out.old out.new }
 {
     let flag = line.flag;
     match str::from_utf8(&moment_text(flag.moment)) {

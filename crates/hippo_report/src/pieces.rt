@@ -1,13 +1,12 @@
 //! Parts of a reply that are added to a text.
-ghost use Rattle.std.specs.Prelude.{◌≡◌, ◌+◌, ◌≤◌, ◌++◌, length, map, take, decimal, IsOk, OnOk, OnErr};
+ghost use Rattle.std.specs.Prelude.{◌≡◌, ◌+◌, ◌≤◌, ◌++◌, length, map, IsOk, OnOk, OnErr};
 ghost use Rattle.std.specs.List.{concat};
-ghost use Rattle.hippo_text_forms.specs.Printing.{KeepsFront};
+ghost use Rattle.hippo_text_forms.specs.Printing.{AddsText};
 
 use hippo_values::{Memory, RoomyTxt};
 
 fn append_each<const ROOM: usize>(pieces: &[&str], out: &mut RoomyTxt<ROOM>) -> Result<(), Memory>
-    ensures ok { OnOk result (out.new ≡ out.old ++ concat (map (λ piece. piece.now) pieces.now)) }
-    ensures err { OnErr result (KeepsFront out.old out.new) }
+    ensures adds { AddsText (concat (map (λ piece. piece.now) pieces.now)) result out.old out.new }
     ensures room { length out.old + length (concat (map (λ piece. piece.now) pieces.now)) ≤ ROOM
         → IsOk result }
 {

@@ -1,6 +1,6 @@
 //! What a reply prints of values, cells and shared rows.
-ghost use Rattle.std.specs.Prelude.{◌≡◌, ◌++◌, ◌∷◌, [], flat_map, decimal, codes, OnOk, OnErr};
-ghost use Rattle.hippo_text_forms.specs.Printing.{value_text, KeepsFront};
+ghost use Rattle.std.specs.Prelude.{◌≡◌, ◌++◌, flat_map, decimal, codes, OnOk, OnErr};
+ghost use Rattle.hippo_text_forms.specs.Printing.{value_text, AddsText};
 ghost use Rattle.hippo_report.specs.Cells.{separated_text, cell_text, keyed_text, shared_text};
 
 use hippo_model::{Cell, Cells, SharedRow};
@@ -17,8 +17,7 @@ pub trait Printed<const ROOM: usize> {
 
     /// Adds it at the end.
     fn print(&self, out: &mut RoomyTxt<ROOM>) -> Result<(), Memory>
-        ensures ok { OnOk result (out.new ≡ out.old ++ text self.now) }
-        ensures err { OnErr result (KeepsFront out.old out.new) };
+        ensures adds { AddsText (text self.now) result out.old out.new };
 }
 
 impl<const ROOM: usize> Printed<ROOM> for Value {
@@ -30,9 +29,8 @@ impl<const ROOM: usize> Printed<ROOM> for Value {
 }
 
 fn append_denied<const ROOM: usize>(rule: u64, out: &mut RoomyTxt<ROOM>) -> Result<(), Memory>
-    ensures ok { OnOk result (out.new ≡ out.old
-        ++ (codes "DENIED(" ++ (decimal rule ++ codes ")"))) }
-    ensures err { OnErr result (KeepsFront out.old out.new) }
+    ensures adds { AddsText (codes "DENIED(" ++ (decimal rule ++ codes ")"))
+        result out.old out.new }
 {
     out.append("DENIED(")?;
     out.append(Buffer::new().format(rule))?;
@@ -72,9 +70,8 @@ pub fn append_later<const ROOM: usize, T: Printed<ROOM>>(
     rest: &[T],
     out: &mut RoomyTxt<ROOM>,
 ) -> Result<(), Memory>
-    ensures ok { OnOk result (out.new ≡ out.old
-        ++ flat_map (λ member. separator.now ++ T.text member) rest.now) }
-    ensures err { OnErr result (KeepsFront out.old out.new) }
+    ensures adds { AddsText (flat_map (λ member. separator.now ++ T.text member) rest.now)
+        result out.old out.new }
 {
     for member in rest {
         out.append(separator)?;
@@ -89,9 +86,8 @@ pub fn append_joined<const ROOM: usize, T: Printed<ROOM>>(
     members: &[T],
     out: &mut RoomyTxt<ROOM>,
 ) -> Result<(), Memory>
-    ensures ok { OnOk result (out.new ≡ out.old
-        ++ separated_text T.text separator.now members.now) }
-    ensures err { OnErr result (KeepsFront out.old out.new) }
+    ensures adds { AddsText (separated_text T.text separator.now members.now)
+        result out.old out.new }
 {
     if members.is_empty() {
         return Ok(());
@@ -106,8 +102,7 @@ pub fn append_keyed<const ROOM: usize>(
     key: &Cells,
     out: &mut RoomyTxt<ROOM>,
 ) -> Result<(), Memory>
-    ensures ok { OnOk result (out.new ≡ out.old ++ keyed_text table.now key.now) }
-    ensures err { OnErr result (KeepsFront out.old out.new) }
+    ensures adds { AddsText (keyed_text table.now key.now) result out.old out.new }
 {
     out.append(table.as_str())?;
     out.append("(")?;

@@ -1,6 +1,6 @@
 //! Rows of answers, and cells that were denied.
 ghost use Rattle.std.specs.Prelude.{◌≡◌, ◌++◌, flat_map, OnOk, OnErr};
-ghost use Rattle.hippo_text_forms.specs.Printing.{KeepsFront};
+ghost use Rattle.hippo_text_forms.specs.Printing.{AddsText};
 ghost use Rattle.hippo_report.specs.Cells.{answer_line, denied_line};
 
 use crate::pieces::append_pieces;
@@ -48,8 +48,7 @@ fn append_answers<const ROOM: usize>(
     rows: &[CellRow],
     out: &mut RoomyTxt<ROOM>,
 ) -> Result<(), Memory>
-    ensures ok { OnOk result (out.new ≡ out.old ++ flat_map (answer_line session) rows.now) }
-    ensures err { OnErr result (KeepsFront out.old out.new) }
+    ensures adds { AddsText (flat_map (answer_line session) rows.now) result out.old out.new }
 {
     for row in rows {
         answer_line(session, row, out)?;

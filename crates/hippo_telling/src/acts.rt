@@ -1,6 +1,6 @@
 //! The statement that an act came of.
 ghost use Rattle.std.specs.Prelude.{◌≡◌, ◌++◌, option_copied, OnOk, OnErr};
-ghost use Rattle.hippo_text_forms.specs.Printing.{KeepsFront};
+ghost use Rattle.hippo_text_forms.specs.Printing.{AddsText};
 ghost use Rattle.hippo_telling.specs.Telling.{columns_of, key_places, told_act, table_named};
 
 use crate::columns::append_named;
@@ -52,8 +52,7 @@ fn append_act<const ROOM: usize>(
     act: &Act,
     out: &mut RoomyTxt<ROOM>,
 ) -> Result<(), Memory>
-    ensures ok { OnOk result (out.new ≡ out.old ++ told_act (option_copied schema.entry) act.now) }
-    ensures err { OnErr result (KeepsFront out.old out.new) }
+    ensures adds { AddsText (told_act (option_copied schema.entry) act.now) result out.old out.new }
 {
     let columns = columns_of(schema);
     let key_places = key_places(schema);

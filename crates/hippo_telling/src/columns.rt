@@ -1,6 +1,6 @@
 //! Columns by their places, alone and with values.
-ghost use Rattle.std.specs.Prelude.{◌≡◌, ◌++◌, OnOk, OnErr};
-ghost use Rattle.hippo_text_forms.specs.Printing.{KeepsFront};
+ghost use Rattle.std.specs.Prelude.{◌++◌};
+ghost use Rattle.hippo_text_forms.specs.Printing.{AddsText};
 ghost use Rattle.hippo_telling.specs.Telling.{name_at, names_text, assigned_text};
 
 use crate::joining::{Spelling, append_joined};
@@ -14,8 +14,7 @@ pub fn append_named<const ROOM: usize>(
     name: &Name,
     out: &mut RoomyTxt<ROOM>,
 ) -> Result<(), Memory>
-    ensures ok { OnOk result (out.new ≡ out.old ++ (words.now ++ name.now)) }
-    ensures err { OnErr result (KeepsFront out.old out.new) }
+    ensures adds { AddsText (words.now ++ name.now) result out.old out.new }
 {
     out.append(words)?;
     out.append(name.as_str())
@@ -27,8 +26,7 @@ pub fn append_name<const ROOM: usize>(
     place: usize,
     out: &mut RoomyTxt<ROOM>,
 ) -> Result<(), Memory>
-    ensures ok { OnOk result (out.new ≡ out.old ++ name_at columns.now place) }
-    ensures err { OnErr result (KeepsFront out.old out.new) }
+    ensures adds { AddsText (name_at columns.now place) result out.old out.new }
 {
     match columns.get(place) {
         Some(column) => out.append(column.name.as_str()),
@@ -58,8 +56,7 @@ fn append_names<const ROOM: usize>(
     places: &[usize],
     out: &mut RoomyTxt<ROOM>,
 ) -> Result<(), Memory>
-    ensures ok { OnOk result (out.new ≡ out.old ++ names_text columns.now places.now) }
-    ensures err { OnErr result (KeepsFront out.old out.new) }
+    ensures adds { AddsText (names_text columns.now places.now) result out.old out.new }
 {
     append_joined(&ColumnNames { columns }, ", ", places, out)
 }
@@ -73,9 +70,8 @@ pub fn append_listed<const ROOM: usize>(
     behind: &str,
     out: &mut RoomyTxt<ROOM>,
 ) -> Result<(), Memory>
-    ensures ok { OnOk result (out.new ≡ out.old
-        ++ (before.now ++ (names_text columns.now places.now ++ behind.now))) }
-    ensures err { OnErr result (KeepsFront out.old out.new) }
+    ensures adds { AddsText (before.now ++ (names_text columns.now places.now ++ behind.now))
+        result out.old out.new }
 {
     out.append(before)?;
     append_names(columns, places, out)?;
@@ -89,8 +85,7 @@ pub fn append_assigned<const ROOM: usize>(
     value: &Value,
     out: &mut RoomyTxt<ROOM>,
 ) -> Result<(), Memory>
-    ensures ok { OnOk result (out.new ≡ out.old ++ assigned_text columns.now place value.now) }
-    ensures err { OnErr result (KeepsFront out.old out.new) }
+    ensures adds { AddsText (assigned_text columns.now place value.now) result out.old out.new }
 {
     append_name(columns, place, out)?;
     out.append(" = ")?;

@@ -1,7 +1,7 @@
 //! An entry as a line.
 ghost use Rattle.std.specs.Prelude.{◌≡◌, ◌++◌, option_copied, OnOk, OnErr};
 ghost use Rattle.hippo_text_forms.specs.Dates.{moment_text};
-ghost use Rattle.hippo_text_forms.specs.Printing.{KeepsFront};
+ghost use Rattle.hippo_text_forms.specs.Printing.{AddsText};
 ghost use Rattle.hippo_telling.specs.Telling.{entry_line};
 
 use crate::acts::tell_act;
@@ -12,8 +12,7 @@ use itoa::Buffer;
 use std::alloc::Global;
 
 fn append_moment<const ROOM: usize>(moment: &Moment, out: &mut RoomyTxt<ROOM>) -> Result<(), Memory>
-    ensures ok { OnOk result (out.new ≡ out.old ++ moment_text moment.now) }
-    ensures err { OnErr result (KeepsFront out.old out.new) }
+    ensures adds { AddsText (moment_text moment.now) result out.old out.new }
 {
     match str::from_utf8(&moment_text(*moment)) {
         Ok(text) => out.append(text),
@@ -27,9 +26,8 @@ fn append_entry<const ROOM: usize>(
     entry: &Entry,
     out: &mut RoomyTxt<ROOM>,
 ) -> Result<(), Memory>
-    ensures ok { OnOk result (out.new ≡ out.old
-        ++ entry_line (option_copied schema.entry) entry.now) }
-    ensures err { OnErr result (KeepsFront out.old out.new) }
+    ensures adds { AddsText (entry_line (option_copied schema.entry) entry.now)
+        result out.old out.new }
 {
     out.append(Buffer::new().format(entry.seq))?;
     out.append(" ")?;

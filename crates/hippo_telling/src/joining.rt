@@ -1,6 +1,6 @@
 //! Lists with a separator between their members.
-ghost use Rattle.std.specs.Prelude.{◌≡◌, ◌++◌, flat_map, OnOk, OnErr};
-ghost use Rattle.hippo_text_forms.specs.Printing.{KeepsFront};
+ghost use Rattle.std.specs.Prelude.{◌++◌, flat_map};
+ghost use Rattle.hippo_text_forms.specs.Printing.{AddsText};
 ghost use Rattle.hippo_report.specs.Cells.{separated_text};
 
 use hippo_values::{Memory, RoomyTxt};
@@ -14,8 +14,7 @@ pub trait Spelling<T, const ROOM: usize> {
 
     /// Adds it at the end.
     fn spell(&self, member: &T, out: &mut RoomyTxt<ROOM>) -> Result<(), Memory>
-        ensures ok { OnOk result (out.new ≡ out.old ++ text self.now member.now) }
-        ensures err { OnErr result (KeepsFront out.old out.new) };
+        ensures adds { AddsText (text self.now member.now) result out.old out.new };
 }
 
 fn append_later<const ROOM: usize, T, S: Spelling<T, ROOM>>(
@@ -24,10 +23,8 @@ fn append_later<const ROOM: usize, T, S: Spelling<T, ROOM>>(
     rest: &[T],
     out: &mut RoomyTxt<ROOM>,
 ) -> Result<(), Memory>
-    ensures ok { OnOk result
-        (out.new ≡ out.old ++ flat_map (λ member. separator.now ++ S.text spelling.now member)
-        rest.now) }
-    ensures err { OnErr result (KeepsFront out.old out.new) }
+    ensures adds { AddsText (flat_map (λ member. separator.now
+        ++ S.text spelling.now member) rest.now) result out.old out.new }
 {
     for member in rest {
         out.append(separator)?;
@@ -43,9 +40,8 @@ pub fn append_joined<const ROOM: usize, T, S: Spelling<T, ROOM>>(
     members: &[T],
     out: &mut RoomyTxt<ROOM>,
 ) -> Result<(), Memory>
-    ensures ok { OnOk result (out.new ≡ out.old
-        ++ separated_text (S.text spelling.now) separator.now members.now) }
-    ensures err { OnErr result (KeepsFront out.old out.new) }
+    ensures adds { AddsText (separated_text (S.text spelling.now) separator.now members.now)
+        result out.old out.new }
 {
     let Some((first, rest)) = members.split_first() else {
         return Ok(());

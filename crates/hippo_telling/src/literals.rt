@@ -1,7 +1,7 @@
 //! Values as literals.
-ghost use Rattle.std.specs.Prelude.{◌≡◌, ◌++◌, codes, OnOk, OnErr};
+ghost use Rattle.std.specs.Prelude.{◌++◌, codes};
 ghost use Rattle.hippo_text_forms.specs.Dates.{day_text};
-ghost use Rattle.hippo_text_forms.specs.Printing.{KeepsFront};
+ghost use Rattle.hippo_text_forms.specs.Printing.{AddsText};
 ghost use Rattle.hippo_telling.specs.Telling.{literal_text, literals_text};
 
 use crate::joining::{Spelling, append_joined};
@@ -9,9 +9,7 @@ use hippo_text_forms::{day_text, print_value};
 use hippo_values::{DayNumber, Memory, RoomyTxt, Value};
 
 fn append_day<const ROOM: usize>(day: DayNumber, out: &mut RoomyTxt<ROOM>) -> Result<(), Memory>
-    ensures ok { OnOk result (out.new ≡ out.old
-        ++ (codes "DATE '" ++ (day_text day ++ codes "'"))) }
-    ensures err { OnErr result (KeepsFront out.old out.new) }
+    ensures adds { AddsText (codes "DATE '" ++ (day_text day ++ codes "'")) result out.old out.new }
 {
     match str::from_utf8(&day_text(day)) {
         Ok(text) => {
@@ -29,8 +27,7 @@ pub fn append_literal<const ROOM: usize>(
     value: &Value,
     out: &mut RoomyTxt<ROOM>,
 ) -> Result<(), Memory>
-    ensures ok { OnOk result (out.new ≡ out.old ++ literal_text value.now) }
-    ensures err { OnErr result (KeepsFront out.old out.new) }
+    ensures adds { AddsText (literal_text value.now) result out.old out.new }
 {
     match value {
         Value::Day(day) => append_day(*day, out),
@@ -57,8 +54,7 @@ pub fn append_literals<const ROOM: usize>(
     values: &[Value],
     out: &mut RoomyTxt<ROOM>,
 ) -> Result<(), Memory>
-    ensures ok { OnOk result (out.new ≡ out.old ++ literals_text values.now) }
-    ensures err { OnErr result (KeepsFront out.old out.new) }
+    ensures adds { AddsText (literals_text values.now) result out.old out.new }
 {
     append_joined(&Literals, ", ", values, out)
 }

@@ -1,8 +1,8 @@
 //! Rows that are updated or deleted.
-ghost use Rattle.std.specs.Prelude.{◌≡◌, ◌++◌, filter, flat_map, nat_eq, OnOk, OnErr, IfOk, codes};
+ghost use Rattle.std.specs.Prelude.{◌≡◌, ◌++◌, filter, flat_map, nat_eq, IfOk, codes};
 ghost use Rattle.std.specs.List.{list_any, range_with_len, zip};
 ghost use Rattle.hippo_model.specs.Rows.{cell_at};
-ghost use Rattle.hippo_text_forms.specs.Printing.{KeepsFront};
+ghost use Rattle.hippo_text_forms.specs.Printing.{AddsText};
 ghost use Rattle.hippo_report.specs.Cells.{comma};
 ghost use Rattle.hippo_telling.specs.Telling.{is_set, assigned_text, literals_text, row_text, key_text, insert_text, update_text, delete_text};
 
@@ -19,9 +19,8 @@ fn append_cell<const ROOM: usize>(
     place: usize,
     out: &mut RoomyTxt<ROOM>,
 ) -> Result<(), Memory>
-    ensures ok { OnOk result (out.new ≡ out.old
-        ++ assigned_text columns.now place (cell_at row.now place)) }
-    ensures err { OnErr result (KeepsFront out.old out.new) }
+    ensures adds { AddsText (assigned_text columns.now place (cell_at row.now place))
+        result out.old out.new }
 {
     match row.get(place) {
         Some(value) => append_assigned(columns, place, value, out),
@@ -55,9 +54,8 @@ fn append_cells<const ROOM: usize>(
     places: &[usize],
     out: &mut RoomyTxt<ROOM>,
 ) -> Result<(), Memory>
-    ensures ok { OnOk result (out.new ≡ out.old
-        ++ row_text columns.now row.now separator.now places.now) }
-    ensures err { OnErr result (KeepsFront out.old out.new) }
+    ensures adds { AddsText (row_text columns.now row.now separator.now places.now)
+        result out.old out.new }
 {
     append_joined(&RowCells { columns, row }, separator, places, out)
 }
@@ -69,9 +67,8 @@ fn append_pair<const ROOM: usize>(
     value: &Value,
     out: &mut RoomyTxt<ROOM>,
 ) -> Result<(), Memory>
-    ensures ok { OnOk result (out.new ≡ out.old
-        ++ (separator.now ++ assigned_text columns.now place value.now)) }
-    ensures err { OnErr result (KeepsFront out.old out.new) }
+    ensures adds { AddsText (separator.now ++ assigned_text columns.now place value.now)
+        result out.old out.new }
 {
     out.append(separator)?;
     append_assigned(columns, place, value, out)
@@ -84,10 +81,9 @@ fn append_key_later<const ROOM: usize>(
     values: &[Value],
     out: &mut RoomyTxt<ROOM>,
 ) -> Result<(), Memory>
-    ensures ok { OnOk result (out.new ≡ out.old ++ flat_map
-        (λ pair. separator.now ++ assigned_text columns.now pair.0 pair.1)
-        (zip places.now values.now)) }
-    ensures err { OnErr result (KeepsFront out.old out.new) }
+    ensures adds { AddsText (flat_map (λ pair. separator.now
+        ++ assigned_text columns.now pair.0 pair.1) (zip places.now values.now))
+        result out.old out.new }
 {
     for (place, value) in places.iter().zip(values) {
         append_pair(separator, columns, *place, value, out)?;
@@ -101,8 +97,7 @@ fn append_key<const ROOM: usize>(
     key: &[Value],
     out: &mut RoomyTxt<ROOM>,
 ) -> Result<(), Memory>
-    ensures ok { OnOk result (out.new ≡ out.old ++ key_text columns.now places.now key.now) }
-    ensures err { OnErr result (KeepsFront out.old out.new) }
+    ensures adds { AddsText (key_text columns.now places.now key.now) result out.old out.new }
 {
     let Some((place, places)) = places.split_first() else {
         return Ok(());
@@ -146,9 +141,8 @@ fn append_values<const ROOM: usize>(
     behind: &str,
     out: &mut RoomyTxt<ROOM>,
 ) -> Result<(), Memory>
-    ensures ok { OnOk result (out.new ≡ out.old
-        ++ (before.now ++ (literals_text row.now ++ behind.now))) }
-    ensures err { OnErr result (KeepsFront out.old out.new) }
+    ensures adds { AddsText (before.now ++ (literals_text row.now ++ behind.now))
+        result out.old out.new }
 {
     out.append(before)?;
     append_literals(row, out)?;
@@ -163,10 +157,8 @@ fn append_inserted<const ROOM: usize>(
     behind: &str,
     out: &mut RoomyTxt<ROOM>,
 ) -> Result<(), Memory>
-    ensures ok { OnOk result (out.new
-        ≡ out.old ++ (words.now ++ (table.now
-        ++ (before.now ++ (literals_text row.now ++ behind.now))))) }
-    ensures err { OnErr result (KeepsFront out.old out.new) }
+    ensures adds { AddsText (words.now ++ (table.now ++ (before.now ++ (literals_text row.now
+        ++ behind.now)))) result out.old out.new }
 {
     append_named(words, table, out)?;
     append_values(before, row, behind, out)
@@ -178,8 +170,7 @@ pub fn append_insert<const ROOM: usize>(
     row: &Cells,
     out: &mut RoomyTxt<ROOM>,
 ) -> Result<(), Memory>
-    ensures ok { OnOk result (out.new ≡ out.old ++ insert_text table.now row.now) }
-    ensures err { OnErr result (KeepsFront out.old out.new) }
+    ensures adds { AddsText (insert_text table.now row.now) result out.old out.new }
 {
     append_inserted("INSERT INTO ", table, " VALUES (", row.as_slice(), ")", out)
 }
@@ -190,9 +181,8 @@ fn append_set<const ROOM: usize>(
     places: &[usize],
     out: &mut RoomyTxt<ROOM>,
 ) -> Result<(), Memory>
-    ensures ok { OnOk result (out.new
-        ≡ out.old ++ (codes " SET " ++ row_text columns.now row.now comma places.now)) }
-    ensures err { OnErr result (KeepsFront out.old out.new) }
+    ensures adds { AddsText (codes " SET " ++ row_text columns.now row.now comma places.now)
+        result out.old out.new }
 {
     out.append(" SET ")?;
     append_cells(columns, row, ", ", places, out)
@@ -204,9 +194,8 @@ fn append_where<const ROOM: usize>(
     key: &[usize],
     out: &mut RoomyTxt<ROOM>,
 ) -> Result<(), Memory>
-    ensures ok { OnOk result (out.new
-        ≡ out.old ++ (codes " WHERE " ++ row_text columns.now row.now (codes " AND ") key.now)) }
-    ensures err { OnErr result (KeepsFront out.old out.new) }
+    ensures adds { AddsText (codes " WHERE "
+        ++ row_text columns.now row.now (codes " AND ") key.now) result out.old out.new }
 {
     out.append(" WHERE ")?;
     append_cells(columns, row, " AND ", key, out)
@@ -221,9 +210,8 @@ pub fn append_update<const ROOM: usize>(
     row: &Cells,
     out: &mut RoomyTxt<ROOM>,
 ) -> Result<(), Memory>
-    ensures ok { OnOk result (out.new ≡ out.old
-        ++ update_text columns.now key.now table.now row.now) }
-    ensures err { OnErr result (KeepsFront out.old out.new) }
+    ensures adds { AddsText (update_text columns.now key.now table.now row.now)
+        result out.old out.new }
 {
     let places = set_places(alloc, columns.len(), key)?;
     append_named("UPDATE ", table, out)?;
@@ -238,9 +226,8 @@ fn append_keyed<const ROOM: usize>(
     key: &[Value],
     out: &mut RoomyTxt<ROOM>,
 ) -> Result<(), Memory>
-    ensures ok { OnOk result (out.new ≡ out.old
-        ++ (before.now ++ key_text columns.now places.now key.now)) }
-    ensures err { OnErr result (KeepsFront out.old out.new) }
+    ensures adds { AddsText (before.now ++ key_text columns.now places.now key.now)
+        result out.old out.new }
 {
     out.append(before)?;
     append_key(columns, places, key, out)
@@ -255,10 +242,8 @@ fn append_deleted<const ROOM: usize>(
     key: &[Value],
     out: &mut RoomyTxt<ROOM>,
 ) -> Result<(), Memory>
-    ensures ok { OnOk result (out.new
-        ≡ out.old ++ (words.now ++ (table.now
-        ++ (before.now ++ key_text columns.now places.now key.now)))) }
-    ensures err { OnErr result (KeepsFront out.old out.new) }
+    ensures adds { AddsText (words.now ++ (table.now ++ (before.now
+        ++ key_text columns.now places.now key.now))) result out.old out.new }
 {
     append_named(words, table, out)?;
     append_keyed(before, columns, places, key, out)
@@ -272,9 +257,8 @@ pub fn append_delete<const ROOM: usize>(
     key: &Cells,
     out: &mut RoomyTxt<ROOM>,
 ) -> Result<(), Memory>
-    ensures ok { OnOk result (out.new ≡ out.old
-        ++ delete_text columns.now places.now table.now key.now) }
-    ensures err { OnErr result (KeepsFront out.old out.new) }
+    ensures adds { AddsText (delete_text columns.now places.now table.now key.now)
+        result out.old out.new }
 {
     append_deleted(
         "DELETE FROM ",

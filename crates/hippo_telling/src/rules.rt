@@ -1,6 +1,6 @@
 //! Users, rules, choices and questions.
-ghost use Rattle.std.specs.Prelude.{◌≡◌, ◌++◌, codes, option_copied, OnOk, OnErr};
-ghost use Rattle.hippo_text_forms.specs.Printing.{KeepsFront};
+ghost use Rattle.std.specs.Prelude.{◌≡◌, ◌++◌, option_copied};
+ghost use Rattle.hippo_text_forms.specs.Printing.{AddsText};
 ghost use Rattle.hippo_telling.specs.Telling.{item_kind_text, item_text, grant_text, rule_text, with_text, retention_text, allow_text, agreed_text, choice_text, asked_text};
 
 use crate::columns::{append_listed, append_named};
@@ -23,8 +23,7 @@ fn append_ended<const ROOM: usize>(
     behind: &str,
     out: &mut RoomyTxt<ROOM>,
 ) -> Result<(), Memory>
-    ensures ok { OnOk result (out.new ≡ out.old ++ (words.now ++ (name.now ++ behind.now))) }
-    ensures err { OnErr result (KeepsFront out.old out.new) }
+    ensures adds { AddsText (words.now ++ (name.now ++ behind.now)) result out.old out.new }
 {
     append_named(words, name, out)?;
     out.append(behind)
@@ -36,8 +35,7 @@ pub fn append_item<const ROOM: usize>(
     kind: ItemKind,
     out: &mut RoomyTxt<ROOM>,
 ) -> Result<(), Memory>
-    ensures ok { OnOk result (out.new ≡ out.old ++ item_text item.now kind) }
-    ensures err { OnErr result (KeepsFront out.old out.new) }
+    ensures adds { AddsText (item_text item.now kind) result out.old out.new }
 {
     append_ended("CREATE ITEM ", item, item_kind_text(kind), out)
 }
@@ -50,9 +48,8 @@ pub fn append_grant<const ROOM: usize>(
     recipient: &Name,
     out: &mut RoomyTxt<ROOM>,
 ) -> Result<(), Memory>
-    ensures ok { OnOk result (out.new ≡ out.old
-        ++ (word.now ++ grant_text user.now purpose.now recipient.now)) }
-    ensures err { OnErr result (KeepsFront out.old out.new) }
+    ensures adds { AddsText (word.now ++ grant_text user.now purpose.now recipient.now)
+        result out.old out.new }
 {
     append_named(word, user, out)?;
     append_named(" FOR ", purpose, out)?;
@@ -75,10 +72,9 @@ pub fn append_rule<const ROOM: usize>(
     rule: &Rule<'_>,
     out: &mut RoomyTxt<ROOM>,
 ) -> Result<(), Memory>
-    ensures ok { OnOk result (out.new ≡ out.old
-        ++ (word.now ++ rule_text columns.now rule.now.purpose.now
-        rule.now.recipient.now rule.now.table.now rule.now.places.now)) }
-    ensures err { OnErr result (KeepsFront out.old out.new) }
+    ensures adds { AddsText (word.now
+        ++ rule_text columns.now rule.now.purpose.now rule.now.recipient.now rule.now.table.now
+        rule.now.places.now) result out.old out.new }
 {
     append_named(word, rule.purpose, out)?;
     append_named(" TO ", rule.recipient, out)?;
@@ -91,8 +87,7 @@ fn append_with<const ROOM: usize>(
     item: Option<&Name>,
     out: &mut RoomyTxt<ROOM>,
 ) -> Result<(), Memory>
-    ensures ok { OnOk result (out.new ≡ out.old ++ with_text (option_copied item.entry)) }
-    ensures err { OnErr result (KeepsFront out.old out.new) }
+    ensures adds { AddsText (with_text (option_copied item.entry)) result out.old out.new }
 {
     match item {
         None => Ok(()),
@@ -105,8 +100,7 @@ fn append_retention<const ROOM: usize>(
     days: Option<u32>,
     out: &mut RoomyTxt<ROOM>,
 ) -> Result<(), Memory>
-    ensures ok { OnOk result (out.new ≡ out.old ++ retention_text days) }
-    ensures err { OnErr result (KeepsFront out.old out.new) }
+    ensures adds { AddsText (retention_text days) result out.old out.new }
 {
     match days {
         None => Ok(()),
@@ -126,10 +120,9 @@ pub fn append_allow<const ROOM: usize>(
     days: Option<u32>,
     out: &mut RoomyTxt<ROOM>,
 ) -> Result<(), Memory>
-    ensures ok { OnOk result (out.new ≡ out.old ++ allow_text columns.now rule.now.purpose.now
-        rule.now.recipient.now rule.now.table.now rule.now.places.now (option_copied item.entry)
-        days) }
-    ensures err { OnErr result (KeepsFront out.old out.new) }
+    ensures adds { AddsText (allow_text columns.now rule.now.purpose.now rule.now.recipient.now
+        rule.now.table.now rule.now.places.now (option_copied item.entry) days)
+        result out.old out.new }
 {
     append_rule("ALLOW ", columns, rule, out)?;
     append_with(item, out)?;
@@ -149,8 +142,7 @@ pub fn append_choice<const ROOM: usize>(
     agreed: bool,
     out: &mut RoomyTxt<ROOM>,
 ) -> Result<(), Memory>
-    ensures ok { OnOk result (out.new ≡ out.old ++ choice_text subject.now item.now agreed) }
-    ensures err { OnErr result (KeepsFront out.old out.new) }
+    ensures adds { AddsText (choice_text subject.now item.now agreed) result out.old out.new }
 {
     out.append("CHOICE ")?;
     out.append(Buffer::new().format(*subject))?;
@@ -166,9 +158,8 @@ pub fn append_asked<const ROOM: usize>(
     text: &Txt,
     out: &mut RoomyTxt<ROOM>,
 ) -> Result<(), Memory>
-    ensures ok { OnOk result (out.new ≡ out.old
-        ++ asked_text user.now purpose.now recipient.now text.now) }
-    ensures err { OnErr result (KeepsFront out.old out.new) }
+    ensures adds { AddsText (asked_text user.now purpose.now recipient.now text.now)
+        result out.old out.new }
 {
     append_named("", user, out)?;
     append_named(" ", purpose, out)?;

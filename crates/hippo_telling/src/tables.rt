@@ -1,6 +1,6 @@
 //! Tables that are created.
-ghost use Rattle.std.specs.Prelude.{◌≡◌, ◌++◌, OnOk, OnErr};
-ghost use Rattle.hippo_text_forms.specs.Printing.{KeepsFront};
+ghost use Rattle.std.specs.Prelude.{◌≡◌, ◌++◌};
+ghost use Rattle.hippo_text_forms.specs.Printing.{AddsText};
 ghost use Rattle.hippo_report.specs.Cells.{separated_text, comma};
 ghost use Rattle.hippo_telling.specs.Telling.{kind_text, not_null_text, column_definition, names_text, subject_text, create_text};
 
@@ -26,8 +26,7 @@ fn not_null_text(not_null: bool) -> &'static str
 }
 
 fn append_column<const ROOM: usize>(column: &Column, out: &mut RoomyTxt<ROOM>) -> Result<(), Memory>
-    ensures ok { OnOk result (out.new ≡ out.old ++ column_definition column.now) }
-    ensures err { OnErr result (KeepsFront out.old out.new) }
+    ensures adds { AddsText (column_definition column.now) result out.old out.new }
 {
     out.append(column.name.as_str())?;
     out.append(kind_text(column.kind))?;
@@ -52,9 +51,8 @@ fn append_definitions<const ROOM: usize>(
     columns: &[Column],
     out: &mut RoomyTxt<ROOM>,
 ) -> Result<(), Memory>
-    ensures ok { OnOk result (out.new ≡ out.old
-        ++ separated_text column_definition comma columns.now) }
-    ensures err { OnErr result (KeepsFront out.old out.new) }
+    ensures adds { AddsText (separated_text column_definition comma columns.now)
+        result out.old out.new }
 {
     append_joined(&ColumnDefinitions, ", ", columns, out)
 }
@@ -64,8 +62,7 @@ fn append_subject<const ROOM: usize>(
     subject: Option<usize>,
     out: &mut RoomyTxt<ROOM>,
 ) -> Result<(), Memory>
-    ensures ok { OnOk result (out.new ≡ out.old ++ subject_text columns.now subject) }
-    ensures err { OnErr result (KeepsFront out.old out.new) }
+    ensures adds { AddsText (subject_text columns.now subject) result out.old out.new }
 {
     match subject {
         None => Ok(()),
@@ -83,10 +80,8 @@ fn append_head<const ROOM: usize>(
     columns: &[Column],
     out: &mut RoomyTxt<ROOM>,
 ) -> Result<(), Memory>
-    ensures ok { OnOk result (out.new
-        ≡ out.old ++ (words.now ++ (table.now
-        ++ (before.now ++ separated_text column_definition comma columns.now)))) }
-    ensures err { OnErr result (KeepsFront out.old out.new) }
+    ensures adds { AddsText (words.now ++ (table.now ++ (before.now
+        ++ separated_text column_definition comma columns.now))) result out.old out.new }
 {
     append_named(words, table, out)?;
     out.append(before)?;
@@ -99,8 +94,7 @@ fn append_end<const ROOM: usize>(
     end: &str,
     out: &mut RoomyTxt<ROOM>,
 ) -> Result<(), Memory>
-    ensures ok { OnOk result (out.new ≡ out.old ++ (subject_text columns.now subject ++ end.now)) }
-    ensures err { OnErr result (KeepsFront out.old out.new) }
+    ensures adds { AddsText (subject_text columns.now subject ++ end.now) result out.old out.new }
 {
     append_subject(columns, subject, out)?;
     out.append(end)
@@ -114,12 +108,11 @@ fn append_created<const ROOM: usize>(
     end: &str,
     out: &mut RoomyTxt<ROOM>,
 ) -> Result<(), Memory>
-    ensures ok { OnOk result (out.new ≡ out.old
-        ++ (words.now ++ (schema.now.name ++ (before_columns.now
+    ensures adds { AddsText (words.now ++ (schema.now.name ++ (before_columns.now
         ++ (separated_text column_definition comma schema.now.columns ++ (before_key.now
         ++ (names_text schema.now.columns schema.now.key ++ (end.now
-        ++ (subject_text schema.now.columns schema.now.subject ++ end.now))))))))) }
-    ensures err { OnErr result (KeepsFront out.old out.new) }
+        ++ (subject_text schema.now.columns schema.now.subject ++ end.now))))))))
+        result out.old out.new }
 {
     let columns = schema.columns.as_slice();
     append_head(words, &schema.name, before_columns, columns, out)?;
@@ -132,8 +125,7 @@ pub fn append_create<const ROOM: usize>(
     schema: &Schema,
     out: &mut RoomyTxt<ROOM>,
 ) -> Result<(), Memory>
-    ensures ok { OnOk result (out.new ≡ out.old ++ create_text schema.now) }
-    ensures err { OnErr result (KeepsFront out.old out.new) }
+    ensures adds { AddsText (create_text schema.now) result out.old out.new }
 {
     append_created("CREATE TABLE ", " (", ", PRIMARY KEY (", schema, ")", out)
 }

@@ -5,11 +5,11 @@ use Rattle.hippo_telling.specs.Telling.{assigned_text}
 use Rattle.hippo_telling.proofs.PairLemmas.{Assigned, zip-past_end}
 use Rattle.hippo_telling.proofs.rows.append_key_later.Goals as goal
 
-pub returns-clause-ok : goal.returns-clause-ok
-returns-clause-ok g c =
+pub returns : goal.returns
+returns g c =
     let places = c.args.places.now in
     let values = c.args.values.now in
     let ended = zip_end places values c.loop-place.yielded c.into_iter-place-iterator.result c.loop-place.place-iterator c.next.new.self _ (search rules) (search rules) c.loop-place.yielded_by c.in-None.is c.next.ensures.steps in
     let none = zip-past_end places values (length c.loop-place.yielded) ended in
     let spelled = flat_map (λ (pair : Assigned). c.args.separator.now ++ assigned_text c.args.columns.now pair.0 pair.1) in
-    sym (append-nil c.loop-place.out) ∙ (ap (λ pairs. c.loop-place.out ++ spelled pairs) (sym none) ∙ c.loop-place.invariant.0)
+    record { adds = record { ok = sym (append-nil c.loop-place.out) ∙ (ap (λ pairs. c.loop-place.out ++ spelled pairs) (sym none) ∙ c.loop-place.invariant.0); err = tt } }
