@@ -13,8 +13,6 @@ use Rattle.std.proofs.lemmas.Map.Entries.{btree_map_get_place}
 use Rattle.hippo_values.specs.declared.names.Name.{Name}
 use Rattle.hippo_model.specs.declared.audit.Audit.{Audit}
 use Rattle.hippo_model.specs.declared.audit.SharedRow.{SharedRow}
-use Rattle.hippo_model.specs.declared.cells.Cell.{Cell}
-use Rattle.hippo_model.specs.declared.cells.Cell.TheVariants as cells
 use Rattle.hippo_model.specs.declared.query.Expr.{Expr}
 use Rattle.hippo_model.specs.declared.query.Form.{Form}
 use Rattle.hippo_model.specs.declared.query.Form.TheVariants.{Distinct}
@@ -37,31 +35,10 @@ use Rattle.hippo_shared.specs.Needs.{needs_by, first_needed}
 use Rattle.hippo_shared.specs.Sharing.{common_tables, place_in, rows_named, HaveSameRows, has_tuple_in, query_has, audit_has, virtual_tuples_in}
 use Rattle.hippo_shared.specs.Tuples.{tuple_at}
 use Rattle.hippo_shared.proofs.CandidateLemmas.{marked-alone}
-use Rattle.hippo_distinct.specs.declared.keys.CellKey.{CellKey}
-use Rattle.hippo_distinct.specs.declared.keys.CellKey.TheVariants as keys
-use Rattle.hippo_distinct.specs.RowKeys.{cell_key, row_key}
 use Rattle.hippo_distinct.specs.AloneRows.{Marks, mark_at, makes_row, row_mark, AreMarked}
-use Rattle.hippo_distinct.proofs.CellOrder.{key_order, key_total, agrees}
+use Rattle.hippo_distinct.proofs.CellOrder.{row_order, row_total, order_same}
 use Rattle.hippo_distinct.proofs.DifferentLemmas.{same_row-exact}
-use Rattle.hippo_distinct.proofs.KeptLemmas.{key_same}
 use Rattle.hippo_distinct.proofs.NeededRows.{same_row-refl, answered, needs_what_comes_alone}
-
--- each key is that of a row
-abbrev cell_of : CellKey → Cell
-cell_of (keys.Shown value) = cells.Shown value
-cell_of (keys.Denied rule) = cells.Denied rule
-
-abbrev row_of : List CellKey → ShownRow
-row_of [] = []
-row_of (cell ∷ key) = cell_of cell ∷ row_of key
-
-key-of-cell : (cell : CellKey) → cell_key (cell_of cell) ≡ cell
-key-of-cell (keys.Shown value) = refl
-key-of-cell (keys.Denied rule) = refl
-
-key-of-row : (key : List CellKey) → row_key (row_of key) ≡ key
-key-of-row [] = refl
-key-of-row (cell ∷ key) = λ i. key-of-cell cell i ∷ key-of-row key i
 
 turned : (a b : ShownRow) → same_row a b ≡ same_row b a
 turned a b =
@@ -97,43 +74,43 @@ module _ (choices : Choices) (query : Masked) (sets : List KeyedRows) (tables : 
   append_nothing (x ∷ xs) = ap (λ l. x ∷ l) (append_nothing xs)
 
   -- a combination that makes no row
-  pub marked-same : (marks : Marks) → passing ≡ false → AreMarked key_order choices query sets tables before marks → AreMarked key_order choices query sets tables (before ++ rows ∷ []) marks
+  pub marked-same : (marks : Marks) → passing ≡ false → AreMarked row_order choices query sets tables before marks → AreMarked row_order choices query sets tables (before ++ rows ∷ []) marks
   marked-same marks none are row =
       are row ∙ sym (one_tuple row false (ap (λ b. b && same_row row made) none) ∙ ap mark_of (append_nothing (tuples row before)))
 
   -- one that makes a row
   pub marked-more : (marks after : Marks) → passing ≡ true
-      → ((other : List CellKey) → mark_at key_order after other ≡ cond (is_eq (key_order (row_key made) other)) (mark_of (tuples made before ++ row_places sets tables rows ∷ [])) (mark_at key_order marks other))
-      → AreMarked key_order choices query sets tables before marks → AreMarked key_order choices query sets tables (before ++ rows ∷ []) after
-  marked-more marks after passes updated are row = updated (row_key row) ∙ by (same_row made row) refl
+      → ((other : ShownRow) → mark_at row_order after other ≡ cond (is_eq (row_order made other)) (mark_of (tuples made before ++ row_places sets tables rows ∷ [])) (mark_at row_order marks other))
+      → AreMarked row_order choices query sets tables before marks → AreMarked row_order choices query sets tables (before ++ rows ∷ []) after
+  marked-more marks after passes updated are row = updated row ∙ by (same_row made row) refl
     where
       by : (same : Bool) → same_row made row ≡ same
-          → cond (is_eq (key_order (row_key made) (row_key row))) (mark_of (tuples made before ++ row_places sets tables rows ∷ [])) (mark_at key_order marks (row_key row)) ≡ row_mark choices query sets tables (before ++ rows ∷ []) row
+          → cond (is_eq (row_order made row)) (mark_of (tuples made before ++ row_places sets tables rows ∷ [])) (mark_at row_order marks row) ≡ row_mark choices query sets tables (before ++ rows ∷ []) row
       by true e =
-          ap (λ b. cond b (mark_of (tuples made before ++ row_places sets tables rows ∷ [])) (mark_at key_order marks (row_key row))) (key_same _ agrees made row ∙ e)
+          ap (λ b. cond b (mark_of (tuples made before ++ row_places sets tables rows ∷ [])) (mark_at row_order marks row)) (order_same made row ∙ e)
           ∙ ap (λ (r : ShownRow). mark_of (tuples r before ++ row_places sets tables rows ∷ [])) (same_row-exact made row e)
           ∙ sym (one_tuple row true (and_from passing (same_row row made) passes (turned row made ∙ e)))
       by false e =
-          ap (λ b. cond b (mark_of (tuples made before ++ row_places sets tables rows ∷ [])) (mark_at key_order marks (row_key row))) (key_same _ agrees made row ∙ e)
+          ap (λ b. cond b (mark_of (tuples made before ++ row_places sets tables rows ∷ [])) (mark_at row_order marks row)) (order_same made row ∙ e)
           ∙ are row
           ∙ sym (one_tuple row false ((λ i. passes i && (turned row made ∙ e) i)) ∙ ap mark_of (append_nothing (tuples row before)))
 
-  -- one that makes the row with a key, and has the tuple of given places
-  pub marked-by : (marks after : Marks) (key : List CellKey) (given : List Place) → passing ≡ true → key ≡ row_key made → given ≡ row_places sets tables rows
-      → ((some : List (List Place)) → mark_at key_order marks key ≡ mark_of some → (other : List CellKey) → mark_at key_order after other ≡ cond (is_eq (key_order key other)) (mark_of (some ++ given ∷ [])) (mark_at key_order marks other))
-      → AreMarked key_order choices query sets tables before marks → AreMarked key_order choices query sets tables (before ++ rows ∷ []) after
-  marked-by marks after key given passes is given_is told are =
+  -- one that makes a given row, and has the tuple of given places
+  pub marked-by : (marks after : Marks) (row : ShownRow) (given : List Place) → passing ≡ true → row ≡ made → given ≡ row_places sets tables rows
+      → ((some : List (List Place)) → mark_at row_order marks row ≡ mark_of some → (other : ShownRow) → mark_at row_order after other ≡ cond (is_eq (row_order row other)) (mark_of (some ++ given ∷ [])) (mark_at row_order marks other))
+      → AreMarked row_order choices query sets tables before marks → AreMarked row_order choices query sets tables (before ++ rows ∷ []) after
+  marked-by marks after row given passes is given_is told are =
       marked-more marks after passes
-      (λ other. told (tuples made before) (ap (mark_at key_order marks) is ∙ are made) other
-      ∙ (λ i. cond (is_eq (key_order (is i) other)) (mark_of (tuples made before ++ given_is i ∷ [])) (mark_at key_order marks other))) are
+      (λ other. told (tuples made before) (ap (mark_at row_order marks) is ∙ are made) other
+      ∙ (λ i. cond (is_eq (row_order (is i) other)) (mark_of (tuples made before ++ given_is i ∷ [])) (mark_at row_order marks other))) are
 
 -- no mark of no combination
-pub marked-none : (choices : Choices) (query : Masked) (sets : List KeyedRows) (tables : List Place) (marks : Marks) → marks.entries ≡ [] → AreMarked key_order choices query sets tables [] marks
-marked-none choices query sets tables marks none row = ap (λ (es : List (List CellKey × Mark)). unwrap_or (lookup (λ other. is_eq (key_order (row_key row) other)) es) Unmarked) none
+pub marked-none : (choices : Choices) (query : Masked) (sets : List KeyedRows) (tables : List Place) (marks : Marks) → marks.entries ≡ [] → AreMarked row_order choices query sets tables [] marks
+marked-none choices query sets tables marks none row = ap (λ (es : List (ShownRow × Mark)). unwrap_or (lookup (λ other. is_eq (row_order row other)) es) Unmarked) none
 
 -- the marks of the combinations that count are those of all
 pub marked-counting : (choices : Choices) (query : Masked) (sets : List KeyedRows) (tables : List Place) (combinations : List Combination) (marks : Marks)
-    → AreMarked key_order choices query sets tables (counting choices query combinations) marks → AreMarked key_order choices query sets tables combinations marks
+    → AreMarked row_order choices query sets tables (counting choices query combinations) marks → AreMarked row_order choices query sets tables combinations marks
 unfolding stays
 marked-counting choices query sets tables combinations marks are row =
     are row
@@ -161,24 +138,24 @@ any-looked_up is_here test (e ∷ es) x found good = by (is_here e.0) found (λ 
     by true found later = or_left (test e.1) (list_any (λ e. test e.1) es) (ap test (some_is found) ∙ good)
     by false found later = or_right (test e.1) (list_any (λ e. test e.1) es) (later found)
 
-module _ (choices : Choices) (query : Masked) (sets : List KeyedRows) (tables : List Place) (combinations : List Combination) (marks : Marks) (are : AreMarked key_order choices query sets tables combinations marks) (places : List Place) where
+module _ (choices : Choices) (query : Masked) (sets : List KeyedRows) (tables : List Place) (combinations : List Combination) (marks : Marks) (are : AreMarked row_order choices query sets tables combinations marks) (places : List Place) where
   abbrev mark_is : ShownRow → Bool
   mark_is row = is_one places (row_mark choices query sets tables combinations row)
 
   abbrev any_kept : Bool
   any_kept = list_any (λ entry. is_one places entry.1) marks.entries
 
-  pub kept-row : tree.IsOrdered key_order marks → any_kept ≡ true → (row : ShownRow) × (mark_is row ≡ true)
+  pub kept-row : tree.IsOrdered row_order marks → any_kept ≡ true → (row : ShownRow) × (mark_is row ≡ true)
   kept-row ordered any =
-      let found = any-at (λ (entry : List CellKey × Mark). is_one places entry.1) marks.entries any in
-      let key = found.1.0 in
-      let got : tree.get key_order marks key ≡ Some found.1.1 = btree_map_get_place key_total marks found.0 key found.1.1 ordered found.2 in
-      (row_of key, ap (is_one places) (sym (are (row_of key)) ∙ ap (mark_at key_order marks) (key-of-row key) ∙ ap (λ (o : Option Mark). unwrap_or o Unmarked) got) ∙ found.3)
+      let found = any-at (λ (entry : ShownRow × Mark). is_one places entry.1) marks.entries any in
+      let row = found.1.0 in
+      let got : tree.get row_order marks row ≡ Some found.1.1 = btree_map_get_place row_total marks found.0 row found.1.1 ordered found.2 in
+      (row, ap (is_one places) (sym (are row) ∙ ap (λ (o : Option Mark). unwrap_or o Unmarked) got) ∙ found.3)
 
   pub row-kept : (row : ShownRow) → mark_is row ≡ true → any_kept ≡ true
-  row-kept row is = by (tree.get key_order marks (row_key row)) refl (ap (is_one places) (are row) ∙ is)
+  row-kept row is = by (tree.get row_order marks row) refl (ap (is_one places) (are row) ∙ is)
     where
-      by : (got : Option Mark) → tree.get key_order marks (row_key row) ≡ got → is_one places (unwrap_or got Unmarked) ≡ true → any_kept ≡ true
+      by : (got : Option Mark) → tree.get row_order marks row ≡ got → is_one places (unwrap_or got Unmarked) ≡ true → any_kept ≡ true
       by None e wrong = absurd (false≢true wrong)
       by (Some mark) e good = any-looked_up _ (is_one places) marks.entries mark e good
 
@@ -251,7 +228,7 @@ module _ (choices : Choices) (query : Masked) (audit : List Name) (query_sets au
       ≡ (ranges places && (list_any (makes_row choices query row) all && alone_by places row))
   mark-means places row = marked-alone query.tables audit query_sets audit_sets long_query long_audit same ascend (makes_row choices query row) places
 
-  pub needed-are : (marks : Marks) → tree.IsOrdered key_order marks → (tables : List Place) → tables ≡ tables_at → AreMarked key_order choices query query_sets tables all marks → (candidates : List (List Place))
+  pub needed-are : (marks : Marks) → tree.IsOrdered row_order marks → (tables : List Place) → tables ≡ tables_at → AreMarked row_order choices query query_sets tables all marks → (candidates : List (List Place))
       → ((places : List Place) → has_places places candidates ≡ list_any (λ entry. is_one places entry.1) marks.entries)
       → AreCandidates (needs_by choices query Distinct query_sets) audit audit_sets (common_tables query.tables audit) candidates
   needed-are marks ordered tables is told candidates kept places =
@@ -269,8 +246,8 @@ module _ (choices : Choices) (query : Masked) (audit : List Name) (query_sets au
       kept places ∙ row-kept choices query query_sets tables_at all marks are places row
       (mark-means places row ∙ and_from (ranges places) (list_any (makes_row choices query row) all && alone_by places row) parts.0 (and_from (list_any (makes_row choices query row) all) (alone_by places row) found.2 found.1)))
     where
-      are : AreMarked key_order choices query query_sets tables_at all marks
-      are = subst (λ (l : List Place). AreMarked key_order choices query query_sets l all marks) is told
+      are : AreMarked row_order choices query query_sets tables_at all marks
+      are = subst (λ (l : List Place). AreMarked row_order choices query query_sets l all marks) is told
 
 find-nothing : {A : Type 0} (test : A → Bool) → ((x : A) → test x ≡ false) → (xs : List A) → find test xs ≡ None
 find-nothing test none [] = refl

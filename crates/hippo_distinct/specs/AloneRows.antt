@@ -9,16 +9,14 @@ use Rattle.hippo_keyed_rows.specs.RowSets.{KeyedRows}
 use Rattle.hippo_shared.specs.declared.marks.Mark.{Mark}
 use Rattle.hippo_shared.specs.declared.marks.Mark.TheVariants.{Unmarked}
 use Rattle.hippo_shared.specs.Marks.{row_places, mark_of}
-use Rattle.hippo_distinct.specs.declared.keys.CellKey.{CellKey}
-use Rattle.hippo_distinct.specs.DistinctRows.{KeyOrder}
-use Rattle.hippo_distinct.specs.RowKeys.{row_key}
+use Rattle.hippo_distinct.specs.DistinctRows.{RowOrder}
 
--- the marks of rows, by the rows' keys
+-- the marks of rows
 abbrev pub Marks : Type 0
-Marks = tree.BTreeMap (List CellKey) Mark
+Marks = tree.BTreeMap ShownRow Mark
 
-abbrev pub mark_at : KeyOrder → Marks → List CellKey → Mark
-mark_at order marks key = unwrap_or (tree.get order marks key) Unmarked
+abbrev pub mark_at : RowOrder → Marks → ShownRow → Mark
+mark_at order marks row = unwrap_or (tree.get order marks row) Unmarked
 
 -- whether a combination makes this row of a query's answer
 abbrev pub makes_row : Choices → Masked → ShownRow → Combination → Bool
@@ -34,7 +32,7 @@ row_mark choices query sets tables combinations row =
 
 -- each row has its mark
 abbrev pub AreMarked :
-    KeyOrder → Choices → Masked → List KeyedRows → List Place → List Combination → Marks → Type 0
+    RowOrder → Choices → Masked → List KeyedRows → List Place → List Combination → Marks → Type 0
 AreMarked order choices query sets tables combinations marks =
     (row : ShownRow)
-    → mark_at order marks (row_key row) ≡ row_mark choices query sets tables combinations row
+    → mark_at order marks row ≡ row_mark choices query sets tables combinations row

@@ -1,4 +1,4 @@
--- The different rows of an answer, and the keys of the rows that were found.
+-- The different rows of an answer, and all that were found.
 use Rattle.std.specs.Prelude.{◌≡◌, Bool, List}
 use Rattle.std.specs.List.{list_any}
 use Rattle.std.specs.BTreeSet as tree
@@ -6,25 +6,23 @@ use Rattle.std.specs.declared.cmp.Ordering.{Ordering}
 use Rattle.hippo_model.specs.Terms.{ShownRow}
 use Rattle.hippo_model.specs.Bags.{same_row}
 use Rattle.hippo_model.specs.Forms.{different_rows}
-use Rattle.hippo_distinct.specs.declared.keys.CellKey.{CellKey}
 use Rattle.hippo_distinct.specs.declared.deduplication.DifferentRows.{DifferentRows}
-use Rattle.hippo_distinct.specs.RowKeys.{row_key}
 
 -- whether a row stands among others
 abbrev pub stands_in : ShownRow → List ShownRow → Bool
 stands_in row rows = list_any (λ other. same_row other row) rows
 
--- the order of keys by which rows are looked up
-abbrev pub KeyOrder : Type 0
-KeyOrder = List CellKey → List CellKey → Ordering
+-- the order by which rows are looked up
+abbrev pub RowOrder : Type 0
+RowOrder = ShownRow → ShownRow → Ordering
 
--- the keys that are kept are those of the rows that were found
-abbrev pub HasSeen : KeyOrder → List ShownRow → DifferentRows → Type 0
+-- the rows that are looked up are those that were found
+abbrev pub HasSeen : RowOrder → List ShownRow → DifferentRows → Type 0
 HasSeen order found kept =
-    (row : ShownRow) → tree.contains order kept.seen (row_key row) ≡ stands_in row found
+    (row : ShownRow) → tree.contains order kept.seen row ≡ stands_in row found
 
 -- the different ones of the rows that were found are kept
-pub record AreDifferent (order : KeyOrder) (found : List ShownRow) (kept : DifferentRows)
+pub record AreDifferent (order : RowOrder) (found : List ShownRow) (kept : DifferentRows)
     : Type 0 where
   pub rows : kept.rows ≡ different_rows found
   pub seen : HasSeen order found kept

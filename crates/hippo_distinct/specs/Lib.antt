@@ -1,4 +1,3 @@
-pub mod RowKeys
 pub mod DistinctRows
 pub mod DistinctNeeds
 pub mod GroupedNeeds

@@ -6,37 +6,35 @@ ghost use Rattle.std.specs.List.{list_any};
 ghost use Rattle.std.specs.Ordering.{is_eq};
 ghost use Rattle.hippo_model.specs.declared.query.Form.TheVariants.{Distinct};
 ghost use Rattle.hippo_model.specs.Answers.{product};
-ghost use Rattle.hippo_model.specs.Terms.{Place};
+ghost use Rattle.hippo_model.specs.Terms.{Place, ShownRow};
 ghost use Rattle.hippo_eval.specs.Walks.{rows_of};
 ghost use Rattle.hippo_join.specs.Finding.{has_places};
 ghost use Rattle.hippo_shared.specs.Audited.{HasRowsFor};
 ghost use Rattle.hippo_shared.specs.Marks.{mark_of, is_one};
 ghost use Rattle.hippo_shared.specs.Needs.{first_needed};
-ghost use Rattle.hippo_distinct.specs.declared.keys.CellKey as cell_keys;
 ghost use Rattle.hippo_distinct.specs.AloneRows.{AreMarked, mark_at};
 
-use crate::keys::{CellKey, RowKey, row_key};
 use hippo_eval::{Onward, Visitor, passes, project};
 use hippo_join::walk_joined;
-use hippo_model::{ChoiceView, Combo, Exprs, Masked, Places, SharedTuple};
+use hippo_model::{Cell, CellRow, ChoiceView, Combo, Exprs, Masked, Places, SharedTuple};
 use hippo_rows::Sets;
 use hippo_shared::{Audited, Mark, audit_has_any, common_places, first_of, know_order, row_places};
 use hippo_values::{Memory, Sequence};
 use std::alloc::Global;
 use std::collections::{BTreeMap, BTreeSet};
 
-// Marks one combination more, which makes the row with this key and has the tuple of these places.
-fn mark(marks: &mut BTreeMap<RowKey, Mark>, key: RowKey, places: Places) -> Result<(), Memory>
+// Marks one combination more, which makes this row and has the tuple of these places.
+fn mark(marks: &mut BTreeMap<CellRow, Mark>, row: CellRow, places: Places) -> Result<(), Memory>
     ensures { (tuples : List (List Place))
-        → mark_at ⟦<Sequence<CellKey> as Ord>⟧.cmp marks.old key ≡ mark_of tuples
-        → OnOk result ((other : List cell_keys.CellKey)
-        → mark_at ⟦<Sequence<CellKey> as Ord>⟧.cmp marks.new other
-        ≡ cond (is_eq (⟦<Sequence<CellKey> as Ord>⟧.cmp key other))
+        → mark_at ⟦<Sequence<Cell> as Ord>⟧.cmp marks.old row ≡ mark_of tuples
+        → OnOk result ((other : ShownRow)
+        → mark_at ⟦<Sequence<Cell> as Ord>⟧.cmp marks.new other
+        ≡ cond (is_eq (⟦<Sequence<Cell> as Ord>⟧.cmp row other))
         (mark_of (tuples ++ places ∷ []))
-        (mark_at ⟦<Sequence<CellKey> as Ord>⟧.cmp marks.old other)) }
+        (mark_at ⟦<Sequence<Cell> as Ord>⟧.cmp marks.old other)) }
 {
-    let mark = marks.get(&key).unwrap_or(&Mark::Unmarked).with(places);
-    marks.insert(key, mark)?;
+    let mark = marks.get(&row).unwrap_or(&Mark::Unmarked).with(places);
+    marks.insert(row, mark)?;
     Ok(())
 }
 
@@ -52,26 +50,22 @@ struct Marker<'a, C> {
 impl<'a, C: ChoiceView> Visitor for Marker<'a, C> {
     ghost use Rattle.hippo_distinct.specs.AloneRows.{AreMarked};
 
-    type State = BTreeMap<RowKey, Mark>;
+    type State = BTreeMap<CellRow, Mark>;
 
-    ghost Keeps = { λ marker combinations marks. AreMarked ⟦<Sequence<CellKey> as Ord>⟧.cmp
+    ghost Keeps = { λ marker combinations marks. AreMarked ⟦<Sequence<Cell> as Ord>⟧.cmp
         (C.choices marker.choices.now) marker.query.now marker.sets.now marker.tables.now
         combinations marks };
 
     fn visit(
         &self,
         alloc: Global,
-        state: &mut BTreeMap<RowKey, Mark>,
+        state: &mut BTreeMap<CellRow, Mark>,
         combo: &Combo<'_>,
     ) -> Result<Onward, Memory> {
         if passes(self.query, combo, self.choices) {
             let row = project(alloc, self.query, combo, self.choices)?;
-            let key = row_key(alloc, row.as_slice())?;
-            mark(
-                state,
-                key,
-                row_places(alloc, self.sets, self.tables, combo)?,
-            )?;
+            let places = row_places(alloc, self.sets, self.tables, combo)?;
+            mark(state, row, places)?;
         }
         Ok(Onward::More)
     }
@@ -83,8 +77,8 @@ fn row_marks<C: ChoiceView>(
     sets: &Sets<'_>,
     tables: &[usize],
     choices: &C,
-) -> Result<BTreeMap<RowKey, Mark>, Memory>
-    ensures { IfOk result (λ marks. AreMarked ⟦<Sequence<CellKey> as Ord>⟧.cmp
+) -> Result<BTreeMap<CellRow, Mark>, Memory>
+    ensures { IfOk result (λ marks. AreMarked ⟦<Sequence<Cell> as Ord>⟧.cmp
         (C.choices choices.now) query.now
         sets.now tables.now (product (rows_of sets.now)) marks) }
 {
@@ -100,8 +94,8 @@ fn row_marks<C: ChoiceView>(
 }
 
 // The places of the tuples that stand alone behind some row.
-fn alone(alloc: Global, marks: BTreeMap<RowKey, Mark>) -> Result<BTreeSet<Places>, Memory>
-    ensures order { IsOrdered ⟦<Sequence<CellKey> as Ord>⟧.cmp marks }
+fn alone(alloc: Global, marks: BTreeMap<CellRow, Mark>) -> Result<BTreeSet<Places>, Memory>
+    ensures order { IsOrdered ⟦<Sequence<Cell> as Ord>⟧.cmp marks }
     ensures places { IfOk result (λ candidates. (places : List Place)
         → has_places places candidates.keys
         ≡ list_any (λ entry. is_one places entry.1) marks.entries) }

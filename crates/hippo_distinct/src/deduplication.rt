@@ -7,25 +7,24 @@ ghost use Rattle.hippo_eval.specs.Answering.{IsAnswered};
 ghost use Rattle.hippo_eval.specs.Walks.{rows_of};
 ghost use Rattle.hippo_distinct.specs.DistinctRows.{AreDifferent};
 
-use crate::keys::{CellKey, RowKey, row_key};
 use hippo_eval::{ANSWER_LIMIT, EvalFault, Gatherer};
 use hippo_join::gather_joined;
-use hippo_model::{Answer, CellRow, ChoiceView, Masked};
+use hippo_model::{Answer, Cell, CellRow, ChoiceView, Masked};
 use hippo_rows::Sets;
-use hippo_values::{Memory, Sequence};
+use hippo_values::{Duplicate, Memory, Sequence};
 use std::alloc::Global;
 use std::collections::BTreeSet;
 
-// Different rows, and the keys of all that were found.
+// Different rows in the order in which they were found, and the same rows to look them up.
 #[derive(Drop)]
 struct DifferentRows {
     rows: Answer,
-    seen: BTreeSet<RowKey>,
+    seen: BTreeSet<CellRow>,
 }
 
 impl DifferentRows {
     fn new(alloc: Global) -> DifferentRows
-        ensures { AreDifferent ⟦<Sequence<CellKey> as Ord>⟧.cmp [] result }
+        ensures { AreDifferent ⟦<Sequence<Cell> as Ord>⟧.cmp [] result }
     {
         DifferentRows {
             rows: Sequence::new(alloc),
@@ -36,15 +35,14 @@ impl DifferentRows {
     // Adds a row, if no equal one was found.
     fn add(&mut self, alloc: Global, row: CellRow) -> Result<(), Memory>
         ensures { (found : List ShownRow)
-            → AreDifferent ⟦<Sequence<CellKey> as Ord>⟧.cmp found self.old
-            → OnOk result (AreDifferent ⟦<Sequence<CellKey> as Ord>⟧.cmp (found ++ row ∷ [])
+            → AreDifferent ⟦<Sequence<Cell> as Ord>⟧.cmp found self.old
+            → OnOk result (AreDifferent ⟦<Sequence<Cell> as Ord>⟧.cmp (found ++ row ∷ [])
             self.new) }
     {
-        let key = row_key(alloc, row.as_slice())?;
-        let is_new = self.seen.insert(key)?;
-        if !is_new {
+        if self.seen.contains(&row) {
             return Ok(());
         }
+        self.seen.insert(row.copy(alloc)?)?;
         self.rows.push(row)?;
         Ok(())
     }
@@ -60,7 +58,7 @@ impl Gatherer for Different {
 
     type Rows = DifferentRows;
 
-    ghost Holds = { λ gatherer found kept. AreDifferent ⟦<Sequence<CellKey> as Ord>⟧.cmp found kept };
+    ghost Holds = { λ gatherer found kept. AreDifferent ⟦<Sequence<Cell> as Ord>⟧.cmp found kept };
 
     ghost answer = { λ gatherer found. different_rows found };
 

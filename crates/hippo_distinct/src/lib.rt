@@ -3,9 +3,7 @@
 
 mod alone;
 mod deduplication;
-mod keys;
 pub mod laws;
 
 pub use alone::first_alone;
 pub use deduplication::distinct;
-pub use keys::{CellKey, RowKey, row_key};
