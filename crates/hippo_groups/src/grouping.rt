@@ -1,16 +1,14 @@
 //! The groups of a query's answer, as a walk over the combinations that count finds them.
-ghost use Rattle.std.specs.Prelude.{◌≡◌, [], ◌∷◌, ◌++◌, List, take, option_copied, OnOk};
-ghost use Rattle.std.specs.BTreeMap.{get};
+ghost use Rattle.std.specs.Prelude.{◌≡◌, [], ◌∷◌, ◌++◌, List, take, OnOk};
 ghost use Rattle.hippo_model.specs.declared.query.Shape as shapes;
 ghost use Rattle.hippo_model.specs.Terms.{ShownRow};
 ghost use Rattle.hippo_model.specs.Forms.{grouped_rows};
 ghost use Rattle.hippo_model.specs.Masking.{masked_answer};
 ghost use Rattle.hippo_eval.specs.Answering.{IsAnswered};
 ghost use Rattle.hippo_eval.specs.Walks.{rows_of};
-ghost use Rattle.hippo_groups.specs.KeptGroups.{AreGroups};
+ghost use Rattle.hippo_groups.specs.KeptGroups.{group_place, AreGroups};
 
 use crate::group_rows::{join_at, row_of_first};
-use hippo_distinct::{CellKey, RowKey, row_key};
 use hippo_eval::{ANSWER_LIMIT, EvalFault, Gatherer};
 use hippo_join::gather_joined;
 use hippo_model::{Answer, Cell, CellRow, ChoiceView, Masked, Shape};
@@ -19,12 +17,12 @@ use hippo_values::{Memory, Sequence};
 use std::alloc::Global;
 use std::collections::BTreeMap;
 
-// The rows of the groups in the order of their first members, and the place of each group by its
-// key.
+// The rows of the groups in the order of their first members, and the place of each group by the
+// cells of its key.
 #[derive(Drop)]
 struct Groups {
     rows: Vec<CellRow>,
-    places: BTreeMap<RowKey, usize>,
+    places: BTreeMap<Vec<Cell>, usize>,
 }
 
 // The first cells of a row, so many; all, where it has fewer.
@@ -35,10 +33,19 @@ pub(crate) fn front(row: &CellRow, keys: usize) -> &[Cell]
     &cells[..keys.min(cells.len())]
 }
 
+// The same cells, in the row's own memory.
+pub(crate) fn into_front(row: CellRow, keys: usize) -> Vec<Cell>
+    ensures { result.items ≡ take keys row }
+{
+    let mut cells = row.into_vec();
+    cells.truncate(keys);
+    cells
+}
+
 impl Groups {
     fn new(alloc: Global) -> Groups
         ensures { (shape : shapes.Shape)
-            → AreGroups ⟦<Sequence<CellKey> as Ord>⟧.cmp shape [] result }
+            → AreGroups ⟦<Sequence<Cell> as Ord>⟧.cmp shape [] result }
     {
         Groups {
             rows: Vec::new(alloc),
@@ -47,26 +54,26 @@ impl Groups {
     }
 
     // Where the group with this key stands, if there is one.
-    fn place(&self, key: &RowKey) -> Option<usize>
-        ensures { result ≡ get ⟦<Sequence<CellKey> as Ord>⟧.cmp self.now.places key.now }
+    fn place(&self, key: &[Cell]) -> Option<usize>
+        ensures { result ≡ group_place ⟦<Sequence<Cell> as Ord>⟧.cmp self.now.places key.now }
     {
         self.places.get(key).copied()
     }
 
     // Takes in a row, in its own group or as the first of a new one.
-    fn add(&mut self, alloc: Global, shape: &Shape, row: &CellRow) -> Result<(), Memory>
+    fn add(&mut self, alloc: Global, shape: &Shape, row: CellRow) -> Result<(), Memory>
         ensures { (found : List ShownRow)
-            → AreGroups ⟦<Sequence<CellKey> as Ord>⟧.cmp shape.now found self.old
-            → OnOk result (AreGroups ⟦<Sequence<CellKey> as Ord>⟧.cmp shape.now
-            (found ++ row.now ∷ []) self.new) }
+            → AreGroups ⟦<Sequence<Cell> as Ord>⟧.cmp shape.now found self.old
+            → OnOk result (AreGroups ⟦<Sequence<Cell> as Ord>⟧.cmp shape.now
+            (found ++ row ∷ []) self.new) }
     {
-        let cells = front(row, shape.keys);
-        let key = row_key(alloc, cells)?;
-        if let Some(place) = self.place(&key) {
-            return join_at(alloc, &shape.outs, &mut self.rows, place, row);
+        let key = front(&row, shape.keys);
+        if let Some(place) = self.place(key) {
+            return join_at(alloc, &shape.outs, &mut self.rows, place, &row);
         }
-        let first = row_of_first(alloc, &shape.outs, cells, row)?;
-        self.places.insert(key, self.rows.len())?;
+        let first = row_of_first(alloc, &shape.outs, key, &row)?;
+        let cells = into_front(row, shape.keys);
+        self.places.insert(cells, self.rows.len())?;
         self.rows.push(first)?;
         Ok(())
     }
@@ -84,7 +91,7 @@ impl<'a> Gatherer for ByShape<'a> {
 
     type Rows = Groups;
 
-    ghost Holds = { λ gatherer found kept. AreGroups ⟦<Sequence<CellKey> as Ord>⟧.cmp
+    ghost Holds = { λ gatherer found kept. AreGroups ⟦<Sequence<Cell> as Ord>⟧.cmp
         gatherer.shape.now found kept };
 
     ghost answer = { λ gatherer found. grouped_rows gatherer.shape.now found };
@@ -98,7 +105,7 @@ impl<'a> Gatherer for ByShape<'a> {
     }
 
     fn add(&self, alloc: Global, groups: &mut Groups, row: CellRow) -> Result<(), Memory> {
-        groups.add(alloc, self.shape, &row)
+        groups.add(alloc, self.shape, row)
     }
 
     fn finish(&self, groups: Groups) -> Answer {

@@ -1,6 +1,5 @@
 //! The marks of a query's groups, as a walk over the combinations that count finds them.
 ghost use Rattle.std.specs.Prelude.{◌≡◌, [], ◌∷◌, ◌++◌, List, IfOk, OnOk};
-ghost use Rattle.std.specs.BTreeMap.{get};
 ghost use Rattle.std.specs.List.{list_any};
 ghost use Rattle.hippo_model.specs.declared.query.Shape as shapes;
 ghost use Rattle.hippo_model.specs.Answers.{product};
@@ -8,32 +7,31 @@ ghost use Rattle.hippo_model.specs.Terms.{Place};
 ghost use Rattle.hippo_eval.specs.Walks.{rows_of};
 ghost use Rattle.hippo_join.specs.Finding.{has_places};
 ghost use Rattle.hippo_groups.specs.GroupMarks.{PlacedRow, placed_rows, changes_without};
-ghost use Rattle.hippo_groups.specs.KeptGroups.{AreMarkedGroups};
+ghost use Rattle.hippo_groups.specs.KeptGroups.{group_place, AreMarkedGroups};
 
 use crate::group_marks::{GroupMarks, candidates, join_at, marks_of_first};
-use crate::grouping::front;
-use hippo_distinct::{CellKey, RowKey, row_key};
+use crate::grouping::{front, into_front};
 use hippo_eval::{Onward, Visitor, passes, project};
 use hippo_join::walk_joined;
-use hippo_model::{CellRow, ChoiceView, Combo, Masked, Places, Shape};
+use hippo_model::{Cell, CellRow, ChoiceView, Combo, Masked, Places, Shape};
 use hippo_rows::Sets;
 use hippo_shared::row_places;
 use hippo_values::{Memory, Sequence};
 use std::alloc::Global;
 use std::collections::{BTreeMap, BTreeSet};
 
-// The marks of the groups in the order of their first members, and the place of each group by its
-// key.
+// The marks of the groups in the order of their first members, and the place of each group by the
+// cells of its key.
 #[derive(Drop)]
 pub(crate) struct MarkedGroups {
     pub marks: Vec<GroupMarks>,
-    pub places: BTreeMap<RowKey, usize>,
+    pub places: BTreeMap<Vec<Cell>, usize>,
 }
 
 impl MarkedGroups {
     fn new(alloc: Global) -> MarkedGroups
         ensures { (shape : shapes.Shape)
-            → AreMarkedGroups ⟦<Sequence<CellKey> as Ord>⟧.cmp shape [] result }
+            → AreMarkedGroups ⟦<Sequence<Cell> as Ord>⟧.cmp shape [] result }
     {
         MarkedGroups {
             marks: Vec::new(alloc),
@@ -42,8 +40,8 @@ impl MarkedGroups {
     }
 
     // Where the group with this key stands, if there is one.
-    fn place(&self, key: &RowKey) -> Option<usize>
-        ensures { result ≡ get ⟦<Sequence<CellKey> as Ord>⟧.cmp self.now.places key.now }
+    fn place(&self, key: &[Cell]) -> Option<usize>
+        ensures { result ≡ group_place ⟦<Sequence<Cell> as Ord>⟧.cmp self.now.places key.now }
     {
         self.places.get(key).copied()
     }
@@ -54,20 +52,21 @@ impl MarkedGroups {
         &mut self,
         alloc: Global,
         shape: &Shape,
-        row: &CellRow,
+        row: CellRow,
         places: &Places,
     ) -> Result<(), Memory>
         ensures { (found : List PlacedRow)
-            → AreMarkedGroups ⟦<Sequence<CellKey> as Ord>⟧.cmp shape.now found self.old
-            → OnOk result (AreMarkedGroups ⟦<Sequence<CellKey> as Ord>⟧.cmp shape.now
-            (found ++ record { row = row.now; places = places.now } ∷ []) self.new) }
+            → AreMarkedGroups ⟦<Sequence<Cell> as Ord>⟧.cmp shape.now found self.old
+            → OnOk result (AreMarkedGroups ⟦<Sequence<Cell> as Ord>⟧.cmp shape.now
+            (found ++ record { row = row; places = places.now } ∷ []) self.new) }
     {
-        let key = row_key(alloc, front(row, shape.keys))?;
-        if let Some(place) = self.place(&key) {
-            return join_at(alloc, &shape.outs, &mut self.marks, place, row, places);
+        let key = front(&row, shape.keys);
+        if let Some(place) = self.place(key) {
+            return join_at(alloc, &shape.outs, &mut self.marks, place, &row, places);
         }
-        let first = marks_of_first(alloc, &shape.outs, row, places)?;
-        self.places.insert(key, self.marks.len())?;
+        let first = marks_of_first(alloc, &shape.outs, &row, places)?;
+        let cells = into_front(row, shape.keys);
+        self.places.insert(cells, self.marks.len())?;
         self.marks.push(first)?;
         Ok(())
     }
@@ -99,7 +98,7 @@ impl<'a, C: ChoiceView> Visitor for Marker<'a, C> {
 
     type State = MarkedGroups;
 
-    ghost Keeps = { λ marker combinations groups. AreMarkedGroups ⟦<Sequence<CellKey> as Ord>⟧.cmp
+    ghost Keeps = { λ marker combinations groups. AreMarkedGroups ⟦<Sequence<Cell> as Ord>⟧.cmp
         marker.shape.now
         (placed_rows (C.choices marker.choices.now) marker.query.now marker.sets.now
         marker.tables.now combinations)
@@ -114,7 +113,7 @@ impl<'a, C: ChoiceView> Visitor for Marker<'a, C> {
         if passes(self.query, combo, self.choices) {
             let row = project(alloc, self.query, combo, self.choices)?;
             let places = row_places(alloc, self.sets, self.tables, combo)?;
-            groups.add(alloc, self.shape, &row, &places)?;
+            groups.add(alloc, self.shape, row, &places)?;
         }
         Ok(Onward::More)
     }
@@ -129,7 +128,7 @@ pub(crate) fn marked_groups<C: ChoiceView>(
     tables: &[usize],
     choices: &C,
 ) -> Result<MarkedGroups, Memory>
-    ensures { IfOk result (λ groups. AreMarkedGroups ⟦<Sequence<CellKey> as Ord>⟧.cmp shape.now
+    ensures { IfOk result (λ groups. AreMarkedGroups ⟦<Sequence<Cell> as Ord>⟧.cmp shape.now
         (placed_rows (C.choices choices.now) query.now sets.now tables.now
         (product (rows_of sets.now))) groups) }
 {

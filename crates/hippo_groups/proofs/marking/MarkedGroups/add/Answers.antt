@@ -1,23 +1,19 @@
 -- A row of a group that is there, or of a new one.
-use Rattle.std.proofs.Common.{List, [], ◌∷◌, ◌++◌, cond, Some, sym, ap, ◌∙◌, arith}
+use Rattle.std.proofs.Common.{[], ◌∷◌, ◌++◌, sym, ap, ◌∙◌, arith}
 use Rattle.std.proofs.lemmas.List.{with_items_is}
 use Rattle.std.proofs.lemmas.Result.{on_ok_weaker}
-use Rattle.std.specs.BTreeMap as tree
 use Rattle.std.specs.Vec.{with_items}
-use Rattle.std.specs.Ordering.{is_eq}
-use Rattle.hippo_distinct.specs.declared.keys.CellKey.{CellKey}
-use Rattle.hippo_distinct.specs.RowKeys.{row_key}
-use Rattle.hippo_distinct.proofs.CellOrder.{key_order}
+use Rattle.hippo_distinct.proofs.CellOrder.{row_order}
 use Rattle.hippo_groups.specs.declared.group_marks.GroupMarks.{GroupMarks}
 use Rattle.hippo_groups.specs.GroupMarks.{PlacedRow, marks_of}
+use Rattle.hippo_groups.specs.KeptGroups.{group_place}
 use Rattle.hippo_groups.proofs.KeptLemmas.{joined-if, begun}
 use Rattle.hippo_groups.proofs.marking.MarkedGroups.add.Goals as goal
 
 pub returns-in-Some : goal.returns-in-Some
 returns-in-Some c found are =
-    let is = c.in_ok-key.ensures ∙ ap row_key c.front.ensures in
-    let known = ap (tree.get key_order c.args.self.now.places) (sym is) ∙ sym c.place.ensures ∙ c.in-Some.is in
-    let member : PlacedRow = record { row = c.args.row.now; places = c.args.places.now } in
+    let known = ap (group_place row_order c.args.self.now.places) (sym c.front-key.ensures) ∙ sym c.place.ensures ∙ c.in-Some.is in
+    let member : PlacedRow = record { row = c.args.row; places = c.args.places.now } in
     joined-if (λ member. member.row) c.args.shape.now.keys (λ key members. marks_of c.args.shape.now.outs members) found member c.args.self.now.marks.items c.args.self.now.places are
     c.in-Some.place known c.join_at.result (with_items c.args.self.now.marks c.join_at.new.groups).items
     (λ front back key members before at. on_ok_weaker c.join_at.result (λ is. with_items_is c.args.self.now.marks c.join_at.new.groups (omega (arith, c.join_at.auto.groups, c.deref_mut.ensures.len)) ∙ is)
@@ -25,12 +21,10 @@ returns-in-Some c found are =
 
 pub returns : goal.returns
 returns c found are =
-    let is = c.in_ok-key.ensures ∙ ap row_key c.front.ensures in
-    let missing = ap (tree.get key_order c.args.self.now.places) (sym is) ∙ sym c.place.ensures ∙ c.in_default.is in
-    let member : PlacedRow = record { row = c.args.row.now; places = c.args.places.now } in
+    let missing = ap (group_place row_order c.args.self.now.places) (sym c.front-key.ensures) ∙ sym c.place.ensures ∙ c.in_default.is in
+    let member : PlacedRow = record { row = c.args.row; places = c.args.places.now } in
     begun (λ member. member.row) c.args.shape.now.keys (λ key members. marks_of c.args.shape.now.outs members) found member c.args.self.now.marks.items c.args.self.now.places are
-    missing c.push.new.self.items c.insert.new.self c.len.result
+    missing c.push.new.self.items c.insert.new.self c.into_front-cells.result c.len.result c.into_front-cells.ensures
     (omega (arith, c.args.self.now.marks.ok.0))
     (c.in_ok-push.ensures.items ∙ ap (λ (new : GroupMarks). c.args.self.now.marks.items ++ new ∷ []) c.in_ok-first.ensures)
-    (λ (key : List CellKey). c.in_ok-insert.ensures.updates.0 key
-    ∙ ap (λ (added : List CellKey). cond (is_eq (key_order added key)) (Some c.len.result) (tree.get key_order c.args.self.now.places key)) is)
+    c.in_ok-insert.ensures.updates
