@@ -1,1 +1,2 @@
+pub mod StartLemmas
 pub mod WriteLemmas

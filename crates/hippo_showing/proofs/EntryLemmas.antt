@@ -14,11 +14,12 @@ use Rattle.hippo_model.specs.StoredForms.{stored}
 use Rattle.hippo_model.specs.Terms.{History}
 use Rattle.hippo_entry.specs.Forms.{IsEntryOf}
 use Rattle.hippo_catalog.specs.Catalogs.{KnownNames}
+use Rattle.hippo_programs.specs.Saying.{Says}
 use Rattle.hippo_showing.specs.declared.asking.Excerpt.{Excerpt}
 use Rattle.hippo_showing.specs.declared.endings.Ending.{Ending}
 use Rattle.hippo_showing.specs.declared.endings.Ending.TheVariants.{WriteFault, Damaged, NoMemory}
 use Rattle.hippo_showing.specs.Endings.{cuts}
-use Rattle.hippo_showing.specs.Saying.{Says, Writes, CountsWrites}
+use Rattle.hippo_showing.specs.Saying.{Writes, CountsWrites}
 use Rattle.hippo_showing.specs.ByNames.{shown_as, entry_shown, clock_after, entries_shown, clock_at_end}
 use Rattle.hippo_showing.specs.Showing.{is_in_excerpt}
 use Rattle.hippo_showing.specs.Progress.{HasForms, ShowsEntry, ShowsKept}
@@ -131,7 +132,7 @@ module _ (known : KnownNames) (excerpt : Excerpt) (kept : StoredEntry) (clock cl
       first_of e = cc
 
   -- no entry has this form, and that is said
-  pub of_none : (ending : Ending) (line : Txt) → IsEntryOf kept None → Says Damaged line ending written written' faults faults'
+  pub of_none : (ending : Ending) (line : Txt) → IsEntryOf kept None → Says Damaged line WriteFault ending written written' faults faults'
       → ShowsKept known excerpt (kept ∷ []) (Some ending) clock clock' written written' faults faults'
   of_none ending line found says = record {
     ends = by_ends says;
@@ -142,11 +143,11 @@ module _ (known : KnownNames) (excerpt : Excerpt) (kept : StoredEntry) (clock cl
     damaged = λ is entries forms. none_there found entries forms;
   }
     where
-      by_ends : Says Damaged line ending written written' faults faults' → cuts_so ending ≡ true
+      by_ends : Says Damaged line WriteFault ending written written' faults faults' → cuts_so ending ≡ true
       by_ends (inl all) = ap cuts_so all.0
       by_ends (inr front) = ap cuts_so front.0
 
-      by_writes : Says Damaged line ending written written' faults faults' → CountsWrites (Some ending) faults faults'
+      by_writes : Says Damaged line WriteFault ending written written' faults faults' → CountsWrites (Some ending) faults faults'
       by_writes (inl all) = record { cause = λ e. absurd (other (sym all.0 ∙ same_Some ending WriteFault e)); unfailed = λ e. all.2 }
         where
           other : Damaged ≢ WriteFault

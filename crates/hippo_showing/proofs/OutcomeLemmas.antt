@@ -20,14 +20,16 @@ use Rattle.hippo_replay.specs.Loading.{load_as_call as as_load_call, KeepsFound,
 use Rattle.hippo_keeper.proofs.CallLemmas.{IsAfterCall-then}
 use Rattle.hippo_replay.proofs.LoadingLemmas.{Loads-ready}
 use Rattle.hippo_keeper.proofs.Results.{ok_of, err_of}
+use Rattle.hippo_programs.specs.Starting.{Stops}
+use Rattle.hippo_programs.proofs.StartLemmas.{ends_by_stop}
 use Rattle.hippo_showing.specs.declared.asking.View.{View}
 use Rattle.hippo_showing.specs.declared.endings.Ending.{Ending}
 use Rattle.hippo_showing.specs.declared.endings.Ending.TheVariants.{Shown, Refused, KeeperFault, WriteFault, Damaged, NoMemory}
-use Rattle.hippo_showing.specs.Endings.{showing_as_call}
+use Rattle.hippo_showing.specs.Endings.{showing_as_call, showing_stop}
 use Rattle.hippo_showing.specs.Saying.{CountsWrites}
 use Rattle.hippo_showing.specs.Showing.{shown_text}
 use Rattle.hippo_showing.specs.Progress.{HasForms, ShowsLoaded}
-use Rattle.hippo_showing.specs.Outcomes.{FromFound, KeepsDamaged, Ends, Stops}
+use Rattle.hippo_showing.specs.Outcomes.{FromKept, Ends}
 
 -- what was found and is kept still
 found_still : (finds : Survivors) (before after : KeeperState) → KeepsFound finds before → KeepsSame before after → KeepsFound finds after
@@ -94,19 +96,21 @@ module _ (name : Txt) (view : View) (state : State) (before loaded after : Keepe
     forms : HasForms loaded.kept is_loaded.history
     forms = record { forms = is_loaded.told told; keepable = all_can_be_kept meaning is_loaded.history is_loaded.stands.valid }
 
-    from_found : (holds : History → Type 0) → holds is_loaded.history → FromFound name holds before after
-    from_found holds it = record {
+    from_kept : (holds : History → Type 0) → holds is_loaded.history → FromKept name holds before after
+    from_kept holds it = record {
       kept = show_kept;
-      history = is_loaded.history;
-      is = store;
-      each = λ other is. subst holds (one_history meaning after.kept is_loaded.history other store is) it;
+      held = record {
+        history = is_loaded.history;
+        is = store;
+        each = λ other is. subst holds (one_history meaning after.kept is_loaded.history other store is) it;
+      };
     }
 
-    front : FromFound name (λ history. AppendsFront written written' (shown_text view history)) before after
-    front = from_found (λ history. AppendsFront written written' (shown_text view history)) (shows.front tells is_loaded.history is_loaded.stands forms)
+    front : FromKept name (λ history. AppendsFront written written' (shown_text view history)) before after
+    front = from_kept (λ history. AppendsFront written written' (shown_text view history)) (shows.front tells is_loaded.history is_loaded.stands forms)
 
-    whole : result ≡ Shown → FromFound name (λ history. Appends written written' (shown_text view history)) before after
-    whole is = from_found (λ history. Appends written written' (shown_text view history)) (shows.whole is tells is_loaded.history is_loaded.stands forms)
+    whole : result ≡ Shown → FromKept name (λ history. Appends written written' (shown_text view history)) before after
+    whole is = from_kept (λ history. Appends written written' (shown_text view history)) (shows.whole is tells is_loaded.history is_loaded.stands forms)
 
     undamaged : result ≡ Damaged → ⊥
     undamaged is = shows.damaged is tells is_loaded.history forms
@@ -124,32 +128,25 @@ module _ (name : Txt) (view : View) (state : State) (before loaded after : Keepe
 
 module _ (name : Txt) (view : View) (before after : KeeperState) (written written' : Option Txt) (faults faults' start end : ℕ) where
   -- what was not loaded
-  pub stop_ends : (fault : LoadFault) (result : Ending) (unwritten : Type 0) → Stops fault result unwritten written written' faults faults'
+  pub stop_ends : (fault : LoadFault) (result : Ending) (unwritten : Type 0) → Stops showing_stop WriteFault fault result unwritten written written' faults faults'
       → Loads name (err_of State fault) before after start end → after.tells → Ends result unwritten view name before after written written'
-  stop_ends Keeper result unwritten stops loads tells =
-      subst (λ (r : Ending). Ends r unwritten view name before after written written') (sym stops.0) (inl (stops.1, λ started. loads.found started tells))
-  stop_ends (DamagedAt place) result unwritten stops loads tells =
-      let kept : KeepsDamaged name place before after = record { kept = loads.found (loads.started refl) tells; damaged = loads.damaged place refl tells } in
-      elim stops [
-        | inl all ↦ subst (λ (r : Ending). Ends r unwritten view name before after written written') (sym all.0) (record { place = place; kept = kept; said = all.1 })
-        | inr front ↦ subst (λ (r : Ending). Ends r unwritten view name before after written written') (sym front.0) (inl (record { place = place; kept = kept; said = front.1 }))
-      ]
-  stop_ends Memory result unwritten stops loads tells =
-      subst (λ (r : Ending). Ends r unwritten view name before after written written') (sym stops.0) (inl (stops.1, λ started. loads.found started tells))
+  stop_ends fault result unwritten =
+      ends_by_stop name before after start end showing_stop WriteFault (λ r. Ends r unwritten view name before after written written') unwritten written written' faults faults'
+      (λ same idle. inl (same, idle)) (λ same idle. inl (same, idle)) (λ place said. said) (λ begun. inl begun) fault result
 
   other_than : {ending : Ending} (result : Ending) → result ≡ ending → ending ≢ WriteFault → Some result ≢ Some WriteFault
   other_than result is other e = other (sym is ∙ same_Some result WriteFault e)
 
-  pub stop_writes : (fault : LoadFault) (result : Ending) (unwritten : Type 0) → Stops fault result unwritten written written' faults faults' → CountsWrites (Some result) faults faults'
-  stop_writes Keeper result unwritten stops = record { cause = λ e. absurd (other_than result stops.0 (λ e. cc) e); unfailed = λ e. stops.3 }
+  pub stop_writes : (fault : LoadFault) (result : Ending) (unwritten : Type 0) → Stops showing_stop WriteFault fault result unwritten written written' faults faults' → CountsWrites (Some result) faults faults'
+  stop_writes Keeper result unwritten stops = record { cause = λ e. absurd (other_than result stops.0 (λ e. cc) e); unfailed = λ e. stops.2 }
   stop_writes (DamagedAt place) result unwritten stops =
       elim stops [
         | inl all ↦ record { cause = λ e. absurd (other_than result all.0 (λ e. cc) e); unfailed = λ e. all.2 }
         | inr front ↦ record { cause = λ e. front.2; unfailed = λ e. absurd (e (ap Some front.0)) }
       ]
-  stop_writes Memory result unwritten stops = record { cause = λ e. absurd (other_than result stops.0 (λ e. cc) e); unfailed = λ e. stops.3 }
+  stop_writes Memory result unwritten stops = record { cause = λ e. absurd (other_than result stops.0 (λ e. cc) e); unfailed = λ e. stops.2 }
 
-  pub stop_status : (fault : LoadFault) (result : Ending) (unwritten : Type 0) → Stops fault result unwritten written written' faults faults' → result ≢ Refused
+  pub stop_status : (fault : LoadFault) (result : Ending) (unwritten : Type 0) → Stops showing_stop WriteFault fault result unwritten written written' faults faults' → result ≢ Refused
   stop_status Keeper result unwritten stops is = absurd (let e : KeeperFault ≡ Refused = sym stops.0 ∙ is in cc)
   stop_status (DamagedAt place) result unwritten stops is =
       elim stops [
@@ -158,7 +155,7 @@ module _ (name : Txt) (view : View) (before after : KeeperState) (written writte
       ]
   stop_status Memory result unwritten stops is = absurd (let e : NoMemory ≡ Refused = sym stops.0 ∙ is in cc)
 
-  pub stop_call : (fault : LoadFault) (result : Ending) (unwritten : Type 0) → Stops fault result unwritten written written' faults faults'
+  pub stop_call : (fault : LoadFault) (result : Ending) (unwritten : Type 0) → Stops showing_stop WriteFault fault result unwritten written written' faults faults'
       → Loads name (err_of State fault) before after start end → IsAfterCall after.started after.closed (showing_as_call result) before after
   stop_call Keeper result unwritten stops loads =
       subst (λ (r : Ending). IsAfterCall after.started after.closed (showing_as_call r) before after) (sym stops.0) (as_it_is _ _ (showing_as_call KeeperFault) before after loads.call)

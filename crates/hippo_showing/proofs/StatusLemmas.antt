@@ -4,13 +4,14 @@ use Rattle.std.proofs.lemmas.Option.{same_Some}
 use Rattle.hippo_values.specs.Texts.{Txt}
 use Rattle.hippo_io.specs.Faults.{HasRisen}
 use Rattle.hippo_keeper.specs.Keeping.{KeeperState, IsAfterCall}
+use Rattle.hippo_programs.specs.Starting.{IsIdle, SaysDamaged, BeginsDamaged}
 use Rattle.hippo_showing.specs.declared.asking.Call.{Call}
 use Rattle.hippo_showing.specs.declared.asking.View.{View}
 use Rattle.hippo_showing.specs.declared.endings.Ending.{Ending}
 use Rattle.hippo_showing.specs.declared.endings.Ending.TheVariants.{Shown, Refused, KeeperFault, WriteFault, Damaged, NoMemory}
 use Rattle.hippo_showing.specs.Endings.{showing_status, showing_as_call}
 use Rattle.hippo_showing.specs.Saying.{CountsWrites}
-use Rattle.hippo_showing.specs.Outcomes.{IsIdle, SaysDamaged, BeginsDamaged, ShowsView, BeginsView, Ends}
+use Rattle.hippo_showing.specs.Outcomes.{ShowsView, BeginsView, Ends}
 
 -- an ending's status is one of six
 pub status-listed : (ending : Ending) (status : ℕ) → status ≡ showing_status ending → Any (λ listed. status ≡ listed) (0 ∷ 2 ∷ 3 ∷ 5 ∷ 6 ∷ 7 ∷ [])

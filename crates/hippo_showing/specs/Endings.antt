@@ -2,6 +2,8 @@
 use Rattle.std.specs.Prelude.{ℕ, Bool, true, false, Option, Some, None, Result, Ok, Err}
 use Rattle.hippo_keeper.specs.declared.faults.KeeperFault.{KeeperFault as Fault}
 use Rattle.hippo_keeper.specs.declared.faults.KeeperFault.TheVariants as faults
+use Rattle.hippo_replay.specs.declared.faults.LoadFault.{LoadFault}
+use Rattle.hippo_replay.specs.declared.faults.LoadFault.TheVariants as load_faults
 use Rattle.hippo_showing.specs.declared.endings.Ending.{Ending}
 use Rattle.hippo_showing.specs.declared.endings.Ending.TheVariants.{Shown, Refused, KeeperFault, WriteFault, Damaged, NoMemory}
 
@@ -18,6 +20,13 @@ abbrev pub showing_as_call : Ending → Result (Unit {0}) Fault
 showing_as_call KeeperFault = Err faults.Failed
 showing_as_call ending = Ok tt
 
+-- how it ends where what is kept was not loaded
+abbrev pub showing_stop : LoadFault → Ending
+showing_stop load_faults.Keeper = KeeperFault
+showing_stop (load_faults.Damaged place) = Damaged
+showing_stop load_faults.Memory = NoMemory
+
+-- how it ends where its keeper did not answer
 abbrev pub ending_of : Fault → Ending
 ending_of faults.Failed = KeeperFault
 ending_of faults.Memory = NoMemory

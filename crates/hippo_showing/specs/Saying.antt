@@ -1,5 +1,5 @@
 -- What the program writes of its own, and what a write comes to.
-use Rattle.std.specs.Prelude.{◌≡◌, ◌≢◌, ◌⊎◌, ℕ, ◌++◌, Option, Some, None, codes}
+use Rattle.std.specs.Prelude.{◌≡◌, ◌≢◌, ℕ, ◌++◌, Option, Some, None, codes}
 use Rattle.hippo_values.specs.Texts.{Txt}
 use Rattle.hippo_io.specs.Faults.{HasRisen}
 use Rattle.hippo_io.specs.Told.{Appends, AppendsFront}
@@ -11,12 +11,6 @@ unfoldable pub showing_usage : Txt
 showing_usage =
     codes "usage: hippo_history --store NAME [--entry N | [--from N] [--to N]] [--table NAME] [--rules | [--tables] [--script]]"
     ++ codes " [--format text|json|csv]\n"
-
--- a line is written, and the program ends so; or a front of it is, and the sink failed
-abbrev pub Says : Ending → Txt → Ending → Option Txt → Option Txt → ℕ → ℕ → Type 0
-Says ending line result before after faults faults' =
-    ((result ≡ ending) × Appends before after line × (faults' ≡ faults))
-    ⊎ ((result ≡ WriteFault) × AppendsFront before after line × HasRisen faults faults')
 
 -- a text is written; or a front of it is, and the sink failed; or memory was short, and nothing is
 abbrev pub Writes : Txt → Option Ending → Option Txt → Option Txt → ℕ → ℕ → Type 0

@@ -1,7 +1,8 @@
 //! What the program writes of its own, and the write of a text.
 ghost use Rattle.hippo_programs.specs.Lines.{damaged_line};
-ghost use Rattle.hippo_showing.specs.declared.endings.Ending.TheVariants.{Refused, Damaged};
-ghost use Rattle.hippo_showing.specs.Saying.{showing_usage as usage, Says, Writes};
+ghost use Rattle.hippo_programs.specs.Saying.{Says};
+ghost use Rattle.hippo_showing.specs.declared.endings.Ending.TheVariants.{Refused, WriteFault, Damaged};
+ghost use Rattle.hippo_showing.specs.Saying.{showing_usage as usage, Writes};
 
 use crate::endings::Ending;
 use hippo_io::{Failed, Sink, write_whole};
@@ -14,7 +15,7 @@ const USAGE: &str =
 /// Writes the usage line.
 #[tactic(auto, unfolding(crate::specs::Saying::showing_usage))]
 pub(crate) fn refuse<K: Sink>(sink: &mut K) -> Ending
-    ensures says { Says Refused usage result
+    ensures says { Says Refused usage WriteFault result
         (K.written sink.old) (K.written sink.new) (K.faults sink.old) (K.faults sink.new) }
 {
     match write_whole(sink, USAGE.as_bytes()) {
@@ -25,7 +26,7 @@ pub(crate) fn refuse<K: Sink>(sink: &mut K) -> Ending
 
 /// Writes at which place the kept entries are damaged.
 pub(crate) fn say_damaged<K: Sink>(sink: &mut K, place: u64) -> Ending
-    ensures says { Says Damaged (damaged_line place) result
+    ensures says { Says Damaged (damaged_line place) WriteFault result
         (K.written sink.old) (K.written sink.new) (K.faults sink.old) (K.faults sink.new) }
 {
     match write_numbered(sink, "damaged ", place) {

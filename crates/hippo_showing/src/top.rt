@@ -6,13 +6,14 @@ ghost use Rattle.hippo_io.specs.Told.{Appends, AppendsFront};
 ghost use Rattle.hippo_keeper.specs.Keeping.{RisesAbove, IsReady, IsAfterCall};
 ghost use Rattle.hippo_keeper.specs.Selecting.{stored_versions};
 ghost use Rattle.hippo_policy.specs.Books.{BookStandsFor};
+ghost use Rattle.hippo_programs.specs.Starting.{IsIdle, SaysDamaged, BeginsDamaged, Stops};
 ghost use Rattle.hippo_showing.specs.Ruling.{rules_by_names};
 ghost use Rattle.hippo_showing.specs.Progress.{ShowsAll, WritesPage, ShowsLoaded};
 ghost use Rattle.hippo_showing.specs.declared.asking.Call.{Call as AskedCall};
 ghost use Rattle.hippo_showing.specs.declared.endings.Ending.TheVariants.{Refused, WriteFault};
 ghost use Rattle.hippo_showing.specs.CommandLine.{asked_of};
-ghost use Rattle.hippo_showing.specs.Endings.{showing_as_call};
-ghost use Rattle.hippo_showing.specs.Outcomes.{IsIdle, SaysDamaged, BeginsDamaged, ShowsView, BeginsView, Ends, Stops};
+ghost use Rattle.hippo_showing.specs.Endings.{showing_as_call, showing_stop};
+ghost use Rattle.hippo_showing.specs.Outcomes.{ShowsView, BeginsView, Ends};
 ghost use Rattle.hippo_showing.specs.Saying.{showing_usage, CountsWrites};
 
 use crate::asking::{Excerpt, Page, View};
@@ -30,7 +31,7 @@ use std::sync::ledger::Ledger;
 
 // How the program ends where what is kept was not loaded.
 fn stop<K: Sink>(fault: LoadFault, sink: &mut K) -> Ending
-    ensures stops { Stops fault result (sink.new ≡ sink.old)
+    ensures stops { Stops showing_stop WriteFault fault result (sink.new ≡ sink.old)
         (K.written sink.old) (K.written sink.new) (K.faults sink.old) (K.faults sink.new) }
 {
     match fault {
