@@ -1,10 +1,11 @@
 -- Texts of lists, one member more: the text so far, and what is left.
-use Rattle.std.proofs.Common.{◌≡◌, ◌∙◌, ℕ, zero, suc, ◌+◌, Bool, true, false, List, [], ◌∷◌, ◌++◌, flat_map, drop, sym, ap, append_assoc, add-one}
+use Rattle.std.proofs.Common.{◌≡◌, ◌∙◌, ℕ, zero, suc, ◌+◌, ◌-◌, ◌<◌, ◌≤◌, Bool, true, false, List, [], ◌∷◌, ◌++◌, flat_map, length, get_or, drop, sym, ap, subst, append_assoc, add-one}
 use Rattle.std.specs.Prelude.{◌||◌, slice_get}
-use Rattle.std.specs.List.{list_any}
+use Rattle.std.specs.List.{list_any, range_with_len}
 use Rattle.std.specs.Option.{option_map_or}
-use Rattle.std.proofs.lemmas.List.{append-nil}
+use Rattle.std.proofs.lemmas.List.{append-nil, drop_all}
 use Rattle.hippo_values.specs.Texts.{Txt}
+use Rattle.hippo_catalog.proofs.ListLemmas.{drop_at_get_or, range_at}
 
 module _ {A : Type 0} (f : A → Txt) (start now : Txt) where
   -- a member's text is added
@@ -16,6 +17,17 @@ module _ {A : Type 0} (f : A → Txt) (start now : Txt) where
   pub none_more : (left : List A) → left ≡ [] → now ++ flat_map f left ≡ start → now ≡ start
   none_more left none so_far = sym (append-nil now) ∙ ap (λ (l : List A). now ++ flat_map f l) (sym none) ∙ so_far
 
+  -- the same of a list that was lent, at a place
+  pub one_lent : (next : Txt) (item : A) (items lent : List A) (place : ℕ) → lent ≡ items → place < length lent → item ≡ get_or lent place item
+      → next ≡ now ++ f item → now ++ flat_map f (drop place items) ≡ start → next ++ flat_map f (drop (place + 1) items) ≡ start
+  one_lent next item items lent place same within read added so_far =
+      one_more next item (drop place items) (drop (place + 1) items)
+      (subst (λ (xs : List A). drop place xs ≡ item ∷ drop (place + 1) xs) same (drop_at_get_or lent place item within read)) added so_far
+
+  pub none_lent : (items lent : List A) (place : ℕ) → lent ≡ items → length lent ≤ place → now ++ flat_map f (drop place items) ≡ start → now ≡ start
+  none_lent items lent place same past so_far =
+      none_more (drop place items) (subst (λ (xs : List A). drop place xs ≡ []) same (drop_all place lent past)) so_far
+
   after : (next : Txt) (items : List A) (place : ℕ) → next ≡ now ++ option_map_or f (slice_get items place) [] → now ++ flat_map f (drop place items) ≡ start → next ++ flat_map f (drop (suc place) items) ≡ start
   after next [] zero added so_far = append-nil next ∙ added ∙ so_far
   after next [] (suc place) added so_far = append-nil next ∙ added ∙ so_far
@@ -26,11 +38,14 @@ module _ {A : Type 0} (f : A → Txt) (start now : Txt) where
   pub one_at : (next : Txt) (items : List A) (place : ℕ) → next ≡ now ++ option_map_or f (slice_get items place) [] → now ++ flat_map f (drop place items) ≡ start → next ++ flat_map f (drop (place + 1) items) ≡ start
   one_at next items place added so_far = rw (add-one) (after next items place added so_far)
 
-module _ {A : Type 0} (test : A → Bool) (all : Bool) (item : A) (left behind : List A) (parts : left ≡ item ∷ behind) (so_far : list_any test left ≡ all) where
-  -- a member passes
-  pub one_passes : true ≡ test item → true ≡ all
-  one_passes is = ap (λ (b : Bool). b || list_any test behind) is ∙ sym (ap (list_any test) parts) ∙ so_far
+module _ (test : ℕ → Bool) (all : Bool) (place count : ℕ) (within : place < count) (so_far : list_any test (range_with_len place (count - place)) ≡ all) where
+  split : test place || list_any test (range_with_len (place + 1) (count - (place + 1))) ≡ all
+  split = sym (ap (list_any test) (range_at place count within)) ∙ so_far
 
-  -- or does not, and the others count
-  pub one_fails : false ≡ test item → list_any test behind ≡ all
-  one_fails is = ap (λ (b : Bool). b || list_any test behind) is ∙ sym (ap (list_any test) parts) ∙ so_far
+  -- a place passes
+  pub place_passes : true ≡ test place → true ≡ all
+  place_passes is = ap (λ (b : Bool). b || list_any test (range_with_len (place + 1) (count - (place + 1)))) is ∙ split
+
+  -- or does not, and those behind it count
+  pub place_fails : false ≡ test place → list_any test (range_with_len (place + 1) (count - (place + 1))) ≡ all
+  place_fails is = ap (λ (b : Bool). b || list_any test (range_with_len (place + 1) (count - (place + 1)))) is ∙ split

@@ -1,10 +1,11 @@
 -- What showing what is asked for comes to, by what was written.
-use Rattle.std.proofs.Common.{◌≡◌, ◌∙◌, ℕ, true, Option, Some, None, take, unwrap_or, arith, refl, sym, ap, subst}
+use Rattle.std.proofs.Common.{◌≡◌, ◌≢◌, ◌∙◌, ℕ, true, false, Option, Some, None, take, unwrap_or, arith, refl, sym, ap, subst}
 use Rattle.std.proofs.lemmas.Bool.{false≢true}
 use Rattle.hippo_values.specs.Texts.{Txt}
 use Rattle.hippo_io.specs.Told.{Appends, AppendsFront}
 use Rattle.hippo_model.specs.Terms.{History}
 use Rattle.hippo_policy.specs.Books.{BookStandsFor}
+use Rattle.hippo_keeper.specs.Answering.{has_failed}
 use Rattle.hippo_keeper.specs.Keeping.{KeeperState, IsReady}
 use Rattle.hippo_keeper.proofs.CallLemmas.{IsAfterCall-none, KeepsSame-here}
 use Rattle.hippo_replay.specs.Standing.{StandsFor}
@@ -96,6 +97,20 @@ module _ (state : State) (written written' : Option Txt) (faults faults' : ℕ) 
         → (history : History) → StandsFor state history → AppendsFront written written' (shown_text (Rules page) history)
     front writes history stands = subst (AppendsFront written written') (named history stands) (writes.front history stands.book)
 
+    -- what cut the text short
+    cut_short : (ending : Ending) → ending ≢ Refused → ending ≢ Shown → has_failed (showing_as_call ending) ≡ false
+        → WritesPage (BookStandsFor state.book) text (Some ending) written written' faults faults' → Loaded ending
+    cut_short ending unrefused unended fine writes = record {
+      call = IsAfterCall-none (showing_as_call ending) keeper fine ready;
+      stays = λ tells. KeepsSame-here keeper;
+      status = unrefused;
+      writes = writes.writes;
+      whole = λ is. absurd (unended is);
+      front = λ tells history stands forms. front writes history stands;
+      damaged = λ is. absurd (writes.sound (ap Some is));
+      steps = λ tells. omega arith;
+    }
+
     pub loaded_rules : (cut : Option Ending) → WritesPage (BookStandsFor state.book) text cut written written' faults faults' → Loaded (unwrap_or cut Shown)
     loaded_rules None writes = record {
       call = IsAfterCall-none (showing_as_call Shown) keeper refl ready;
@@ -107,26 +122,8 @@ module _ (state : State) (written written' : Option Txt) (faults faults' : ℕ) 
       damaged = λ is. absurd cc;
       steps = λ tells. omega arith;
     }
-    loaded_rules (Some WriteFault) writes = record {
-      call = IsAfterCall-none (showing_as_call WriteFault) keeper refl ready;
-      stays = λ tells. KeepsSame-here keeper;
-      status = λ e. cc;
-      writes = writes.writes;
-      whole = λ is. absurd cc;
-      front = λ tells history stands forms. front writes history stands;
-      damaged = λ is. absurd cc;
-      steps = λ tells. omega arith;
-    }
-    loaded_rules (Some NoMemory) writes = record {
-      call = IsAfterCall-none (showing_as_call NoMemory) keeper refl ready;
-      stays = λ tells. KeepsSame-here keeper;
-      status = λ e. cc;
-      writes = writes.writes;
-      whole = λ is. absurd cc;
-      front = λ tells history stands forms. front writes history stands;
-      damaged = λ is. absurd cc;
-      steps = λ tells. omega arith;
-    }
+    loaded_rules (Some WriteFault) writes = cut_short WriteFault (λ e. cc) (λ e. cc) refl writes
+    loaded_rules (Some NoMemory) writes = cut_short NoMemory (λ e. cc) (λ e. cc) refl writes
     loaded_rules (Some Damaged) writes = absurd (writes.sound refl)
     loaded_rules (Some Shown) writes = absurd (false≢true writes.ends)
     loaded_rules (Some Refused) writes = absurd (false≢true writes.ends)

@@ -2,6 +2,7 @@
 use Rattle.std.proofs.Common.{◌≡◌, ◌≢◌, ◌∙◌, ℕ, ◌+◌, ◌^◌, ◌<◌, ◌≤◌, true, false, [], ◌++◌, take, drop, Option, Some, None, Ok, Err, refl, sym, ap, subst, append_assoc, arith}
 use Rattle.std.proofs.lemmas.Bool.{false≢true}
 use Rattle.std.proofs.lemmas.List.{take-append-drop}
+use Rattle.std.proofs.lemmas.Option.{same_Some}
 use Rattle.hippo_values.specs.declared.moments.Moment.{Moment}
 use Rattle.hippo_values.specs.Texts.{Txt}
 use Rattle.hippo_io.specs.Told.{Appends, AppendsFront}
@@ -14,6 +15,7 @@ use Rattle.hippo_keeper.specs.Keeping.{Store, RisesAbove, last_number, KeeperSta
 use Rattle.hippo_keeper.specs.Selecting.{is_any, stored_versions, handed_over, ReadsEntries}
 use Rattle.hippo_replay.proofs.KeeperLemmas.{handed_over-behind, nothing_taken}
 use Rattle.hippo_keeper.proofs.CallLemmas.{KeepsSame-here, KeepsSame-then, KeepsSame-Stays, IsAfterCall-then, IsAfterCall-as, IsAfterCall-none, IsReady-after}
+use Rattle.hippo_keeper.proofs.Results.{err_of}
 use Rattle.hippo_replay.proofs.ReadingLemmas.{versions-append}
 use Rattle.hippo_showing.specs.declared.asking.Excerpt.{Excerpt}
 use Rattle.hippo_showing.specs.declared.endings.Ending.{Ending}
@@ -89,35 +91,33 @@ module _ (known : KnownNames) (excerpt : Excerpt) (max number : ℕ) (before aft
       }
 
 -- the keeper did not answer
-pub ShowsNext-fault : (known : KnownNames) (excerpt : Excerpt) (max number : ℕ) (before after : KeeperState) (steps steps' : ℕ) (fault : Fault) (clock : Option Moment) (written : Option Txt) (faults : ℕ)
-    → ReadsEntries is_any number max (Err fault) before after → steps' ≡ steps + 0
-    → ShowsNext known excerpt (Some (ending_of fault)) before after number number clock clock written written faults faults steps steps'
-ShowsNext-fault known excerpt max number before after steps steps' keeper_faults.Failed clock written faults reads counted = record {
-  call = IsAfterCall-as true false (Err keeper_faults.Failed) (as_part (Some KeeperFault)) before after refl reads.call;
-  stays = λ tells. KeepsSame-Stays before after (reads.stays tells);
-  status = λ e. cc;
-  piece = [];
-  shows = ShowsKept-none known excerpt clock written faults;
-  steps = counted;
-  last = λ e. absurd cc;
-  more = λ e. absurd cc;
-  told = λ tells read rest upto. (rest, refl);
-  nothing = λ e. refl;
-  ended = λ e. absurd cc;
-}
-ShowsNext-fault known excerpt max number before after steps steps' keeper_faults.Memory clock written faults reads counted = record {
-  call = IsAfterCall-as true false (Err keeper_faults.Memory) (as_part (Some NoMemory)) before after refl reads.call;
-  stays = λ tells. KeepsSame-Stays before after (reads.stays tells);
-  status = λ e. cc;
-  piece = [];
-  shows = ShowsKept-unread known excerpt clock written faults;
-  steps = counted;
-  last = λ e. absurd cc;
-  more = λ e. absurd cc;
-  told = λ tells read rest upto. (rest, refl);
-  nothing = λ e. refl;
-  ended = λ e. absurd cc;
-}
+module _ (known : KnownNames) (excerpt : Excerpt) (max number : ℕ) (before after : KeeperState) (steps steps' : ℕ) where
+  -- nothing was read, and the program ends
+  ends_unread : (ending : Ending) (fault : Fault) (clock : Option Moment) (written : Option Txt) (faults : ℕ) → ending ≢ Refused → ending ≢ Shown
+      → has_failed (showing_as_call ending) ≡ has_failed (err_of Store fault) → ShowsKept known excerpt [] (cut_of (Some ending)) clock clock written written faults faults
+      → ReadsEntries is_any number max (Err fault) before after → steps' ≡ steps + 0
+      → ShowsNext known excerpt (Some ending) before after number number clock clock written written faults faults steps steps'
+  ends_unread ending fault clock written faults unrefused unended same shows reads counted = record {
+    call = IsAfterCall-as true false (err_of Store fault) (as_part (Some ending)) before after same reads.call;
+    stays = λ tells. KeepsSame-Stays before after (reads.stays tells);
+    status = λ e. unrefused (same_Some ending Refused e);
+    piece = [];
+    shows = shows;
+    steps = counted;
+    last = λ e. absurd cc;
+    more = λ e. absurd cc;
+    told = λ tells read rest upto. (rest, refl);
+    nothing = λ e. refl;
+    ended = λ e. absurd (unended (same_Some ending Shown e));
+  }
+
+  pub ShowsNext-fault : (fault : Fault) (clock : Option Moment) (written : Option Txt) (faults : ℕ)
+      → ReadsEntries is_any number max (Err fault) before after → steps' ≡ steps + 0
+      → ShowsNext known excerpt (Some (ending_of fault)) before after number number clock clock written written faults faults steps steps'
+  ShowsNext-fault keeper_faults.Failed clock written faults =
+      ends_unread KeeperFault keeper_faults.Failed clock written faults (λ e. cc) (λ e. cc) refl (ShowsKept-none known excerpt clock written faults)
+  ShowsNext-fault keeper_faults.Memory clock written faults =
+      ends_unread NoMemory keeper_faults.Memory clock written faults (λ e. cc) (λ e. cc) refl (ShowsKept-unread known excerpt clock written faults)
 
 module _ (known : KnownNames) (excerpt : Excerpt) (before now after : KeeperState) where
   -- before anything is read
