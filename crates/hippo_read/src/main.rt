@@ -9,6 +9,7 @@ mod long;
 mod values;
 
 use hippo_audit_reader::read_audit;
+use hippo_entry_texts::first_word;
 use hippo_lexer::lexer::tokens;
 use hippo_lexer::{SyntaxFault, Tokens, check_words};
 use hippo_spj_reader::{read_condition, read_select};
@@ -65,14 +66,10 @@ fn long_reading(alloc: Global, rule: &str, row: &str) -> Result<String, AllocErr
     format!(in alloc; "{} bytes: {reading}", text.len())
 }
 
-fn word_and_rest(line: &str) -> (&str, &str) {
-    line.split_once(' ').unwrap_or((line, ""))
-}
-
 fn line_reading(alloc: Global, line: &str) -> Result<String, AllocError> {
-    let (word, rest) = word_and_rest(line);
+    let (word, rest) = first_word(line);
     if word == "long" {
-        let (rule, row) = word_and_rest(rest);
+        let (rule, row) = first_word(rest);
         return long_reading(alloc, rule, row);
     }
     reading(alloc, word, rest)

@@ -1,5 +1,6 @@
 //! Shows what texts are as names, days, moments, values and truths, and how values compare.
 
+use hippo_entry_texts::first_word;
 use hippo_lexer::TokenKind;
 use hippo_lexer::lexer::tokens;
 use hippo_text_forms::{day_text, moment_text, print_value, read_day, read_moment};
@@ -105,7 +106,7 @@ fn truth_named(word: &str) -> Truth {
 
 // AND, OR and NOT of truths by their words.
 fn truths(alloc: Global, text: &str) -> Result<String, AllocError> {
-    let (left, right) = text.split_once(' ').unwrap_or((text, ""));
+    let (left, right) = first_word(text);
     let (left, right) = (truth_named(left), truth_named(right));
     let both = truth_and(left, right);
     let either = truth_or(left, right);
