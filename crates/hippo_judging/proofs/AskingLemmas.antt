@@ -1,5 +1,5 @@
 -- What the checks of a question come to.
-use Rattle.std.proofs.Common.{◌≡◌, ◌≢◌, ◌⊎◌, ◌∙◌, inl, inr, refl, sym, ap, subst, Bool, true, false, ◌&&◌, List, [], ◌∷◌, ◌++◌, Option, Some, None, Ok, Err}
+use Rattle.std.proofs.Common.{◌≡◌, ◌≢◌, ◌⊎◌, ◌∙◌, inl, inr, refl, sym, ap, subst, Bool, true, false, ◌&&◌, List, [], ◌∷◌, Option, Some, Ok, Err}
 use Rattle.std.specs.Prelude.{ℕ, length, is_none, is_some, flat_map, unwrap_or, slice_get}
 use Rattle.hippo_values.specs.Texts.{Txt}
 use Rattle.hippo_values.specs.declared.names.Name.{Name}
@@ -16,6 +16,7 @@ use Rattle.hippo_catalog.specs.Selects.{select_refused, query_of}
 use Rattle.hippo_typing.specs.Meanings.{meaning}
 use Rattle.hippo_typing.specs.ResolutionLaws.{NamesAreThoseOf}
 use Rattle.hippo_typing.proofs.CatalogTheorem.{valid_names}
+use Rattle.hippo_following.proofs.RefusalLemmas.{none_of_both, there}
 use Rattle.hippo_report.specs.declared.refusal.Refusal.{Refusal}
 use Rattle.hippo_report.specs.declared.refusal.Refusal.TheVariants.{Memory, Meaningless}
 use Rattle.hippo_report.specs.declared.speaker.Speaker.TheVariants as speaker
@@ -64,18 +65,6 @@ pub judged_written : (written : WrittenQuestion) (text : Txt) (history : History
 judged_written written text history world session =
     judged_asked written.handing history world session written.select.now written.start written.end text
 
-front_none : {A : Type 0} (front rest : List A) → front ++ rest ≡ [] → front ≡ []
-front_none [] rest none = refl
-front_none (first ∷ front) rest none = absurd cc
-
-not_refused : (test : Bool) (fault : NameFault) (rest : List NameFault) → fault_if test fault ++ rest ≡ [] → (test ≡ false) × (rest ≡ [])
-not_refused true fault rest none = absurd cc
-not_refused false fault rest none = (refl, none)
-
-some_if : {A : Type 0} (found : Option A) → is_none found ≡ false → is_some found ≡ true
-some_if None is = absurd cc
-some_if (Some value) is = refl
-
 both_true : (first second : Bool) → first ≡ true → second ≡ true → (first && second) ≡ true
 both_true true second one other = other
 both_true false second one other = absurd cc
@@ -84,13 +73,13 @@ both_true false second one other = absurd cc
 created : (history : History) (names : List Name) → NamesAreThoseOf history → flat_map (unknown_table (known_at history)) names ≡ [] → are_created history names ≡ true
 created history [] known none = refl
 created history (name ∷ names) known none =
-    let parts = not_refused (is_none (table_of (known_at history) name)) (UnknownTable name) (flat_map (unknown_table (known_at history)) names) none in
+    let parts = none_of_both (fault_if (is_none (table_of (known_at history) name)) (UnknownTable name)) (flat_map (unknown_table (known_at history)) names) none in
     both_true (is_some (schema_at history name)) (are_created history names)
-    (ap is_some (sym (known.tables name)) ∙ some_if (table_of (known_at history) name) parts.0)
+    (ap is_some (sym (known.tables name)) ∙ there (table_of (known_at history) name) (UnknownTable name) parts.0)
     (created history names known parts.1)
 
 tables_known : (known : KnownNames) (select : RawSelect) → select_refused known select ≡ [] → flat_map (unknown_table known) select.tables ≡ []
-tables_known known select none = front_none _ _ (front_none _ _ (front_none _ _ (front_none _ _ (front_none _ _ (front_none _ _ none)))))
+tables_known known select none = (none_of_both _ _ (none_of_both _ _ (none_of_both _ _ (none_of_both _ _ (none_of_both _ _ (none_of_both _ _ none).0).0).0).0).0).0
 
 -- a select that is not refused can be answered
 pub answerable : (state : State) (history : History) (select : RawSelect) (query : Query) → StandsFor state history

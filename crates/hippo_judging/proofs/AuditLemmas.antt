@@ -1,5 +1,5 @@
 -- From what an audit expression means by names to what it means in a history.
-use Rattle.std.proofs.Common.{◌≡◌, ◌∙◌, ℤ, refl, sym, ap, subst, true, [], ◌++◌, Option, Some, None, Ok, append-nil}
+use Rattle.std.proofs.Common.{◌≡◌, ◌∙◌, ℤ, refl, sym, ap, subst, true, [], ◌++◌, Option, Some, None, append-nil}
 use Rattle.hippo_values.specs.Texts.{Txt}
 use Rattle.hippo_model.specs.declared.audit.Audit.{Audit}
 use Rattle.hippo_model.specs.declared.statement.RawAudit.{RawAudit}

@@ -1,5 +1,5 @@
 -- From the checks of a statement that changes something to how it is judged.
-use Rattle.std.proofs.Common.{◌≡◌, inl, inr, refl, ap, ℕ, Option, Some, None, Ok, Err, true}
+use Rattle.std.proofs.Common.{◌≡◌, inl, inr, refl, ap, Option, Some, None, Ok, Err, true}
 use Rattle.std.specs.Prelude.{ok_or}
 use Rattle.std.proofs.lemmas.Bool.{false≢true}
 use Rattle.hippo_values.specs.Texts.{Txt}

@@ -44,7 +44,7 @@ use Rattle.hippo_judging.specs.declared.deeds.Unjudged.{Unjudged}
 use Rattle.hippo_judging.specs.Checks.{Checked, Refuses, by_console, by_session, open_session, job_at, held_watch, reply_room}
 use Rattle.hippo_judging.specs.Deeds as deeds
 use Rattle.hippo_judging.specs.Changes.{IsChange}
-use Rattle.hippo_judging.specs.Findings.{AddsNextEntry, IsJudged, IsRefused, MayBeAsked, IsAuditOfState, Does, FindsDeed, deed_by, begun_with, set_with, without_reading, Judges, may_do_nothing}
+use Rattle.hippo_judging.specs.Findings.{AddsNextEntry, IsJudged, IsRefused, MayBeAsked, IsAuditOfState, Does, FindsDeed, deed_by, with_free_number, without_reading, Judges, may_do_nothing}
 use Rattle.hippo_judging.specs.Judging.{judged, audit_in}
 use Rattle.hippo_judging.proofs.FollowingLemmas.{some_so}
 
@@ -204,7 +204,7 @@ module _ (state : State) (world : HeldWorld) (written : RawAudit) (text : Txt) w
     by_free found free = ap (λ (one : Option ℕ). ok_or one JobLimit >>= λ number. Ok (deeds.begin_audit number audit)) (seen-free open_audit world.jobs ∙ free)
 
     -- a job begins where a number is free
-    pub may_begin : (found : Option ℕ) → free_number world.jobs ≡ found → FindsDeed (commands.make_statement Console (stmt.BeginAudit written) text) (begun_with audit (ok_or found JobLimit)) state world
+    pub may_begin : (found : Option ℕ) → free_number world.jobs ≡ found → FindsDeed (commands.make_statement Console (stmt.BeginAudit written) text) (with_free_number kinds.BeginAudit JobLimit audit found) state world
     may_begin (Some number) free = (
       (written, text, refl),
       means,
@@ -219,7 +219,7 @@ module _ (state : State) (world : HeldWorld) (written : RawAudit) (text : Txt) w
     by_free_watch found free = ap (λ (one : Option ℕ). ok_or one WatchLimit >>= λ number. Ok (deeds.watch number audit)) (seen-free watched world.watches ∙ free)
 
     -- a watch is set where a number is free
-    pub may_watch : (found : Option ℕ) → free_number world.watches ≡ found → FindsDeed (commands.make_statement Console (stmt.Watch written) text) (set_with audit (ok_or found WatchLimit)) state world
+    pub may_watch : (found : Option ℕ) → free_number world.watches ≡ found → FindsDeed (commands.make_statement Console (stmt.Watch written) text) (with_free_number kinds.Watch WatchLimit audit found) state world
     may_watch (Some number) free = (
       (written, text, refl),
       means,

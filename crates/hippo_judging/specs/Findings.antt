@@ -188,14 +188,10 @@ abbrev pub FindsDeed : Command → Result Deed Refusal → State → HeldWorld �
 FindsDeed command (Ok deed) state world = Does command deed state world
 FindsDeed command (Err refusal) state world = IsRefused command refusal state world
 
--- a job or a watch gets a number, if one is free
-abbrev pub begun_with : Audit → Checked ℕ → Result Deed Refusal
-begun_with audit (Ok number) = Ok (kinds.BeginAudit number audit)
-begun_with audit (Err refusal) = Err refusal
-
-abbrev pub set_with : Audit → Checked ℕ → Result Deed Refusal
-set_with audit (Ok number) = Ok (kinds.Watch number audit)
-set_with audit (Err refusal) = Err refusal
+-- what an audit is for gets the number that is free; or none is, and that refuses it
+abbrev pub with_free_number : (ℕ → Audit → Deed) → Refusal → Audit → Option ℕ → Checked Deed
+with_free_number make limit audit (Some number) = Ok (make number audit)
+with_free_number make limit audit None = Err limit
 
 -- the question with a number was looked up in a history, or memory was short, or the keeper failed;
 -- no step is taken for one that is there

@@ -107,8 +107,8 @@ fn judge_logout(world: &World, session: u8) -> Result<Deed<'static>, Refusal>
 
 fn judge_fetch(world: &World, session: u8, cursor: u8, count: u32) -> Result<Deed<'static>, Refusal>
     ensures { (state : HeldState)
-        → FindsDeed (commands.make_request (Session session) (requests.fetches cursor count)) result state
-        world.now }
+        → FindsDeed (commands.make_request (Session session) (requests.fetches cursor count)) result
+        state world.now }
 {
     match open_cursor(world, session, cursor) {
         Ok(_) => Ok(Deed::HandOut {

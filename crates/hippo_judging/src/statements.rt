@@ -1,5 +1,5 @@
 //! Statements: what is to be done for each, or why not.
-ghost use Rattle.std.specs.Prelude.{◌≡◌, true, false, ok_or};
+ghost use Rattle.std.specs.Prelude.{◌≡◌, true, false};
 ghost use Rattle.hippo_values.specs.Texts.{Txt as Text};
 ghost use Rattle.hippo_model.specs.declared.statement.Stmt.TheVariants as stmt;
 ghost use Rattle.hippo_catalog.specs.ChangesWanted.{changes_something};
@@ -11,8 +11,8 @@ ghost use Rattle.hippo_report.specs.declared.speaker.Speaker.TheVariants.{Nobody
 ghost use Rattle.hippo_replay.specs.declared.state.State.{State as HeldState};
 ghost use Rattle.hippo_report.specs.declared.refusal.Refusal.TheVariants as refusals;
 ghost use Rattle.hippo_world.specs.declared.worlds.World.{World as HeldWorld};
-ghost use Rattle.hippo_world.specs.Worlds.{free_number};
-ghost use Rattle.hippo_judging.specs.Findings.{IsOfLine, IsRefused, FindsDeed, begun_with, set_with, without_reading, Judges, is_still};
+ghost use Rattle.hippo_judging.specs.declared.deeds.Deed.TheVariants as kinds;
+ghost use Rattle.hippo_judging.specs.Findings.{IsOfLine, IsRefused, FindsDeed, with_free_number, without_reading, Judges, is_still};
 
 use crate::asking::{judge_question, written_question};
 use crate::audits::audit_in;
@@ -57,24 +57,15 @@ fn judge_audit(alloc: Global, state: &State, written: &RawAudit) -> Result<Deed<
     }
 }
 
-fn free_job(world: &World) -> Result<usize, Refusal>
-    ensures { result ≡ ok_or (free_number world.now.jobs) refusals.JobLimit }
-{
-    match world.jobs.free() {
-        Some(number) => Ok(number),
-        None => Err(Refusal::JobLimit),
-    }
-}
-
 // A job gets the lowest number that is free.
-fn begun_with(audit: Audit, free: Result<usize, Refusal>) -> Result<Deed<'static>, Refusal>
-    ensures { result ≡ begun_with audit free }
+fn begun_with(audit: Audit, free: Option<usize>) -> Result<Deed<'static>, Refusal>
+    ensures { result ≡ with_free_number kinds.BeginAudit refusals.JobLimit audit free }
 {
     match free {
-        Ok(job) => Ok(Deed::BeginAudit { job, audit }),
-        Err(refusal) => {
+        Some(job) => Ok(Deed::BeginAudit { job, audit }),
+        None => {
             drop(audit);
-            Err(refusal)
+            Err(Refusal::JobLimit)
         }
     }
 }
@@ -91,29 +82,20 @@ fn judge_begin(
         state.now world.now }
 {
     match audit_in(alloc, state, written) {
-        Ok(audit) => begun_with(audit, free_job(world)),
+        Ok(audit) => begun_with(audit, world.jobs.free()),
         Err(refusal) => Err(refusal),
     }
 }
 
-fn free_watch(world: &World) -> Result<usize, Refusal>
-    ensures { result ≡ ok_or (free_number world.now.watches) refusals.WatchLimit }
-{
-    match world.watches.free() {
-        Some(number) => Ok(number),
-        None => Err(Refusal::WatchLimit),
-    }
-}
-
 // A watch gets the lowest number that is free.
-fn set_with(audit: Audit, free: Result<usize, Refusal>) -> Result<Deed<'static>, Refusal>
-    ensures { result ≡ set_with audit free }
+fn set_with(audit: Audit, free: Option<usize>) -> Result<Deed<'static>, Refusal>
+    ensures { result ≡ with_free_number kinds.Watch refusals.WatchLimit audit free }
 {
     match free {
-        Ok(watch) => Ok(Deed::Watch { watch, audit }),
-        Err(refusal) => {
+        Some(watch) => Ok(Deed::Watch { watch, audit }),
+        None => {
             drop(audit);
-            Err(refusal)
+            Err(Refusal::WatchLimit)
         }
     }
 }
@@ -130,7 +112,7 @@ fn judge_watch(
         state.now world.now }
 {
     match audit_in(alloc, state, written) {
-        Ok(audit) => set_with(audit, free_watch(world)),
+        Ok(audit) => set_with(audit, world.watches.free()),
         Err(refusal) => Err(refusal),
     }
 }

@@ -1,5 +1,5 @@
 -- A moment before the clock is refused, which is short.
-use Rattle.std.proofs.Common.{None, Ok, sym, ap, ◌∙◌}
+use Rattle.std.proofs.Common.{Ok, sym, ap, ◌∙◌}
 use Rattle.std.specs.Prelude.{Bool}
 use Rattle.hippo_values.specs.Results.{◌>>=◌}
 use Rattle.hippo_report.specs.declared.refusal.Refusal.TheVariants.{MomentBack}

@@ -1,4 +1,4 @@
-use Rattle.std.proofs.Common.{Some, arith}
+use Rattle.std.proofs.Common.{arith}
 use Rattle.hippo_report.specs.declared.speaker.Speaker.TheVariants.{Session}
 use Rattle.hippo_judging.proofs.LengthLemmas.{no_session_fits}
 use Rattle.hippo_judging.proofs.session_checks.open_session.Goals as goal

@@ -10,7 +10,8 @@ use Rattle.hippo_judging.specs.Checks.{Checked}
 use Rattle.hippo_report.specs.declared.speaker.Speaker.TheVariants.{Console}
 use Rattle.hippo_judging.specs.Deeds as deeds
 use Rattle.hippo_judging.specs.declared.deeds.Deed.{Deed}
-use Rattle.hippo_judging.specs.Findings.{FindsDeed, begun_with}
+use Rattle.hippo_judging.specs.declared.deeds.Deed.TheVariants.{BeginAudit}
+use Rattle.hippo_judging.specs.Findings.{FindsDeed, with_free_number}
 use Rattle.hippo_judging.proofs.FindingLemmas.{may_begin, refused_audit}
 use Rattle.hippo_judging.proofs.statements.judge_begin.Goals as goal
 
@@ -20,7 +21,7 @@ returns-in-Ok c = λ text.
     let finds = may_begin c.args.state.now c.args.world.now c.args.written.now text c.in-Ok.audit
     (record { fits = c.in-Ok.ensures.audit; differ = c.in-Ok.ensures.differ }) c.in-Ok.ensures.found (free_number c.args.world.now.jobs) refl in
     subst (λ (found : Checked Deed). FindsDeed command found c.args.state.now c.args.world.now)
-    (sym (c.begun_with.ensures ∙ ap (begun_with c.in-Ok.audit) c.free_job.ensures)) finds
+    (sym (c.begun_with.ensures ∙ ap (with_free_number BeginAudit JobLimit c.in-Ok.audit) c.free.ensures)) finds
 
 pub returns-in-Err : goal.returns-in-Err
 returns-in-Err c = λ text.
