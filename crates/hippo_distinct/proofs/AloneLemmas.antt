@@ -23,9 +23,9 @@ use Rattle.hippo_model.specs.Bags.{same_row}
 use Rattle.hippo_model.specs.Masking.{Choices, is_guarded, masked_passes, masked_items}
 use Rattle.hippo_keyed_rows.specs.RowSets.{KeyedRows, IsAscending, key_in}
 use Rattle.hippo_eval.specs.Walks.{rows_of}
-use Rattle.hippo_join.specs.Finding.{has_places}
-use Rattle.hippo_join.specs.Places.{in_range, stays}
-use Rattle.hippo_join.specs.Visiting.{counting}
+use Rattle.hippo_sides.specs.Finding.{has_places}
+use Rattle.hippo_lookups.specs.Places.{in_range, stays}
+use Rattle.hippo_sides.specs.Visiting.{counting}
 use Rattle.hippo_join.proofs.VisitingLemmas.{filter-implied}
 use Rattle.hippo_shared.specs.declared.marks.Mark.{Mark}
 use Rattle.hippo_shared.specs.declared.marks.Mark.TheVariants.{Unmarked}

@@ -8,7 +8,7 @@ ghost use Rattle.hippo_model.specs.declared.query.Form.TheVariants.{Distinct};
 ghost use Rattle.hippo_model.specs.Answers.{product};
 ghost use Rattle.hippo_model.specs.Terms.{Place, ShownRow};
 ghost use Rattle.hippo_eval.specs.Walks.{rows_of};
-ghost use Rattle.hippo_join.specs.Finding.{has_places};
+ghost use Rattle.hippo_sides.specs.Finding.{has_places};
 ghost use Rattle.hippo_shared.specs.Audited.{HasRowsFor};
 ghost use Rattle.hippo_shared.specs.Marks.{mark_of, is_one};
 ghost use Rattle.hippo_shared.specs.Needs.{first_needed};

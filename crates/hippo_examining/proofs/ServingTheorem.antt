@@ -25,7 +25,7 @@ use Rattle.hippo_model.specs.Audits.{common, shared_rows as rows_at_history, vir
 use Rattle.hippo_rewrite.specs.Rewriting.{masked_column, rewritten_query}
 use Rattle.hippo_rewrite.specs.RewritingLaws.{rules_at, ColumnsShowVerdicts}
 use Rattle.hippo_eval.specs.Walks.{rows_of}
-use Rattle.hippo_join.specs.Places.{chosen_rows, in_range}
+use Rattle.hippo_lookups.specs.Places.{chosen_rows, in_range}
 use Rattle.hippo_join.specs.Existence.{are_shown}
 use Rattle.hippo_shared.specs.Sharing.{common_tables, place_in, has_tuple_in, query_has, audit_has}
 use Rattle.hippo_shared.specs.Needs.{needs_by}

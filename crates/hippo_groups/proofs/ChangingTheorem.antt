@@ -15,8 +15,8 @@ use Rattle.hippo_model.specs.Masking.{Choices}
 use Rattle.hippo_keyed_rows.specs.RowSets.{KeyedRows, IsAscending, key_in}
 use Rattle.hippo_eval.specs.Answering.{masked_rows}
 use Rattle.hippo_eval.specs.Walks.{rows_of}
-use Rattle.hippo_join.specs.Finding.{has_places}
-use Rattle.hippo_join.specs.Places.{in_range}
+use Rattle.hippo_sides.specs.Finding.{has_places}
+use Rattle.hippo_lookups.specs.Places.{in_range}
 use Rattle.hippo_distinct.proofs.BagLemmas.{bag-from_same}
 use Rattle.hippo_distinct.proofs.CellOrder.{row_order}
 use Rattle.hippo_shared.specs.Candidates.{AreCandidates}

@@ -13,8 +13,8 @@ use Rattle.hippo_model.specs.declared.query.Masked.{Masked}
 use Rattle.hippo_model.specs.Terms.{Combination, Place}
 use Rattle.hippo_model.specs.Masking.{Choices, is_guarded, masked_passes, masked_items}
 use Rattle.hippo_keyed_rows.specs.RowSets.{KeyedRows}
-use Rattle.hippo_join.specs.Places.{stays}
-use Rattle.hippo_join.specs.Visiting.{counting}
+use Rattle.hippo_lookups.specs.Places.{stays}
+use Rattle.hippo_sides.specs.Visiting.{counting}
 use Rattle.hippo_join.proofs.VisitingLemmas.{filter-implied}
 use Rattle.hippo_shared.specs.declared.marks.Mark.{Mark}
 use Rattle.hippo_shared.specs.declared.marks.Mark.TheVariants.{Unmarked}

@@ -4,7 +4,7 @@ ghost use Rattle.std.specs.Prelude.{◌≡◌, ◌+◌, ◌<◌, [], ◌∷◌, 
 ghost use Rattle.std.specs.List.{list_any};
 ghost use Rattle.hippo_model.specs.Terms.{Place};
 ghost use Rattle.hippo_model.specs.Forms.{least_value, greatest_value};
-ghost use Rattle.hippo_join.specs.Finding.{has_places};
+ghost use Rattle.hippo_sides.specs.Finding.{has_places};
 ghost use Rattle.hippo_shared.specs.Marks.{mark_of};
 ghost use Rattle.hippo_groups.specs.declared.group_marks.GroupMarks as marks;
 ghost use Rattle.hippo_groups.specs.GroupMarks.{PlacedRow, shown_value, best_by, best_of, best_after, marks_of, is_best_changed, changes_without, AreJoinedBests};

@@ -5,7 +5,7 @@ ghost use Rattle.hippo_model.specs.declared.query.Shape as shapes;
 ghost use Rattle.hippo_model.specs.Answers.{product};
 ghost use Rattle.hippo_model.specs.Terms.{Place};
 ghost use Rattle.hippo_eval.specs.Walks.{rows_of};
-ghost use Rattle.hippo_join.specs.Finding.{has_places};
+ghost use Rattle.hippo_sides.specs.Finding.{has_places};
 ghost use Rattle.hippo_groups.specs.GroupMarks.{PlacedRow, placed_rows, changes_without};
 ghost use Rattle.hippo_groups.specs.KeptGroups.{group_place, AreMarkedGroups};
 

@@ -8,10 +8,10 @@ use Rattle.hippo_model.specs.Masking.{Choices, masked_items, masked_answer}
 use Rattle.hippo_eval.specs.Walks.{rows_of}
 use Rattle.hippo_eval.specs.declared.answers.EvalFault.{EvalFault}
 use Rattle.hippo_eval.specs.declared.answers.EvalFault.TheVariants.{TooManyRows, Memory}
-use Rattle.hippo_join.specs.Places.{chosen_rows, stands}
-use Rattle.hippo_join.specs.Finding.{AreFound, IsRising, has_places}
+use Rattle.hippo_lookups.specs.Places.{chosen_rows, stands}
+use Rattle.hippo_sides.specs.Finding.{AreFound, IsRising, has_places}
 use Rattle.hippo_eval.specs.Answering.{IsAnswered}
-use Rattle.hippo_join.proofs.FoundLemmas.{answer-found, length-found, same_tests}
+use Rattle.hippo_sides.proofs.FoundLemmas.{answer-found, length-found, same_tests}
 
 module _ (choices : Choices) (query : Masked) (sets : List KeyedRows) (found : List (List Place)) (rising : IsRising found) where
   abbrev whole : List ShownRow

@@ -1,5 +1,5 @@
 -- Whether some combination counts that has the rows that are chosen.
-use Rattle.std.proofs.Common.{◌≡◌, ℕ, zero, suc, ◌+◌, ◌<◌, Bool, true, false, ◌||◌, List, [], ◌∷◌, ◌++◌, map, length, refl, sym, ap, ◌∙◌, Option, Some, None, ◌⊎◌, arith, get_or, unwrap_or}
+use Rattle.std.proofs.Common.{◌≡◌, zero, suc, ◌+◌, Bool, true, false, ◌||◌, List, [], ◌∷◌, ◌++◌, map, refl, sym, ap, ◌∙◌, Option, Some, None, get_or, unwrap_or}
 use Rattle.std.specs.Prelude.{slice_set, Ok}
 use Rattle.std.specs.List.{list_any}
 use Rattle.std.specs.Ordering.{is_eq, nat_cmp}
@@ -13,13 +13,13 @@ use Rattle.hippo_model.specs.declared.query.Masked.{Masked}
 use Rattle.hippo_model.specs.Terms.{Place}
 use Rattle.hippo_keyed_rows.specs.RowSets.{KeyedRows}
 use Rattle.hippo_model.specs.Masking.{Choices}
-use Rattle.hippo_join.specs.Places.{Fits, chosen_rows}
-use Rattle.hippo_join.specs.Known.{is_chosen}
-use Rattle.hippo_join.specs.Finding.{Covers, has_places}
-use Rattle.hippo_join.specs.Visiting.{AreAll, Completes}
+use Rattle.hippo_lookups.specs.Places.{Fits, chosen_rows}
+use Rattle.hippo_lookups.specs.Known.{is_chosen}
+use Rattle.hippo_sides.specs.Finding.{Covers, has_places}
+use Rattle.hippo_sides.specs.Visiting.{AreAll, Completes}
 use Rattle.hippo_join.specs.Existence.{are_shown, HasOne, Decides}
-use Rattle.hippo_join.proofs.FindingLemmas.{whole-chosen_rows, covered-whole}
-use Rattle.hippo_join.proofs.FoundLemmas.{same_places}
+use Rattle.hippo_sides.proofs.FindingLemmas.{whole-chosen_rows, covered-whole}
+use Rattle.hippo_sides.proofs.FoundLemmas.{same_places}
 
 pub decided : (fact : Type 0) (answer : Bool) → (answer ≡ true → fact) → (answer ≡ false → ¬ fact) → Decides fact (Ok answer)
 decided fact true so not = so refl
@@ -42,14 +42,6 @@ Fits-unset (None ∷ slots) (first ∷ places) zero place unchosen fits = fits.1
 Fits-unset (Some fixed ∷ slots) (first ∷ places) zero place unchosen fits = absurd (false≢true (sym unchosen))
 Fits-unset (None ∷ slots) (first ∷ places) (suc table) place unchosen fits = Fits-unset slots places table place unchosen fits
 Fits-unset (Some fixed ∷ slots) (first ∷ places) (suc table) place unchosen fits = (fits.0, Fits-unset slots places table place unchosen fits.1)
-
-pub below_or_at : (k n : ℕ) → k < n + 1 → (k < n) ⊎ (k ≡ n)
-below_or_at k n lower = grind arith
-
-pub get_or_default : (xs : List ℕ) (k d e : ℕ) → k < length xs → get_or xs k e ≡ get_or xs k d
-get_or_default [] k d e within = absurd (omega arith)
-get_or_default (x ∷ xs) zero d e within = refl
-get_or_default (x ∷ xs) (suc k) d e within = get_or_default xs k d e (omega arith)
 
 -- whether some of those that were visited pass a test
 pub any-of : (test : List Place → Bool) (some : List (List Place)) → list_any test some ≡ true → (places : List Place) × (has_places places some ≡ true) × (test places ≡ true)

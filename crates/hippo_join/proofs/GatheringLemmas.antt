@@ -8,8 +8,8 @@ use Rattle.hippo_model.specs.Masking.{Choices, masked_items, masked_answer}
 use Rattle.hippo_keyed_rows.specs.RowSets.{KeyedRows}
 use Rattle.hippo_eval.specs.Gathering.{IsGathered}
 use Rattle.hippo_eval.specs.Walks.{rows_of}
-use Rattle.hippo_join.specs.Places.{stays}
-use Rattle.hippo_join.specs.Visiting.{counting}
+use Rattle.hippo_lookups.specs.Places.{stays}
+use Rattle.hippo_sides.specs.Visiting.{counting}
 
 module _ (choices : Choices) (query : Masked) where
   -- the rows of what counts are the answer

@@ -1,16 +1,3 @@
-pub mod ProductLemmas
-pub mod FoundLemmas
-pub mod KnownLemmas
-pub mod SlotLemmas
-pub mod LookupLemmas
-pub mod PartLemmas
-pub mod PruneLemmas
-pub mod KeyLemmas
-pub mod RangeLemmas
-pub mod ListLemmas
-pub mod ReachLemmas
-pub mod SeekingLemmas
-pub mod FindingLemmas
 pub mod ExistenceLemmas
 pub mod SettlingLemmas
 pub mod AnswerLemmas

@@ -9,16 +9,16 @@ use Rattle.hippo_model.specs.declared.query.Masked.{Masked}
 use Rattle.hippo_model.specs.Terms.{Place}
 use Rattle.hippo_keyed_rows.specs.RowSets.{KeyedRows}
 use Rattle.hippo_model.specs.Masking.{Choices}
-use Rattle.hippo_join.specs.declared.stages.Stage.{Stage}
-use Rattle.hippo_join.specs.Known.{is_chosen, is_open}
-use Rattle.hippo_join.specs.Places.{Fits, stands}
+use Rattle.hippo_sides.specs.declared.stages.Stage.{Stage}
+use Rattle.hippo_lookups.specs.Known.{is_chosen, is_open}
+use Rattle.hippo_lookups.specs.Places.{Fits, stands}
 use Rattle.hippo_join.specs.Settling.{Settles}
-use Rattle.hippo_join.specs.Stages.{Reaches, ReachesFrom}
-use Rattle.hippo_join.specs.Walking.{IsWalkable, AreWalkable, CanWalk}
-use Rattle.hippo_join.proofs.ExistenceLemmas.{get_or_default}
-use Rattle.hippo_join.proofs.FindingLemmas.{closed_chosen, first_or_later}
-use Rattle.hippo_join.proofs.PruneLemmas.{long-enough}
-use Rattle.hippo_join.proofs.SlotLemmas.{Fits-set}
+use Rattle.hippo_sides.specs.Stages.{Reaches, ReachesFrom}
+use Rattle.hippo_sides.specs.Walking.{IsWalkable, AreWalkable, CanWalk}
+use Rattle.hippo_lookups.proofs.PlaceSteps.{get_or_default}
+use Rattle.hippo_sides.proofs.FindingLemmas.{closed_chosen, first_or_later}
+use Rattle.hippo_lookups.proofs.PruneLemmas.{long-enough}
+use Rattle.hippo_lookups.proofs.SlotLemmas.{Fits-set}
 
 module _ (choices : Choices) (query : Masked) (sets : List KeyedRows) where
   pub Settles_refl : (slots : List (Option Place)) → Settles choices query sets slots slots

@@ -20,19 +20,20 @@ use Rattle.hippo_values.specs.declared.memory.Memory.{Memory}
 use Rattle.hippo_eval.specs.Walks.{KeptAfter}
 use Rattle.hippo_eval.specs.declared.walks.Onward.{Onward}
 use Rattle.hippo_eval.specs.declared.walks.Onward.TheVariants.{More, Enough}
-use Rattle.hippo_join.specs.Places.{Fits, chosen_rows, in_range, places_of, stands}
-use Rattle.hippo_join.specs.Known.{is_chosen, is_open}
-use Rattle.hippo_join.specs.Finding.{has_places, IsRising}
-use Rattle.hippo_join.specs.Stages.{ReachesFrom}
-use Rattle.hippo_join.specs.Walking.{CanWalk}
-use Rattle.hippo_join.specs.declared.stages.Stage.{Stage}
-use Rattle.hippo_join.specs.Visiting.{Completes, KeptOn, AreAll, Visited}
-use Rattle.hippo_join.proofs.ExistenceLemmas.{Fits-unset, fits-itself, below_or_at, get_or_default}
-use Rattle.hippo_join.proofs.FindingLemmas.{before-chosen_rows, open-unchosen, open-within}
-use Rattle.hippo_join.proofs.FoundLemmas.{has-both, has-filter, has-first, or-cases, or-left, or-right, same_places}
-use Rattle.hippo_join.proofs.ProductLemmas.{Below, rising-append, same-first, has-places_of, rising-places_of}
-use Rattle.hippo_join.proofs.PruneLemmas.{in-range, long-enough}
-use Rattle.hippo_join.proofs.SlotLemmas.{Fits-open, Fits-set, Fits-whole}
+use Rattle.hippo_lookups.specs.Places.{Fits, chosen_rows, in_range, places_of, stands}
+use Rattle.hippo_lookups.specs.Known.{is_chosen, is_open}
+use Rattle.hippo_sides.specs.Finding.{has_places, IsRising}
+use Rattle.hippo_sides.specs.Stages.{ReachesFrom}
+use Rattle.hippo_sides.specs.Walking.{CanWalk}
+use Rattle.hippo_sides.specs.declared.stages.Stage.{Stage}
+use Rattle.hippo_sides.specs.Visiting.{Completes, KeptOn, AreAll, Visited}
+use Rattle.hippo_lookups.proofs.PlaceSteps.{below_or_at, get_or_default, rises-range}
+use Rattle.hippo_join.proofs.ExistenceLemmas.{Fits-unset, fits-itself}
+use Rattle.hippo_sides.proofs.FindingLemmas.{before-chosen_rows, open-unchosen, open-within}
+use Rattle.hippo_sides.proofs.FoundLemmas.{has-both, has-filter, has-first, or-cases, or-left, or-right, same_places}
+use Rattle.hippo_sides.proofs.ProductLemmas.{Below, rising-append, same-first, has-places_of, rising-places_of}
+use Rattle.hippo_lookups.proofs.PruneLemmas.{in-range, long-enough}
+use Rattle.hippo_lookups.proofs.SlotLemmas.{Fits-open, Fits-set, Fits-whole}
 
 not_true : (b : Bool) → ¬ (b ≡ true) → b ≡ false
 not_true true no_way = absurd (no_way refl)
@@ -342,13 +343,6 @@ below-all n order is = subst (λ (l : List Place). All (λ table. table < n) l) 
 
 pub whole-all : (n : ℕ) (order : List Place) → order ≡ range_with_len 0 n → (table : Place) → table < n → Contains order table
 whole-all n order is table within = subst (λ (l : List Place). Contains l table) (sym is) (table, omega (arith, within, length-range_with_len 0 n), get_or-range_with_len 0 n table table within ∙ zero-add table)
-
-pub rises-range : (start n : ℕ) → IsStrictlyIncreasing (range_with_len start n)
-rises-range start n k within =
-    let short : k + 1 < n = omega (arith, within, length-range_with_len start n) in
-    let here = get_or-range_with_len start n k 0 (omega (arith, short)) in
-    let next = get_or-range_with_len start n (k + 1) 0 short in
-    omega (arith, here, next)
 
 pub rises-all : (n : ℕ) (order : List Place) → order ≡ range_with_len 0 n → IsStrictlyIncreasing order
 rises-all n order is = subst IsStrictlyIncreasing (sym is) (rises-range 0 n)

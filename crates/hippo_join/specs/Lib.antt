@@ -1,14 +1,3 @@
-pub mod Places
-pub mod Known
-pub mod Lookups
-pub mod Ties
-pub mod Keys
-pub mod Ranges
-pub mod Lists
-pub mod Stages
-pub mod Finding
-pub mod Walking
 pub mod Existence
 pub mod Settling
-pub mod Visiting
 pub mod Plans

@@ -2,16 +2,15 @@
 ghost use Rattle.std.specs.Prelude.{◌≡◌, false, OnOk, length};
 ghost use Rattle.std.specs.List.{All};
 ghost use Rattle.hippo_model.specs.Masking.{masked_cell, is_shown_cell};
-ghost use Rattle.hippo_join.specs.Finding.{Covers};
-ghost use Rattle.hippo_join.specs.Stages.{IsStage};
-ghost use Rattle.hippo_join.specs.Walking.{CanWalk};
+ghost use Rattle.hippo_sides.specs.Finding.{Covers};
+ghost use Rattle.hippo_sides.specs.Stages.{IsStage};
+ghost use Rattle.hippo_sides.specs.Walking.{CanWalk};
 ghost use Rattle.hippo_join.specs.Existence.{are_shown, HasOne, Decides};
 
-use crate::sides::Side;
-use crate::stages::Stage;
-use crate::walking::PlaceVisitor;
+use crate::walking::{PlaceVisitor, walk};
 use hippo_eval::{Onward, cell};
 use hippo_model::{ChoiceView, Combo, Expr};
+use hippo_sides::{Side, Stage};
 use hippo_values::Memory;
 use std::alloc::Global;
 
@@ -43,7 +42,7 @@ struct Seeker<'a, C> {
 impl<'a, C: ChoiceView> PlaceVisitor for Seeker<'a, C> {
     ghost use Rattle.std.specs.Prelude.{◌≡◌};
     ghost use Rattle.std.specs.List.{list_any};
-    ghost use Rattle.hippo_join.specs.Places.{chosen_rows};
+    ghost use Rattle.hippo_lookups.specs.Places.{chosen_rows};
     ghost use Rattle.hippo_join.specs.Existence.{are_shown};
 
     type State = bool;
@@ -67,62 +66,61 @@ impl<'a, C: ChoiceView> PlaceVisitor for Seeker<'a, C> {
     }
 }
 
-impl<'a, C: ChoiceView> Side<'a, C> {
-    // Whether some combination counts that has the rows that are chosen, and shows each cell that
-    // is to be seen, along stages of the tables whose row is not chosen.
-    pub(crate) fn has_along(
-        &self,
-        alloc: Global,
-        stages: &[Stage],
-        seen: &[Expr],
-        slots: &mut [Option<usize>],
-    ) -> Result<bool, Memory>
-        requires { CanWalk (C.choices self.now.choices.now) self.now.query.now self.now.sets.now
-            false
-            stages.now slots.old }
-        ensures slots { OnOk result (slots.new ≡ slots.old) }
-        ensures one { Decides (HasOne (C.choices self.now.choices.now) self.now.query.now seen.now
-            self.now.sets.now
-            slots.old) result }
-    {
-        let seeker = Seeker {
-            choices: self.choices,
-            seen,
-        };
-        let mut rows = self.rows(alloc, slots)?;
-        let mut is_found = false;
-        let _onward = self.walk(
-            alloc,
-            stages,
-            false,
-            slots,
-            &mut rows,
-            &seeker,
-            &mut is_found,
-        )?;
-        Ok(is_found)
-    }
+// Whether some combination counts that has the rows that are chosen, and shows each cell that is to
+// be seen, along stages of the tables whose row is not chosen.
+pub(crate) fn has_along<C: ChoiceView>(
+    side: &Side<'_, C>,
+    alloc: Global,
+    stages: &[Stage],
+    seen: &[Expr],
+    slots: &mut [Option<usize>],
+) -> Result<bool, Memory>
+    requires { CanWalk (C.choices side.now.choices.now) side.now.query.now side.now.sets.now
+        false
+        stages.now slots.old }
+    ensures slots { OnOk result (slots.new ≡ slots.old) }
+    ensures one { Decides (HasOne (C.choices side.now.choices.now) side.now.query.now seen.now
+        side.now.sets.now
+        slots.old) result }
+{
+    let seeker = Seeker {
+        choices: side.choices,
+        seen,
+    };
+    let mut rows = side.rows(alloc, slots)?;
+    let mut is_found = false;
+    let _onward = walk(
+        side,
+        alloc,
+        stages,
+        false,
+        slots,
+        &mut rows,
+        &seeker,
+        &mut is_found,
+    )?;
+    Ok(is_found)
+}
 
-    /// Whether some combination counts that has the rows that are chosen, and shows each cell that
-    /// is to be seen. Wants stages for all tables whose row is not chosen; leaves the slots as they
-    /// are, but where memory is short.
-    pub fn has(
-        &self,
-        alloc: Global,
-        stages: &[Stage],
-        seen: &[Expr],
-        slots: &mut [Option<usize>],
-    ) -> Result<bool, Memory>
-        requires long { length slots.old ≡ length self.now.sets.now }
-        requires stages { All (IsStage (C.choices self.now.choices.now) self.now.query.now
-            self.now.sets.now)
-            stages.now }
-        requires covers { Covers stages.now slots.old }
-        ensures slots { OnOk result (slots.new ≡ slots.old) }
-        ensures one { Decides (HasOne (C.choices self.now.choices.now) self.now.query.now seen.now
-            self.now.sets.now
-            slots.old) result }
-    {
-        self.has_along(alloc, stages, seen, slots)
-    }
+/// Whether some combination counts that has the rows that are chosen, and shows each cell that is
+/// to be seen. Wants stages for all tables whose row is not chosen; leaves the slots as they are,
+/// but where memory is short.
+pub fn has<C: ChoiceView>(
+    side: &Side<'_, C>,
+    alloc: Global,
+    stages: &[Stage],
+    seen: &[Expr],
+    slots: &mut [Option<usize>],
+) -> Result<bool, Memory>
+    requires long { length slots.old ≡ length side.now.sets.now }
+    requires stages { All (IsStage (C.choices side.now.choices.now) side.now.query.now
+        side.now.sets.now)
+        stages.now }
+    requires covers { Covers stages.now slots.old }
+    ensures slots { OnOk result (slots.new ≡ slots.old) }
+    ensures one { Decides (HasOne (C.choices side.now.choices.now) side.now.query.now seen.now
+        side.now.sets.now
+        slots.old) result }
+{
+    has_along(side, alloc, stages, seen, slots)
 }

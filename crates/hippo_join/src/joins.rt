@@ -6,16 +6,17 @@ ghost use Rattle.hippo_model.specs.Masking.{masked_items, masked_answer};
 ghost use Rattle.hippo_eval.specs.Answering.{IsAnswered};
 ghost use Rattle.hippo_eval.specs.Walks.{rows_of};
 ghost use Rattle.hippo_eval.specs.declared.answers.EvalFault.TheVariants.{Memory as OfMemory};
-ghost use Rattle.hippo_join.specs.Places.{blank, chosen_rows, stands};
-ghost use Rattle.hippo_join.specs.Finding.{AreFound};
+ghost use Rattle.hippo_lookups.specs.Places.{blank, chosen_rows, stands};
+ghost use Rattle.hippo_sides.specs.Finding.{AreFound};
 ghost use Rattle.hippo_join.specs.Plans.{IsPlanOf};
 
 use crate::finding::PlaceFinder;
 use crate::gathering::gather_joined;
-use crate::sides::Side;
+use crate::walking::walk_all;
 use hippo_eval::{ANSWER_LIMIT, EvalFault, Every, project};
 use hippo_model::{Answer, BornRow, CellRow, ChoiceView, Masked, Places, Plan};
 use hippo_rows::Sets;
+use hippo_sides::Side;
 use hippo_values::{Memory, Moment, Sequence};
 use std::alloc::Global;
 use std::collections::BTreeSet;
@@ -46,75 +47,93 @@ fn slots_of(alloc: Global, places: &[usize]) -> Result<Vec<Option<usize>>, Memor
     Ok(places.iter().map(|place| Some(*place)).collect(alloc)?)
 }
 
-impl<'a, C: ChoiceView> Side<'a, C> {
-    // The row of the answer that a combination makes.
-    fn answer_row(&self, alloc: Global, places: &[usize]) -> Result<CellRow, Memory>
-        ensures { IfOk result (λ row. row
-            ≡ masked_items (C.choices self.now.choices.now) self.now.query.now
-            (chosen_rows self.now.sets.now places.now)) }
-    {
-        let slots = slots_of(alloc, places)?;
-        let rows = self.rows(alloc, &slots)?;
-        project(alloc, self.query, &rows, self.choices)
-    }
+// The row of the answer that a combination makes.
+fn answer_row<C: ChoiceView>(
+    side: &Side<'_, C>,
+    alloc: Global,
+    places: &[usize],
+) -> Result<CellRow, Memory>
+    ensures { IfOk result (λ row. row
+        ≡ masked_items (C.choices side.now.choices.now) side.now.query.now
+        (chosen_rows side.now.sets.now places.now)) }
+{
+    let slots = slots_of(alloc, places)?;
+    let rows = side.rows(alloc, &slots)?;
+    project(alloc, side.query, &rows, side.choices)
+}
 
-    fn answer_rows(&self, alloc: Global, found: &[Places]) -> Result<Answer, Memory>
-        ensures { IfOk result (λ answer. answer ≡ map (λ places. masked_items
-            (C.choices self.now.choices.now) self.now.query.now
-            (chosen_rows self.now.sets.now places)) found.now) }
-    {
-        let mut answer = Vec::with_capacity(alloc, found.len())?;
-        for places in found {
-            answer.push(self.answer_row(alloc, places.as_slice())?)?;
-        }
-        Ok(Sequence::from_vec(answer))
+fn answer_rows<C: ChoiceView>(
+    side: &Side<'_, C>,
+    alloc: Global,
+    found: &[Places],
+) -> Result<Answer, Memory>
+    ensures { IfOk result (λ answer. answer ≡ map (λ places. masked_items
+        (C.choices side.now.choices.now) side.now.query.now
+        (chosen_rows side.now.sets.now places)) found.now) }
+{
+    let mut answer = Vec::with_capacity(alloc, found.len())?;
+    for places in found {
+        answer.push(answer_row(side, alloc, places.as_slice())?)?;
     }
+    Ok(Sequence::from_vec(answer))
+}
 
-    fn answer_listed(&self, alloc: Global, found: BTreeSet<Places>) -> Result<Answer, EvalFault>
-        ensures { MatchResult result
-            (λ answer. answer ≡ map (λ places. masked_items (C.choices self.now.choices.now)
-            self.now.query.now
-            (chosen_rows self.now.sets.now places)) found.keys)
-            (λ fault. fault ≡ OfMemory) }
-    {
-        let found = in_order(alloc, found)?;
-        Ok(self.answer_rows(alloc, &found)?)
+fn answer_listed<C: ChoiceView>(
+    side: &Side<'_, C>,
+    alloc: Global,
+    found: BTreeSet<Places>,
+) -> Result<Answer, EvalFault>
+    ensures { MatchResult result
+        (λ answer. answer ≡ map (λ places. masked_items (C.choices side.now.choices.now)
+        side.now.query.now
+        (chosen_rows side.now.sets.now places)) found.keys)
+        (λ fault. fault ≡ OfMemory) }
+{
+    let found = in_order(alloc, found)?;
+    Ok(answer_rows(side, alloc, &found)?)
+}
+
+// The answer, where all combinations that count are found, or more than the limit.
+fn answer_found<C: ChoiceView>(
+    side: &Side<'_, C>,
+    alloc: Global,
+    found: BTreeSet<Places>,
+) -> Result<Answer, EvalFault>
+    requires { AreFound (λ places. stands (C.choices side.now.choices.now) side.now.query.now
+        side.now.sets.now
+        places ≡ true) ANSWER_LIMIT found.keys }
+    ensures { IsAnswered ANSWER_LIMIT (masked_answer
+        (C.choices side.now.choices.now) side.now.query.now (rows_of side.now.sets.now))
+        result }
+{
+    // The order of a set's members is known where its length was asked for.
+    if found.len() > ANSWER_LIMIT {
+        Err(EvalFault::TooManyRows)
+    } else {
+        answer_listed(side, alloc, found)
     }
+}
 
-    // The answer, where all combinations that count are found, or more than the limit.
-    fn answer_found(&self, alloc: Global, found: BTreeSet<Places>) -> Result<Answer, EvalFault>
-        requires { AreFound (λ places. stands (C.choices self.now.choices.now) self.now.query.now
-            self.now.sets.now
-            places ≡ true) ANSWER_LIMIT found.keys }
-        ensures { IsAnswered ANSWER_LIMIT (masked_answer
-            (C.choices self.now.choices.now) self.now.query.now (rows_of self.now.sets.now))
-            result }
-    {
-        // The order of a set's members is known where its length was asked for.
-        if found.len() > ANSWER_LIMIT {
-            Err(EvalFault::TooManyRows)
-        } else {
-            self.answer_listed(alloc, found)
-        }
-    }
-
-    // The answer, by joins of the tables in an order.
-    fn answer(&self, alloc: Global, order: &[usize]) -> Result<Answer, EvalFault>
-        requires below { All (λ table. table < length self.now.sets.now) order.now }
-        requires whole { (table : Place) → table < length self.now.sets.now
-            → Contains order.now table }
-        ensures { IsAnswered ANSWER_LIMIT (masked_answer
-            (C.choices self.now.choices.now) self.now.query.now (rows_of self.now.sets.now))
-            result }
-    {
-        let finder = PlaceFinder {
-            limit: ANSWER_LIMIT,
-        };
-        let mut found = BTreeSet::new(alloc);
-        match self.walk_all(alloc, order, false, &finder, &mut found) {
-            Ok(()) => self.answer_found(alloc, found),
-            Err(Memory) => Err(EvalFault::Memory),
-        }
+// The answer, by joins of the tables in an order.
+fn answer<C: ChoiceView>(
+    side: &Side<'_, C>,
+    alloc: Global,
+    order: &[usize],
+) -> Result<Answer, EvalFault>
+    requires below { All (λ table. table < length side.now.sets.now) order.now }
+    requires whole { (table : Place) → table < length side.now.sets.now
+        → Contains order.now table }
+    ensures { IsAnswered ANSWER_LIMIT (masked_answer
+        (C.choices side.now.choices.now) side.now.query.now (rows_of side.now.sets.now))
+        result }
+{
+    let finder = PlaceFinder {
+        limit: ANSWER_LIMIT,
+    };
+    let mut found = BTreeSet::new(alloc);
+    match walk_all(side, alloc, order, false, &finder, &mut found) {
+        Ok(()) => answer_found(side, alloc, found),
+        Err(Memory) => Err(EvalFault::Memory),
     }
 }
 
@@ -138,7 +157,7 @@ fn run_by_places<C: ChoiceView>(
         choices,
         blank: &blank,
     };
-    let answer = side.answer(alloc, plan.order.as_slice());
+    let answer = answer(&side, alloc, plan.order.as_slice());
     let Side {
         query: _,
         sets: _,

@@ -1,12 +1,12 @@
 //! In which order the tables of a query are joined.
-ghost use Rattle.std.specs.Prelude.{◌≡◌, ◌<◌, ◌++◌, ℕ, IfOk, length, take};
+ghost use Rattle.std.specs.Prelude.{◌≡◌, ◌<◌, ◌++◌, IfOk, length, take};
 ghost use Rattle.std.specs.List.{range_with_len};
 ghost use Rattle.std.specs.List.Sorted.{IsPermutation};
 ghost use Rattle.hippo_join.specs.Plans.{IsPlanOf};
 
-use crate::reaching::open_slots;
-use crate::ties::{column_of, find_tie, outer_parts};
+use hippo_lookups::{column_of, find_tie, outer_parts};
 use hippo_model::{CondOf, Expr, Masked, Plan, Sizes};
+use hippo_sides::open_slots;
 use hippo_values::{CompareOp, Memory, Sequence};
 use std::alloc::Global;
 

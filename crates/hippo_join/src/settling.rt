@@ -3,18 +3,17 @@
 ghost use Rattle.std.specs.Prelude.{◌≡◌, ◌<◌, ◌≤◌, true, List, IfOk, IfSome, OnOk, Some, filter, get_or, length, slice_set};
 ghost use Rattle.std.specs.List.{All, Contains};
 ghost use Rattle.hippo_model.specs.Terms.{Place};
-ghost use Rattle.hippo_join.specs.Known.{is_open};
-ghost use Rattle.hippo_join.specs.Places.{Fits, stands};
+ghost use Rattle.hippo_lookups.specs.Known.{is_open};
+ghost use Rattle.hippo_lookups.specs.Places.{Fits, stands};
 ghost use Rattle.hippo_join.specs.Existence.{HasOne, Decides};
 ghost use Rattle.hippo_join.specs.Settling.{Settles};
-ghost use Rattle.hippo_join.specs.Stages.{Reaches};
-ghost use Rattle.hippo_join.specs.Walking.{following_places};
+ghost use Rattle.hippo_sides.specs.Stages.{Reaches};
+ghost use Rattle.hippo_sides.specs.Walking.{following_places};
 
-use crate::following::{Following, listed};
-use crate::known::is_open;
-use crate::reaching::{open_slots, push_if};
-use crate::sides::Side;
+use crate::existence::has_along;
+use hippo_lookups::is_open;
 use hippo_model::{ChoiceView, Expr};
+use hippo_sides::{Following, Side, listed, open_slots, push_if};
 use hippo_values::Memory;
 use std::alloc::Global;
 
@@ -50,146 +49,159 @@ fn still_open(alloc: Global, order: &[usize], slots: &[Option<usize>]) -> Result
     Ok(left)
 }
 
-impl<'a, C: ChoiceView> Side<'a, C> {
-    // The place of a table's row, where one at most may follow those that are chosen.
-    fn only_place(
-        &self,
-        alloc: Global,
-        table: usize,
-        slots: &[Option<usize>],
-    ) -> Result<Option<usize>, Memory>
-        requires { table < length self.now.sets.now }
-        ensures { IfOk result (λ found. IfSome found
-            (λ first. Settles (C.choices self.now.choices.now)
-            self.now.query.now self.now.sets.now slots.now
-            (slice_set slots.now table (Some first)))) }
-    {
-        let following = self.candidates(alloc, table, slots, 1)?;
-        Ok(only_of(&following))
-    }
+// The place of a table's row, where one at most may follow those that are chosen.
+fn only_place<C: ChoiceView>(
+    side: &Side<'_, C>,
+    alloc: Global,
+    table: usize,
+    slots: &[Option<usize>],
+) -> Result<Option<usize>, Memory>
+    requires { table < length side.now.sets.now }
+    ensures { IfOk result (λ found. IfSome found
+        (λ first. Settles (C.choices side.now.choices.now)
+        side.now.query.now side.now.sets.now slots.now
+        (slice_set slots.now table (Some first)))) }
+{
+    let following = side.candidates(alloc, table, slots, 1)?;
+    Ok(only_of(&following))
+}
 
-    // Chooses a table's row, where one at most may follow those that are chosen.
-    #[tactic(auto, using(crate::proofs::SettlingLemmas::Settles_refl))]
-    fn settle_table(
-        &self,
-        alloc: Global,
-        table: usize,
-        slots: &mut [Option<usize>],
-    ) -> Result<(), Memory>
-        requires sets { table < length self.now.sets.now }
-        requires slots { table < length slots.old }
-        ensures { OnOk result (Settles
-            (C.choices self.now.choices.now) self.now.query.now self.now.sets.now slots.old
-            slots.new) }
-    {
-        let Some(first) = self.only_place(alloc, table, slots)? else {
-            return Ok(());
-        };
-        slots[table] = Some(first);
+// Chooses a table's row, where one at most may follow those that are chosen.
+#[tactic(auto, using(crate::proofs::SettlingLemmas::Settles_refl))]
+fn settle_table<C: ChoiceView>(
+    side: &Side<'_, C>,
+    alloc: Global,
+    table: usize,
+    slots: &mut [Option<usize>],
+) -> Result<(), Memory>
+    requires sets { table < length side.now.sets.now }
+    requires slots { table < length slots.old }
+    ensures { OnOk result (Settles
+        (C.choices side.now.choices.now) side.now.query.now side.now.sets.now slots.old
+        slots.new) }
+{
+    let Some(first) = only_place(side, alloc, table, slots)? else {
+        return Ok(());
+    };
+    slots[table] = Some(first);
+    Ok(())
+}
+
+// Chooses it, where it is not chosen yet and one at most may follow.
+#[tactic(auto, using(crate::proofs::SettlingLemmas::Settles_refl))]
+fn settle_open<C: ChoiceView>(
+    side: &Side<'_, C>,
+    alloc: Global,
+    table: usize,
+    slots: &mut [Option<usize>],
+) -> Result<(), Memory>
+    requires sets { table < length side.now.sets.now }
+    requires slots { table < length slots.old }
+    ensures { OnOk result (Settles
+        (C.choices side.now.choices.now) side.now.query.now side.now.sets.now slots.old
+        slots.new) }
+{
+    if is_open(slots, table) {
+        settle_table(side, alloc, table, slots)
+    } else {
         Ok(())
     }
+}
 
-    // Chooses it, where it is not chosen yet and one at most may follow.
-    #[tactic(auto, using(crate::proofs::SettlingLemmas::Settles_refl))]
-    fn settle_open(
-        &self,
-        alloc: Global,
-        table: usize,
-        slots: &mut [Option<usize>],
-    ) -> Result<(), Memory>
-        requires sets { table < length self.now.sets.now }
-        requires slots { table < length slots.old }
-        ensures { OnOk result (Settles
-            (C.choices self.now.choices.now) self.now.query.now self.now.sets.now slots.old
-            slots.new) }
-    {
-        if is_open(slots, table) {
-            self.settle_table(alloc, table, slots)
-        } else {
-            Ok(())
-        }
+// Chooses the row of each table, one after the other, where one at most may follow those that are
+// chosen.
+fn settle_each<C: ChoiceView>(
+    side: &Side<'_, C>,
+    alloc: Global,
+    slots: &mut [Option<usize>],
+) -> Result<(), Memory>
+    requires { length slots.old ≡ length side.now.sets.now }
+    ensures { OnOk result (Settles
+        (C.choices side.now.choices.now) side.now.query.now side.now.sets.now slots.old
+        slots.new) }
+{
+    for table in 0..side.sets.len() {
+        settle_open(side, alloc, table, slots)?;
     }
+    Ok(())
+}
 
-    // Chooses the row of each table, one after the other, where one at most may follow those that
-    // are chosen.
-    fn settle_each(&self, alloc: Global, slots: &mut [Option<usize>]) -> Result<(), Memory>
-        requires { length slots.old ≡ length self.now.sets.now }
-        ensures { OnOk result (Settles
-            (C.choices self.now.choices.now) self.now.query.now self.now.sets.now slots.old
-            slots.new) }
-    {
-        for table in 0..self.sets.len() {
-            self.settle_open(alloc, table, slots)?;
-        }
-        Ok(())
+// Chooses rows of tables, where one at most may follow those that are chosen, until no more are
+// found.
+fn settle<C: ChoiceView>(
+    side: &Side<'_, C>,
+    alloc: Global,
+    slots: &mut [Option<usize>],
+) -> Result<(), Memory>
+    requires { length slots.old ≡ length side.now.sets.now }
+    ensures { OnOk result (Settles
+        (C.choices side.now.choices.now) side.now.query.now side.now.sets.now slots.old
+        slots.new) }
+{
+    for _pass in 0..side.sets.len() {
+        settle_each(side, alloc, slots)?;
     }
+    Ok(())
+}
 
-    // Chooses rows of tables, where one at most may follow those that are chosen, until no more are
-    // found.
-    fn settle(&self, alloc: Global, slots: &mut [Option<usize>]) -> Result<(), Memory>
-        requires { length slots.old ≡ length self.now.sets.now }
-        ensures { OnOk result (Settles
-            (C.choices self.now.choices.now) self.now.query.now self.now.sets.now slots.old
-            slots.new) }
-    {
-        for _pass in 0..self.sets.len() {
-            self.settle_each(alloc, slots)?;
-        }
-        Ok(())
-    }
+/// Slots of all tables, in which rows are chosen that each combination has which counts: those of
+/// tables of which a look-up, by literals or by such rows, finds one at most. No row is tested.
+/// Where none is found, none counts, and whatever row is chosen is that of each.
+pub fn settled<C: ChoiceView>(
+    side: &Side<'_, C>,
+    alloc: Global,
+) -> Result<Vec<Option<usize>>, Memory>
+    ensures { IfOk result (λ slots. (places : List Place)
+        → stands (C.choices side.now.choices.now)
+        side.now.query.now side.now.sets.now places ≡ true → Fits slots.items places) }
+{
+    let mut slots = open_slots(alloc, side.sets.len())?;
+    settle(side, alloc, &mut slots)?;
+    Ok(slots)
+}
 
-    /// Slots of all tables, in which rows are chosen that each combination has which counts: those
-    /// of tables of which a look-up, by literals or by such rows, finds one at most. No row is
-    /// tested. Where none is found, none counts, and whatever row is chosen is that of each.
-    pub fn settled(&self, alloc: Global) -> Result<Vec<Option<usize>>, Memory>
-        ensures { IfOk result (λ slots. (places : List Place)
-            → stands (C.choices self.now.choices.now)
-            self.now.query.now self.now.sets.now places ≡ true → Fits slots.items places) }
-    {
-        let mut slots = open_slots(alloc, self.sets.len())?;
-        self.settle(alloc, &mut slots)?;
-        Ok(slots)
+/// The places of a table's rows that can count, where look-ups find few: sixteen at most, and of
+/// sixteen rows one. No row is tested.
+pub fn few_places<C: ChoiceView>(
+    side: &Side<'_, C>,
+    alloc: Global,
+    table: usize,
+) -> Result<Option<Vec<usize>>, Memory>
+    requires { table < length side.now.sets.now }
+    ensures { IfOk result (λ found. IfSome found (λ places. Reaches
+        (C.choices side.now.choices.now) side.now.query.now side.now.sets.now table
+        places.items)) }
+{
+    let slots = settled(side, alloc)?;
+    let following = side.candidates(alloc, table, &slots, 1)?;
+    if following.len() > few_of(side.sets.get(table).len()) {
+        return Ok(None);
     }
+    let places = listed(alloc, &following)?;
+    Ok(Some(places))
+}
 
-    /// The places of a table's rows that can count, where look-ups find few: sixteen at most, and
-    /// of sixteen rows one. No row is tested.
-    pub fn few_places(&self, alloc: Global, table: usize) -> Result<Option<Vec<usize>>, Memory>
-        requires { table < length self.now.sets.now }
-        ensures { IfOk result (λ found. IfSome found (λ places. Reaches
-            (C.choices self.now.choices.now) self.now.query.now self.now.sets.now table
-            places.items)) }
-    {
-        let slots = self.settled(alloc)?;
-        let following = self.candidates(alloc, table, &slots, 1)?;
-        if following.len() > few_of(self.sets.get(table).len()) {
-            return Ok(None);
-        }
-        let places = listed(alloc, &following)?;
-        Ok(Some(places))
-    }
-
-    /// Whether some combination counts that has the rows that are chosen, and shows each cell that
-    /// is to be seen. The tables whose rows are not chosen are joined behind the others in an order
-    /// of all; where rows before say the key of a row, or the value of a column by which its table
-    /// has an order, it is looked up. Leaves the slots as they are, but where memory is short.
-    pub fn has_joined(
-        &self,
-        alloc: Global,
-        order: &[usize],
-        seen: &[Expr],
-        slots: &mut [Option<usize>],
-    ) -> Result<bool, Memory>
-        requires long { length slots.old ≡ length self.now.sets.now }
-        requires below { All (λ table. table < length self.now.sets.now) order.now }
-        requires whole { (table : Place) → table < length self.now.sets.now
-            → Contains order.now table }
-        ensures slots { OnOk result (slots.new ≡ slots.old) }
-        ensures one { Decides (HasOne (C.choices self.now.choices.now) self.now.query.now seen.now
-            self.now.sets.now
-            slots.old) result }
-    {
-        let left = still_open(alloc, order, slots)?;
-        let stages = self.stages_behind(alloc, slots, &left, false)?;
-        self.has_along(alloc, &stages, seen, slots)
-    }
+/// Whether some combination counts that has the rows that are chosen, and shows each cell that is
+/// to be seen. The tables whose rows are not chosen are joined behind the others in an order of
+/// all; where rows before say the key of a row, or the value of a column by which its table has an
+/// order, it is looked up. Leaves the slots as they are, but where memory is short.
+pub fn has_joined<C: ChoiceView>(
+    side: &Side<'_, C>,
+    alloc: Global,
+    order: &[usize],
+    seen: &[Expr],
+    slots: &mut [Option<usize>],
+) -> Result<bool, Memory>
+    requires long { length slots.old ≡ length side.now.sets.now }
+    requires below { All (λ table. table < length side.now.sets.now) order.now }
+    requires whole { (table : Place) → table < length side.now.sets.now
+        → Contains order.now table }
+    ensures slots { OnOk result (slots.new ≡ slots.old) }
+    ensures one { Decides (HasOne (C.choices side.now.choices.now) side.now.query.now seen.now
+        side.now.sets.now
+        slots.old) result }
+{
+    let left = still_open(alloc, order, slots)?;
+    let stages = side.stages_behind(alloc, slots, &left, false)?;
+    has_along(side, alloc, &stages, seen, slots)
 }

@@ -3,15 +3,15 @@ ghost use Rattle.std.specs.Prelude.{◌++◌, List, OnOk};
 ghost use Rattle.hippo_model.specs.Terms.{Combination};
 ghost use Rattle.hippo_model.specs.Answers.{product};
 ghost use Rattle.hippo_eval.specs.Walks.{rows_of};
-ghost use Rattle.hippo_join.specs.Visiting.{counting};
+ghost use Rattle.hippo_sides.specs.Visiting.{counting};
 
 use crate::joins::blank_row;
 use crate::orders::tables_below;
-use crate::sides::Side;
-use crate::walking::PlaceVisitor;
+use crate::walking::{PlaceVisitor, walk_all};
 use hippo_eval::{Onward, Visitor};
 use hippo_model::{ChoiceView, Combo, Masked};
 use hippo_rows::Sets;
+use hippo_sides::Side;
 use hippo_values::Memory;
 use std::alloc::Global;
 
@@ -23,7 +23,7 @@ struct RowTeller<'a, V> {
 
 impl<'a, V: Visitor> PlaceVisitor for RowTeller<'a, V> {
     ghost use Rattle.std.specs.Prelude.{◌++◌, map};
-    ghost use Rattle.hippo_join.specs.Places.{chosen_rows};
+    ghost use Rattle.hippo_lookups.specs.Places.{chosen_rows};
 
     type State = V::State;
 
@@ -41,23 +41,21 @@ impl<'a, V: Visitor> PlaceVisitor for RowTeller<'a, V> {
     }
 }
 
-impl<'a, C: ChoiceView> Side<'a, C> {
-    // Visits what counts of all combinations.
-    fn visit_all<V: Visitor>(
-        &self,
-        alloc: Global,
-        visitor: &V,
-        state: &mut V::State,
-    ) -> Result<(), Memory>
-        ensures { (before : List Combination) → V.Keeps visitor.now before state.old
-            → OnOk result (V.Keeps visitor.now
-            (before ++ counting (C.choices self.now.choices.now) self.now.query.now
-            (product (rows_of self.now.sets.now))) state.new) }
-    {
-        let order = tables_below(alloc, self.sets.len())?;
-        let teller = RowTeller { visitor };
-        self.walk_all(alloc, &order, true, &teller, state)
-    }
+// Visits what counts of all combinations.
+fn visit_all<C: ChoiceView, V: Visitor>(
+    side: &Side<'_, C>,
+    alloc: Global,
+    visitor: &V,
+    state: &mut V::State,
+) -> Result<(), Memory>
+    ensures { (before : List Combination) → V.Keeps visitor.now before state.old
+        → OnOk result (V.Keeps visitor.now
+        (before ++ counting (C.choices side.now.choices.now) side.now.query.now
+        (product (rows_of side.now.sets.now))) state.new) }
+{
+    let order = tables_below(alloc, side.sets.len())?;
+    let teller = RowTeller { visitor };
+    walk_all(side, alloc, &order, true, &teller, state)
 }
 
 /// Visits each combination of one row of each table that counts for a query with the policy written
@@ -86,7 +84,7 @@ pub fn walk_joined<C: ChoiceView, V: Visitor>(
         choices,
         blank: &blank,
     };
-    let result = side.visit_all(alloc, visitor, state);
+    let result = visit_all(&side, alloc, visitor, state);
     let Side {
         query: _,
         sets: _,

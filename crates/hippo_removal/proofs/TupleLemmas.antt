@@ -18,7 +18,7 @@ use Rattle.hippo_keyed_rows.specs.RowSets.{KeyedRows, key_in}
 use Rattle.hippo_model.specs.Terms.{Combination, Key}
 use Rattle.hippo_eval.specs.Walks.{rows_of}
 use Rattle.hippo_eval.proofs.WalkLemmas.{drop_at}
-use Rattle.hippo_join.proofs.ProductLemmas.{map-map, map-flat_map}
+use Rattle.hippo_sides.proofs.ProductLemmas.{map-map, map-flat_map}
 use Rattle.hippo_shared.specs.Needs.{needs_by, first_needed}
 use Rattle.hippo_shared.specs.Sharing.{common_tables, place_in, rows_named, virtual_tuples_in, query_has}
 use Rattle.hippo_shared.proofs.CommonLemmas.{common-in-audit}

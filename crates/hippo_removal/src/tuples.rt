@@ -4,7 +4,7 @@ ghost use Rattle.hippo_values.specs.Order.{same_cells};
 ghost use Rattle.hippo_model.specs.Rows.{cell_at};
 ghost use Rattle.hippo_keyed_rows.specs.RowSets.{key_in};
 ghost use Rattle.hippo_eval.specs.LentCells.{or_null};
-ghost use Rattle.hippo_join.specs.Places.{blank};
+ghost use Rattle.hippo_lookups.specs.Places.{blank};
 ghost use Rattle.hippo_shared.specs.Sharing.{rows_named, shared_key_in, has_tuple_in, common_tables};
 ghost use Rattle.hippo_removal.specs.Removing.{tuple_of};
 

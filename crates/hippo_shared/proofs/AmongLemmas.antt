@@ -11,11 +11,11 @@ use Rattle.std.proofs.lemmas.Option.{slice_get_read}
 use Rattle.std.proofs.lemmas.List.Kept.{IsStrictlySortedBy-filter}
 use Rattle.hippo_model.specs.Terms.{Place}
 use Rattle.hippo_keyed_rows.specs.RowSets.{KeyedRows}
-use Rattle.hippo_join.specs.Finding.{has_places, IsRising}
+use Rattle.hippo_sides.specs.Finding.{has_places, IsRising}
 use Rattle.hippo_join.specs.Existence.{Decides}
-use Rattle.hippo_join.specs.Places.{in_range, places_of}
-use Rattle.hippo_join.proofs.FoundLemmas.{same_rising, same_places as equal_places}
-use Rattle.hippo_join.proofs.ProductLemmas.{has-places_of, rising-places_of}
+use Rattle.hippo_lookups.specs.Places.{in_range, places_of}
+use Rattle.hippo_sides.proofs.FoundLemmas.{same_rising, same_places as equal_places}
+use Rattle.hippo_sides.proofs.ProductLemmas.{has-places_of, rising-places_of}
 use Rattle.hippo_shared.specs.FirstPlaces.{IsFirstAmong}
 
 -- ---- the first of a list

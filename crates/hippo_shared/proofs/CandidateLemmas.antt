@@ -15,11 +15,11 @@ use Rattle.hippo_model.specs.Terms.{Place, Combination}
 use Rattle.hippo_keyed_rows.specs.RowSets.{KeyedRows, IsAscending, key_in}
 use Rattle.hippo_model.specs.Answers.{product}
 use Rattle.hippo_eval.specs.Walks.{rows_of}
-use Rattle.hippo_join.specs.Finding.{has_places}
-use Rattle.hippo_join.specs.Places.{chosen_rows, in_range, places_of}
-use Rattle.hippo_join.proofs.PruneLemmas.{below-rows}
-use Rattle.hippo_join.proofs.ProductLemmas.{product-rows, has-places_of}
-use Rattle.hippo_join.proofs.SlotLemmas.{row-at, length-in_range}
+use Rattle.hippo_sides.specs.Finding.{has_places}
+use Rattle.hippo_lookups.specs.Places.{chosen_rows, in_range, places_of}
+use Rattle.hippo_lookups.proofs.PruneLemmas.{below-rows}
+use Rattle.hippo_sides.proofs.ProductLemmas.{product-rows, has-places_of}
+use Rattle.hippo_lookups.proofs.SlotLemmas.{row-at, length-in_range}
 use Rattle.hippo_shared.specs.Sharing.{common_tables, place_in, rows_named, HaveSameRows, has_tuple_in}
 use Rattle.hippo_shared.specs.Tuples.{tuple_at}
 use Rattle.hippo_shared.specs.Marks.{place_like, row_place, row_places, same_places, mark_of, is_one}

@@ -6,9 +6,9 @@ use Rattle.std.specs.List.Sorted.{IsNonDecreasing, IsPermutation}
 use Rattle.std.proofs.lemmas.List.{take_more, take_all}
 use Rattle.std.proofs.lemmas.List.Sorted.{Contains-permutation}
 use Rattle.hippo_model.specs.Terms.{Place}
-use Rattle.hippo_join.specs.declared.sides.Side.{Side}
-use Rattle.hippo_join.specs.Stages.{Reaches}
-use Rattle.hippo_join.proofs.FindingLemmas.{first_or_later}
+use Rattle.hippo_sides.specs.declared.sides.Side.{Side}
+use Rattle.hippo_sides.specs.Stages.{Reaches}
+use Rattle.hippo_sides.proofs.FindingLemmas.{first_or_later}
 use Rattle.hippo_model.specs.Masking.{Choices}
 use Rattle.hippo_shared.specs.declared.sides.Sides.{Sides}
 use Rattle.hippo_shared.specs.FirstPlaces.{AgreeAt, AreFirst, IsFirst, IsFirstAmong}

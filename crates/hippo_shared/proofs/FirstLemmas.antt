@@ -8,7 +8,7 @@ use Rattle.std.proofs.lemmas.Bool.Decides.{nat_tests}
 use Rattle.std.proofs.lemmas.List.Folds.{find-append}
 use Rattle.hippo_keyed_rows.specs.RowSets.{KeyedRows}
 use Rattle.hippo_model.specs.Terms.{Place}
-use Rattle.hippo_join.specs.Places.{in_range, places_of}
+use Rattle.hippo_lookups.specs.Places.{in_range, places_of}
 use Rattle.hippo_shared.specs.FirstPlaces.{AreFirst}
 
 pub find-map : {A B : Type 0} (test : B → Bool) (f : A → B) (xs : List A) → find test (map f xs) ≡ option_map f (find (λ x. test (f x)) xs)

@@ -23,8 +23,8 @@ use Rattle.hippo_model.specs.Audits.{common, shared_rows as rows_at_history, vir
 use Rattle.hippo_laws.specs.Needs.{has_true}
 use Rattle.hippo_eval.specs.Unmasked.{all_shown}
 use Rattle.hippo_eval.specs.Walks.{rows_of}
-use Rattle.hippo_join.specs.Places.{blank}
-use Rattle.hippo_join.proofs.ProductLemmas.{map-map, map-flat_map}
+use Rattle.hippo_lookups.specs.Places.{blank}
+use Rattle.hippo_sides.proofs.ProductLemmas.{map-map, map-flat_map}
 use Rattle.hippo_shared.specs.Sharing.{common_tables, place_in, rows_named, shared_rows_in, virtual_tuples_in, shared_key_in, has_tuple_in, audit_has}
 use Rattle.hippo_shared.specs.HistoryLaws.{sets_at}
 use Rattle.hippo_shared.proofs.CommonLemmas.{place-found, common-in-audit}

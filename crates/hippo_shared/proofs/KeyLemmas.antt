@@ -9,7 +9,7 @@ use Rattle.hippo_model.specs.declared.born_row.BornRow.{BornRow}
 use Rattle.hippo_model.specs.Terms.{Key, Place}
 use Rattle.hippo_keyed_rows.specs.RowSets.{IsAscending, IsBelowAll, key_in}
 use Rattle.hippo_keyed_rows.proofs.Orders.{cells_total}
-use Rattle.hippo_join.specs.Places.{row_at_place}
+use Rattle.hippo_lookups.specs.Places.{row_at_place}
 
 not_below_itself : (a b : Key) → cells_cmp a b ≡ Less → ¬ (a ≡ b)
 not_below_itself a b less same = false≢true (sym (ap is_eq less) ∙ ap (λ (k : Key). is_eq (cells_cmp a k)) (sym same) ∙ (eq_by_cmp_equiv cells_total).refl a)

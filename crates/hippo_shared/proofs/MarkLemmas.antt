@@ -18,9 +18,9 @@ use Rattle.hippo_model.specs.Terms.{Row, Place, Combination}
 use Rattle.hippo_model.specs.Rows.{key_of}
 use Rattle.hippo_keyed_rows.specs.RowSets.{KeyedRows, IsAscending, key_in, find_row}
 use Rattle.hippo_keyed_rows.proofs.Orders.{cells_total}
-use Rattle.hippo_join.specs.Finding.{has_places}
-use Rattle.hippo_join.specs.Places.{row_at_place}
-use Rattle.hippo_join.proofs.FoundLemmas.{same_places as equal_places}
+use Rattle.hippo_sides.specs.Finding.{has_places}
+use Rattle.hippo_lookups.specs.Places.{row_at_place}
+use Rattle.hippo_sides.proofs.FoundLemmas.{same_places as equal_places}
 use Rattle.hippo_shared.specs.declared.marks.Mark.{Mark}
 use Rattle.hippo_shared.specs.declared.marks.Mark.TheVariants.{One, Several}
 use Rattle.hippo_shared.specs.Marks.{place_like, row_place, same_places, mark_of, has_no_other, is_one}

@@ -12,13 +12,14 @@ use Rattle.hippo_model.specs.declared.query.Masked.{Masked}
 use Rattle.hippo_model.specs.Terms.{Place}
 use Rattle.hippo_keyed_rows.specs.RowSets.{KeyedRows}
 use Rattle.hippo_model.specs.Masking.{Choices}
-use Rattle.hippo_join.specs.Places.{slot_at}
-use Rattle.hippo_join.specs.Known.{is_chosen}
+use Rattle.hippo_lookups.specs.Places.{slot_at}
+use Rattle.hippo_lookups.specs.Known.{is_chosen}
 use Rattle.hippo_join.specs.Existence.{HasOne}
-use Rattle.hippo_join.specs.Stages.{ReachesFrom, IsStage, AreStages}
-use Rattle.hippo_join.proofs.ExistenceLemmas.{Fits-unset, below_or_at, get_or_default}
-use Rattle.hippo_join.proofs.SlotLemmas.{Fits-at}
-use Rattle.hippo_join.specs.declared.stages.Stage.{Stage}
+use Rattle.hippo_sides.specs.Stages.{ReachesFrom, IsStage, AreStages}
+use Rattle.hippo_lookups.proofs.PlaceSteps.{below_or_at, get_or_default}
+use Rattle.hippo_join.proofs.ExistenceLemmas.{Fits-unset}
+use Rattle.hippo_lookups.proofs.SlotLemmas.{Fits-at}
+use Rattle.hippo_sides.specs.declared.stages.Stage.{Stage}
 use Rattle.hippo_shared.specs.declared.commons.CommonStages.{CommonStages}
 use Rattle.hippo_shared.specs.declared.searching.Search.{Search}
 use Rattle.hippo_shared.specs.FirstPlaces.{AreOpen, AreWhole, AreFirst, IsFirst, with_rows}

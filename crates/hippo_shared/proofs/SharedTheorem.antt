@@ -15,10 +15,10 @@ use Rattle.hippo_model.specs.Answers.{product, passes}
 use Rattle.hippo_model.specs.Masking.{Choices, is_guarded, masked_passes}
 use Rattle.hippo_eval.specs.Unmasked.{all_shown}
 use Rattle.hippo_eval.specs.Walks.{rows_of}
-use Rattle.hippo_join.specs.Finding.{IsRising}
-use Rattle.hippo_join.specs.Places.{chosen_rows, in_range, places_of}
+use Rattle.hippo_sides.specs.Finding.{IsRising}
+use Rattle.hippo_lookups.specs.Places.{chosen_rows, in_range, places_of}
 use Rattle.hippo_join.specs.Existence.{are_shown, HasOne}
-use Rattle.hippo_join.proofs.SlotLemmas.{Fits-open, length-in_range}
+use Rattle.hippo_lookups.proofs.SlotLemmas.{Fits-open, length-in_range}
 use Rattle.hippo_shared.specs.declared.audited.Audited.{Audited}
 use Rattle.hippo_shared.specs.declared.sharing.AuditSide.{AuditSide}
 use Rattle.hippo_shared.specs.declared.sides.Sides.{Sides}

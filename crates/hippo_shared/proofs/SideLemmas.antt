@@ -26,13 +26,13 @@ use Rattle.hippo_eval.specs.MaskedTruth.{masked_value}
 use Rattle.hippo_eval.specs.Unmasked.{unmasked_operand, unmasked_condition, all_shown}
 use Rattle.hippo_eval.specs.Walks.{rows_of}
 use Rattle.hippo_eval.proofs.UnmaskedLemmas.{value_is}
-use Rattle.hippo_join.specs.Places.{slot_at, chosen_rows, in_range, places_of, stays, stands}
-use Rattle.hippo_join.specs.Known.{is_chosen}
+use Rattle.hippo_lookups.specs.Places.{slot_at, chosen_rows, in_range, places_of, stays, stands}
+use Rattle.hippo_lookups.specs.Known.{is_chosen}
 use Rattle.hippo_join.specs.Existence.{HasOne, Decides}
-use Rattle.hippo_join.specs.Finding.{has_places}
-use Rattle.hippo_join.proofs.ProductLemmas.{product-rows, has-places_of}
-use Rattle.hippo_join.proofs.FoundLemmas.{same_places}
-use Rattle.hippo_join.proofs.SlotLemmas.{Fits-at, Fits-set, Fits-open, length-in_range}
+use Rattle.hippo_sides.specs.Finding.{has_places}
+use Rattle.hippo_sides.proofs.ProductLemmas.{product-rows, has-places_of}
+use Rattle.hippo_sides.proofs.FoundLemmas.{same_places}
+use Rattle.hippo_lookups.proofs.SlotLemmas.{Fits-at, Fits-set, Fits-open, length-in_range}
 use Rattle.hippo_join.proofs.ExistenceLemmas.{Fits-unset}
 use Rattle.hippo_shared.specs.FirstPlaces.{AgreeAt, AreOpen, ShareAt, with_rows}
 use Rattle.hippo_shared.specs.Sharing.{has_tuple_in, audit_has}

@@ -15,10 +15,10 @@ use Rattle.hippo_model.specs.declared.born_row.BornRow.{BornRow}
 use Rattle.hippo_model.specs.Terms.{Key, Place}
 use Rattle.hippo_keyed_rows.specs.RowSets.{KeyedRows, IsAscending, key_in}
 use Rattle.hippo_keyed_rows.proofs.Orders.{cells_total, same_exact}
-use Rattle.hippo_join.specs.Places.{blank, row_at_place, chosen_rows, in_range, places_of}
-use Rattle.hippo_join.proofs.ProductLemmas.{each_row, map-map, map-flat_map}
-use Rattle.hippo_join.proofs.SlotLemmas.{row-at, length-in_range}
-use Rattle.hippo_join.proofs.PruneLemmas.{below-rows}
+use Rattle.hippo_lookups.specs.Places.{blank, row_at_place, chosen_rows, in_range, places_of}
+use Rattle.hippo_sides.proofs.ProductLemmas.{each_row, map-map, map-flat_map}
+use Rattle.hippo_lookups.proofs.SlotLemmas.{row-at, length-in_range}
+use Rattle.hippo_lookups.proofs.PruneLemmas.{below-rows}
 use Rattle.hippo_shared.specs.FirstPlaces.{AgreeAt}
 use Rattle.hippo_shared.specs.Sharing.{place_in, rows_named, shared_rows_in, virtual_tuples_in, shared_key_in, has_tuple_in}
 use Rattle.hippo_shared.specs.Tuples.{row_shared, tuple_at}

@@ -5,9 +5,9 @@ use Rattle.hippo_model.specs.declared.query.Masked.{Masked}
 use Rattle.hippo_model.specs.Masking.{Choices}
 use Rattle.hippo_keyed_rows.specs.RowSets.{KeyedRows}
 use Rattle.hippo_model.specs.Terms.{Place}
-use Rattle.hippo_join.specs.declared.stages.Stage.{Stage}
-use Rattle.hippo_join.specs.Places.{slot_at}
-use Rattle.hippo_join.specs.Stages.{IsStage}
+use Rattle.hippo_sides.specs.declared.stages.Stage.{Stage}
+use Rattle.hippo_lookups.specs.Places.{slot_at}
+use Rattle.hippo_sides.specs.Stages.{IsStage}
 
 -- tables whose rows are not chosen, whatever rows of the others are
 abbrev pub AreOpen : List Place → List (Option Place) → Type 0

@@ -7,11 +7,11 @@ use Rattle.hippo_values.specs.declared.memory.Memory.{Memory}
 use Rattle.hippo_model.specs.declared.query.Expr.{Expr}
 use Rattle.hippo_model.specs.Terms.{Place}
 use Rattle.hippo_model.specs.Masking.{Choices}
-use Rattle.hippo_join.specs.declared.sides.Side.{Side}
-use Rattle.hippo_join.specs.declared.stages.Stage.{Stage}
+use Rattle.hippo_sides.specs.declared.sides.Side.{Side}
+use Rattle.hippo_sides.specs.declared.stages.Stage.{Stage}
 use Rattle.hippo_join.specs.Existence.{HasOne}
-use Rattle.hippo_join.specs.Places.{stands}
-use Rattle.hippo_join.specs.Stages.{IsStage, Reaches, ReachesFrom}
+use Rattle.hippo_lookups.specs.Places.{stands}
+use Rattle.hippo_sides.specs.Stages.{IsStage, Reaches, ReachesFrom}
 use Rattle.hippo_shared.specs.declared.commons.CommonStages.{CommonStages}
 use Rattle.hippo_shared.specs.declared.searching.Search.{Search}
 use Rattle.hippo_shared.specs.declared.sides.Sides.{Sides}

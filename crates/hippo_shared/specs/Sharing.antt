@@ -16,7 +16,7 @@ use Rattle.hippo_keyed_rows.specs.RowSets.{KeyedRows, key_in}
 use Rattle.hippo_eval.specs.Unmasked.{all_shown}
 use Rattle.hippo_eval.specs.Walks.{rows_of}
 use Rattle.hippo_join.specs.Existence.{are_shown}
-use Rattle.hippo_join.specs.Places.{blank}
+use Rattle.hippo_lookups.specs.Places.{blank}
 
 -- the tables in both FROM lists, in the audit's order
 abbrev pub common_tables : List Name → List Name → List Name

@@ -6,7 +6,7 @@ use Rattle.hippo_model.specs.declared.query.Expr.{Expr}
 use Rattle.hippo_model.specs.declared.query.Masked.{Masked}
 use Rattle.hippo_model.specs.Terms.{Place}
 use Rattle.hippo_eval.specs.Unmasked.{unmasked_condition}
-use Rattle.hippo_join.specs.Places.{blank}
+use Rattle.hippo_lookups.specs.Places.{blank}
 use Rattle.hippo_shared.specs.declared.audited.Audited.{Audited}
 use Rattle.hippo_shared.specs.declared.sharing.AuditSide.{AuditSide}
 use Rattle.hippo_shared.specs.declared.sides.Sides.{Sides}

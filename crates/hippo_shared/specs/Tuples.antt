@@ -4,7 +4,7 @@ use Rattle.hippo_values.specs.declared.names.Name.{Name}
 use Rattle.hippo_model.specs.declared.audit.SharedRow.{SharedRow}
 use Rattle.hippo_model.specs.Terms.{Place}
 use Rattle.hippo_keyed_rows.specs.RowSets.{KeyedRows, key_in}
-use Rattle.hippo_join.specs.Places.{row_at_place}
+use Rattle.hippo_lookups.specs.Places.{row_at_place}
 
 -- the row of a table at a place, by its key
 abbrev pub row_shared : List Name → List KeyedRows → Place → Place → SharedRow

@@ -2,7 +2,7 @@
 ghost use Rattle.std.specs.Prelude.{◌≡◌, [], Bool, false, None, List, IfOk, length, replicate};
 ghost use Rattle.hippo_model.specs.declared.audit.SharedRow as shared_row;
 ghost use Rattle.hippo_join.specs.Existence.{HasOne, Decides};
-ghost use Rattle.hippo_join.specs.Finding.{IsRising};
+ghost use Rattle.hippo_sides.specs.Finding.{IsRising};
 ghost use Rattle.hippo_shared.specs.Audited.{HasRowsFor};
 ghost use Rattle.hippo_shared.specs.Sharing.{common_tables, audit_has};
 ghost use Rattle.hippo_shared.specs.Sides.{StandsForAudit};
@@ -13,9 +13,10 @@ use crate::commons::order_from;
 use crate::sharing::{AuditSide, audit_side, know_order, sides_of, unmasked_query};
 use crate::told::first_candidate;
 use crate::tuples::tuple_at;
-use hippo_join::{Side, blank_row, open_slots};
+use hippo_join::{blank_row, has};
 use hippo_model::{ChoiceView, Exprs, Masked, Places, SharedTuple};
 use hippo_rows::Sets;
+use hippo_sides::{Side, open_slots};
 use hippo_values::Memory;
 use std::alloc::Global;
 use std::collections::BTreeSet;
@@ -29,7 +30,7 @@ fn has_any<C: ChoiceView>(alloc: Global, side: &Side<'_, C>) -> Result<bool, Mem
     let order = order_from(alloc, side, &[])?;
     let stages = side.stages(alloc, &order)?;
     let mut slots = open_slots(alloc, side.sets.len())?;
-    side.has(alloc, &stages, &[], &mut slots)
+    has(side, alloc, &stages, &[], &mut slots)
 }
 
 // Whether some combination of these rows counts for the query that stands for an audit.

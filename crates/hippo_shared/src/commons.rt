@@ -4,9 +4,10 @@ ghost use Rattle.std.specs.List.{All, Contains, list_any};
 ghost use Rattle.hippo_model.specs.Terms.{Place};
 ghost use Rattle.hippo_shared.specs.Sharing.{common_tables, place_in};
 
-use hippo_join::{Side, Stage, order_behind, push_if};
+use hippo_join::order_behind;
 use hippo_model::{ChoiceView, Sizes};
 use hippo_rows::Sets;
+use hippo_sides::{Side, Stage, push_if};
 use hippo_values::{Memory, Name, Sequence};
 use std::alloc::Global;
 

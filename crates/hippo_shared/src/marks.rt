@@ -1,7 +1,7 @@
 //! Which virtual tuple some combinations of rows have, by the places of its rows.
 ghost use Rattle.std.specs.Prelude.{◌≡◌, [], ◌∷◌, ◌++◌, ◌||◌, List, IfOk, OnOk};
 ghost use Rattle.hippo_model.specs.Terms.{Place};
-ghost use Rattle.hippo_join.specs.Finding.{has_places};
+ghost use Rattle.hippo_sides.specs.Finding.{has_places};
 ghost use Rattle.hippo_shared.specs.Marks.{row_place, row_places, mark_of, has_no_other, is_one};
 
 use hippo_model::{Combo, Places};

@@ -8,8 +8,9 @@ ghost use Rattle.hippo_shared.specs.Searching.{AreWholeOf, FindsFirst, HasOneOf,
 
 use crate::commons::{CommonPlaces, CommonStages, common_stages, order_from};
 use crate::sides::Sides;
-use hippo_join::{Side, Stage, open_slots};
+use hippo_join::has;
 use hippo_model::{ChoiceView, Expr, Places};
+use hippo_sides::{Side, Stage, open_slots};
 use hippo_values::Memory;
 use std::alloc::Global;
 
@@ -119,8 +120,8 @@ impl<'a, C: ChoiceView> Search<'a, C> {
         requires { IsSearchReady C.choices self.now [] query.old audit.old }
         ensures { FindsFirst C.choices self.now [] query.old audit.old query.new audit.new result }
     {
-        let shares = self.query.has(alloc, self.query_stages, self.seen, query)?
-            && self.audit.has(alloc, self.audit_stages, &[], audit)?;
+        let shares = has(self.query, alloc, self.query_stages, self.seen, query)?
+            && has(self.audit, alloc, self.audit_stages, &[], audit)?;
         Ok(if shares { Some(Vec::new(alloc)) } else { None })
     }
 
@@ -201,10 +202,8 @@ impl<'a, C: ChoiceView> Search<'a, C> {
         }
         let mut query = slots_with(alloc, self.query.sets.len(), &common.query, places)?;
         let mut audit = slots_with(alloc, self.audit.sets.len(), &common.audit, places)?;
-        if self.audit.has(alloc, self.audit_stages, &[], &mut audit)? {
-            return self
-                .query
-                .has(alloc, self.query_stages, self.seen, &mut query);
+        if has(self.audit, alloc, self.audit_stages, &[], &mut audit)? {
+            return has(self.query, alloc, self.query_stages, self.seen, &mut query);
         }
         Ok(false)
     }

@@ -13,9 +13,10 @@ use crate::sides::Sides;
 use crate::told::first_places;
 use crate::tuples::tuple_at;
 use hippo_eval::unmasked_condition;
-use hippo_join::{Side, blank_row};
+use hippo_join::blank_row;
 use hippo_model::{Audit, BornRow, ChoiceView, Exprs, Masked, SharedTuple};
 use hippo_rows::Sets;
+use hippo_sides::Side;
 use hippo_values::{Memory, Sequence};
 use std::alloc::Global;
 

@@ -1,7 +1,7 @@
 //! The two sides of a search for rows that a query and an audit share.
 use crate::commons::CommonPlaces;
-use hippo_join::Side;
 use hippo_model::Expr;
+use hippo_sides::Side;
 
 // A query and an audit, what is to be seen of the query's rows, and the tables that both have.
 #[derive(Drop)]

@@ -4,14 +4,15 @@ ghost use Rattle.std.specs.Prelude.{◌≡◌, ◌<◌, [], ◌∷◌, None, Som
 ghost use Rattle.std.specs.List.{All};
 ghost use Rattle.hippo_join.specs.Existence.{Decides};
 ghost use Rattle.hippo_shared.specs.FirstPlaces.{AreChosen, IsFirst, IsFirstAmong, with_rows};
-ghost use Rattle.hippo_join.specs.Places.{slot_at};
+ghost use Rattle.hippo_lookups.specs.Places.{slot_at};
 ghost use Rattle.hippo_shared.specs.Searching.{AreFewOf, AreFewShared, AreTold, HasOneOf, HaveCommon, IsOnlyShared, SharedBy};
 
 use crate::commons::order_from;
 use crate::searching::{first_staged, first_walked, in_order, slots_with};
 use crate::sides::Sides;
-use hippo_join::Side;
+use hippo_join::{has_joined, settled};
 use hippo_model::{ChoiceView, Expr, Places};
+use hippo_sides::Side;
 use hippo_values::{Memory, Sequence};
 use std::alloc::Global;
 
@@ -56,7 +57,7 @@ fn told_places<C: ChoiceView>(
     ensures { IfOk result (λ found. IfSome found
         (λ places. AreTold C.choices side.now tables.now places.items)) }
 {
-    let slots = side.settled(alloc)?;
+    let slots = settled(side, alloc)?;
     let found = chosen_in(alloc, tables, &slots)?;
     Ok(found)
 }
@@ -93,7 +94,7 @@ fn has_at<C: ChoiceView>(
 {
     let order = order_from(alloc, side, tables)?;
     let mut slots = slots_with(alloc, side.sets.len(), tables, places)?;
-    side.has_joined(alloc, &order, seen, &mut slots)
+    has_joined(side, alloc, &order, seen, &mut slots)
 }
 
 // Whether both sides have a combination with these places of the common tables.
@@ -161,7 +162,7 @@ fn few_places<C: ChoiceView>(
     let Some(table) = only_table(tables) else {
         return Ok(None);
     };
-    let found = side.few_places(alloc, table)?;
+    let found = hippo_join::few_places(side, alloc, table)?;
     let Some(places) = found else {
         return Ok(None);
     };

@@ -2,10 +2,10 @@
 ghost use Rattle.std.specs.Prelude.{◌≡◌, ◌<◌, IfOk, length};
 ghost use Rattle.std.specs.List.{All};
 ghost use Rattle.hippo_keyed_rows.specs.RowSets.{key_in};
-ghost use Rattle.hippo_join.specs.Places.{row_at_place};
+ghost use Rattle.hippo_lookups.specs.Places.{row_at_place};
 ghost use Rattle.hippo_shared.specs.Tuples.{tuple_at};
 
-use hippo_join::value_at;
+use hippo_lookups::value_at;
 use hippo_model::{Cells, SharedRow, SharedTuple};
 use hippo_rows::{RowSet, Sets};
 use hippo_values::{Duplicate, Memory, Name, Sequence, Value};

@@ -1,7 +1,7 @@
 -- One mark after the other.
 use Rattle.std.proofs.Common.{◌||◌, ap, ◌∙◌}
 use Rattle.std.specs.List.{list_any}
-use Rattle.hippo_join.specs.Finding.{has_places}
+use Rattle.hippo_sides.specs.Finding.{has_places}
 use Rattle.hippo_shared.specs.Marks.{is_one}
 use Rattle.hippo_distinct.proofs.AloneLemmas.{one-taken, none-left, or_false}
 use Rattle.hippo_distinct.proofs.alone.alone.Goals as goal

@@ -2,7 +2,7 @@
 use Rattle.std.proofs.Common.{◌≡◌, ◌||◌, List}
 use Rattle.std.specs.List.{list_any}
 use Rattle.hippo_model.specs.Terms.{Place}
-use Rattle.hippo_join.specs.Finding.{has_places}
+use Rattle.hippo_sides.specs.Finding.{has_places}
 use Rattle.hippo_shared.specs.Marks.{is_one}
 use Rattle.hippo_distinct.proofs.alone.alone.Given as goal
 

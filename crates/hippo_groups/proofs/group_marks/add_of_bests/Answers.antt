@@ -2,7 +2,7 @@
 use Rattle.std.proofs.Common.{◌||◌, ap}
 use Rattle.std.specs.List.{list_any}
 use Rattle.std.specs.Vec.Iter.{into_iter_items}
-use Rattle.hippo_join.specs.Finding.{has_places}
+use Rattle.hippo_sides.specs.Finding.{has_places}
 use Rattle.hippo_groups.specs.GroupMarks.{is_best_changed}
 use Rattle.hippo_groups.proofs.MarkLemmas.{one-taken, all-taken}
 use Rattle.hippo_groups.proofs.group_marks.add_of_bests.Goals as goal

@@ -3,7 +3,7 @@ use Rattle.std.proofs.Common.{◌≡◌, List, ◌||◌}
 use Rattle.std.specs.List.{list_any}
 use Rattle.std.specs.Vec.Iter.{into_iter_items}
 use Rattle.hippo_model.specs.Terms.{Place}
-use Rattle.hippo_join.specs.Finding.{has_places}
+use Rattle.hippo_sides.specs.Finding.{has_places}
 use Rattle.hippo_groups.specs.GroupMarks.{changes_without}
 use Rattle.hippo_groups.proofs.group_marks.candidates.Given as goal
 

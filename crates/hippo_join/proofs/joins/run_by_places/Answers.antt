@@ -2,7 +2,7 @@
 use Rattle.std.proofs.Common.{ℕ, ◌<◌, List, length, subst, sym, arith}
 use Rattle.std.specs.List.{All, Contains}
 use Rattle.hippo_model.specs.Terms.{Place}
-use Rattle.hippo_join.proofs.FindingLemmas.{below-order, whole-order}
+use Rattle.hippo_sides.proofs.FindingLemmas.{below-order, whole-order}
 use Rattle.hippo_join.proofs.joins.run_by_places.Goals as goal
 
 pub answer-answer-requires-clause-below : goal.answer-answer-requires-clause-below

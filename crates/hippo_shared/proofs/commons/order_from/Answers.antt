@@ -3,7 +3,7 @@ use Rattle.std.proofs.Common.{ℕ, ◌<◌, length, subst, sym}
 use Rattle.std.specs.List.{All}
 use Rattle.std.proofs.lemmas.List.Sorted.{All-permutation, Contains-permutation}
 use Rattle.hippo_model.specs.Terms.{Place}
-use Rattle.hippo_join.proofs.ReachLemmas.{ok-then}
+use Rattle.hippo_lookups.proofs.PlaceSteps.{ok-then}
 use Rattle.hippo_shared.proofs.LoopLemmas.{whole-again}
 use Rattle.hippo_shared.proofs.commons.order_from.Goals as goal
 

@@ -3,7 +3,7 @@ use Rattle.std.proofs.Common.{ℕ, [], refl, ap, sym, ◌∙◌, length, None, O
 use Rattle.std.specs.Prelude.{IfOk}
 use Rattle.std.proofs.lemmas.List.{length-replicate}
 use Rattle.hippo_model.specs.Terms.{Place}
-use Rattle.hippo_join.specs.Stages.{IsStage}
+use Rattle.hippo_sides.specs.Stages.{IsStage}
 use Rattle.hippo_shared.specs.declared.commons.CommonStages.{CommonStages}
 use Rattle.hippo_shared.specs.FirstPlaces.{ShareAt, IsFirst}
 use Rattle.hippo_shared.specs.Searching.{HasOneOf, query_tables, audit_tables}

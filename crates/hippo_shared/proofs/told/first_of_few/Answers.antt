@@ -2,7 +2,7 @@
 use Rattle.std.proofs.Common.{◌≡◌, ℕ, List, map, Option, Vec, Global, option_map, sym, subst, ◌∙◌}
 use Rattle.std.specs.Prelude.{option_copied}
 use Rattle.hippo_model.specs.Terms.{Place}
-use Rattle.hippo_join.proofs.ReachLemmas.{ok-then}
+use Rattle.hippo_lookups.proofs.PlaceSteps.{ok-then}
 use Rattle.hippo_shared.specs.FirstPlaces.{IsFirst, IsFirstAmong}
 use Rattle.hippo_shared.specs.Searching.{SharedBy}
 use Rattle.hippo_shared.proofs.FewLemmas.{alone, few-first}

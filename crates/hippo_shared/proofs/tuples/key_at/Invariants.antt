@@ -1,8 +1,8 @@
 -- The key so far, with the values of the columns that are left behind it, is the row's.
 use Rattle.std.proofs.Common.{◌≡◌, ◌++◌, map, drop}
 use Rattle.hippo_keyed_rows.specs.RowSets.{key_in}
-use Rattle.hippo_join.specs.Places.{row_at_place}
-use Rattle.hippo_join.specs.Lookups.{value_at_place}
+use Rattle.hippo_lookups.specs.Places.{row_at_place}
+use Rattle.hippo_lookups.specs.Lookups.{value_at_place}
 use Rattle.hippo_shared.proofs.tuples.key_at.Given as goal
 
 abbrev pub invariant-loop-column : goal.invariant-loop-column

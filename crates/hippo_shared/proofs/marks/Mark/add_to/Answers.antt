@@ -1,6 +1,6 @@
 -- The places of the one tuple are added.
 use Rattle.std.proofs.Common.{◌||◌, sym, ap, ◌∙◌}
-use Rattle.hippo_join.specs.Finding.{has_places}
+use Rattle.hippo_sides.specs.Finding.{has_places}
 use Rattle.hippo_shared.specs.declared.marks.Mark.{Mark}
 use Rattle.hippo_shared.specs.Marks.{is_one}
 use Rattle.hippo_shared.proofs.MarkLemmas.{one-added}

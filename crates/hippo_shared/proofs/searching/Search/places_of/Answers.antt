@@ -1,5 +1,5 @@
 -- What is sorted has the places that it had.
-use Rattle.hippo_join.proofs.ReachLemmas.{ok-then}
+use Rattle.hippo_lookups.proofs.PlaceSteps.{ok-then}
 use Rattle.hippo_shared.proofs.SearchLemmas.{in-either}
 use Rattle.hippo_shared.proofs.searching.Search.places_of.Goals as goal
 

@@ -1,0 +1,11 @@
+-- Stages that list their places are stages of a walk.
+use Rattle.std.proofs.lemmas.Bool.{false≢true}
+use Rattle.hippo_join.proofs.existence.has.Goals as goal
+
+pub has_along-requires : goal.has_along-requires
+has_along-requires g c = record {
+  long = c.requires.long;
+  walkable = λ k stage within lists. c.requires.stages k stage within;
+  covers = c.requires.covers;
+  rises = λ asked. absurd (false≢true asked);
+}

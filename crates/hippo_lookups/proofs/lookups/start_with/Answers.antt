@@ -1,0 +1,15 @@
+-- The search by halves passes over the values that are below.
+use Rattle.std.proofs.Common.{rules}
+use Rattle.std.specs.Ordering.{is_lt}
+use Rattle.std.proofs.lemmas.List.Sorted.{IsPartitionPoint-from_clause}
+use Rattle.hippo_values.specs.Order.{value_cmp}
+use Rattle.hippo_lookups.proofs.LookupLemmas.{parted-below, from-start}
+use Rattle.hippo_lookups.proofs.lookups.start_with.Goals as goal
+
+pub returns : goal.returns
+returns c = λ set column places index.
+    let values = c.args.values.now in
+    let value = c.args.value.now in
+    let parted = parted-below set column values places value index in
+    let point = IsPartitionPoint-from_clause (λ own. is_lt (value_cmp own value)) _ _ c.partition_point.ensures.partitioned parted (λ a r q k. search rules) in
+    from-start set column values places value index c.partition_point.result point

@@ -1,0 +1,12 @@
+//! What the parts of a condition say of columns, and rows that are found by a value.
+#![tactic(auto)]
+
+mod known;
+mod lists;
+mod lookups;
+mod ties;
+
+pub use known::{is_open, knows, knows_expr, slot_at};
+pub use lists::{count_listed, find_list, places_listed};
+pub use lookups::{is_null, known_value, sort_by_column, value_at, values_at, with_value};
+pub use ties::{Tie, column_of, find_tie, outer_parts, shows_column};

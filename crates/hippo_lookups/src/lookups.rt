@@ -1,0 +1,196 @@
+//! Rows of a table in the order of one of its columns.
+ghost use Rattle.std.specs.Prelude.{◌≡◌, ◌<◌, ◌≤◌, ℕ, List, true, IfOk, MatchOption, get_or, length, map, option_copied, unwrap_or};
+ghost use Rattle.std.specs.List.{Contains};
+ghost use Rattle.std.specs.List.Sorted.{IsPermutation};
+ghost use Rattle.std.specs.Ordering.{is_lt, is_le};
+ghost use Rattle.std.specs.declared.cmp.Ordering.TheVariants.{Equal};
+ghost use Rattle.hippo_values.specs.declared.values.Value.TheVariants.{Null};
+ghost use Rattle.hippo_values.specs.Order.{value_cmp};
+ghost use Rattle.hippo_model.specs.Conditions.{is_null};
+ghost use Rattle.hippo_model.specs.Terms.{Place};
+ghost use Rattle.hippo_keyed_rows.specs.RowSets.{KeyedRows};
+ghost use Rattle.hippo_lookups.specs.Lookups.{value_at_place, IsByColumn, IsIndex};
+
+use hippo_rows::RowSet;
+use hippo_values::{Duplicate, Memory, Value};
+use std::alloc::Global;
+use std::cell::Cell;
+use std::cmp::Ordering;
+
+/// The value in a column of the row at a place, if one stands there.
+pub fn value_at<'a>(set: &'a RowSet, column: usize, place: usize) -> Option<&'a Value>
+    ensures { unwrap_or (option_copied result) Null ≡ value_at_place set.now column place }
+{
+    if place < set.len() {
+        set.row(place).as_slice().get(column)
+    } else {
+        None
+    }
+}
+
+/// Whether a value is null.
+pub fn is_null(value: &Value) -> bool
+    ensures { result ≡ is_null value.now }
+{
+    matches!(value, Value::Null)
+}
+
+/// The value that a column has at a place, if it is there and not null.
+pub fn known_value<'a>(set: &'a RowSet, column: usize, place: usize) -> Option<&'a Value>
+    ensures { MatchOption result (is_null (value_at_place set.now column place) ≡ true)
+        (λ value. value.now ≡ value_at_place set.now column place) }
+{
+    let value = value_at(set, column, place)?;
+    if is_null(value) { None } else { Some(value) }
+}
+
+fn value_order(set: &RowSet, column: usize, place: usize, value: &Value) -> Ordering
+    ensures { result ≡ value_cmp (value_at_place set.now column place) value.now }
+{
+    value_at(set, column, place)
+        .unwrap_or(&Value::Null)
+        .cmp(value)
+}
+
+// Two rows by their values in a column.
+fn row_order(set: &RowSet, column: usize, place: usize, other: usize) -> Ordering
+    ensures { result ≡ value_cmp (value_at_place set.now column place)
+        (value_at_place set.now column other) }
+{
+    value_order(
+        set,
+        column,
+        place,
+        value_at(set, column, other).unwrap_or(&Value::Null),
+    )
+}
+
+fn is_below(own: &Value, value: &Value) -> bool
+    ensures { result ≡ is_lt (value_cmp own.now value.now) }
+{
+    own.cmp(value).is_lt()
+}
+
+fn is_within(own: &Value, value: &Value) -> bool
+    ensures { result ≡ is_le (value_cmp own.now value.now) }
+{
+    own.cmp(value).is_le()
+}
+
+/// Puts places in the order of the values in a column.
+pub fn sort_by_column(set: &RowSet, column: usize, places: &mut [usize])
+    ensures permutation { IsPermutation places.old places.new }
+    ensures order { IsByColumn set.now column places.new }
+{
+    places.sort_unstable_by(|a, b| row_order(set, column, *a, *b));
+}
+
+// A value with memory of its own; null where none is there.
+fn copied_value(alloc: Global, value: Option<&Value>) -> Result<Value, Memory>
+    ensures { IfOk result (λ made. made ≡ unwrap_or (option_copied value.entry) Null) }
+{
+    match value {
+        None => Ok(Value::Null),
+        Some(value) => Ok(value.copy(alloc)?),
+    }
+}
+
+/// The values in a column of the rows at some places.
+pub fn values_at(
+    alloc: Global,
+    set: &RowSet,
+    column: usize,
+    places: &[usize],
+) -> Result<Vec<Value>, Memory>
+    ensures { IfOk result (λ values. values.items
+        ≡ map (value_at_place set.now column) places.now) }
+{
+    let mut values = Vec::with_capacity(alloc, places.len())?;
+    for place in places {
+        values.push(copied_value(alloc, value_at(set, column, *place))?)?;
+    }
+    Ok(values)
+}
+
+// Where those of some values begin, by their order, that are not below one; it is found by halves.
+fn start_with(values: &[Value], value: &Value) -> usize
+    ensures { (set : KeyedRows) (column : Place) (places : List Place)
+        → IsIndex set column values.now places
+        → (k : ℕ) → k < length places → value_cmp (value_at_place set column (get_or places k 0))
+        value.now ≡ Equal
+        → result ≤ k }
+{
+    values.partition_point(|own| is_below(own, value))
+}
+
+// Whether the value at a place is there and below another one.
+fn is_below_at(values: &[Value], place: usize, value: &Value) -> bool
+    ensures { result ≡ true → (set : KeyedRows) (column : Place) (places : List Place)
+        → IsIndex set column values.now places
+        → (k : ℕ) → k < length places → value_cmp (value_at_place set column (get_or places k 0))
+        value.now ≡ Equal
+        → place < k }
+{
+    if place < values.len() {
+        is_below(&values[place], value)
+    } else {
+        false
+    }
+}
+
+// Where they begin, which is tried near a place first, since look-ups often rise.
+fn start_near(values: &[Value], near: usize, value: &Value) -> usize
+    ensures { (set : KeyedRows) (column : Place) (places : List Place)
+        → IsIndex set column values.now places
+        → (k : ℕ) → k < length places → value_cmp (value_at_place set column (get_or places k 0))
+        value.now ≡ Equal
+        → result ≤ k }
+{
+    if near == 0 {
+        return start_with(values, value);
+    }
+    if is_below_at(values, near - 1, value) && !is_below_at(values, near, value) {
+        near
+    } else {
+        start_with(values, value)
+    }
+}
+
+// Where those from a place on end that are not above it.
+fn end_with(values: &[Value], start: usize, value: &Value) -> usize
+    ensures { (set : KeyedRows) (column : Place) (places : List Place)
+        → IsIndex set column values.now places
+        → (k : ℕ) → k < length places → value_cmp (value_at_place set column (get_or places k 0))
+        value.now ≡ Equal
+        → k < result }
+{
+    for end in start..values.len() {
+        if !is_within(&values[end], value) {
+            return end;
+        }
+    }
+    values.len()
+}
+
+/// The places whose row has a value, of places that stand by the values in a column, and these
+/// values; where the last search ended is tried first, and marked anew.
+pub fn with_value<'a>(
+    places: &'a [usize],
+    values: &[Value],
+    value: &Value,
+    near: &Cell<usize>,
+) -> &'a [usize]
+    ensures { (set : KeyedRows) (column : Place) → IsIndex set column values.now places.now
+        → (place : Place) → Contains places.now place
+        → value_cmp (value_at_place set column place) value.now ≡ Equal
+        → Contains result.now place }
+{
+    let start = start_near(values, near.get(), value);
+    let end = end_with(values, start, value);
+    near.set(end);
+    if start <= end && end <= places.len() {
+        &places[start..end]
+    } else {
+        places
+    }
+}

@@ -1,0 +1,7 @@
+pub mod ProductLemmas
+pub mod FoundLemmas
+pub mod KeyLemmas
+pub mod RangeLemmas
+pub mod ReachLemmas
+pub mod SeekingLemmas
+pub mod FindingLemmas

@@ -1,0 +1,16 @@
+//! One side of a join, and which rows of its tables may follow those that are chosen.
+#![tactic(auto)]
+
+mod following;
+mod keys;
+mod ranges;
+mod reaching;
+mod seeking;
+mod sides;
+mod stages;
+
+pub use following::{Following, listed};
+pub use keys::Span;
+pub use reaching::{open_slots, push_if};
+pub use sides::Side;
+pub use stages::Stage;

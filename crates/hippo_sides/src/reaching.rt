@@ -1,0 +1,373 @@
+//! Which rows of a table may follow those that are chosen.
+ghost use Rattle.std.specs.Prelude.{◌≡◌, ◌<◌, true, false, None, Some, [], ◌∷◌, ◌++◌, if◌then◌else◌, OnOk, IfOk, length, replicate};
+ghost use Rattle.std.specs.List.{All};
+ghost use Rattle.std.specs.List.Sorted.{IsPermutation};
+ghost use Rattle.hippo_lookups.specs.Places.{chosen_rows as chosen};
+ghost use Rattle.hippo_lookups.specs.Lookups.{IsByColumn};
+ghost use Rattle.hippo_sides.specs.Walking.{following_places, IsWalkable, AreWalkable};
+ghost use Rattle.hippo_sides.specs.Stages.{Reaches, ReachesFrom, IsStage, AreStages};
+
+use crate::following::{Following, listed};
+use crate::sides::Side;
+use crate::stages::Stage;
+use hippo_lookups::{
+    Tie, find_tie, known_value, knows, knows_expr, outer_parts, slot_at, sort_by_column, values_at,
+    with_value,
+};
+use hippo_model::{ChoiceView, Expr, Ref};
+use hippo_rows::RowSet;
+use hippo_values::Memory;
+use std::alloc::Global;
+use std::cell::Cell;
+
+// So many rows of an only table are tested where they are walked.
+const FEW_ROWS: usize = 64;
+
+/// A slot for the row of each table, none of which is chosen.
+pub fn open_slots(alloc: Global, tables: usize) -> Result<Vec<Option<usize>>, Memory>
+    ensures { IfOk result (λ slots. slots.items ≡ replicate tables None) }
+{
+    Ok(vec![in alloc; None; tables]?)
+}
+
+/// Adds a place at the end where a test holds.
+pub fn push_if(test: bool, places: &mut Vec<usize>, place: usize) -> Result<(), Memory>
+    ensures { OnOk result (places.new.items ≡ if test then places.old.items ++ place ∷ []
+        else places.old.items) }
+{
+    if test {
+        places.push(place)?;
+    }
+    Ok(())
+}
+
+fn sorted_by_column(set: &RowSet, column: usize, mut places: Vec<usize>) -> Vec<usize>
+    ensures permutation { IsPermutation places.items result.items }
+    ensures order { IsByColumn set.now column result.items }
+{
+    sort_by_column(set, column, &mut places);
+    places
+}
+
+// About how many combinations there are behind a stage, of so many before it.
+fn after_stage(before: usize, stage: &Stage) -> usize {
+    if stage.is_sought {
+        before
+    } else {
+        before.saturating_mul(stage.places.len())
+    }
+}
+
+// Whether a guard may not hold: it does where its column is kept as it is.
+fn can_fail(expr: &Expr) -> bool {
+    !matches!(expr, Expr::Keep(_) | Expr::Literal(_))
+}
+
+impl<'a, C: ChoiceView> Side<'a, C> {
+    // Whether some guard can be tested where only these rows are chosen, and can fail.
+    fn knows_guard(&self, slots: &[Option<usize>]) -> bool {
+        let guards = self.query.guards.as_slice();
+        guards.iter().any(|guard| can_fail(&guard.expr) && knows_expr(&guard.expr, slots))
+    }
+
+    // Whether so many rows are tested before they are walked: where something can be tested, but
+    // for few rows of an only table, since the walk tests the whole condition at once there.
+    fn tests_early(&self, tests: &[usize], slots: &[Option<usize>], rows: usize) -> bool {
+        let can_test = !tests.is_empty() || self.knows_guard(slots);
+        can_test && (self.sets.len() > 1 || rows > FEW_ROWS)
+    }
+
+    // The parts of the condition that can be tested where these rows are chosen, by their places.
+    fn known_parts(&self, alloc: Global, slots: &[Option<usize>]) -> Result<Vec<usize>, Memory> {
+        let mut known = Vec::new(alloc);
+        for (place, part) in outer_parts(&self.query.cond).iter().enumerate() {
+            if knows(part, slots) {
+                known.push(place)?;
+            }
+        }
+        Ok(known)
+    }
+
+    // Places of a table's rows without those of which the guards and the parts on this table alone
+    // say that they do not count.
+    fn tested_places(
+        &self,
+        alloc: Global,
+        table: usize,
+        candidates: &Following<'_>,
+        tests: &[usize],
+    ) -> Result<Vec<usize>, Memory>
+        requires table { table < length self.now.sets.now }
+        requires candidates { Reaches (C.choices self.now.choices.now) self.now.query.now
+            self.now.sets.now
+            table (following_places candidates.now) }
+        ensures { IfOk result (λ places. Reaches (C.choices self.now.choices.now) self.now.query.now
+            self.now.sets.now
+            table places.items) }
+    {
+        let mut slots = open_slots(alloc, self.sets.len())?;
+        let mut rows = self.rows(alloc, &slots)?;
+        let mut places = Vec::new(alloc);
+        for index in 0..candidates.len() {
+            let place = candidates.place(index);
+            slots[table] = Some(place);
+            self.renew(&mut rows, &slots, table);
+            let may_count = self.may_count_by(&rows, tests, &slots);
+            push_if(may_count, &mut places, place)?;
+        }
+        Ok(places)
+    }
+
+    // The places of a table's rows that can count. Where literals say the row's key, or its first
+    // values, or bounds of the next one, or the value of a column by which the table has an order,
+    // these rows are found by halves.
+    fn reached_places(&self, alloc: Global, table: usize) -> Result<Vec<usize>, Memory>
+        requires { table < length self.now.sets.now }
+        ensures { IfOk result (λ places. Reaches (C.choices self.now.choices.now) self.now.query.now
+            self.now.sets.now
+            table places.items) }
+    {
+        let mut slots = open_slots(alloc, self.sets.len())?;
+        slots[table] = Some(0);
+        let tests = self.known_parts(alloc, &slots)?;
+        let candidates = self.open_candidates(alloc, table)?;
+        if self.tests_early(&tests, &slots, candidates.len()) {
+            self.tested_places(alloc, table, &candidates, &tests)
+        } else {
+            listed(alloc, &candidates)
+        }
+    }
+
+    // Whether the condition says a table's key, by the rows that are chosen.
+    fn tells_key(&self, table: usize, slots: &[Option<usize>]) -> bool
+        requires { table < length self.now.sets.now }
+    {
+        for column in self.sets.get(table).key().as_slice() {
+            let column = Ref {
+                table,
+                column: *column,
+            };
+            if self.told_value(column, slots).is_none() {
+                return false;
+            }
+        }
+        true
+    }
+
+    // Whether rows that are chosen, and no literal, say the first value of a table's key.
+    fn tells_front(&self, table: usize, slots: &[Option<usize>]) -> bool
+        requires { table < length self.now.sets.now }
+    {
+        let Some(column) = self.sets.get(table).key().as_slice().first() else {
+            return false;
+        };
+        let column = Ref {
+            table,
+            column: *column,
+        };
+        self.is_joined(column, slots)
+    }
+
+    // Whether a table's rows are looked up by the rows that are chosen, of which there are about so
+    // many combinations.
+    fn is_sought(&self, table: usize, slots: &[Option<usize>], before: usize) -> bool
+        requires { table < length self.now.sets.now }
+    {
+        self.tells_key(table, slots)
+            || self.tells_front(table, slots)
+            || self.finds_few(table, slots, before)
+    }
+
+    // A table's stage behind those whose rows are chosen, with its places.
+    fn listed_stage(
+        &self,
+        alloc: Global,
+        table: usize,
+        slots: &[Option<usize>],
+        tests: Vec<usize>,
+    ) -> Result<Stage, Memory>
+        requires { table < length self.now.sets.now }
+        ensures stage { IfOk result (λ stage. IsStage (C.choices self.now.choices.now)
+            self.now.query.now
+            self.now.sets.now stage) }
+        ensures listed { IfOk result (λ stage. stage.is_sought ≡ false) }
+        ensures table { IfOk result (λ stage. stage.table ≡ table) }
+    {
+        let places = self.reached_places(alloc, table)?;
+        let Some(tie) = find_tie(outer_parts(&self.query.cond), table, slots) else {
+            return Ok(Stage {
+                table,
+                tie: None,
+                is_sought: false,
+                places,
+                values: Vec::new(alloc),
+                near: Cell::new(0),
+                tests,
+            });
+        };
+        let set = self.sets.get(table);
+        let places = sorted_by_column(set, tie.column, places);
+        let values = values_at(alloc, set, tie.column, &places)?;
+        Ok(Stage {
+            table,
+            tie: Some(tie),
+            is_sought: false,
+            places,
+            values,
+            near: Cell::new(0),
+            tests,
+        })
+    }
+
+    // A table's stage behind those whose rows are chosen: with its places, if all stages are to
+    // list theirs or if its rows cannot be looked up.
+    fn stage(
+        &self,
+        alloc: Global,
+        table: usize,
+        slots: &[Option<usize>],
+        before: usize,
+        lists: bool,
+    ) -> Result<Stage, Memory>
+        requires sets { table < length self.now.sets.now }
+        requires slots { table < length slots.now }
+        ensures walkable { IfOk result (λ stage. IsWalkable
+            (C.choices self.now.choices.now) self.now.query.now self.now.sets.now stage) }
+        ensures listed { IfOk result (λ stage. lists ≡ true → stage.is_sought ≡ false) }
+        ensures table { IfOk result (λ stage. stage.table ≡ table) }
+    {
+        let is_sought = !lists && self.is_sought(table, slots, before);
+        let tests = self.tests_at(alloc, table, slots, is_sought)?;
+        if is_sought {
+            Ok(Stage {
+                table,
+                tie: None,
+                is_sought,
+                places: Vec::new(alloc),
+                values: Vec::new(alloc),
+                near: Cell::new(0),
+                tests,
+            })
+        } else {
+            self.listed_stage(alloc, table, slots, tests)
+        }
+    }
+
+    // The places of a stage that may follow the rows that are chosen, by a tie.
+    fn tied_places<'s>(&self, stage: &'s Stage, tie: &Tie, slots: &[Option<usize>]) -> &'s [usize]
+        requires stage { IsStage (C.choices self.now.choices.now) self.now.query.now
+            self.now.sets.now stage.now }
+        requires tie { stage.now.tie ≡ Some tie.now }
+        ensures { ReachesFrom (C.choices self.now.choices.now) self.now.query.now self.now.sets.now
+            slots.now stage.now.table result.now }
+    {
+        let places = stage.places.as_slice();
+        let values = stage.values.as_slice();
+        let Some(place) = slot_at(slots, tie.other.table) else {
+            return places;
+        };
+        if tie.other.table >= self.sets.len() {
+            return places;
+        }
+        let others = self.sets.get(tie.other.table);
+        match known_value(others, tie.other.column, place) {
+            None => &places[..0],
+            Some(value) => with_value(places, values, value, &stage.near),
+        }
+    }
+
+    /// The places of a stage that may follow the rows that are chosen.
+    pub fn places_of<'s>(&self, stage: &'s Stage, slots: &[Option<usize>]) -> &'s [usize]
+        requires { IsStage (C.choices self.now.choices.now) self.now.query.now self.now.sets.now
+            stage.now }
+        ensures { ReachesFrom (C.choices self.now.choices.now) self.now.query.now self.now.sets.now
+            slots.now stage.now.table result.now }
+    {
+        match &stage.tie {
+            None => stage.places.as_slice(),
+            Some(tie) => self.tied_places(stage, tie, slots),
+        }
+    }
+
+    // The parts of the condition that are tested where a table's row is chosen, looked up or not:
+    // none where it is the last, since the whole condition is tested then. Where places are listed,
+    // the parts on the table alone are tested before.
+    fn tests_at(
+        &self,
+        alloc: Global,
+        table: usize,
+        slots: &[Option<usize>],
+        is_sought: bool,
+    ) -> Result<Vec<usize>, Memory>
+        requires { table < length slots.now }
+    {
+        let mut tests = Vec::new(alloc);
+        let mut after = Vec::from_slice(alloc, slots)?;
+        after[table] = Some(0);
+        if after.iter().all(|slot| slot.is_some()) {
+            return Ok(tests);
+        }
+        let mut alone = open_slots(alloc, slots.len())?;
+        alone[table] = if is_sought { None } else { Some(0) };
+        for (place, part) in outer_parts(&self.query.cond).iter().enumerate() {
+            if knows(part, &after) && !knows(part, slots) && !knows(part, &alone) {
+                tests.push(place)?;
+            }
+        }
+        Ok(tests)
+    }
+
+    /// The stages of a join behind rows that are chosen, in an order of tables: all with their
+    /// places, or only those whose rows are not looked up.
+    pub fn stages_behind(
+        &self,
+        alloc: Global,
+        chosen: &[Option<usize>],
+        order: &[usize],
+        lists: bool,
+    ) -> Result<Vec<Stage>, Memory>
+        requires long { length chosen.now ≡ length self.now.sets.now }
+        requires below { All (λ table. table < length self.now.sets.now) order.now }
+        ensures { IfOk result (λ stages. AreWalkable
+            (C.choices self.now.choices.now) self.now.query.now self.now.sets.now lists order.now
+            stages.items) }
+    {
+        let mut slots = Vec::from_slice(alloc, chosen)?;
+        let mut stages = Vec::new(alloc);
+        let mut before = 1;
+        for table in order {
+            let stage = self.stage(alloc, *table, &slots, before, lists)?;
+            before = after_stage(before, &stage);
+            stages.push(stage)?;
+            slots[*table] = Some(0);
+        }
+        Ok(stages)
+    }
+
+    /// The stages of a join, in an order of tables: all with their places, or only those whose rows
+    /// are not looked up.
+    pub fn stages_in(
+        &self,
+        alloc: Global,
+        order: &[usize],
+        lists: bool,
+    ) -> Result<Vec<Stage>, Memory>
+        requires { All (λ table. table < length self.now.sets.now) order.now }
+        ensures { IfOk result (λ stages. AreWalkable
+            (C.choices self.now.choices.now) self.now.query.now self.now.sets.now lists order.now
+            stages.items) }
+    {
+        let slots = open_slots(alloc, self.sets.len())?;
+        self.stages_behind(alloc, &slots, order, lists)
+    }
+
+    /// The stages of a join, in an order of tables.
+    pub fn stages(&self, alloc: Global, order: &[usize]) -> Result<Vec<Stage>, Memory>
+        requires { All (λ table. table < length self.now.sets.now) order.now }
+        ensures { IfOk result (λ stages. AreStages (C.choices self.now.choices.now)
+            self.now.query.now self.now.sets.now
+            order.now stages.items) }
+    {
+        self.stages_in(alloc, order, true)
+    }
+}
