@@ -21,7 +21,6 @@ use Rattle.hippo_keeper.specs.Answering.{has_failed}
 use Rattle.hippo_keeper.specs.Keeping.{KeeperState, IsReady, KeepsSame}
 use Rattle.hippo_catalog.specs.Catalogs.{KnownNames, known_at, table_of}
 use Rattle.hippo_catalog.proofs.ListLemmas.{drop_at_item}
-use Rattle.hippo_policy.specs.Books.{BookStandsFor}
 use Rattle.hippo_typing.specs.Meanings.{meaning}
 use Rattle.hippo_rewrite.proofs.FittingRows.{schema_named}
 use Rattle.hippo_backlog.specs.Backlogs.{versions_of, IsSnapshot, Snapshots}
@@ -35,7 +34,7 @@ use Rattle.hippo_denials.specs.declared.faults.DenialsFault.TheVariants.{Read, T
 use Rattle.hippo_denials.specs.declared.faults.ListFault.{ListFault}
 use Rattle.hippo_denials.specs.declared.faults.ListFault.TheVariants as lists
 use Rattle.hippo_denials.specs.declared.rows.RulesThen.{RulesThen}
-use Rattle.hippo_denials.specs.Listing.{rules_context, denial_columns, rows_denials, listing_fault, Lists}
+use Rattle.hippo_denials.specs.Listing.{rules_context, denial_columns, rows_denials, listing_fault, Lists, ListsRows}
 use Rattle.hippo_denials.specs.Denying.{listing_as_call, FitsTable, FitsQuery, one_table, tables_denials, one_count, tables_versions, AddsDenials, ReadsDenials}
 use Rattle.hippo_denials.proofs.ListingLemmas.{table_is}
 use Rattle.hippo_denials.proofs.QuestionLemmas.{schema_then, not_unknown}
@@ -165,7 +164,7 @@ module _ (schema : Schema) (rules : RulesThen) (query : Query) (limit : ℕ) (be
 
   -- a table's rows were read, and its denied cells listed
   pub table_read : (rows : KeyedRows) (listed : Result (Unit {0}) ListFault) (old new : List Denial) → Snapshots schema rules.count (Ok rows) before after steps steps'
-      → ((history : History) → BookStandsFor rules.book.now history → Lists limit (rows_denials (take rules.count history) (rules_context rules) schema (denial_columns query schema) rows.rows) listed old new)
+      → ListsRows limit rules schema (denial_columns query schema) rows.rows listed old new
       → ReadsDenials Fits (one_table rules query schema) (one_count schema) limit (listed_as listed) old new before after steps steps'
   table_read rows listed old new snapshots lists = record {
     call = IsAfterCall-as true false (reads.reading_as_call {A = KeyedRows} (Ok rows)) (listing_as_call (listed_as listed)) before after (listed_good listed) snapshots.is_after;

@@ -14,7 +14,7 @@ use Rattle.hippo_model.specs.Terms.{History}
 use Rattle.hippo_model.specs.Versions.{versions}
 use Rattle.hippo_laws.specs.Audits.{StandsIn}
 use Rattle.hippo_keeper.specs.declared.faults.KeeperFault.{KeeperFault}
-use Rattle.hippo_keeper.specs.Keeping.{KeeperState, IsAfterCall, KeepsSame}
+use Rattle.hippo_keeper.specs.Keeping.{KeeperState, IsReady, IsAfterCall, KeepsSame}
 use Rattle.hippo_catalog.specs.Catalogs.{KnownNames, known_at, table_of}
 use Rattle.hippo_policy.specs.declared.book.PolicyBook.{PolicyBook}
 use Rattle.hippo_policy.specs.Books.{BookStandsFor}
@@ -81,6 +81,11 @@ one_count schema history = length (versions_of schema.name history)
 
 abbrev pub tables_versions : List Name → History → ℕ
 tables_versions tables history = sum_by (λ table. length (versions_of table history)) tables
+
+-- a keeper may be read, and not more than so many cells are there yet
+pub record MayRead (limit : ℕ) (cells : List Denial) (keeper : KeeperState) : Type 0 where
+  pub ready : IsReady true keeper
+  pub within : length cells ≤ limit
 
 -- the cells that are wanted are added; or they are more than so many, or the keeper failed, or
 -- memory was short

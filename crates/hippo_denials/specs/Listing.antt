@@ -1,5 +1,5 @@
 -- How the denied cells of rows are listed.
-use Rattle.std.specs.Prelude.{◌≡◌, ◌<◌, ℕ, Bool, List, ◌++◌, length, filter, filter_map, flat_map, Result, Ok, Err}
+use Rattle.std.specs.Prelude.{◌≡◌, ◌<◌, ℕ, Bool, List, ◌++◌, length, take, filter, filter_map, flat_map, Result, Ok, Err}
 use Rattle.std.specs.List.{enumerate_from}
 use Rattle.hippo_values.specs.declared.names.Name.{Name}
 use Rattle.hippo_model.specs.declared.born_row.BornRow.{BornRow}
@@ -11,6 +11,7 @@ use Rattle.hippo_model.specs.Columns.{named_column, same_column}
 use Rattle.hippo_model.specs.Denials.{Denial, is_listed, denial_by}
 use Rattle.hippo_model.specs.Terms.{History, Place}
 use Rattle.hippo_model.specs.Verdicts.{Context, verdict}
+use Rattle.hippo_policy.specs.Books.{BookStandsFor}
 use Rattle.hippo_backlog.specs.declared.faults.ReadFault.TheVariants.{Memory}
 use Rattle.hippo_denials.specs.declared.faults.DenialsFault.{DenialsFault}
 use Rattle.hippo_denials.specs.declared.faults.DenialsFault.TheVariants.{Read, TooMany}
@@ -56,3 +57,12 @@ abbrev pub Lists : ℕ → List Denial → Result (Unit {0}) ListFault → List 
 Lists limit wanted (Ok tt) old new = new ≡ old ++ wanted
 Lists limit wanted (Err lists.TooMany) old new = limit < length (old ++ wanted)
 Lists limit wanted (Err lists.Memory) old new = Unit {0}
+
+-- so the cells of some rows are added, for each history whose rules these are
+abbrev pub ListsRows : ℕ → RulesThen → Schema → List (Place × Column) → List BornRow
+    → Result (Unit {0}) ListFault → List Denial → List Denial → Type 0
+ListsRows limit rules schema listed rows result old new =
+    (history : History) → BookStandsFor rules.book.now history
+    → Lists limit
+    (rows_denials (take rules.count history) (rules_context rules) schema listed rows)
+    result old new

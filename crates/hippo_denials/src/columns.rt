@@ -1,7 +1,7 @@
 //! Which columns of a table are listed where a question's denied cells are.
 ghost use Rattle.std.specs.Prelude.{◌≡◌, [], slice_index_or, IfOk};
 ghost use Rattle.std.specs.List.{list_any};
-ghost use Rattle.hippo_model.specs.Columns.{columns_in, condition_columns, named_column, query_columns, same_column};
+ghost use Rattle.hippo_model.specs.Columns.{columns_in, condition_columns, query_columns, same_column};
 ghost use Rattle.hippo_model.specs.Denials.{is_listed};
 ghost use Rattle.hippo_denials.specs.Listing.{is_it, denial_columns};
 

@@ -3,7 +3,7 @@ ghost use Rattle.std.specs.Prelude.{◌≤◌, [], ◌∷◌, true, length, OnOk
 ghost use Rattle.hippo_model.specs.Versions.{versions};
 ghost use Rattle.hippo_keeper.specs.Keeping.{IsReady};
 ghost use Rattle.hippo_denials.specs.Denying.{FitsTable, FitsQuery, FitsText, one_table, tables_denials, text_denials};
-ghost use Rattle.hippo_denials.specs.Denying.{one_count, tables_versions, ReadsDenials, Denies};
+ghost use Rattle.hippo_denials.specs.Denying.{one_count, tables_versions, MayRead, ReadsDenials, Denies};
 
 use crate::faults::{DenialsFault, fault_of};
 use crate::rows::{Denied, RulesThen, list_table};
@@ -28,8 +28,7 @@ fn read_table<'a, P: Keeper, L: Ledger>(
     cells: &mut Sequence<Denied<'a>>,
     steps: &mut Steps<L>,
 ) -> Result<(), DenialsFault>
-    requires ready { IsReady true (P.state keeper.old) }
-    requires within { length cells.old ≤ limit }
+    requires may { MayRead limit cells.old (P.state keeper.old) }
     ensures reads { ReadsDenials (FitsTable schema.now rules.now.count rules.now.book.now)
         (one_table rules.now query.now schema.now) (one_count schema.now) limit result cells.old
         cells.new
@@ -57,8 +56,7 @@ fn read_named<'a, P: Keeper, L: Ledger>(
     cells: &mut Sequence<Denied<'a>>,
     steps: &mut Steps<L>,
 ) -> Result<(), DenialsFault>
-    requires ready { IsReady true (P.state keeper.old) }
-    requires within { length cells.old ≤ limit }
+    requires may { MayRead limit cells.old (P.state keeper.old) }
     ensures reads { ReadsDenials (FitsQuery (name.now ∷ []) catalog.now.names rules.now.count
         rules.now.book.now)
         (tables_denials rules.now query.now (name.now ∷ [])) (tables_versions (name.now ∷ [])) limit
@@ -83,8 +81,7 @@ fn read_tables<'a, P: Keeper, L: Ledger>(
     cells: &mut Sequence<Denied<'a>>,
     steps: &mut Steps<L>,
 ) -> Result<(), DenialsFault>
-    requires ready { IsReady true (P.state keeper.old) }
-    requires within { length cells.old ≤ limit }
+    requires may { MayRead limit cells.old (P.state keeper.old) }
     ensures reads { ReadsDenials (FitsQuery query.now.tables catalog.now.names rules.now.count
         rules.now.book.now)
         (tables_denials rules.now query.now query.now.tables) (tables_versions query.now.tables)
@@ -114,8 +111,7 @@ fn read_text<'a, P: Keeper, L: Ledger>(
     cells: &mut Sequence<Denied<'a>>,
     steps: &mut Steps<L>,
 ) -> Result<(), DenialsFault>
-    requires ready { IsReady true (P.state keeper.old) }
-    requires within { length cells.old ≤ limit }
+    requires may { MayRead limit cells.old (P.state keeper.old) }
     ensures reads { ReadsDenials (FitsText text.now catalog.now.names rules.now.count
         rules.now.book.now)
         (text_denials rules.now text.now) versions limit result cells.old cells.new

@@ -1,12 +1,11 @@
 //! The denied cells of rows.
-ghost use Rattle.std.specs.Prelude.{◌≡◌, ◌≤◌, ◌++◌, length, take, flat_map, slice_get, Some, IfOk, OnOk};
+ghost use Rattle.std.specs.Prelude.{◌≡◌, ◌≤◌, ◌++◌, length, take, Some, IfOk, OnOk};
 ghost use Rattle.hippo_model.specs.Terms.{History};
-ghost use Rattle.hippo_model.specs.declared.born_row.BornRow.{BornRow};
 ghost use Rattle.hippo_model.specs.Denials.{denial_by};
 ghost use Rattle.hippo_model.specs.Rows.{cell_at, key_of};
 ghost use Rattle.hippo_model.specs.Verdicts.{verdict};
 ghost use Rattle.hippo_policy.specs.Books.{BookStandsFor};
-ghost use Rattle.hippo_denials.specs.Listing.{rules_context, denial_columns, listed_denials, rows_denials, Lists};
+ghost use Rattle.hippo_denials.specs.Listing.{rules_context, denial_columns, listed_denials, ListsRows};
 
 use crate::columns::{Listed, listed_columns};
 use crate::faults::ListFault;
@@ -150,10 +149,8 @@ fn list_rows<'a>(
     cells: &mut Sequence<Denied<'a>>,
 ) -> Result<(), ListFault>
     requires within { length cells.old ≤ limit }
-    ensures lists { (history : History) → BookStandsFor rules.now.book.now history
-        → Lists limit (rows_denials (take rules.now.count history) (rules_context rules.now)
-        schema.now listed.now
-        rows.now.rows) result cells.old cells.new }
+    ensures lists { ListsRows limit rules.now schema.now listed.now rows.now.rows result cells.old
+        cells.new }
     ensures within { OnOk result (length cells.new ≤ limit) }
 {
     for place in 0..rows.len() {
@@ -180,10 +177,8 @@ pub(crate) fn list_table<'a>(
     cells: &mut Sequence<Denied<'a>>,
 ) -> Result<(), ListFault>
     requires within { length cells.old ≤ limit }
-    ensures lists { (history : History) → BookStandsFor rules.now.book.now history
-        → Lists limit (rows_denials (take rules.now.count history) (rules_context rules.now)
-        schema.now
-        (denial_columns query.now schema.now) rows.now.rows) result cells.old cells.new }
+    ensures lists { ListsRows limit rules.now schema.now (denial_columns query.now schema.now)
+        rows.now.rows result cells.old cells.new }
     ensures within { OnOk result (length cells.new ≤ limit) }
 {
     match listed_columns(alloc, query, schema) {

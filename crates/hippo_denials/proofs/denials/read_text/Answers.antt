@@ -9,4 +9,4 @@ returns-in-Ok-Some-clause-reads g c =
 
 pub returns-in-Ok-None-clause-reads : goal.returns-in-Ok-None-clause-reads
 returns-in-Ok-None-clause-reads g c =
-    text_means_nothing c.args.text.now c.args.catalog.now.names c.args.rules.now c.args.limit c.args.rules.now.number c.args.cells.now (g.P.Keeper.state c.args.keeper.now) c.args.steps.now c.requires.ready (sym c.in-Ok-None.ensures.meaning ∙ c.in-Ok-None.field-0-is)
+    text_means_nothing c.args.text.now c.args.catalog.now.names c.args.rules.now c.args.limit c.args.rules.now.number c.args.cells.now (g.P.Keeper.state c.args.keeper.now) c.args.steps.now c.requires.may.ready (sym c.in-Ok-None.ensures.meaning ∙ c.in-Ok-None.field-0-is)
