@@ -1,5 +1,5 @@
 -- From what an audit expression means, and from the job that looks over all that was asked, to what DURING does.
-use Rattle.std.proofs.Common.{◌≡◌, ◌≢◌, ◌∙◌, ◌⊎◌, ◌≤◌, ◌+◌, ℕ, refl, sym, ap, subst, inl, inr, arith, true, false, List, [], length, Option, Some, Result, Ok, Err}
+use Rattle.std.proofs.Common.{◌≡◌, ◌≢◌, ◌∙◌, ◌⊎◌, ◌≤◌, ◌+◌, ℕ, refl, sym, ap, subst, inl, inr, arith, true, false, List, [], length, Result, Ok, Err}
 use Rattle.std.specs.Prelude.{min, OnOk, IfOk}
 use Rattle.std.specs.Result.{result_map_both}
 use Rattle.std.proofs.lemmas.Bool.{false≢true}

@@ -1,5 +1,5 @@
 -- From what single calls do to what carrying out a command does.
-use Rattle.std.proofs.Common.{◌≡◌, ◌∙◌, ℕ, refl, sym, ap, subst, inl, inr, List, [], ◌∷◌, ◌++◌, map, Option, Some, None, Result, Ok, Err, true, codes, arith, append-nil}
+use Rattle.std.proofs.Common.{◌≡◌, ◌∙◌, ℕ, refl, sym, ap, subst, inl, inr, List, [], ◌∷◌, ◌++◌, map, Option, Result, Ok, Err, true, codes, arith, append-nil}
 use Rattle.std.specs.Prelude.{int_le}
 use Rattle.std.proofs.lemmas.Bool.{false≢true}
 use Rattle.std.proofs.lemmas.List.{map-append}
@@ -7,7 +7,7 @@ use Rattle.hippo_model.specs.declared.entry.Entry.{Entry}
 use Rattle.hippo_model.specs.StoredForms.{stored}
 use Rattle.hippo_model.specs.Terms.{History}
 use Rattle.hippo_keeper.specs.Keeping.{KeeperState, KeepsSame}
-use Rattle.hippo_replay.specs.Recording.{HasKept}
+use Rattle.hippo_replay.specs.Recording.{IsBacked, HasKept}
 use Rattle.hippo_replay.specs.Standing.{StandsFor, IsSound, IsTimely}
 use Rattle.hippo_replay.specs.declared.state.State.{State}
 use Rattle.hippo_keeper.proofs.CallLemmas.{KeepsSame-here, IsAfterCall-none}
@@ -33,7 +33,7 @@ use Rattle.hippo_engine.specs.Effects.{Effect, only_reply, IsEffect}
 use Rattle.hippo_judging.proofs.LengthLemmas.{plain_fits}
 use Rattle.hippo_judging.specs.Findings.{IsOfLine, may_do_nothing}
 use Rattle.hippo_engine.specs.Ledgers.{Tallies, none_taken, at_once, job_begun, job_stepped, job_dropped}
-use Rattle.hippo_engine.specs.Carrying.{Holds, AtWork, IsBacked, is_carried, shown_effect, IsQuiet, AddsNothing, BreaksOff, Carries}
+use Rattle.hippo_engine.specs.Carrying.{Holds, AtWork, is_carried, shown_effect, IsQuiet, AddsNothing, BreaksOff, Carries}
 use Rattle.hippo_engine.proofs.ClockLemmas.{int_le-refl, clock_rises}
 use Rattle.hippo_engine.proofs.ShortLemmas.{short}
 

@@ -1,5 +1,5 @@
 -- From the checks of a statement that changes something, and from recording its entry, to what carrying it out does.
-use Rattle.std.proofs.Common.{◌≡◌, ◌⊎◌, ◌∙◌, ◌≤◌, ◌<◌, ◌+◌, ◌^◌, inl, inr, refl, sym, ap, subst, arith, ℕ, Bool, length, Option, Some, true, false}
+use Rattle.std.proofs.Common.{◌≡◌, ◌⊎◌, ◌∙◌, ◌≤◌, ◌<◌, ◌+◌, ◌^◌, inl, inr, refl, sym, ap, subst, arith, ℕ, Bool, length, true, false}
 use Rattle.std.specs.Prelude.{codes, int_le, [], ◌∷◌, ◌++◌}
 use Rattle.std.proofs.lemmas.Bool.{false≢true, and_from}
 use Rattle.hippo_values.specs.Texts.{Txt}
@@ -40,7 +40,7 @@ use Rattle.hippo_engine.specs.Changing.{Changes, change_effect}
 use Rattle.hippo_engine.specs.Performing.{SaysRefusal}
 use Rattle.hippo_judging.specs.Findings.{AddsNextEntry, IsRefused, may_do_nothing}
 use Rattle.hippo_judging.specs.Checks.{Refuses, reply_room}
-use Rattle.hippo_judging.specs.Deeds.{Deed, next_entry}
+use Rattle.hippo_judging.specs.Deeds.{next_entry}
 use Rattle.hippo_judging.specs.Deeds as deeds
 use Rattle.hippo_engine.specs.Effects.{Effect, only_reply, deed_effect, effect_of, judgement_effect, IsEffect}
 use Rattle.hippo_judging.specs.Judging.{judged}

@@ -1,5 +1,5 @@
 -- What lines leave: nothing where they are refused, and else at most the next entry.
-use Rattle.std.proofs.Common.{◌≡◌, inl, inr, Option, ℕ, Ok, Err, refl}
+use Rattle.std.proofs.Common.{◌≡◌, inl, inr, Ok, Err, refl}
 use Rattle.hippo_model.specs.Terms.{History}
 use Rattle.hippo_world.specs.Worlds.{World}
 use Rattle.hippo_report.specs.declared.speaker.Speaker.{Speaker}

@@ -11,10 +11,8 @@ use Rattle.hippo_keeper.specs.declared.faults.KeeperFault.TheVariants.{Failed}
 use Rattle.hippo_keeper.specs.Answering.{has_failed}
 use Rattle.hippo_keeper.specs.Keeping.{KeeperState, IsReady, IsAfterCall, MayHaveOneMore, KeepsSame}
 use Rattle.hippo_typing.specs.Meanings.{meaning}
-use Rattle.hippo_replay.specs.declared.state.State.{State}
 use Rattle.hippo_replay.specs.Standing.{StandsFor, IsSound, IsTimely}
 use Rattle.hippo_replay.specs.Recording.{HasKept}
-use Rattle.hippo_replay.specs.TakingIn.{HasLoaded}
 use Rattle.hippo_report.specs.declared.refusal.Refusal.{Refusal}
 use Rattle.hippo_report.specs.declared.refusal.Refusal.TheVariants.{NoSuchQuery}
 use Rattle.hippo_world.specs.Holding.{world_of, KeepsAudits, JobsFit, WatchesFit, tallies_of}
@@ -41,12 +39,6 @@ pub record AtWork (engine : Engine) (keeper : KeeperState) : Type 0 where
   pub timely : IsTimely engine.state engine.world.clock
   pub ready : IsReady true keeper
   pub told : keeper.tells → (history : History) × Holds history engine keeper
-
--- the same of a state alone, as recording asks it
-pub record IsBacked (state : State) (keeper : KeeperState) : Type 0 where
-  pub sound : IsSound state
-  pub ready : IsReady true keeper
-  pub told : keeper.tells → HasLoaded state keeper.kept
 
 -- a line as one call of its keeper
 abbrev pub line_as_call : {A : Type 0} → Result A EngineFault → Result (Unit {0}) KeeperFault

@@ -1,5 +1,5 @@
 //! DURING: an audit of all that was asked so far.
-ghost use Rattle.std.specs.Prelude.{◌≡◌, ◌≢◌, ◌⊎◌, ◌++◌, true, flat_map, bytes_eq, Some, OnOk};
+ghost use Rattle.std.specs.Prelude.{◌≡◌, ◌≢◌, ◌⊎◌, ◌++◌, true, flat_map, bytes_eq, OnOk};
 ghost use Rattle.std.specs.Prelude.{Err as Bad};
 ghost use Rattle.std.specs.List.{IsDistinct};
 ghost use Rattle.std.specs.Result.{result_map_both};

@@ -1,5 +1,5 @@
 //! Changes: each adds an entry to the history.
-ghost use Rattle.std.specs.Prelude.{◌≡◌, ◌≢◌, ℕ, ◌^◌, ◌<◌, Err};
+ghost use Rattle.std.specs.Prelude.{◌≢◌, ℕ, ◌^◌, ◌<◌, Err};
 ghost use Rattle.hippo_replay.specs.Standing.{MayFollow};
 ghost use Rattle.hippo_commands.specs.Commands.{Command};
 ghost use Rattle.hippo_engine.specs.declared.faults.EngineFault.TheVariants.{Write as WriteFailed};

@@ -1,5 +1,5 @@
 //! EXPLAIN: which cells were denied to a logged question, and by which rules.
-ghost use Rattle.std.specs.Prelude.{◌≡◌, ◌≢◌, ◌⊎◌, ◌++◌, true, flat_map, Some, OnOk, Err as Bad};
+ghost use Rattle.std.specs.Prelude.{◌≡◌, ◌≢◌, ◌⊎◌, ◌++◌, true, flat_map, OnOk, Err as Bad};
 ghost use Rattle.hippo_keeper.specs.Keeping.{IsReady};
 ghost use Rattle.hippo_report.specs.declared.refusal.Refusal.TheVariants as refusals;
 ghost use Rattle.hippo_report.specs.declared.speaker.Speaker.TheVariants.{Console};

@@ -110,8 +110,8 @@ impl Engine {
     ) -> Result<(), EngineFault>
         requires at_work { AtWork self.old (P.state keeper.old) }
         requires there { StandsJob self.old.world number }
-        ensures carries { Carries (make_request Console (requests.steps number count)) result self.old
-            self.new
+        ensures carries { Carries (make_request Console (requests.steps number count)) result
+            self.old self.new
             (P.state keeper.old) (P.state keeper.new) steps.old steps.new }
         ensures unwritten { result ≢ Bad WriteFailed }
     {

@@ -12,12 +12,13 @@ ghost use Rattle.hippo_report.specs.Refusals.{refusal_line};
 ghost use Rattle.hippo_eval.specs.Answering.{IsAnswered};
 ghost use Rattle.hippo_typing.specs.Meanings.{meaning};
 ghost use Rattle.hippo_replay.specs.Standing.{StandsFor, MayFollow, IsNext, takes_no_memory};
+ghost use Rattle.hippo_replay.specs.Recording.{IsBacked};
 ghost use Rattle.hippo_world.specs.declared.sessions.Session.{Session as KeptSession};
 ghost use Rattle.hippo_world.specs.Worlds.{session_at};
 ghost use Rattle.hippo_world.specs.Holding.{world_of, KeepsAudits};
 ghost use Rattle.hippo_commands.specs.Commands.{Command};
 ghost use Rattle.hippo_engine.specs.declared.faults.EngineFault.TheVariants.{Write as WriteFailed};
-ghost use Rattle.hippo_engine.specs.Carrying.{AtWork, IsBacked, Carries};
+ghost use Rattle.hippo_engine.specs.Carrying.{AtWork, Carries};
 ghost use Rattle.hippo_engine.specs.Effects.{row_limit, question_rows, lines_and_count};
 ghost use Rattle.hippo_judging.specs.Asking.{question_of, question_entry, IsAnswerable};
 ghost use Rattle.hippo_judging.specs.Findings.{MayBeAsked};
@@ -26,7 +27,7 @@ ghost use Rattle.hippo_engine.specs.Questions.{IsUnkept, IsHandedOut, IsShortRep
 
 use crate::engine::{Engine, Reply};
 use crate::faults::EngineFault;
-use crate::replies::refuse_session;
+use crate::replies::refuse_for_memory;
 use crate::watches::alarms_of;
 use hippo_answering::answer;
 use hippo_csv::extract_lines;
@@ -223,7 +224,8 @@ fn print_answer(
 
 // Makes the reply of an answer that has too many rows, and of what the watches say behind it.
 fn print_too_many(session: u8, alarms: &str, reply: &mut Reply) -> Result<(), Memory>
-    ensures { OnOk result (reply.new ≡ refusal_line (speaker.Session session) TooMany ++ alarms.now) }
+    ensures { OnOk result
+        (reply.new ≡ refusal_line (speaker.Session session) TooMany ++ alarms.now) }
 {
     reply.clear();
     refusal_line(Speaker::Session(session), &Refusal::TooManyRows, reply)?;
@@ -238,7 +240,7 @@ fn say_unkept(session: u8, fault: KeeperFault, reply: &mut Reply) -> Result<(), 
     match fault {
         KeeperFault::Failed => Err(EngineFault::Keeper),
         KeeperFault::Memory => {
-            refuse_session(session, reply);
+            refuse_for_memory(Speaker::Session(session), reply);
             Ok(())
         }
     }
@@ -278,7 +280,7 @@ fn hand_out_rows(
         Ok(()) => keep_answer(session, delivery, rows, world),
         Err(Memory) => {
             drop(rows);
-            refuse_session(session, reply);
+            refuse_for_memory(Speaker::Session(session), reply);
         }
     }
 }
@@ -289,7 +291,7 @@ fn say_too_many(session: u8, alarms: &str, reply: &mut Reply)
         ⊎ (reply.new ≡ short_line session) }
 {
     if print_too_many(session, alarms, reply).is_err() {
-        refuse_session(session, reply);
+        refuse_for_memory(Speaker::Session(session), reply);
     }
 }
 
@@ -313,7 +315,7 @@ fn hand_out_answer(
     match answer {
         Ok(rows) => hand_out_rows(alloc, session, delivery, rows, alarms, world, reply),
         Err(EvalFault::TooManyRows) => say_too_many(session, alarms, reply),
-        Err(EvalFault::Memory) => refuse_session(session, reply),
+        Err(EvalFault::Memory) => refuse_for_memory(Speaker::Session(session), reply),
     }
 }
 
@@ -347,7 +349,7 @@ fn hand_out(
         }
         Err(Memory) => {
             drop(answer);
-            refuse_session(session, reply);
+            refuse_for_memory(Speaker::Session(session), reply);
         }
     }
 }

@@ -1,9 +1,9 @@
 //! Replies that are made anew, in a text that has room for them.
-ghost use Rattle.std.specs.Prelude.{◌≡◌, ◌⊎◌, ◌≤◌, length};
+ghost use Rattle.std.specs.Prelude.{◌≡◌, ◌⊎◌, ◌<◌, ◌≤◌, ℕ, length};
 ghost use Rattle.hippo_report.specs.declared.refusal.Refusal.TheVariants.{Memory as NoMemory};
 ghost use Rattle.hippo_report.specs.declared.refusal.Refusal.TheVariants.{MomentBack as IsBefore};
 ghost use Rattle.hippo_report.specs.Notices.{done_line, number_line};
-ghost use Rattle.hippo_report.specs.declared.speaker.Speaker.TheVariants.{Nobody, Console, Session};
+ghost use Rattle.hippo_report.specs.declared.speaker.Speaker.TheVariants.{Nobody, Session};
 ghost use Rattle.hippo_report.specs.Refusals.{refusal_line};
 ghost use Rattle.hippo_judging.specs.Checks.{reply_room};
 
@@ -11,31 +11,18 @@ use crate::engine::Reply;
 use hippo_report::{Refusal, Speaker, done_line, number_line, refusal_line};
 use hippo_values::Moment;
 
-/// Want of memory, to a user's session. Takes none itself.
-pub fn refuse_session(number: u8, reply: &mut Reply)
-    ensures { reply.new ≡ refusal_line (Session number) NoMemory }
+fn session_fits(number: u8)
+    ensures { number < 256 }
 {
-    reply.clear();
-    if refusal_line(Speaker::Session(number), &Refusal::Memory, reply).is_err() {
-        unreachable!()
-    }
+    let _number = number;
 }
 
-fn refuse_console(reply: &mut Reply)
-    ensures { reply.new ≡ refusal_line Console NoMemory }
+// By its type a session's number is a byte.
+fn speaker_fits(who: Speaker)
+    ensures { (number : ℕ) → who ≡ Session number → number < 256 }
 {
-    reply.clear();
-    if refusal_line(Speaker::Console, &Refusal::Memory, reply).is_err() {
-        unreachable!()
-    }
-}
-
-fn refuse_nobody(reply: &mut Reply)
-    ensures { reply.new ≡ refusal_line Nobody NoMemory }
-{
-    reply.clear();
-    if refusal_line(Speaker::Nobody, &Refusal::Memory, reply).is_err() {
-        unreachable!()
+    if let Speaker::Session(number) = who {
+        session_fits(number);
     }
 }
 
@@ -43,10 +30,10 @@ fn refuse_nobody(reply: &mut Reply)
 pub fn refuse_for_memory(who: Speaker, reply: &mut Reply)
     ensures { reply.new ≡ refusal_line who NoMemory }
 {
-    match who {
-        Speaker::Nobody => refuse_nobody(reply),
-        Speaker::Console => refuse_console(reply),
-        Speaker::Session(number) => refuse_session(number, reply),
+    speaker_fits(who);
+    reply.clear();
+    if refusal_line(who, &Refusal::Memory, reply).is_err() {
+        unreachable!()
     }
 }
 
@@ -71,42 +58,14 @@ pub fn refuse_moment(clock: Moment, reply: &mut Reply)
     refuse(Speaker::Nobody, &Refusal::MomentBack(clock), reply);
 }
 
-/// Makes the reply to a line of a user's session that was carried out. Takes no memory.
-pub fn say_done_to_session(number: u8, reply: &mut Reply)
-    ensures { reply.new ≡ done_line (Session number) }
-{
-    reply.clear();
-    if done_line(Speaker::Session(number), reply).is_err() {
-        unreachable!()
-    }
-}
-
-fn say_done_to_console(reply: &mut Reply)
-    ensures { reply.new ≡ done_line Console }
-{
-    reply.clear();
-    if done_line(Speaker::Console, reply).is_err() {
-        unreachable!()
-    }
-}
-
-fn say_done_to_nobody(reply: &mut Reply)
-    ensures { reply.new ≡ done_line Nobody }
-{
-    reply.clear();
-    if done_line(Speaker::Nobody, reply).is_err() {
-        unreachable!()
-    }
-}
-
 /// Makes the reply to a line that was carried out. Takes no memory.
 pub fn say_done(who: Speaker, reply: &mut Reply)
     ensures { reply.new ≡ done_line who }
 {
-    match who {
-        Speaker::Nobody => say_done_to_nobody(reply),
-        Speaker::Console => say_done_to_console(reply),
-        Speaker::Session(number) => say_done_to_session(number, reply),
+    speaker_fits(who);
+    reply.clear();
+    if done_line(who, reply).is_err() {
+        unreachable!()
     }
 }
 

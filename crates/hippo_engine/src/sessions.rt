@@ -10,7 +10,7 @@ ghost use Rattle.hippo_engine.specs.Performing.{MayDo};
 
 use crate::engine::Engine;
 use crate::fetching::print_next;
-use crate::replies::{refuse_session, say_done, say_done_to_session};
+use crate::replies::{refuse_for_memory, say_done};
 use hippo_model::Pair;
 use hippo_report::Speaker;
 use hippo_values::{Memory, Moment, Name};
@@ -55,8 +55,8 @@ impl Engine {
             → IsQuiet command self.old self.new }
     {
         match self.world.log_in(alloc, session, user, pair) {
-            Ok(()) => say_done_to_session(session, &mut self.reply),
-            Err(Memory) => refuse_session(session, &mut self.reply),
+            Ok(()) => say_done(Speaker::Session(session), &mut self.reply),
+            Err(Memory) => refuse_for_memory(Speaker::Session(session), &mut self.reply),
         }
     }
 
@@ -67,7 +67,7 @@ impl Engine {
             → IsQuiet command self.old self.new }
     {
         self.world.log_out(session);
-        say_done_to_session(session, &mut self.reply);
+        say_done(Speaker::Session(session), &mut self.reply);
     }
 
     /// Hands out rows of a cursor: they are printed first, and the cursor moves on where the reply
@@ -81,7 +81,7 @@ impl Engine {
         match cursor_at(&self.world, session, cursor) {
             Some(held) => match print_next(session, held, count, &mut self.reply) {
                 Ok(()) => self.world.move_on(session, cursor, count),
-                Err(Memory) => refuse_session(session, &mut self.reply),
+                Err(Memory) => refuse_for_memory(Speaker::Session(session), &mut self.reply),
             },
             None => unreachable!(),
         }
@@ -94,6 +94,6 @@ impl Engine {
             → IsQuiet command self.old self.new }
     {
         self.world.close_cursor(session, cursor);
-        say_done_to_session(session, &mut self.reply);
+        say_done(Speaker::Session(session), &mut self.reply);
     }
 }

@@ -22,7 +22,7 @@ use Rattle.hippo_typing.specs.Meanings.{meaning}
 use Rattle.hippo_replay.specs.declared.state.State.{State}
 use Rattle.hippo_replay.specs.Standing.{StandsFor, IsSound, MayFollow, IsNext, takes_no_memory, Remembers}
 use Rattle.hippo_replay.specs.TakingIn.{HasLoaded}
-use Rattle.hippo_replay.specs.Recording.{KeepsEntry, Records}
+use Rattle.hippo_replay.specs.Recording.{MayKeep, MayAppend, KeepsEntry, Records}
 use Rattle.hippo_replay.proofs.KeeperLemmas.{next_kept-stored}
 use Rattle.hippo_keeper.proofs.CallLemmas.{KeepsSame-here, KeepsSame-Stays, IsAfterCall-as, IsAfterCall-none}
 use Rattle.hippo_keeper.proofs.Results.{err_of, well}
@@ -54,6 +54,15 @@ module _ (entry : Entry) where
 
   pub IsNext-sound : (state : State) → IsSound state → MayFollow state entry → IsNext state entry
   IsNext-sound state sound follows = record { history = sound.history; stands = sound.stands; follows = follows sound.history sound.stands }
+
+  -- what may be kept may be appended
+  pub MayAppend-kept : (state : State) (keeper : KeeperState) → MayKeep entry state keeper → MayAppend entry keeper
+  MayAppend-kept state keeper may = record {
+    keepable = keepable_next state may.backed.sound may.follows;
+    ready = may.backed.ready;
+    number = may.number;
+    next = number_next state keeper may.follows may.backed.told;
+  }
 
   -- it was handed to the keeper
   pub KeepsEntry-AppendsEntry : (kept : StoredEntry) (result : Result (Unit {0}) KeeperFault) (state : State) (before after : KeeperState) → kept ≡ stored entry → AppendsEntry kept result before after → MayFollow state entry → KeepsEntry entry result state before after

@@ -1,16 +1,13 @@
 //! Recording: an entry is taken in to the state, and kept behind the others.
-ghost use Rattle.std.specs.Prelude.{◌≡◌, ◌^◌, ◌<◌, true, false, [], ◌∷◌, ◌++◌, OnOk};
+ghost use Rattle.std.specs.Prelude.{◌≡◌, true, false, [], ◌∷◌, ◌++◌, OnOk};
 ghost use Rattle.hippo_model.specs.Terms.{History};
-ghost use Rattle.hippo_model.specs.Keepable.{is_keepable};
 ghost use Rattle.hippo_model.specs.Validity.{may_follow};
 ghost use Rattle.hippo_tables.specs.Standing.{is_delete};
 ghost use Rattle.hippo_keeper.specs.Answering.{has_failed, wants_memory};
-ghost use Rattle.hippo_keeper.specs.Keeping.{IsReady, next_number};
 ghost use Rattle.hippo_typing.specs.Meanings.{meaning};
 ghost use Rattle.hippo_replay.specs.declared.state.State.{State as StateOf};
 ghost use Rattle.hippo_replay.specs.Standing.{StandsFor, IsSound, MayFollow, IsNext, takes_no_memory, Remembers};
-ghost use Rattle.hippo_replay.specs.TakingIn.{HasLoaded};
-ghost use Rattle.hippo_replay.specs.Recording.{KeepsEntry, Records};
+ghost use Rattle.hippo_replay.specs.Recording.{MayKeep, MayAppend, KeepsEntry, Records};
 
 use crate::state::State;
 use hippo_entry::encode;
@@ -32,11 +29,7 @@ fn takes_no_memory(act: &Act) -> bool
 
 // Keeps an entry in its stored form.
 fn append<P: Keeper>(alloc: Global, keeper: &mut P, entry: &Entry) -> Result<(), KeeperFault>
-    requires keepable { is_keepable entry.now ≡ true }
-    requires ready { IsReady true (P.state keeper.old) }
-    requires number { entry.now.seq < 2 ^ 63 }
-    requires next { (P.state keeper.old).tells
-        → entry.now.seq ≡ next_number (P.state keeper.old).kept }
+    requires may { MayAppend entry.now (P.state keeper.old) }
     ensures keeps { (state : StateOf) → MayFollow state entry.now
         → KeepsEntry entry.now result state (P.state keeper.old) (P.state keeper.new) }
 {
@@ -60,11 +53,7 @@ impl State {
         keeper: &mut P,
         entry: &Entry,
     ) -> Result<(), KeeperFault>
-        requires sound { IsSound self.now }
-        requires follows { MayFollow self.now entry.now }
-        requires ready { IsReady true (P.state keeper.old) }
-        requires told { (P.state keeper.old).tells → HasLoaded self.now (P.state keeper.old).kept }
-        requires number { entry.now.seq < 2 ^ 63 }
+        requires may { MayKeep entry.now self.now (P.state keeper.old) }
         ensures keeps { KeepsEntry entry.now result self.now (P.state keeper.old)
             (P.state keeper.new) }
     {
@@ -89,11 +78,7 @@ impl State {
         keeper: &mut P,
         entry: &Entry,
     ) -> Result<(), KeeperFault>
-        requires sound { IsSound self.old }
-        requires follows { MayFollow self.old entry.now }
-        requires ready { IsReady true (P.state keeper.old) }
-        requires told { (P.state keeper.old).tells → HasLoaded self.old (P.state keeper.old).kept }
-        requires number { entry.now.seq < 2 ^ 63 }
+        requires may { MayKeep entry.now self.old (P.state keeper.old) }
         requires room { takes_no_memory entry.now.act ≡ true }
         ensures records { Records entry.now result self.old self.new (P.state keeper.old)
             (P.state keeper.new) }
@@ -114,11 +99,7 @@ impl State {
         keeper: &mut P,
         entry: &Entry,
     ) -> Result<(), KeeperFault>
-        requires keepable { is_keepable entry.now ≡ true }
-        requires ready { IsReady true (P.state keeper.old) }
-        requires number { entry.now.seq < 2 ^ 63 }
-        requires next { (P.state keeper.old).tells
-            → entry.now.seq ≡ next_number (P.state keeper.old).kept }
+        requires may { MayAppend entry.now (P.state keeper.old) }
         ensures keeps { (state : StateOf) → MayFollow state entry.now
             → KeepsEntry entry.now result state (P.state keeper.old) (P.state keeper.new) }
         ensures ok { OnOk result (self.new ≡ self.old) }
@@ -143,11 +124,7 @@ impl State {
         keeper: &mut P,
         entry: &Entry,
     ) -> Result<(), KeeperFault>
-        requires sound { IsSound self.old }
-        requires follows { MayFollow self.old entry.now }
-        requires ready { IsReady true (P.state keeper.old) }
-        requires told { (P.state keeper.old).tells → HasLoaded self.old (P.state keeper.old).kept }
-        requires number { entry.now.seq < 2 ^ 63 }
+        requires may { MayKeep entry.now self.old (P.state keeper.old) }
         requires remembered { is_delete entry.now.act ≡ false }
         ensures records { Records entry.now result self.old self.new (P.state keeper.old)
             (P.state keeper.new) }
@@ -167,11 +144,7 @@ impl State {
         keeper: &mut P,
         entry: &Entry,
     ) -> Result<(), KeeperFault>
-        requires sound { IsSound self.old }
-        requires follows { MayFollow self.old entry.now }
-        requires ready { IsReady true (P.state keeper.old) }
-        requires told { (P.state keeper.old).tells → HasLoaded self.old (P.state keeper.old).kept }
-        requires number { entry.now.seq < 2 ^ 63 }
+        requires may { MayKeep entry.now self.old (P.state keeper.old) }
         ensures records { Records entry.now result self.old self.new (P.state keeper.old)
             (P.state keeper.new) }
         ensures sound { has_failed result ≡ false → IsSound self.new }

@@ -8,6 +8,7 @@ use Rattle.hippo_io.specs.Told.{Appends, AppendsFront}
 use Rattle.hippo_model.specs.Terms.{History}
 use Rattle.hippo_replay.specs.declared.state.State.{State}
 use Rattle.hippo_replay.specs.Standing.{IsSound}
+use Rattle.hippo_replay.specs.Recording.{IsBacked}
 use Rattle.hippo_keeper.specs.declared.faults.KeeperFault.{KeeperFault as Fault}
 use Rattle.hippo_keeper.specs.Keeping.{KeeperState, IsReady, IsAfterCall}
 use Rattle.hippo_keeper.proofs.CallLemmas.{IsAfterCall-none, IsReady-after}
@@ -19,7 +20,7 @@ use Rattle.hippo_commands.specs.Commands.{Command, command_of, input_command}
 use Rattle.hippo_engine.specs.declared.engine.Engine.{Engine}
 use Rattle.hippo_engine.specs.declared.faults.EngineFault.{EngineFault}
 use Rattle.hippo_engine.specs.declared.faults.EngineFault.TheVariants.{Keeper, Write, Damaged as DamagedAt}
-use Rattle.hippo_engine.specs.Carrying.{AtWork, IsBacked, Carries}
+use Rattle.hippo_engine.specs.Carrying.{AtWork, Carries}
 use Rattle.hippo_engine.proofs.CarryingLemmas.{IsTimely-begun, Holds-opening}
 use Rattle.hippo_words.specs.declared.calls.Job.{Job}
 use Rattle.hippo_words.specs.declared.calls.Setting.{Setting}

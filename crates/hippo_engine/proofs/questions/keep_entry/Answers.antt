@@ -3,6 +3,11 @@ use Rattle.std.proofs.Common.{◌∙◌, refl}
 use Rattle.hippo_engine.proofs.QuestionLemmas.{KeepsEntry-ok}
 use Rattle.hippo_engine.proofs.questions.keep_entry.Goals as goal
 
+pub keep-requires : goal.keep-requires
+keep-requires g c = record {
+  may = record { backed = c.requires.backed; follows = c.requires.follows; number = c.requires.number };
+}
+
 pub answered-answer-requires : goal.answered-answer-requires
 answered-answer-requires g c =
     let kept = c.requires.answerable.tables in

@@ -8,13 +8,13 @@ pub append-result-requires : goal.append-result-requires
 append-result-requires g c =
     let number = ap (λ (kept : StoredEntry). kept.seq) c.in-Ok.ensures.form in
     record {
-      ready = c.requires.ready;
-      number = omega (arith, number, c.requires.number);
-      next = λ tells. number ∙ c.requires.next tells;
+      ready = c.requires.may.ready;
+      number = omega (arith, number, c.requires.may.number);
+      next = λ tells. number ∙ c.requires.may.next tells;
     }
 
 pub returns-in-Ok : goal.returns-in-Ok
 returns-in-Ok g c = record { keeps = λ state follows. KeepsEntry-AppendsEntry c.args.entry.now c.in-Ok.kept c.append-result.result state (g.P.Keeper.state c.args.keeper.now) (g.P.Keeper.state c.append-result.new.self) c.in-Ok.ensures.form c.append-result.ensures.appends follows }
 
 pub returns-in-Err : goal.returns-in-Err
-returns-in-Err g c = record { keeps = λ state follows. KeepsEntry-short c.args.entry.now state (g.P.Keeper.state c.args.keeper.now) c.requires.ready }
+returns-in-Err g c = record { keeps = λ state follows. KeepsEntry-short c.args.entry.now state (g.P.Keeper.state c.args.keeper.now) c.requires.may.ready }

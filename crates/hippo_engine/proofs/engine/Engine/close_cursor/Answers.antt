@@ -9,5 +9,5 @@ use Rattle.hippo_engine.proofs.engine.Engine.close_cursor.Goals as goal
 pub returns : goal.returns
 returns c = λ command does.
     let old : Engine = c.args.self.now in
-    quiet_done command (deeds.close_cursor c.args.session does.held c.args.cursor) old (record { state = old.state; world = c.close_cursor.new.self; reply = c.say_done_to_session.new.reply }) does.does refl c.close_cursor.ensures.audits
-    (λ history. λ i. only_reply (c.close_cursor.ensures.open does.held does.there i) (c.say_done_to_session.ensures i))
+    quiet_done command (deeds.close_cursor c.args.session does.held c.args.cursor) old (record { state = old.state; world = c.close_cursor.new.self; reply = c.say_done.new.reply }) does.does refl c.close_cursor.ensures.audits
+    (λ history. λ i. only_reply (c.close_cursor.ensures.open does.held does.there i) (c.say_done.ensures i))

@@ -4,9 +4,14 @@ use Rattle.hippo_engine.proofs.CarryingLemmas.{IsBacked-of}
 use Rattle.hippo_engine.proofs.ChangeLemmas.{recorded, unrecorded, broken_change, told_short}
 use Rattle.hippo_engine.proofs.engine.Engine.record_change.Goals as goal
 
-pub record-requires-clause-told : goal.record-requires-clause-told
-record-requires-clause-told g c = λ tells.
-    (IsBacked-of c.args.self.now (g.P.Keeper.state c.args.keeper.now) c.requires.at_work).told tells
+pub record-requires : goal.record-requires
+record-requires g c = record {
+  may = record {
+    backed = IsBacked-of c.args.self.now (g.P.Keeper.state c.args.keeper.now) c.requires.at_work;
+    follows = c.requires.follows;
+    number = c.requires.number;
+  };
+}
 
 pub returns-in-Ok-clause-carries : goal.returns-in-Ok-clause-carries
 returns-in-Ok-clause-carries g c = λ command steps changes.

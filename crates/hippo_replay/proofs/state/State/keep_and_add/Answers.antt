@@ -4,7 +4,7 @@ use Rattle.hippo_replay.proofs.state.State.keep_and_add.Goals as goal
 
 pub add_at_once-requires : goal.add_at_once-requires
 add_at_once-requires g c = record {
-  next = IsNext-sound c.args.entry.now c.args.self.now c.requires.sound c.requires.follows;
+  next = IsNext-sound c.args.entry.now c.args.self.now c.requires.may.backed.sound c.requires.may.follows;
   room = c.requires.room;
 }
 

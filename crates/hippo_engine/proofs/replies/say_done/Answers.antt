@@ -1,10 +1,10 @@
 use Rattle.std.proofs.Common.{sym, ◌∙◌}
 use Rattle.hippo_report.specs.Notices.{done_line}
-use Rattle.hippo_report.specs.declared.speaker.Speaker.TheVariants.{Nobody}
 use Rattle.hippo_judging.proofs.LengthLemmas.{done_fits, never_short}
-use Rattle.hippo_engine.proofs.replies.say_done_to_nobody.Goals as goal
+use Rattle.hippo_engine.proofs.LineLemmas.{IsSpeaker-byte}
+use Rattle.hippo_engine.proofs.replies.say_done.Goals as goal
 
 pub unreachable-requires : goal.unreachable-requires
 unreachable-requires c =
-    never_short c.done_line.result _ (done_line Nobody) _ c.done_line.ensures.room c.clear.ensures (done_fits Nobody tt)
+    never_short c.done_line.result _ (done_line c.args.who) _ c.done_line.ensures.room c.clear.ensures (done_fits c.args.who (IsSpeaker-byte c.args.who c.speaker_fits.ensures))
     (sym c.is_err.ensures.value ∙ c.if-is_err.true)

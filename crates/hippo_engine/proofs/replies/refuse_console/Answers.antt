@@ -1,8 +1,0 @@
-use Rattle.std.proofs.Common.{sym, ◌∙◌}
-use Rattle.hippo_report.specs.declared.speaker.Speaker.TheVariants.{Console}
-use Rattle.hippo_judging.proofs.LengthLemmas.{memory_fits, never_short}
-use Rattle.hippo_engine.proofs.replies.refuse_console.Goals as goal
-
-pub unreachable-requires : goal.unreachable-requires
-unreachable-requires c =
-    never_short c.refusal_line.result _ _ _ c.refusal_line.ensures.room c.clear.ensures (memory_fits Console tt) (sym c.is_err.ensures.value ∙ c.if-is_err.true)
