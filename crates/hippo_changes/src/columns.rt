@@ -9,7 +9,7 @@ ghost use Rattle.hippo_catalog.specs.ChangesRefused.{is_the_key, is_of_key, key_
 ghost use Rattle.hippo_model.specs.declared.name_fault.NameFault.TheVariants.{NotTheKey};
 
 use hippo_catalog::{IndexedTable, check_repeats, column_faults};
-use hippo_model::{Cells, Column, Columns, NameFault, Names, Places, Schema};
+use hippo_model::{Cells, Column, Columns, NameFault, Places, Schema};
 use hippo_values::{Duplicate, Memory, Name, Sequence, Value};
 use std::alloc::Global;
 

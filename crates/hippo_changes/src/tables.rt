@@ -1,14 +1,13 @@
 //! CREATE TABLE.
-ghost use Rattle.std.specs.Prelude.{◌≡◌, [], ◌++◌, map, option_copied, option_to_list, option_and_then, bytes_eq, IfOk};
+ghost use Rattle.std.specs.Prelude.{◌≡◌, [], ◌++◌, map, option_copied, option_to_list, bytes_eq, IfOk};
 ghost use Rattle.std.specs.List.{list_any};
 ghost use Rattle.hippo_model.specs.declared.statement.Stmt.TheVariants.{CreateTable};
 ghost use Rattle.hippo_model.specs.Validity.{is_integer};
 ghost use Rattle.hippo_catalog.specs.Refusals.{Resolves, repeated_names};
-ghost use Rattle.hippo_catalog.specs.WrittenColumns.{place_of};
-ghost use Rattle.hippo_catalog.specs.ChangesRefused.{keyless_table, column_named, places_named, unknown_columns};
+ghost use Rattle.hippo_catalog.specs.ChangesRefused.{keyless_table, column_named, unknown_columns};
 ghost use Rattle.hippo_catalog.specs.ChangesRefused.{subject_refused, sizes_refused, create_refused};
 ghost use Rattle.hippo_catalog.specs.ChangesWanted.{with_not_null};
-ghost use Rattle.hippo_changes.specs.Checking.{Checks, draft_refused};
+ghost use Rattle.hippo_changes.specs.Checking.{Checks, draft_refused, draft_places};
 
 use crate::columns::{NamedColumns, place_if_any, places};
 use crate::names::check_new;
@@ -71,10 +70,7 @@ fn key_places(
 ) -> Result<KeyPlaces, NameFault>
     ensures { Resolves (unknown_columns (keyless_table [] columns.now)
         (key.now ++ option_to_list subject.now))
-        (record {
-          key = places_named (keyless_table [] columns.now) key.now;
-          subject = option_and_then (place_of (keyless_table [] columns.now)) subject.now;
-        }) result }
+        (draft_places columns.now key.now subject.now) result }
 {
     let key = places(alloc, columns, key.as_slice())?;
     let subject = place_if_any(alloc, columns, subject)?;
@@ -93,11 +89,7 @@ struct Draft<'a> {
 fn named_places(alloc: Global, draft: Draft) -> Result<KeyPlaces, NameFault>
     ensures { Resolves (draft_refused draft.entry.columns.now draft.entry.key.now
         draft.entry.subject.now)
-        (record {
-          key = places_named (keyless_table [] draft.entry.columns.now) draft.entry.key.now;
-          subject = option_and_then (place_of (keyless_table [] draft.entry.columns.now))
-              draft.entry.subject.now;
-        }) result }
+        (draft_places draft.entry.columns.now draft.entry.key.now draft.entry.subject.now) result }
 {
     check_columns_differ(alloc, draft.columns.as_slice())?;
     check_repeats(alloc, draft.key.as_slice())?;
@@ -109,11 +101,7 @@ fn fitting_places(alloc: Global, draft: Draft) -> Result<KeyPlaces, NameFault>
     ensures { Resolves (draft_refused draft.entry.columns.now draft.entry.key.now
         draft.entry.subject.now
         ++ subject_refused (keyless_table [] draft.entry.columns.now) draft.entry.subject.now)
-        (record {
-          key = places_named (keyless_table [] draft.entry.columns.now) draft.entry.key.now;
-          subject = option_and_then (place_of (keyless_table [] draft.entry.columns.now))
-              draft.entry.subject.now;
-        }) result }
+        (draft_places draft.entry.columns.now draft.entry.key.now draft.entry.subject.now) result }
 {
     let places = named_places(alloc, draft)?;
     check_subject(draft.columns, draft.subject)?;
@@ -141,11 +129,7 @@ fn check_table(
     ensures { Resolves (create_refused catalog.now.names table.now draft.entry.columns.now
         draft.entry.key.now
         draft.entry.subject.now)
-        (record {
-          key = places_named (keyless_table [] draft.entry.columns.now) draft.entry.key.now;
-          subject = option_and_then (place_of (keyless_table [] draft.entry.columns.now))
-              draft.entry.subject.now;
-        }) result }
+        (draft_places draft.entry.columns.now draft.entry.key.now draft.entry.subject.now) result }
 {
     let places = fitting_places(alloc, draft)?;
     check_sizes(catalog, draft.columns)?;

@@ -1,5 +1,5 @@
 -- Columns that are not the key's are refused behind groups in which nothing is refused.
-use Rattle.std.proofs.Common.{◌≡◌, List, ◌++◌, ap, rules}
+use Rattle.std.proofs.Common.{List, ◌++◌, ap, rules}
 use Rattle.hippo_model.specs.declared.name_fault.NameFault.{NameFault}
 use Rattle.hippo_changes.specs.declared.keys.UpdatePlaces.{UpdatePlaces}
 use Rattle.hippo_catalog.specs.Refusals.{IsFirstOf}

@@ -1,5 +1,5 @@
 -- Columns of the key that are set are refused behind groups in which nothing is refused, and before what is assigned.
-use Rattle.std.proofs.Common.{◌≡◌, List, ◌++◌, rules}
+use Rattle.std.proofs.Common.{List, ◌++◌, rules}
 use Rattle.std.specs.List.{zip}
 use Rattle.hippo_model.specs.declared.name_fault.NameFault.{NameFault}
 use Rattle.hippo_catalog.specs.Refusals.{IsFirstOf}

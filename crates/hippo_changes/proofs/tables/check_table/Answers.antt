@@ -1,5 +1,5 @@
 -- The sizes are judged behind groups in which nothing is refused, and before the table's name.
-use Rattle.std.proofs.Common.{◌≡◌, List, ◌++◌, rules}
+use Rattle.std.proofs.Common.{List, ◌++◌, rules}
 use Rattle.std.specs.Prelude.{is_some}
 use Rattle.hippo_model.specs.declared.name_fault.NameFault.{NameFault}
 use Rattle.hippo_catalog.specs.Catalogs.{table_of}
