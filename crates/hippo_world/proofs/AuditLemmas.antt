@@ -21,7 +21,7 @@ use Rattle.hippo_hits.specs.declared.counts.AuditHits.{AuditHits}
 use Rattle.hippo_watch.specs.Watches.{IsWatchOf, WasWatchOf}
 use Rattle.hippo_watch.proofs.WatchLemmas.{IsWatchOf-no_version}
 use Rattle.hippo_world.specs.declared.worlds.World.{World as HeldWorld}
-use Rattle.hippo_world.specs.Auditing.{HeldJob, taken_by_job, HasBegun, IsLooking, AreLooking, watched, AreWatching, AreAudits, EachFollows, EachGoesBack, JobTally, job_tally, job_tallies}
+use Rattle.hippo_world.specs.Auditing.{HeldJob, taken_by_job, HasBegun, IsLooking, AreLooking, watched, AreWatching, AreAudits, EachFollows, EachGoesBack, job_tally, job_tallies}
 use Rattle.hippo_world.specs.Holding.{world_of, KeepsAudits, JobsFit, WatchesFit, WatchesFollow, WatchesGoBack, tallies_of}
 use Rattle.hippo_world.specs.Worlds.{World, with_at, none_held, opening}
 use Rattle.hippo_world.proofs.HeldLemmas.{StandsAt, seen-none}

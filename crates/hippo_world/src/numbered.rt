@@ -1,5 +1,5 @@
 //! What stands at numbers from 1 on.
-ghost use Rattle.std.specs.Prelude.{◌≡◌, ◌<◌, None, length, slice_get, slice_set, replicate, position, is_none, option_map, option_copied, IfOk, IfSome};
+ghost use Rattle.std.specs.Prelude.{◌≡◌, ◌<◌, None, length, slice_get, slice_set, position, is_none, option_copied, IfOk, IfSome};
 ghost use Rattle.std.specs.Option.{option_flatten};
 ghost use Rattle.hippo_world.specs.Worlds.{at_number, with_at, free_number, none_held};
 

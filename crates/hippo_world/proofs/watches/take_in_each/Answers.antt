@@ -1,11 +1,9 @@
 -- One more, which watches what it watched.
-use Rattle.std.proofs.Common.{◌≡◌, ◌∙◌, ◌<◌, [], ◌∷◌, ◌++◌, length, List, sym, ap, arith}
-use Rattle.std.specs.Prelude.{Option, IfSome, option_map}
-use Rattle.std.proofs.lemmas.List.{length-map}
-use Rattle.hippo_model.specs.declared.audit.Audit.{Audit}
+use Rattle.std.proofs.Common.{◌∙◌, ◌<◌, [], ◌∷◌, ◌++◌, length, arith}
+use Rattle.std.specs.Prelude.{IfSome, option_map}
 use Rattle.hippo_watch.specs.Watches.{IsWatchOf}
 use Rattle.hippo_world.specs.Auditing.{watched}
-use Rattle.hippo_world.proofs.SlotLemmas.{map_kept, changed_more}
+use Rattle.hippo_world.proofs.SlotLemmas.{map_kept, within_seen, changed_more}
 use Rattle.hippo_world.proofs.watches.take_in_each.Goals as goal
 
 pub loop-place-preserved : goal.loop-place-preserved
@@ -15,9 +13,7 @@ loop-place-preserved c =
     let watches = c.loop-place.watches in
     let place = c.loop-place.place in
     let seen = c.loop-place.invariant.audits in
-    let many : length watches ≡ length c.args.watches.now =
-    sym (length-map watches (option_map watched)) ∙ ap (λ (audits : List (Option Audit)). length audits) seen ∙ length-map c.args.watches.now (option_map watched) in
-    let within : place < length watches = omega (arith, c.loop-place-test.true, many) in
+    let within : place < length watches = within_seen (option_map watched) c.args.watches.now watches place seen (omega (arith, c.loop-place-test.true)) in
     record {
       audits = map_kept (option_map watched) watches place old new within c.take_in_one.ensures.audit ∙ seen;
       follow = λ history entry is next all.
