@@ -48,7 +48,8 @@ impl<'a, C: ChoiceView> PlaceVisitor for Seeker<'a, C> {
     type State = bool;
 
     ghost Keeps = { λ seeker sets front visited is_found. is_found ≡ list_any (λ places.
-        are_shown (C.choices seeker.choices.now) seeker.seen.now (chosen_rows sets places)) visited };
+        are_shown (C.choices seeker.choices.now) seeker.seen.now (chosen_rows sets places))
+        visited };
 
     fn visit(
         &self,
