@@ -5,16 +5,18 @@ use Rattle.std.specs.Option.{option_map_or}
 use Rattle.hippo_values.specs.Texts.{Txt}
 use Rattle.hippo_words.specs.CommandLine.{call_of}
 use Rattle.hippo_io.specs.Told.{Appends, AppendsFront}
+use Rattle.hippo_keeper.specs.Keeping.{KeeperState}
+use Rattle.hippo_programs.specs.Saying.{Says}
+use Rattle.hippo_programs.specs.Starting.{IsIdle}
 use Rattle.hippo_words.specs.declared.calls.Call.{Call}
 use Rattle.hippo_words.specs.declared.calls.Job.{Job}
 use Rattle.hippo_words.specs.declared.calls.Job.TheVariants.{Drill}
 use Rattle.hippo_serve.specs.declared.endings.Ending.{Ending}
-use Rattle.hippo_serve.specs.declared.endings.Ending.TheVariants.{Served, NoMemory}
+use Rattle.hippo_serve.specs.declared.endings.Ending.TheVariants.{Served, WriteFault, NoMemory}
 use Rattle.hippo_serve.specs.Drilling.{summary}
 use Rattle.hippo_serve.specs.Endings.{status_of}
 use Rattle.hippo_serve.specs.Asking.{store_of, job_of}
-use Rattle.hippo_serve.specs.Saying.{Says}
-use Rattle.hippo_serve.specs.Outcomes.{IsIdle, CheckEnds}
+use Rattle.hippo_serve.specs.Outcomes.{CheckEnds}
 use Rattle.hippo_serve.specs.Outside.{Outside}
 use Rattle.hippo_serve.proofs.StatusLemmas.{ByStatus, check-by-status}
 
@@ -28,7 +30,7 @@ module _ (words : List Txt) (call : Call) (asked : call_of words ≡ Some call) 
   check_as_asked ending unwritten before after ends =
       check-by-status (store_of words) before after unwritten ending (subst (λ (name : Txt). CheckEnds ending unwritten name before after) store_is ends)
 
-  pub idle_as_asked : (before after : Outside) → IsIdle store before after → IsIdle (store_of words) before after
+  pub idle_as_asked : (before after : KeeperState) → IsIdle store before after → IsIdle (store_of words) before after
   idle_as_asked before after idle = subst (λ (name : Txt). IsIdle name before after) store_is idle
 
 -- what a drill says, where the job is one
@@ -45,7 +47,7 @@ summary_as_asked words call asked size number size' number' is job =
 
 -- of a line that was to be said, all is written at status 0, and a front at 5
 module _ (line : Txt) (ending : Ending) (before after : Option Txt) (faults faults' : ℕ)
-    (says : ending ≢ NoMemory → Says Served line ending before after faults faults') where
+    (says : ending ≢ NoMemory → Says Served line WriteFault ending before after faults faults') where
   pub said_whole : status_of ending ≡ 0 → Appends before after line
   said_whole zero = elim (says (λ short. omega (arith, sym zero ∙ ap status_of short))) [
     | inl whole ↦ whole.1

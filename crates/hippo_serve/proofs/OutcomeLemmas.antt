@@ -7,17 +7,19 @@ use Rattle.hippo_model.specs.Versions.{versions}
 use Rattle.hippo_keeper.specs.Keeping.{KeeperState}
 use Rattle.hippo_typing.specs.Meanings.{meaning}
 use Rattle.hippo_replay.specs.declared.faults.LoadFault.{LoadFault}
-use Rattle.hippo_replay.specs.declared.faults.LoadFault.TheVariants.{Keeper, Damaged as DamagedAt, Memory}
 use Rattle.hippo_replay.specs.declared.state.State.{State}
 use Rattle.hippo_replay.specs.Loading.{KeepsFound, IsLoaded, Loads}
 use Rattle.hippo_replay.specs.Standing.{StandsFor}
 use Rattle.hippo_keeper.proofs.Results.{ok_of, err_of}
+use Rattle.hippo_programs.specs.Starting.{Stops}
+use Rattle.hippo_programs.proofs.StartLemmas.{ends_by_stop}
 use Rattle.hippo_words.specs.declared.calls.Job.{Job}
 use Rattle.hippo_words.specs.declared.calls.Setting.{Setting}
 use Rattle.hippo_serve.specs.declared.endings.Ending.{Ending}
 use Rattle.hippo_serve.specs.declared.endings.Ending.TheVariants.{Served, Refused, KeeperFault, ReadFault, WriteFault, Damaged, NoMemory, TooMuch}
+use Rattle.hippo_serve.specs.Endings.{stop_ending}
 use Rattle.hippo_serve.specs.Keeping.{KeepsHistory}
-use Rattle.hippo_serve.specs.Outcomes.{FromFound, KeepsDamaged, RunEnds, CheckEnds, Stops}
+use Rattle.hippo_serve.specs.Outcomes.{FromFound, RunEnds, CheckEnds}
 use Rattle.hippo_serve.specs.Outside.{Told, Outside, outside}
 use Rattle.hippo_serve.specs.Runs.{LinesEnd}
 use Rattle.hippo_serve.proofs.KeptLemmas.{KeepsHistory-found}
@@ -42,10 +44,12 @@ module _ (name : Txt) (state : State) (left written : Option Txt) (before loaded
     from_found holds after give = record {
       store = loaded.kept;
       found = found.found;
-      history = is_loaded.history;
-      is = store;
-      each = λ other is. subst (λ (h : History). holds h first.told after) (sym (is_loaded.only tells other is))
-          (give is_loaded.history is_loaded.stands (KeepsHistory-found (before.finds name) loaded is_loaded.history found store) is_loaded.steps);
+      held = record {
+        history = is_loaded.history;
+        is = store;
+        each = λ other is. subst (λ (h : History). holds h first.told after) (sym (is_loaded.only tells other is))
+            (give is_loaded.history is_loaded.stands (KeepsHistory-found (before.finds name) loaded is_loaded.history found store) is_loaded.steps);
+      };
     }
 
     -- what was loaded is no damaged list
@@ -77,34 +81,18 @@ module _ (name : Txt) (state : State) (left written : Option Txt) (before loaded
       subst (λ (k : KeeperState). k.started ≡ true → KeepsFound (before.finds name) k) (sym (same refl)) (λ started. loads.found started (told tells))
   run_ends setting job TooMuch unread unwritten after served same told ends tells = from_found (told tells) (LinesEnd TooMuch setting job) after (ends (λ e. cc) tells)
 
-module _ (name : Txt) (before after : Outside) where
-  kept_damaged : (place : ℕ) → Loads name (err_of State (DamagedAt place)) before.keeper after.keeper before.told.steps after.told.steps → after.keeper.tells → KeepsDamaged name place before after
-  kept_damaged place loads tells = record { kept = loads.found (loads.started refl) tells; damaged = loads.damaged place refl tells }
+-- nothing was loaded
+module _ (name : Txt) (before after : Outside) (fault : LoadFault) (result : Ending) (unwritten : Type 0) (faults faults' : ℕ)
+    (stops : Stops stop_ending WriteFault fault result unwritten before.told.written after.told.written faults faults')
+    (loads : Loads name (err_of State fault) before.keeper after.keeper before.told.steps after.told.steps) where
+  pub stop_ends_run : (setting : Setting) (job : Job) (unread : Type 0) → unread → after.keeper.tells → RunEnds result unread unwritten setting job name before after
+  stop_ends_run setting job unread untouched tells =
+      ends_by_stop name before.keeper after.keeper before.told.steps after.told.steps stop_ending WriteFault (λ r. RunEnds r unread unwritten setting job name before after) unwritten
+      before.told.written after.told.written faults faults'
+      (λ same idle. inl (untouched, same, idle)) (λ same idle. idle) (λ place said. said) (λ begun. inl (untouched, begun)) fault result stops loads tells
 
-  pub stop_ends_run : (setting : Setting) (job : Job) (fault : LoadFault) (result : Ending) (unread unwritten : Type 0) (faults faults' : ℕ) → Stops fault result unwritten before.told.written after.told.written faults faults'
-      → Loads name (err_of State fault) before.keeper after.keeper before.told.steps after.told.steps → unread → after.keeper.tells
-      → RunEnds result unread unwritten setting job name before after
-  stop_ends_run setting job Keeper result unread unwritten faults faults' stops loads untouched tells =
-      subst (λ (r : Ending). RunEnds r unread unwritten setting job name before after) (sym stops.0) (inl (untouched, stops.1, λ started. loads.found started tells))
-  stop_ends_run setting job (DamagedAt place) result unread unwritten faults faults' stops loads untouched tells =
-      let kept = kept_damaged place loads tells in
-      elim stops [
-        | inl all ↦ subst (λ (r : Ending). RunEnds r unread unwritten setting job name before after) (sym all.0) (record { place = place; kept = kept; written = all.1 })
-        | inr front ↦ subst (λ (r : Ending). RunEnds r unread unwritten setting job name before after) (sym front.0) (inl (untouched, record { place = place; kept = kept; written = front.1 }))
-      ]
-  stop_ends_run setting job Memory result unread unwritten faults faults' stops loads untouched tells =
-      subst (λ (r : Ending). RunEnds r unread unwritten setting job name before after) (sym stops.0) (λ started. loads.found started tells)
-
-  pub stop_ends_check : (fault : LoadFault) (result : Ending) (unwritten : Type 0) (faults faults' : ℕ) → Stops fault result unwritten before.told.written after.told.written faults faults'
-      → Loads name (err_of State fault) before.keeper after.keeper before.told.steps after.told.steps → after.keeper.tells
-      → CheckEnds result unwritten name before after
-  stop_ends_check Keeper result unwritten faults faults' stops loads tells =
-      subst (λ (r : Ending). CheckEnds r unwritten name before after) (sym stops.0) (stops.1, λ started. loads.found started tells)
-  stop_ends_check (DamagedAt place) result unwritten faults faults' stops loads tells =
-      let kept = kept_damaged place loads tells in
-      elim stops [
-        | inl all ↦ subst (λ (r : Ending). CheckEnds r unwritten name before after) (sym all.0) (record { place = place; kept = kept; written = all.1 })
-        | inr front ↦ subst (λ (r : Ending). CheckEnds r unwritten name before after) (sym front.0) (inl (record { place = place; kept = kept; written = front.1 }))
-      ]
-  stop_ends_check Memory result unwritten faults faults' stops loads tells =
-      subst (λ (r : Ending). CheckEnds r unwritten name before after) (sym stops.0) (stops.1, λ started. loads.found started tells)
+  pub stop_ends_check : after.keeper.tells → CheckEnds result unwritten name before after
+  stop_ends_check tells =
+      ends_by_stop name before.keeper after.keeper before.told.steps after.told.steps stop_ending WriteFault (λ r. CheckEnds r unwritten name before after) unwritten
+      before.told.written after.told.written faults faults'
+      (λ same idle. (same, idle)) (λ same idle. (same, idle)) (λ place said. said) (λ begun. inl begun) fault result stops loads tells

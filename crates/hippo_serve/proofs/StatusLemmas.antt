@@ -1,10 +1,11 @@
 -- Each status is that of one ending.
 use Rattle.std.proofs.Common.{◌≡◌, ◌≢◌, ◌⊎◌, ℕ, ◌∷◌, [], Any, arith, refl}
 use Rattle.hippo_values.specs.Texts.{Txt}
+use Rattle.hippo_programs.specs.Starting.{SaysDamaged, BeginsDamaged}
 use Rattle.hippo_serve.specs.declared.endings.Ending.{Ending}
 use Rattle.hippo_serve.specs.declared.endings.Ending.TheVariants.{Served, Refused, KeeperFault, ReadFault, WriteFault, Damaged, NoMemory, TooMuch}
 use Rattle.hippo_serve.specs.Endings.{status_of}
-use Rattle.hippo_serve.specs.Outcomes.{FromFound, SaysDamaged, BeginsDamaged, IsCounted, BeginsCount, CheckEnds}
+use Rattle.hippo_serve.specs.Outcomes.{FromFound, IsCounted, BeginsCount, CheckEnds}
 use Rattle.hippo_serve.specs.Outside.{Outside}
 
 -- an ending's status is one of eight
@@ -45,8 +46,8 @@ module _ (name : Txt) (before after : Outside) (unwritten : Type 0) where
   abbrev pub ByStatus : ℕ → Type 0
   ByStatus status = (status ≡ 0 → FromFound name IsCounted before after)
       × (status ≡ 3 → unwritten)
-      × (status ≡ 5 → BeginsDamaged name before after ⊎ FromFound name BeginsCount before after)
-      × (status ≡ 6 → SaysDamaged name before after)
+      × (status ≡ 5 → BeginsDamaged name before.keeper after.keeper before.told.written after.told.written ⊎ FromFound name BeginsCount before after)
+      × (status ≡ 6 → SaysDamaged name before.keeper after.keeper before.told.written after.told.written)
 
   pub check-by-status : (ending : Ending) → CheckEnds ending unwritten name before after → ByStatus (status_of ending)
   check-by-status Served ends = (λ e. ends, λ e. absurd (omega (arith, e)), λ e. absurd (omega (arith, e)), λ e. absurd (omega (arith, e)))

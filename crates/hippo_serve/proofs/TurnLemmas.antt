@@ -13,6 +13,8 @@ use Rattle.hippo_keeper.specs.declared.faults.KeeperFault.{KeeperFault as Fault}
 use Rattle.hippo_keeper.specs.Keeping.{KeeperState, IsReady, IsAfterCall}
 use Rattle.hippo_keeper.proofs.CallLemmas.{IsAfterCall-none, IsReady-after}
 use Rattle.hippo_keeper.proofs.Results.{well}
+use Rattle.hippo_programs.specs.Lines.{damaged_line}
+use Rattle.hippo_programs.specs.Saying.{Says}
 use Rattle.hippo_report.specs.declared.format.Format.{Format}
 use Rattle.hippo_world.specs.Holding.{world_of}
 use Rattle.hippo_world.specs.Worlds.{opening}
@@ -29,8 +31,6 @@ use Rattle.hippo_serve.specs.declared.endings.Ending.TheVariants.{Served, Refuse
 use Rattle.hippo_serve.specs.Endings.{as_line_call}
 use Rattle.hippo_serve.specs.Loads.{asked_line, counted_line}
 use Rattle.hippo_serve.specs.Outside.{Told, Outside, outside}
-use Rattle.hippo_programs.specs.Lines.{damaged_line}
-use Rattle.hippo_serve.specs.Saying.{Says}
 use Rattle.hippo_serve.specs.Runs.{ForInput, IsServed, LinesEnd, HasServed, Turn}
 use Rattle.hippo_serve.proofs.AskedLemmas.{handed_counted}
 use Rattle.hippo_serve.proofs.RunLemmas.{held_after, served_more, unwritten_at, broken_off, undamaged_at, all_served}
@@ -52,7 +52,7 @@ AtWork-begun state engine keeper limit format same opens backed = record {
 
 -- the keeper handed over what it did not keep, and that is said
 pub turn_damaged : (number : ℕ) (command : Command) (old new : Engine) (before after : KeeperState) (written mid written' : Option Txt) (steps steps' faults faults' : ℕ) (ending : Ending)
-    → Carries {A = Unit {0}} command (Err (DamagedAt number)) old new before after steps steps' → Says Damaged (damaged_line number) ending mid written' faults faults'
+    → Carries {A = Unit {0}} command (Err (DamagedAt number)) old new before after steps steps' → Says Damaged (damaged_line number) WriteFault ending mid written' faults faults'
     → Turn (Some ending) command old new before after written written' steps steps'
 turn_damaged number command old new before after written mid written' steps steps' faults faults' ending carries says = elim says [
   | inl all ↦ subst (λ (e : Ending). Turn (Some e) command old new before after written written' steps steps') (sym all.0) (number, carries)

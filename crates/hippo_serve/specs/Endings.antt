@@ -2,6 +2,8 @@
 use Rattle.std.specs.Prelude.{◌≢◌, ℕ, Option, Some, None, Result, Ok, Err}
 use Rattle.hippo_keeper.specs.declared.faults.KeeperFault.{KeeperFault as Fault}
 use Rattle.hippo_keeper.specs.declared.faults.KeeperFault.TheVariants.{Failed}
+use Rattle.hippo_replay.specs.declared.faults.LoadFault.{LoadFault}
+use Rattle.hippo_replay.specs.declared.faults.LoadFault.TheVariants as load_faults
 use Rattle.hippo_serve.specs.declared.endings.Ending.{Ending}
 use Rattle.hippo_serve.specs.declared.endings.Ending.TheVariants.{Served, Refused, KeeperFault, ReadFault, WriteFault, Damaged, NoMemory, TooMuch}
 
@@ -19,6 +21,12 @@ status_of TooMuch = 8
 abbrev pub ending_as_call : Ending → Result (Unit {0}) Fault
 ending_as_call KeeperFault = Err Failed
 ending_as_call ending = Ok tt
+
+-- how it ends where what is kept was not loaded
+abbrev pub stop_ending : LoadFault → Ending
+stop_ending load_faults.Keeper = KeeperFault
+stop_ending (load_faults.Damaged place) = Damaged
+stop_ending load_faults.Memory = NoMemory
 
 -- what a line did with it, where the run may end there
 abbrev pub as_line_call : Option Ending → Result (Unit {0}) Fault

@@ -14,9 +14,9 @@ ghost use Rattle.hippo_world.specs.Worlds.{opening};
 ghost use Rattle.hippo_commands.specs.Commands.{command_of};
 ghost use Rattle.hippo_engine.specs.Carrying.{Holds, AtWork};
 ghost use Rattle.hippo_engine.specs.Effects.{effect_of};
-ghost use Rattle.hippo_serve.specs.declared.endings.Ending.TheVariants.{Served, NoMemory};
+ghost use Rattle.hippo_programs.specs.Saying.{Says};
+ghost use Rattle.hippo_serve.specs.declared.endings.Ending.TheVariants.{Served, WriteFault, NoMemory};
 ghost use Rattle.hippo_serve.specs.Drilling.{drill_limit, summary, HasDone, HasDrilled};
-ghost use Rattle.hippo_serve.specs.Saying.{Says};
 
 use crate::endings::Ending;
 use hippo_drill::{Counts, Drill};
@@ -206,7 +206,7 @@ fn run_script<L: Ledger>(
 /// writes how many lines, entries, rows, flags and refusals there were. Nothing is written where
 /// memory was short for a line or its reply.
 pub(crate) fn drill<K: Sink>(alloc: Global, size: u32, number: u32, sink: &mut K) -> Ending
-    ensures says { result ≢ NoMemory → Says Served (summary size number) result
+    ensures says { result ≢ NoMemory → Says Served (summary size number) WriteFault result
         (K.written sink.old) (K.written sink.new) (K.faults sink.old) (K.faults sink.new) }
     ensures unwritten { result ≡ NoMemory → sink.new ≡ sink.old }
 {

@@ -1,7 +1,8 @@
 //! The lines that the program writes of its own.
 ghost use Rattle.hippo_programs.specs.Lines.{damaged_line};
-ghost use Rattle.hippo_serve.specs.declared.endings.Ending.TheVariants.{Served, Refused, Damaged};
-ghost use Rattle.hippo_serve.specs.Saying.{usage, entries_line, Says};
+ghost use Rattle.hippo_programs.specs.Saying.{Says};
+ghost use Rattle.hippo_serve.specs.declared.endings.Ending.TheVariants.{Served, Refused, WriteFault, Damaged};
+ghost use Rattle.hippo_serve.specs.Saying.{usage, entries_line};
 
 use crate::endings::Ending;
 use hippo_io::{Failed, Sink, write_whole};
@@ -14,7 +15,7 @@ const USAGE: &str =
 /// Writes the usage line.
 #[tactic(auto, unfolding(crate::specs::Saying::usage))]
 pub fn refuse<K: Sink>(sink: &mut K) -> Ending
-    ensures says { Says Refused usage result
+    ensures says { Says Refused usage WriteFault result
         (K.written sink.old) (K.written sink.new) (K.faults sink.old) (K.faults sink.new) }
 {
     match write_whole(sink, USAGE.as_bytes()) {
@@ -25,7 +26,7 @@ pub fn refuse<K: Sink>(sink: &mut K) -> Ending
 
 /// Writes at which place the kept entries are damaged.
 pub fn say_damaged<K: Sink>(sink: &mut K, place: u64) -> Ending
-    ensures says { Says Damaged (damaged_line place) result
+    ensures says { Says Damaged (damaged_line place) WriteFault result
         (K.written sink.old) (K.written sink.new) (K.faults sink.old) (K.faults sink.new) }
 {
     match write_numbered(sink, "damaged ", place) {
@@ -36,7 +37,7 @@ pub fn say_damaged<K: Sink>(sink: &mut K, place: u64) -> Ending
 
 /// Writes how many entries are kept.
 pub fn say_entries<K: Sink>(sink: &mut K, count: u64) -> Ending
-    ensures says { Says Served (entries_line count) result
+    ensures says { Says Served (entries_line count) WriteFault result
         (K.written sink.old) (K.written sink.new) (K.faults sink.old) (K.faults sink.new) }
 {
     match write_numbered(sink, "entries ", count) {

@@ -3,15 +3,16 @@ ghost use Rattle.std.specs.Prelude.{◌≡◌, ◌≢◌, ◌⊎◌, ℕ, List, 
 ghost use Rattle.hippo_io.specs.Faults.{HasRisen};
 ghost use Rattle.hippo_io.specs.Told.{Appends, AppendsFront};
 ghost use Rattle.hippo_keeper.specs.Keeping.{IsReady, IsAfterCall};
+ghost use Rattle.hippo_programs.specs.Starting.{IsIdle, SaysDamaged, BeginsDamaged, Stops};
 ghost use Rattle.hippo_words.specs.CommandLine.{call_of};
 ghost use Rattle.hippo_words.specs.declared.calls.Setting.{Setting};
 ghost use Rattle.hippo_words.specs.declared.calls.Job.{Job};
 ghost use Rattle.hippo_words.specs.declared.calls.Job.TheVariants.{Check, Drill};
 ghost use Rattle.hippo_serve.specs.declared.endings.Ending.TheVariants.{Served, Refused, ReadFault, WriteFault, Damaged, NoMemory, TooMuch};
 ghost use Rattle.hippo_serve.specs.Drilling.{summary};
-ghost use Rattle.hippo_serve.specs.Endings.{status_of, ending_as_call};
+ghost use Rattle.hippo_serve.specs.Endings.{status_of, ending_as_call, stop_ending};
 ghost use Rattle.hippo_serve.specs.Asking.{job_of, store_of, AskToServe};
-ghost use Rattle.hippo_serve.specs.Outcomes.{FromFound, IsIdle, BeginsDamaged, SaysDamaged, IsCounted, BeginsCount, RunEnds, CheckEnds, Stops};
+ghost use Rattle.hippo_serve.specs.Outcomes.{FromFound, IsCounted, BeginsCount, RunEnds, CheckEnds};
 ghost use Rattle.hippo_serve.specs.Outside.{Outside, outside};
 ghost use Rattle.hippo_serve.specs.Runs.{HasTakenBytes, IsServed, IsBrokenOff, IsReadCut, IsUnwritten, HasTooMuch};
 ghost use Rattle.hippo_serve.specs.Saying.{usage};
@@ -31,7 +32,7 @@ use std::sync::ledger::Ledger;
 // How the program ends where what is kept was not loaded.
 fn stop<K: Sink>(fault: LoadFault, sink: &mut K) -> Ending
     ensures status { (result ≢ Served) × (result ≢ TooMuch) }
-    ensures stops { Stops fault result (sink.new ≡ sink.old)
+    ensures stops { Stops stop_ending WriteFault fault result (sink.new ≡ sink.old)
         (K.written sink.old) (K.written sink.new) (K.faults sink.old) (K.faults sink.new) }
 {
     match fault {
@@ -104,9 +105,8 @@ fn check<K: Sink, P: Keeper, L: Ledger>(
         CheckEnds result (sink.new ≡ sink.old) store.now
         (outside left (K.written sink.old) (P.state keeper.old) steps.old)
         (outside left (K.written sink.new) (P.state keeper.new) steps.new) }
-    ensures idle { (P.state keeper.new).tells → (left : Option (List ℕ)) → IsIdle store.now
-        (outside left (K.written sink.old) (P.state keeper.old) steps.old)
-        (outside left (K.written sink.new) (P.state keeper.new) steps.new) }
+    ensures idle { (P.state keeper.new).tells
+        → IsIdle store.now (P.state keeper.old) (P.state keeper.new) }
     ensures unwritten { result ≡ NoMemory → sink.new ≡ sink.old }
     ensures write_fault { result ≡ WriteFault → HasRisen (K.faults sink.old) (K.faults sink.new) }
     ensures unfailed_write { result ≢ WriteFault → K.faults sink.new ≡ K.faults sink.old }
@@ -187,7 +187,7 @@ pub fn hippo_top<S: Source, K: Sink, P: Keeper, L: Ledger>(
         let after : Outside = outside (S.left source.new) (K.written sink.new) (P.state keeper.new)
         steps.new in
         ((source.new ≡ source.old) × (sink.new ≡ sink.old)
-        × IsIdle (store_of words.now) before after)
+        × IsIdle (store_of words.now) (P.state keeper.old) (P.state keeper.new))
         ⊎ FromFound (store_of words.now) (IsBrokenOff setting job) before after }
     ensures read_cut { (job : Job) (setting : Setting) → AskToServe words.now job setting
         → result ≡ 4 →
@@ -201,7 +201,9 @@ pub fn hippo_top<S: Source, K: Sink, P: Keeper, L: Ledger>(
         steps.old in
         let after : Outside = outside (S.left source.new) (K.written sink.new) (P.state keeper.new)
         steps.new in
-        ((source.new ≡ source.old) × BeginsDamaged (store_of words.now) before after)
+        ((source.new ≡ source.old)
+        × BeginsDamaged (store_of words.now) (P.state keeper.old) (P.state keeper.new)
+        (K.written sink.old) (K.written sink.new))
         ⊎ FromFound (store_of words.now) (IsUnwritten setting job) before after }
     ensures too_much { (job : Job) (setting : Setting) → AskToServe words.now job setting
         → result ≡ 8 →
@@ -225,16 +227,15 @@ pub fn hippo_top<S: Source, K: Sink, P: Keeper, L: Ledger>(
         steps.old in
         let after : Outside = outside (S.left source.new) (K.written sink.new) (P.state keeper.new)
         steps.new in
-        BeginsDamaged (store_of words.now) before after
+        BeginsDamaged (store_of words.now) (P.state keeper.old) (P.state keeper.new)
+        (K.written sink.old) (K.written sink.new)
         ⊎ FromFound (store_of words.now) BeginsCount before after }
     ensures uncounted { job_of words.now ≡ Some Check → result ≡ 3 → (P.state keeper.new).tells →
         sink.new ≡ sink.old }
     ensures uncut { job_of words.now ≡ Some Check → (result ≢ 4) × (result ≢ 8) }
     ensures unread { job_of words.now ≡ Some Check → source.new ≡ source.old }
     ensures same { job_of words.now ≡ Some Check → (P.state keeper.new).tells
-        → IsIdle (store_of words.now)
-        (outside (S.left source.old) (K.written sink.old) (P.state keeper.old) steps.old)
-        (outside (S.left source.new) (K.written sink.new) (P.state keeper.new) steps.new) }
+        → IsIdle (store_of words.now) (P.state keeper.old) (P.state keeper.new) }
 
     // A drill writes what the rules make of its script, and neither reads nor keeps anything.
     ensures drilled { (size number : ℕ) → job_of words.now ≡ Some (Drill size number) → result ≡ 0 →
@@ -248,14 +249,12 @@ pub fn hippo_top<S: Source, K: Sink, P: Keeper, L: Ledger>(
 
     // Any finds damage, where the keeper tells, or no memory, before it reads.
     ensures damaged { result ≡ 6 → (P.state keeper.new).tells →
-        (source.new ≡ source.old) × SaysDamaged (store_of words.now)
-        (outside (S.left source.old) (K.written sink.old) (P.state keeper.old) steps.old)
-        (outside (S.left source.new) (K.written sink.new) (P.state keeper.new) steps.new) }
+        (source.new ≡ source.old)
+        × SaysDamaged (store_of words.now) (P.state keeper.old) (P.state keeper.new)
+        (K.written sink.old) (K.written sink.new) }
     ensures nothing { result ≡ 7 → (source.new ≡ source.old) × (sink.new ≡ sink.old)
-        × ((P.state keeper.new).tells →
-        IsIdle (store_of words.now)
-        (outside (S.left source.old) (K.written sink.old) (P.state keeper.old) steps.old)
-        (outside (S.left source.new) (K.written sink.new) (P.state keeper.new) steps.new)) }
+        × ((P.state keeper.new).tells
+        → IsIdle (store_of words.now) (P.state keeper.old) (P.state keeper.new)) }
 
     // A fault comes where its object's count rose, and only there.
     ensures keeper_fault { result ≡ 3 → HasRisen (P.state keeper.old).faults

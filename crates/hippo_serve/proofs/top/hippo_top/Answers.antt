@@ -52,18 +52,14 @@ returns-in-Check-clause-damaged g c = λ is tells. (
 
 pub returns-in-Check-clause-same : goal.returns-in-Check-clause-same
 returns-in-Check-clause-same g c = λ job tells. idle_as_asked c.args.words.now c.in-Some.call (sym c.in-Ok.ensures ∙ c.in-Some.is) c.as_str-store.result.now c.as_str-store.ensures
-    (outside (g.S.Source.left c.args.source.now) (g.K.Sink.written c.args.sink.now) (g.P.Keeper.state c.args.keeper.now) c.args.steps.now)
-    (outside (g.S.Source.left c.args.source.now) (g.K.Sink.written c.check.new.sink) (g.P.Keeper.state c.check.new.keeper) c.check.new.steps)
-    (c.check.ensures.idle tells (g.S.Source.left c.args.source.now))
+    (g.P.Keeper.state c.args.keeper.now) (g.P.Keeper.state c.check.new.keeper) (c.check.ensures.idle tells)
 
 pub returns-in-Check-clause-nothing : goal.returns-in-Check-clause-nothing
 returns-in-Check-clause-nothing g c = λ is. (
   refl,
   c.check.ensures.unwritten (status-7 c.check.result (sym c.status-in-Check.ensures ∙ is)),
   λ tells. idle_as_asked c.args.words.now c.in-Some.call (sym c.in-Ok.ensures ∙ c.in-Some.is) c.as_str-store.result.now c.as_str-store.ensures
-      (outside (g.S.Source.left c.args.source.now) (g.K.Sink.written c.args.sink.now) (g.P.Keeper.state c.args.keeper.now) c.args.steps.now)
-      (outside (g.S.Source.left c.args.source.now) (g.K.Sink.written c.check.new.sink) (g.P.Keeper.state c.check.new.keeper) c.check.new.steps)
-      (c.check.ensures.idle tells (g.S.Source.left c.args.source.now)),
+      (g.P.Keeper.state c.args.keeper.now) (g.P.Keeper.state c.check.new.keeper) (c.check.ensures.idle tells),
 )
 
 pub returns-clause-drilled : goal.returns-clause-drilled

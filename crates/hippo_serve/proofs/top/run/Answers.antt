@@ -28,7 +28,7 @@ returns-in-Err-clause-ends g c =
     stop_ends_run c.args.store.now
     (outside (g.S.Source.left c.args.source.now) (g.K.Sink.written c.args.sink.now) (g.P.Keeper.state c.args.keeper.now) c.args.steps.now)
     (outside (g.S.Source.left c.args.source.now) (g.K.Sink.written c.stop.new.sink) (g.P.Keeper.state c.load.new.keeper) c.load.new.steps)
-    c.args.setting c.args.job.now c.in-Err.fault c.stop.result _ _ (g.K.Sink.faults c.args.sink.now) (g.K.Sink.faults c.stop.new.sink) c.stop.ensures.stops c.in-Err.ensures.loads refl
+    c.in-Err.fault c.stop.result _ (g.K.Sink.faults c.args.sink.now) (g.K.Sink.faults c.stop.new.sink) c.stop.ensures.stops c.in-Err.ensures.loads c.args.setting c.args.job.now _ refl
 
 pub returns-in-Err-clause-read : goal.returns-in-Err-clause-read
 returns-in-Err-clause-read g c = λ input is.
