@@ -1,15 +1,15 @@
 -- Each status is that of one ending.
-use Rattle.std.proofs.Common.{◌≡◌, ◌≢◌, ◌⊎◌, ℕ, ◌∷◌, [], Any, arith, refl}
+use Rattle.std.proofs.Common.{◌≡◌, ◌≢◌, ◌⊎◌, ℕ, Any, arith, refl}
 use Rattle.hippo_values.specs.Texts.{Txt}
 use Rattle.hippo_programs.specs.Starting.{SaysDamaged, BeginsDamaged}
 use Rattle.hippo_serve.specs.declared.endings.Ending.{Ending}
 use Rattle.hippo_serve.specs.declared.endings.Ending.TheVariants.{Served, Refused, KeeperFault, ReadFault, WriteFault, Damaged, NoMemory, TooMuch}
-use Rattle.hippo_serve.specs.Endings.{status_of}
+use Rattle.hippo_serve.specs.Endings.{status_of, statuses}
 use Rattle.hippo_serve.specs.Outcomes.{FromFound, IsCounted, BeginsCount, CheckEnds}
 use Rattle.hippo_serve.specs.Outside.{Outside}
 
 -- an ending's status is one of eight
-pub status-listed : (ending : Ending) (status : ℕ) → status ≡ status_of ending → Any (λ listed. status ≡ listed) (0 ∷ 2 ∷ 3 ∷ 4 ∷ 5 ∷ 6 ∷ 7 ∷ 8 ∷ [])
+pub status-listed : (ending : Ending) (status : ℕ) → status ≡ status_of ending → Any (λ listed. status ≡ listed) statuses
 status-listed Served status e = (0, 0, omega arith, refl, e)
 status-listed Refused status e = (1, 2, omega arith, refl, e)
 status-listed KeeperFault status e = (2, 3, omega arith, refl, e)

@@ -1,5 +1,5 @@
 -- How a call of the program ends, as a status and as one call of its keeper.
-use Rattle.std.specs.Prelude.{◌≢◌, ℕ, Option, Some, None, Result, Ok, Err}
+use Rattle.std.specs.Prelude.{◌≢◌, ℕ, List, [], ◌∷◌, Option, Some, None, Result, Ok, Err}
 use Rattle.hippo_keeper.specs.declared.faults.KeeperFault.{KeeperFault as Fault}
 use Rattle.hippo_keeper.specs.declared.faults.KeeperFault.TheVariants.{Failed}
 use Rattle.hippo_replay.specs.declared.faults.LoadFault.{LoadFault}
@@ -16,6 +16,10 @@ status_of WriteFault = 5
 status_of Damaged = 6
 status_of NoMemory = 7
 status_of TooMuch = 8
+
+-- which statuses there are
+abbrev pub statuses : List ℕ
+statuses = 0 ∷ 2 ∷ 3 ∷ 4 ∷ 5 ∷ 6 ∷ 7 ∷ 8 ∷ []
 
 -- all that a program did with its keeper, as one call of it
 abbrev pub ending_as_call : Ending → Result (Unit {0}) Fault

@@ -1,5 +1,5 @@
 //! The top call: what the words ask for is done over a keeper, and the call has its exit status.
-ghost use Rattle.std.specs.Prelude.{◌≡◌, ◌≢◌, ◌⊎◌, ℕ, List, [], ◌∷◌, Option, Some, None, true, false, Any};
+ghost use Rattle.std.specs.Prelude.{◌≡◌, ◌≢◌, ◌⊎◌, ℕ, List, Option, Some, None, true, false, Any};
 ghost use Rattle.hippo_io.specs.Faults.{HasRisen};
 ghost use Rattle.hippo_io.specs.Told.{Appends, AppendsFront};
 ghost use Rattle.hippo_keeper.specs.Keeping.{IsReady, IsAfterCall};
@@ -10,7 +10,7 @@ ghost use Rattle.hippo_words.specs.declared.calls.Job.{Job};
 ghost use Rattle.hippo_words.specs.declared.calls.Job.TheVariants.{Check, Drill};
 ghost use Rattle.hippo_serve.specs.declared.endings.Ending.TheVariants.{Served, Refused, ReadFault, WriteFault, Damaged, NoMemory, TooMuch};
 ghost use Rattle.hippo_serve.specs.Drilling.{summary};
-ghost use Rattle.hippo_serve.specs.Endings.{status_of, ending_as_call, stop_ending};
+ghost use Rattle.hippo_serve.specs.Endings.{status_of, statuses, ending_as_call, stop_ending};
 ghost use Rattle.hippo_serve.specs.Asking.{job_of, store_of, AskToServe};
 ghost use Rattle.hippo_serve.specs.Outcomes.{FromFound, IsCounted, BeginsCount, RunEnds, CheckEnds};
 ghost use Rattle.hippo_serve.specs.Outside.{Outside, outside};
@@ -162,7 +162,7 @@ pub fn hippo_top<S: Source, K: Sink, P: Keeper, L: Ledger>(
     steps: &mut Steps<L>,
 ) -> u8
     requires ready { IsReady false (P.state keeper.old) }
-    ensures status { Any (λ status. result ≡ status) (0 ∷ 2 ∷ 3 ∷ 4 ∷ 5 ∷ 6 ∷ 7 ∷ 8 ∷ []) }
+    ensures status { Any (λ status. result ≡ status) statuses }
 
     // Words that ask for nothing are refused, and nothing is read or kept.
     ensures refused { call_of words.now ≡ None → ((result ≡ 2) ⊎ (result ≡ 5) ⊎ (result ≡ 7))

@@ -1,5 +1,5 @@
 -- Each status is that of one ending.
-use Rattle.std.proofs.Common.{◌≡◌, ◌≢◌, ◌⊎◌, ◌∙◌, ℕ, Bool, true, false, ◌∷◌, [], Any, Option, Some, arith, refl, sym, ap, subst}
+use Rattle.std.proofs.Common.{◌≡◌, ◌≢◌, ◌⊎◌, ◌∙◌, ℕ, Bool, true, false, Any, Option, Some, arith, refl, sym, ap, subst}
 use Rattle.std.proofs.lemmas.Option.{same_Some}
 use Rattle.hippo_values.specs.Texts.{Txt}
 use Rattle.hippo_io.specs.Faults.{HasRisen}
@@ -9,12 +9,12 @@ use Rattle.hippo_showing.specs.declared.asking.Call.{Call}
 use Rattle.hippo_showing.specs.declared.asking.View.{View}
 use Rattle.hippo_showing.specs.declared.endings.Ending.{Ending}
 use Rattle.hippo_showing.specs.declared.endings.Ending.TheVariants.{Shown, Refused, KeeperFault, WriteFault, Damaged, NoMemory}
-use Rattle.hippo_showing.specs.Endings.{showing_status, showing_as_call}
+use Rattle.hippo_showing.specs.Endings.{showing_status, showing_statuses, showing_as_call}
 use Rattle.hippo_showing.specs.Saying.{CountsWrites}
 use Rattle.hippo_showing.specs.Outcomes.{ShowsView, BeginsView, Ends}
 
 -- an ending's status is one of six
-pub status-listed : (ending : Ending) (status : ℕ) → status ≡ showing_status ending → Any (λ listed. status ≡ listed) (0 ∷ 2 ∷ 3 ∷ 5 ∷ 6 ∷ 7 ∷ [])
+pub status-listed : (ending : Ending) (status : ℕ) → status ≡ showing_status ending → Any (λ listed. status ≡ listed) showing_statuses
 status-listed Shown status e = (0, 0, omega arith, refl, e)
 status-listed Refused status e = (1, 2, omega arith, refl, e)
 status-listed KeeperFault status e = (2, 3, omega arith, refl, e)

@@ -1,5 +1,5 @@
 -- How a call of the program ends, as a status and as one call of its keeper.
-use Rattle.std.specs.Prelude.{ℕ, Bool, true, false, Option, Some, None, Result, Ok, Err}
+use Rattle.std.specs.Prelude.{ℕ, Bool, true, false, List, [], ◌∷◌, Option, Some, None, Result, Ok, Err}
 use Rattle.hippo_keeper.specs.declared.faults.KeeperFault.{KeeperFault as Fault}
 use Rattle.hippo_keeper.specs.declared.faults.KeeperFault.TheVariants as faults
 use Rattle.hippo_replay.specs.declared.faults.LoadFault.{LoadFault}
@@ -14,6 +14,10 @@ showing_status KeeperFault = 3
 showing_status WriteFault = 5
 showing_status Damaged = 6
 showing_status NoMemory = 7
+
+-- which statuses there are
+abbrev pub showing_statuses : List ℕ
+showing_statuses = 0 ∷ 2 ∷ 3 ∷ 5 ∷ 6 ∷ 7 ∷ []
 
 -- all that a program did with its keeper, as one call of it
 abbrev pub showing_as_call : Ending → Result (Unit {0}) Fault

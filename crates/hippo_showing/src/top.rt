@@ -1,6 +1,6 @@
 //! The top call: what the words ask for is shown of what a keeper keeps, and the call has its exit
 //! status.
-ghost use Rattle.std.specs.Prelude.{◌≡◌, ◌≢◌, ◌⊎◌, ◌+◌, ◌*◌, ◌≤◌, [], ◌∷◌, take, None, Some, true, false, Any};
+ghost use Rattle.std.specs.Prelude.{◌≡◌, ◌≢◌, ◌⊎◌, ◌+◌, ◌*◌, ◌≤◌, take, None, Some, true, false, Any};
 ghost use Rattle.hippo_io.specs.Faults.{HasRisen};
 ghost use Rattle.hippo_io.specs.Told.{Appends, AppendsFront};
 ghost use Rattle.hippo_keeper.specs.Keeping.{RisesAbove, IsReady, IsAfterCall};
@@ -12,7 +12,7 @@ ghost use Rattle.hippo_showing.specs.Progress.{ShowsAll, WritesPage, ShowsLoaded
 ghost use Rattle.hippo_showing.specs.declared.asking.Call.{Call as AskedCall};
 ghost use Rattle.hippo_showing.specs.declared.endings.Ending.TheVariants.{Refused, WriteFault};
 ghost use Rattle.hippo_showing.specs.CommandLine.{asked_of};
-ghost use Rattle.hippo_showing.specs.Endings.{showing_as_call, showing_stop};
+ghost use Rattle.hippo_showing.specs.Endings.{showing_as_call, showing_stop, showing_statuses};
 ghost use Rattle.hippo_showing.specs.Outcomes.{ShowsView, BeginsView, Ends};
 ghost use Rattle.hippo_showing.specs.Saying.{showing_usage, CountsWrites};
 
@@ -170,7 +170,7 @@ pub fn history_top<K: Sink, P: Keeper, L: Ledger>(
     steps: &mut Steps<L>,
 ) -> u8
     requires ready { IsReady false (P.state keeper.old) }
-    ensures status { Any (λ status. result ≡ status) (0 ∷ 2 ∷ 3 ∷ 5 ∷ 6 ∷ 7 ∷ []) }
+    ensures status { Any (λ status. result ≡ status) showing_statuses }
 
     // Words that ask for nothing are refused, and nothing is read.
     ensures refused { asked_of words.now ≡ None → ((result ≡ 2) ⊎ (result ≡ 5) ⊎ (result ≡ 7))
