@@ -2,10 +2,10 @@
 //! output; the history is in a SQLite file, or in memory.
 #![tactic(auto)]
 
-ghost use Rattle.std.specs.Prelude.{◌≡◌, ◌≢◌, ◌<◌, [], ◌∷◌, false, Any};
-ghost use Rattle.hippo_io.specs.Faults.{HasRisen};
+ghost use Rattle.std.specs.Prelude.{◌≡◌, ◌<◌, false};
 ghost use Rattle.hippo_keeper.specs.Keeping.{IsReady};
-ghost use Rattle.hippo_start.specs.Statuses.{RefusesJust};
+ghost use Rattle.hippo_serve.specs.Endings.{statuses};
+ghost use Rattle.hippo_start.specs.Statuses.{AnswersAmong, TellsFault};
 ghost use Rattle.hippo_words.specs.CommandLine.{call_of};
 
 use hippo_io::{Sink, Source};
@@ -32,16 +32,11 @@ fn serve<S: Source, K: Sink, P: Keeper, L: Ledger>(
     requires name { blank.name ≡ L.name }
     requires parts { blank.parts ≡ L.parts }
     requires some { 0 < blank.parts }
-    ensures status { Any (λ known. result ≡ known) (0 ∷ 2 ∷ 3 ∷ 4 ∷ 5 ∷ 6 ∷ 7 ∷ 8 ∷ []) }
-    ensures refuses { RefusesJust (call_of words.now) result }
-    ensures keeper_fault { result ≡ 3 → HasRisen (P.state keeper.old).faults
+    ensures status { AnswersAmong statuses (call_of words.now) result }
+    ensures keeper_fault { TellsFault 3 result (P.state keeper.old).faults
         (P.state keeper.new).faults }
-    ensures unfailed_keeper { result ≢ 3
-        → (P.state keeper.new).faults ≡ (P.state keeper.old).faults }
-    ensures read_fault { result ≡ 4 → HasRisen (S.faults source.old) (S.faults source.new) }
-    ensures unfailed_read { result ≢ 4 → S.faults source.new ≡ S.faults source.old }
-    ensures write_fault { result ≡ 5 → HasRisen (K.faults sink.old) (K.faults sink.new) }
-    ensures unfailed_write { result ≢ 5 → K.faults sink.new ≡ K.faults sink.old }
+    ensures read_fault { TellsFault 4 result (S.faults source.old) (S.faults source.new) }
+    ensures write_fault { TellsFault 5 result (K.faults sink.old) (K.faults sink.new) }
 {
     let mut steps = Steps::<L>::new(blank);
     hippo_top(alloc, words, source, sink, keeper, &mut steps)
@@ -54,8 +49,7 @@ struct Hippo {
 }
 
 impl Program for Hippo {
-    ghost Answers = { λ _ words status. RefusesJust (call_of words) status
-        × Any (λ known. status ≡ known) (0 ∷ 2 ∷ 3 ∷ 4 ∷ 5 ∷ 6 ∷ 7 ∷ 8 ∷ []) };
+    ghost Answers = { λ _ words status. AnswersAmong statuses (call_of words) status };
 
     fn call<S: Source, K: Sink>(
         self,
@@ -64,12 +58,9 @@ impl Program for Hippo {
         source: &mut S,
         sink: &mut K,
     ) -> u8
-        ensures answers { RefusesJust (call_of words.now) result
-            × Any (λ known. result ≡ known) (0 ∷ 2 ∷ 3 ∷ 4 ∷ 5 ∷ 6 ∷ 7 ∷ 8 ∷ []) }
-        ensures read_fault { result ≡ 4 → HasRisen (S.faults source.old) (S.faults source.new) }
-        ensures unfailed_read { result ≢ 4 → S.faults source.new ≡ S.faults source.old }
-        ensures write_fault { result ≡ 5 → HasRisen (K.faults sink.old) (K.faults sink.new) }
-        ensures unfailed_write { result ≢ 5 → K.faults sink.new ≡ K.faults sink.old }
+        ensures answers { AnswersAmong statuses (call_of words.now) result }
+        ensures read_fault { TellsFault 4 result (S.faults source.old) (S.faults source.new) }
+        ensures write_fault { TellsFault 5 result (K.faults sink.old) (K.faults sink.new) }
     {
         let mut keeper = SqliteKeeper::new(FileOpener::new(self.runtime));
         serve::<_, _, _, Brand>(alloc, words, source, sink, &mut keeper, Blank::new(1))

@@ -2,11 +2,11 @@
 //! ask for: its entries, one by one, or the rules in force.
 #![tactic(auto)]
 
-ghost use Rattle.std.specs.Prelude.{◌≡◌, ◌≢◌, ◌<◌, [], ◌∷◌, false, Any};
-ghost use Rattle.hippo_io.specs.Faults.{HasRisen};
+ghost use Rattle.std.specs.Prelude.{◌≡◌, ◌<◌, false};
 ghost use Rattle.hippo_keeper.specs.Keeping.{IsReady};
-ghost use Rattle.hippo_start.specs.Statuses.{RefusesJust};
 ghost use Rattle.hippo_showing.specs.CommandLine.{asked_of};
+ghost use Rattle.hippo_showing.specs.Endings.{showing_statuses};
+ghost use Rattle.hippo_start.specs.Statuses.{AnswersAmong, TellsFault};
 
 use hippo_io::{Sink, Source};
 use hippo_keeper::{Keeper, Steps};
@@ -31,14 +31,10 @@ fn show<K: Sink, P: Keeper, L: Ledger>(
     requires name { blank.name ≡ L.name }
     requires parts { blank.parts ≡ L.parts }
     requires some { 0 < blank.parts }
-    ensures status { Any (λ known. result ≡ known) (0 ∷ 2 ∷ 3 ∷ 5 ∷ 6 ∷ 7 ∷ []) }
-    ensures refuses { RefusesJust (asked_of words.now) result }
-    ensures keeper_fault { result ≡ 3 → HasRisen (P.state keeper.old).faults
+    ensures status { AnswersAmong showing_statuses (asked_of words.now) result }
+    ensures keeper_fault { TellsFault 3 result (P.state keeper.old).faults
         (P.state keeper.new).faults }
-    ensures unfailed_keeper { result ≢ 3
-        → (P.state keeper.new).faults ≡ (P.state keeper.old).faults }
-    ensures write_fault { result ≡ 5 → HasRisen (K.faults sink.old) (K.faults sink.new) }
-    ensures unfailed_write { result ≢ 5 → K.faults sink.new ≡ K.faults sink.old }
+    ensures write_fault { TellsFault 5 result (K.faults sink.old) (K.faults sink.new) }
 {
     let mut steps = Steps::<L>::new(blank);
     history_top(alloc, words, sink, keeper, &mut steps)
@@ -51,8 +47,7 @@ struct History {
 }
 
 impl Program for History {
-    ghost Answers = { λ _ words status. RefusesJust (asked_of words) status
-        × Any (λ known. status ≡ known) (0 ∷ 2 ∷ 3 ∷ 5 ∷ 6 ∷ 7 ∷ []) };
+    ghost Answers = { λ _ words status. AnswersAmong showing_statuses (asked_of words) status };
 
     fn call<S: Source, K: Sink>(
         self,
@@ -61,10 +56,8 @@ impl Program for History {
         _source: &mut S,
         sink: &mut K,
     ) -> u8
-        ensures answers { RefusesJust (asked_of words.now) result
-            × Any (λ known. result ≡ known) (0 ∷ 2 ∷ 3 ∷ 5 ∷ 6 ∷ 7 ∷ []) }
-        ensures write_fault { result ≡ 5 → HasRisen (K.faults sink.old) (K.faults sink.new) }
-        ensures unfailed_write { result ≢ 5 → K.faults sink.new ≡ K.faults sink.old }
+        ensures answers { AnswersAmong showing_statuses (asked_of words.now) result }
+        ensures write_fault { TellsFault 5 result (K.faults sink.old) (K.faults sink.new) }
     {
         let mut keeper = SqliteKeeper::new(FileOpener::new(self.runtime));
         show::<_, _, Brand>(alloc, words, sink, &mut keeper, Blank::new(1))
