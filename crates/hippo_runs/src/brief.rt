@@ -1,13 +1,10 @@
 //! Long outputs in few lines.
 
+use hippo_entry_texts::first_word;
 use hippo_values::Memory;
 use std::alloc::Global;
 
 const LONG: usize = 200;
-
-fn first_word(text: &str) -> (&str, &str) {
-    text.split_once(' ').unwrap_or((text, ""))
-}
 
 fn begin_alike(left: &str, right: &str) -> bool {
     let (left, left_rest) = first_word(left);

@@ -1,5 +1,6 @@
 //! The words and the input of a call, and what is to fail around it.
 
+use hippo_entry_texts::first_word;
 use hippo_keeper::{KeeperFail, KeeperFails};
 use hippo_values::{Calls, Memory, Sequence, Txt};
 use std::alloc::Global;
@@ -61,7 +62,7 @@ impl Case {
     }
 
     fn add_times(&mut self, words: &str) -> Result<(), Memory> {
-        let (count, text) = words.split_once(' ').unwrap_or((words, ""));
+        let (count, text) = first_word(words);
         for _ in 0..number(count) {
             self.add_text(text)?;
         }
@@ -69,7 +70,7 @@ impl Case {
     }
 
     fn add_numbered(&mut self, alloc: Global, words: &str) -> Result<(), Memory> {
-        let (count, text) = words.split_once(' ').unwrap_or((words, ""));
+        let (count, text) = first_word(words);
         let (front, back) = text.split_once('#').unwrap_or((text, ""));
         for number in 0..number(count) {
             let line = format!(in alloc; "{front}{number}{back}\n")?;

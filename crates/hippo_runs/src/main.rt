@@ -22,6 +22,7 @@ mod store;
 use crate::brief::brief;
 use crate::cases::Case;
 use crate::store::{all_written, keeper_of, with, without};
+use hippo_entry_texts::first_word;
 use hippo_io::{MemorySink, MemorySource};
 use hippo_keeper::{KeeperFails, MemoryKeeper, Steps};
 use hippo_model::StoredList;
@@ -140,7 +141,7 @@ impl Rows {
     // Does what a line asks for: the text that is written then, or none where it asks for nothing
     // that there is.
     fn carry_out(&mut self, alloc: Global, line: &str) -> Result<Option<String>, Memory> {
-        let (word, text) = line.split_once(' ').unwrap_or((line, ""));
+        let (word, text) = first_word(line);
         match word {
             "call" => self.call(alloc, StoredList::new(alloc)),
             "again" => self.call_again(alloc),

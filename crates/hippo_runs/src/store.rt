@@ -3,59 +3,11 @@ ghost use Rattle.std.specs.Prelude.{◌≡◌, false, IsTrue, IfSome};
 ghost use Rattle.hippo_keeper.specs.Keeping.{IsReady, RisesAbove};
 ghost use Rattle.hippo_keeper.specs.MemoryKeeping.{memory_keeper_state};
 
+use hippo_entry_texts::{first_word, stored, written};
 use hippo_keeper::{KeeperFails, MemoryKeeper};
 use hippo_model::{StoredEntry, StoredList};
-use hippo_values::{Bytes, Duplicate, Memory, Txt};
+use hippo_values::{Duplicate, Memory};
 use std::alloc::Global;
-
-// A text's first word, and what stands behind the blank after it.
-fn first_word(text: &str) -> (&str, &str) {
-    text.split_once(' ').unwrap_or((text, ""))
-}
-
-fn bytes_of(alloc: Global, digits: &str) -> Result<Bytes, Memory> {
-    match hex::decode(alloc, digits.as_bytes()) {
-        Ok(bytes) => Ok(Bytes::from_vec(bytes)),
-        Err(_) => Err(Memory),
-    }
-}
-
-// The entry that a text writes: its number, its moment in seconds, its kind, its table or a hyphen
-// for none, and its body in hexadecimal digits.
-fn stored(alloc: Global, text: &str) -> Result<StoredEntry, Memory> {
-    let (seq, rest) = first_word(text);
-    let (moment, rest) = first_word(rest);
-    let (kind, rest) = first_word(rest);
-    let (table, digits) = first_word(rest);
-    let table = if table == "-" { "" } else { table };
-    let body = bytes_of(alloc, digits)?;
-    let table = Txt::from_str(alloc, table)?;
-    Ok(StoredEntry {
-        seq: seq.parse().unwrap_or(0),
-        moment: moment.parse().unwrap_or(0),
-        kind: kind.parse().unwrap_or(0),
-        table,
-        body,
-    })
-}
-
-// An entry as `stored` reads it.
-fn written(alloc: Global, entry: &StoredEntry) -> Result<String, Memory> {
-    let StoredEntry {
-        seq,
-        moment,
-        kind,
-        table,
-        body,
-    } = entry;
-    let table = if table.len() == 0 {
-        "-"
-    } else {
-        table.as_str()
-    };
-    let digits = hex::encode(alloc, body.as_slice())?;
-    Ok(format!(in alloc; "{seq} {moment} {kind} {table} {digits}\n")?)
-}
 
 /// All entries, each in a line as a row writes it.
 pub fn all_written(alloc: Global, entries: &[StoredEntry]) -> Result<String, Memory> {
