@@ -2,7 +2,7 @@
 ghost use Rattle.std.specs.Prelude.{◌≡◌, ◌++◌, codes, OnOk, OnErr};
 ghost use Rattle.csv.specs.Writing.{default_writer, row_text};
 ghost use Rattle.serde_json.specs.Written.{compact_text};
-ghost use Rattle.hippo_text_forms.specs.Printing.{AddsText};
+ghost use Rattle.hippo_text_forms.specs.Printing.{AddsText, KeepsFront};
 ghost use Rattle.hippo_report.specs.Cells.{tuple_text};
 ghost use Rattle.hippo_flags.specs.Flags.{question_text, flag_text, flag_data, flag_fields, formatted_flag, flag_line};
 
@@ -104,7 +104,8 @@ fn append_dated<const ROOM: usize>(
     dated: &DatedFlag<'_>,
     out: &mut RoomyTxt<ROOM>,
 ) -> Result<(), Memory>
-    ensures adds { AddsText (flag_line format dated.now) result out.old out.new }
+    ensures ok { OnOk result (out.new ≡ out.old ++ flag_line format dated.now) }
+    ensures err { OnErr result (KeepsFront out.old out.new) }
 {
     out.append("0 flag ")?;
     match format {

@@ -1,6 +1,6 @@
 //! Columns by their places, alone and with values.
-ghost use Rattle.std.specs.Prelude.{◌++◌};
-ghost use Rattle.hippo_text_forms.specs.Printing.{AddsText};
+ghost use Rattle.std.specs.Prelude.{◌≡◌, ◌++◌, OnOk, OnErr};
+ghost use Rattle.hippo_text_forms.specs.Printing.{AddsText, KeepsFront};
 ghost use Rattle.hippo_telling.specs.Telling.{name_at, names_text, assigned_text};
 
 use crate::joining::{Spelling, append_joined};
@@ -85,7 +85,8 @@ pub fn append_assigned<const ROOM: usize>(
     value: &Value,
     out: &mut RoomyTxt<ROOM>,
 ) -> Result<(), Memory>
-    ensures adds { AddsText (assigned_text columns.now place value.now) result out.old out.new }
+    ensures ok { OnOk result (out.new ≡ out.old ++ assigned_text columns.now place value.now) }
+    ensures err { OnErr result (KeepsFront out.old out.new) }
 {
     append_name(columns, place, out)?;
     out.append(" = ")?;

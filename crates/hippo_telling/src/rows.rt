@@ -1,8 +1,8 @@
 //! Rows that are updated or deleted.
-ghost use Rattle.std.specs.Prelude.{◌≡◌, ◌++◌, filter, flat_map, nat_eq, IfOk, codes};
+ghost use Rattle.std.specs.Prelude.{◌≡◌, ◌++◌, filter, flat_map, nat_eq, IfOk, OnOk, OnErr, codes};
 ghost use Rattle.std.specs.List.{list_any, range_with_len, zip};
 ghost use Rattle.hippo_model.specs.Rows.{cell_at};
-ghost use Rattle.hippo_text_forms.specs.Printing.{AddsText};
+ghost use Rattle.hippo_text_forms.specs.Printing.{AddsText, KeepsFront};
 ghost use Rattle.hippo_report.specs.Cells.{comma};
 ghost use Rattle.hippo_telling.specs.Telling.{is_set, assigned_text, literals_text, row_text, key_text, insert_text, update_text, delete_text};
 
@@ -194,8 +194,9 @@ fn append_where<const ROOM: usize>(
     key: &[usize],
     out: &mut RoomyTxt<ROOM>,
 ) -> Result<(), Memory>
-    ensures adds { AddsText (codes " WHERE "
-        ++ row_text columns.now row.now (codes " AND ") key.now) result out.old out.new }
+    ensures ok { OnOk result (out.new ≡ out.old ++ (codes " WHERE "
+        ++ row_text columns.now row.now (codes " AND ") key.now)) }
+    ensures err { OnErr result (KeepsFront out.old out.new) }
 {
     out.append(" WHERE ")?;
     append_cells(columns, row, " AND ", key, out)
@@ -226,8 +227,9 @@ fn append_keyed<const ROOM: usize>(
     key: &[Value],
     out: &mut RoomyTxt<ROOM>,
 ) -> Result<(), Memory>
-    ensures adds { AddsText (before.now ++ key_text columns.now places.now key.now)
-        result out.old out.new }
+    ensures ok { OnOk result (out.new ≡ out.old
+        ++ (before.now ++ key_text columns.now places.now key.now)) }
+    ensures err { OnErr result (KeepsFront out.old out.new) }
 {
     out.append(before)?;
     append_key(columns, places, key, out)

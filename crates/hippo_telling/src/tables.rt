@@ -1,6 +1,6 @@
 //! Tables that are created.
-ghost use Rattle.std.specs.Prelude.{◌≡◌, ◌++◌};
-ghost use Rattle.hippo_text_forms.specs.Printing.{AddsText};
+ghost use Rattle.std.specs.Prelude.{◌≡◌, ◌++◌, OnOk, OnErr};
+ghost use Rattle.hippo_text_forms.specs.Printing.{AddsText, KeepsFront};
 ghost use Rattle.hippo_report.specs.Cells.{separated_text, comma};
 ghost use Rattle.hippo_telling.specs.Telling.{kind_text, not_null_text, column_definition, names_text, subject_text, create_text};
 
@@ -80,8 +80,9 @@ fn append_head<const ROOM: usize>(
     columns: &[Column],
     out: &mut RoomyTxt<ROOM>,
 ) -> Result<(), Memory>
-    ensures adds { AddsText (words.now ++ (table.now ++ (before.now
-        ++ separated_text column_definition comma columns.now))) result out.old out.new }
+    ensures ok { OnOk result (out.new ≡ out.old ++ (words.now ++ (table.now ++ (before.now
+        ++ separated_text column_definition comma columns.now)))) }
+    ensures err { OnErr result (KeepsFront out.old out.new) }
 {
     append_named(words, table, out)?;
     out.append(before)?;
