@@ -2,8 +2,9 @@
 //! they show.
 #![tactic(auto)]
 
-ghost use Rattle.std.specs.Prelude.{◌≡◌, ◌==◌};
+ghost use Rattle.std.specs.Prelude.{◌≡◌};
 ghost use Rattle.std.specs.List.{before_first, after_first};
+ghost use Rattle.hippo_values.specs.Texts.{is_space};
 
 use hippo_model::StoredEntry;
 use hippo_values::{Bytes, Memory, Txt};
@@ -12,8 +13,8 @@ use std::alloc::Global;
 /// A text's first word, and what stands behind the blank after it; the whole text, and nothing,
 /// where it has no blank.
 pub fn first_word(text: &str) -> (&str, &str)
-    ensures word { result.0.now ≡ before_first (λ byte. byte == 32) text.now }
-    ensures rest { result.1.now ≡ after_first (λ byte. byte == 32) text.now }
+    ensures word { result.0.now ≡ before_first is_space text.now }
+    ensures rest { result.1.now ≡ after_first is_space text.now }
 {
     text.split_once(' ').unwrap_or((text, ""))
 }
