@@ -1,6 +1,5 @@
 -- What reading does to a keeper.
-use Rattle.std.specs.Prelude.{◌≡◌, Result, Ok, Err}
-use Rattle.hippo_keeper.specs.Keeping.{Store, KeeperState}
+use Rattle.std.specs.Prelude.{Result, Ok, Err}
 use Rattle.hippo_keeper.specs.declared.faults.KeeperFault.{KeeperFault}
 use Rattle.hippo_keeper.specs.declared.faults.KeeperFault.TheVariants as keeper_faults
 use Rattle.hippo_backlog.specs.declared.faults.ReadFault.{ReadFault}

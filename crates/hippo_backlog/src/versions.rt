@@ -1,5 +1,5 @@
 //! The rows of a table at a place in the history, and the versions that were read ahead of it.
-ghost use Rattle.std.specs.Prelude.{◌≡◌, ◌≢◌, ℕ, ◌≤◌, ◌<◌, true, false, [], length, Ok, Err, IfOk, OnOk};
+ghost use Rattle.std.specs.Prelude.{◌≡◌, ◌≢◌, ℕ, ◌≤◌, ◌<◌, true, false, [], length, Ok, Err, OnOk};
 ghost use Rattle.hippo_keeper.specs.Keeping.{IsReady};
 ghost use Rattle.hippo_backlog.specs.Calls.{reading_as_call};
 ghost use Rattle.hippo_backlog.specs.ReadingAhead.{BeginsAbove, has_read};

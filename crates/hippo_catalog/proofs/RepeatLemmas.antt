@@ -1,12 +1,12 @@
 -- Names that stand twice, one name after the other.
-use Rattle.std.proofs.Common.{◌≡◌, ℕ, ◌+◌, ◌<◌, true, false, List, [], ◌∷◌, ◌++◌, map, take, drop, length, get_or, Bor, refl, sym, ap, arith, ◌∙◌}
+use Rattle.std.proofs.Common.{◌≡◌, ℕ, ◌+◌, ◌<◌, true, false, List, [], ◌∷◌, ◌++◌, map, take, drop, length, get_or, Bor, refl, sym, ap, ◌∙◌}
 use Rattle.std.specs.Prelude.{bytes_eq, if◌then◌else◌}
 use Rattle.std.specs.List.{list_any}
 use Rattle.std.proofs.lemmas.List.{take_more}
 use Rattle.hippo_values.specs.declared.names.Name.{Name}
 use Rattle.hippo_model.specs.declared.name_fault.NameFault.{NameFault}
 use Rattle.hippo_model.specs.declared.name_fault.NameFault.TheVariants.{RepeatedName}
-use Rattle.hippo_catalog.specs.Refusals.{fault_if, repeated_after, repeated_names, IsFirstOf}
+use Rattle.hippo_catalog.specs.Refusals.{fault_if, repeated_after, IsFirstOf}
 use Rattle.hippo_catalog.proofs.ListLemmas.{drop_at_get_or, list_any-lent, lent-push}
 use Rattle.hippo_catalog.proofs.Refused.{first_with_more}
 

@@ -1,6 +1,6 @@
 //! Faults that name no column; where the name cannot be copied for want of memory, the fault is
 //! that.
-ghost use Rattle.std.specs.Prelude.{◌≡◌, ◌∷◌, []};
+ghost use Rattle.std.specs.Prelude.{◌∷◌, []};
 ghost use Rattle.hippo_model.specs.declared.name_fault.NameFault.TheVariants as faults;
 ghost use Rattle.hippo_catalog.specs.Refusals.{IsFirstOf};
 

@@ -1,5 +1,4 @@
 //! The names that statements may use, each kind in a space of its own.
-ghost use Rattle.std.specs.Prelude.{◌≡◌, IfOk};
 
 use crate::indexed_table::IndexedTable;
 use hippo_model::ItemKind;

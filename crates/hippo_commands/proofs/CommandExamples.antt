@@ -1,13 +1,12 @@
 -- What some lines command.
-use Rattle.std.proofs.Common.{◌≡◌, ℕ, List, [], ◌∷◌, true, false, Option, Some, None, Ok, Err, refl, codes}
-use Rattle.hippo_io.specs.Lines.{text_line, too_long_line, not_utf8_line}
-use Rattle.hippo_lines.specs.Forms.{logs_out, fetches, says_nothing, makes_request, makes_statement}
-use Rattle.hippo_report.specs.declared.refusal.Refusal.TheVariants.{BadLine, LineTooLong, BadSyntax, BadMoment, Unsupported, Memory}
+use Rattle.std.proofs.Common.{◌≡◌, ℕ, List, [], ◌∷◌, true, false, Some, None, Err, refl, codes}
+use Rattle.hippo_io.specs.Lines.{too_long_line, not_utf8_line}
+use Rattle.hippo_lines.specs.Forms.{logs_out, fetches, says_nothing, makes_request}
+use Rattle.hippo_report.specs.declared.refusal.Refusal.TheVariants.{BadLine, LineTooLong, BadSyntax, BadMoment, Unsupported}
 use Rattle.hippo_report.specs.declared.speaker.Speaker.TheVariants.{Nobody, Session}
-use Rattle.hippo_lexer.specs.declared.kinds.Token.{Token}
 use Rattle.hippo_lexer.specs.declared.kinds.TokenKind.TheVariants as kinds
 use Rattle.hippo_lexer.specs.declared.faults.SyntaxFault.TheVariants as syntax
-use Rattle.hippo_commands.specs.Commands.{nothing, wrong, make_request, command_by, command_of, clock_command, syntax_refusal, state_command, who_commands, takes_memory}
+use Rattle.hippo_commands.specs.Commands.{nothing, wrong, make_request, command_by, command_of, clock_command, syntax_refusal, state_command, takes_memory}
 
 too_long_is_nobodys : command_of too_long_line ≡ wrong Nobody LineTooLong
 too_long_is_nobodys = refl

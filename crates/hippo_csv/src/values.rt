@@ -1,5 +1,5 @@
 //! The values of fields.
-ghost use Rattle.std.specs.Prelude.{◌≡◌, true, map, length, ok_or, IfOk};
+ghost use Rattle.std.specs.Prelude.{◌≡◌, true, length, ok_or, IfOk};
 ghost use Rattle.std.specs.Bool.{then_some};
 ghost use Rattle.std.specs.Char.{is_ascii_digit};
 ghost use Rattle.std.specs.List.{list_all};

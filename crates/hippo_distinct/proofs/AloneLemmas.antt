@@ -1,5 +1,5 @@
 -- The marks of an answer's rows, one combination more; and the tuples that they say are needed.
-use Rattle.std.proofs.Common.{◌≡◌, ℕ, zero, suc, ◌<◌, Bool, true, false, not, cond, ◌&&◌, ◌||◌, List, [], ◌∷◌, ◌++◌, map, length, refl, sym, ap, subst, ◌∙◌, Option, Some, None, unwrap_or}
+use Rattle.std.proofs.Common.{◌≡◌, ℕ, zero, suc, Bool, true, false, not, cond, ◌&&◌, ◌||◌, List, [], ◌∷◌, ◌++◌, map, length, refl, sym, ap, subst, ◌∙◌, Option, Some, None, unwrap_or}
 use Rattle.std.specs.Prelude.{filter, find, slice_get, Result, Ok, Err, IfOk}
 use Rattle.std.specs.List.{All, list_any, list_all}
 use Rattle.std.specs.Map.{lookup}

@@ -1,5 +1,5 @@
 //! The lines of replies, counted by their second words.
-ghost use Rattle.std.specs.Prelude.{◌≡◌, ◌+◌, List, ℕ, [], ◌∷◌, ◌++◌, length, codes, bytes_eq, string_bytes, OnOk, OnErr, IfOk};
+ghost use Rattle.std.specs.Prelude.{◌≡◌, ◌+◌, List, [], ◌∷◌, ◌++◌, bytes_eq, string_bytes, IfOk};
 ghost use Rattle.std.specs.List.{before_first, after_first};
 ghost use Rattle.hippo_values.specs.Texts.{Txt as Text, is_space};
 ghost use Rattle.hippo_drill.specs.Counting.{second_word, lines_with, summary_of};

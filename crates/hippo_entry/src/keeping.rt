@@ -1,7 +1,6 @@
 //! Whether an entry can be kept: what the types of its parts leave open.
 ghost use Rattle.std.specs.Prelude.{◌≡◌, ◌&&◌, nat_le, nat_lt};
 ghost use Rattle.std.specs.List.{list_all};
-ghost use Rattle.hippo_values.specs.Limits.{text_limit, line_limit};
 ghost use Rattle.hippo_values.specs.Moments.{is_day, is_moment, is_signed_number};
 ghost use Rattle.hippo_model.specs.Keepable.{is_folded_name, is_text, cells_are_keepable, columns_are_keepable};
 ghost use Rattle.hippo_model.specs.Keepable.{key_is_keepable, subject_is_keepable, days_are_keepable, item_is_keepable};

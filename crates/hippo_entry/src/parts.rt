@@ -1,6 +1,5 @@
 //! The parts of an entry, in bytes.
 ghost use Rattle.std.specs.Prelude.{◌≡◌, [], ◌∷◌, ◌++◌, flat_map, IfOk, OnOk};
-ghost use Rattle.std.specs.Int.{from_bool};
 ghost use Rattle.hippo_model.specs.StoredForms.{number_bytes, signed_bytes, name_bytes, text_bytes, list_bytes};
 ghost use Rattle.hippo_model.specs.StoredForms.{place_bytes, value_bytes, column_kind, column_bytes};
 

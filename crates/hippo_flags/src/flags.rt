@@ -3,8 +3,7 @@ ghost use Rattle.std.specs.Prelude.{◌≡◌, ◌++◌, codes, OnOk, OnErr};
 ghost use Rattle.csv.specs.Writing.{default_writer, row_text};
 ghost use Rattle.serde_json.specs.Written.{compact_text};
 ghost use Rattle.hippo_text_forms.specs.Printing.{AddsText, KeepsFront};
-ghost use Rattle.hippo_report.specs.Cells.{tuple_text};
-ghost use Rattle.hippo_flags.specs.Flags.{question_text, flag_text, flag_data, flag_fields, formatted_flag, flag_line};
+ghost use Rattle.hippo_flags.specs.Flags.{question_text, flag_text, flag_data, flag_fields, flag_line};
 
 use crate::csv_flags::flag_bytes;
 use crate::json_flags::flag_json;

@@ -9,7 +9,6 @@ use Rattle.std.proofs.lemmas.Simd.{map-map}
 use Rattle.hippo_values.specs.declared.values.Value.{Value}
 use Rattle.hippo_values.specs.Order.{value_cmp}
 use Rattle.hippo_model.specs.declared.cells.Cell.{Cell}
-use Rattle.hippo_model.specs.declared.cells.Cell.TheVariants.{Denied}
 use Rattle.hippo_model.specs.declared.query.Masked.{Masked}
 use Rattle.hippo_model.specs.declared.query.Out.{Out}
 use Rattle.hippo_model.specs.declared.query.Out.TheVariants.{Column, Min, Max}
@@ -17,19 +16,18 @@ use Rattle.hippo_model.specs.declared.query.Shape.{Shape}
 use Rattle.hippo_model.specs.Terms.{Combination, ShownRow, Place}
 use Rattle.hippo_model.specs.Conditions.{is_null}
 use Rattle.hippo_model.specs.Bags.{same_cell, same_row, same_bag}
-use Rattle.hippo_model.specs.Forms.{different_rows, least_value, greatest_value, values_in, group_cell, grouped_rows}
+use Rattle.hippo_model.specs.Forms.{least_value, greatest_value, values_in, group_cell, grouped_rows}
 use Rattle.hippo_model.specs.Masking.{Choices, is_guarded, masked_passes, masked_items}
 use Rattle.hippo_keyed_rows.specs.RowSets.{KeyedRows}
 use Rattle.hippo_eval.specs.Answering.{masked_rows}
 use Rattle.hippo_distinct.proofs.NeededRows.{same_cell-refl, same_row-refl}
 use Rattle.hippo_distinct.proofs.NeededGroups.{needs_what_changes_groups}
-use Rattle.hippo_shared.specs.declared.marks.Mark.TheVariants.{Unmarked, One, Several}
+use Rattle.hippo_shared.specs.declared.marks.Mark.TheVariants.{One, Several}
 use Rattle.hippo_shared.specs.Marks.{row_places, same_places, mark_of, is_one}
-use Rattle.hippo_groups.specs.declared.group_marks.Best.{Best}
 use Rattle.hippo_groups.specs.declared.group_marks.GroupMarks.{GroupMarks}
 use Rattle.hippo_groups.specs.GroupMarks.{PlacedRow, placed_rows, shown_value, member_places, best_by, best_of, marks_of, is_best_changed, changes_without}
 use Rattle.hippo_groups.specs.KeptGroups.{members_of, keys_of}
-use Rattle.hippo_groups.proofs.BestTheorem.{IsBest, least_is_best, greatest_is_best, who_have_it, some-have-it, changes}
+use Rattle.hippo_groups.proofs.BestTheorem.{IsBest, least_is_best, greatest_is_best, some-have-it, changes}
 use Rattle.hippo_groups.proofs.GroupLemmas.{any-different_rows, kept_at}
 
 -- equal places are the same

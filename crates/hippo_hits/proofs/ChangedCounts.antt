@@ -1,6 +1,6 @@
 -- Counts that are those of an audit's hits are still, once an entry was taken in; and were so, once it is taken back.
-use Rattle.std.proofs.Common.{◌≡◌, ◌∙◌, ◌≤◌, ◌<◌, ℕ, zero, suc, ◌+◌, ◌-◌, Bool, true, false, not, cond, List, [], ◌∷◌, ◌++◌, length, get_or, Option, Some, None, is_some, refl, sym, ap, subst, arith, if◌then◌else◌}
-use Rattle.std.specs.Prelude.{min, nat_lt, bytes_eq, position, slice_set, option_and_then}
+use Rattle.std.proofs.Common.{◌≡◌, ◌∙◌, ◌≤◌, ◌<◌, ℕ, zero, suc, ◌+◌, ◌-◌, Bool, true, false, not, cond, List, [], ◌∷◌, ◌++◌, length, get_or, Option, Some, None, is_some, refl, sym, ap, arith, if◌then◌else◌}
+use Rattle.std.specs.Prelude.{min, nat_lt, bytes_eq, position, slice_set}
 use Rattle.std.specs.List.{AllByRecursion, IsDistinct, position_or_len}
 use Rattle.std.specs.Option.{option_map_or}
 use Rattle.std.proofs.lemmas.Bool.{false≢true, lt-ltb}
@@ -12,8 +12,6 @@ use Rattle.hippo_model.specs.declared.audit.Audit.{Audit}
 use Rattle.hippo_model.specs.declared.entry.Act.{Act}
 use Rattle.hippo_model.specs.declared.entry.Act.TheVariants.{Insert, Update, Delete}
 use Rattle.hippo_model.specs.declared.entry.Entry.{Entry}
-use Rattle.hippo_model.specs.declared.query.CondOf.{CondOf}
-use Rattle.hippo_model.specs.declared.query.Operand.{Operand}
 use Rattle.hippo_model.specs.declared.schema.Schema.{Schema}
 use Rattle.hippo_model.specs.Terms.{History, Row, Place}
 use Rattle.hippo_model.specs.Histories.{schema_at}
@@ -25,8 +23,8 @@ use Rattle.hippo_model.specs.Versions.{is_version}
 use Rattle.hippo_keyed_rows.proofs.ChangesOfRows.{kept_at-no_version, kept_at-other_table}
 use Rattle.hippo_tables.proofs.StandingLemmas.{schema_at-named}
 use Rattle.hippo_hits.specs.declared.counts.AuditHits.{AuditHits}
-use Rattle.hippo_hits.specs.Rows.{hit_of, hits_among, table_hits}
-use Rattle.hippo_hits.specs.Counts.{AreHits, HasNone, changed_count, audit_place, changed_counts, changed_hits, row_before, taken_in, taken_back}
+use Rattle.hippo_hits.specs.Rows.{hit_of, hits_among}
+use Rattle.hippo_hits.specs.Counts.{AreHits, changed_count, audit_place, changed_counts, changed_hits, row_before, taken_in, taken_back}
 use Rattle.hippo_hits.proofs.ChangedRows.{row_there, there_counted, version_counted, hits_few}
 
 -- ---- the place of a table, where none is named twice

@@ -1,5 +1,5 @@
 -- How many rows of a table conditions find, once one entry more is there.
-use Rattle.std.proofs.Common.{◌≡◌, ◌∙◌, ◌≤◌, ℕ, zero, suc, ◌+◌, Bool, true, false, not, cond, List, [], ◌∷◌, ◌++◌, map, length, drop, filter_map, Option, Some, None, option_map, refl, sym, ap, arith, if◌then◌else◌}
+use Rattle.std.proofs.Common.{◌≡◌, ◌∙◌, ◌≤◌, ℕ, zero, suc, ◌+◌, Bool, true, false, cond, List, [], ◌∷◌, ◌++◌, map, length, drop, filter_map, Option, Some, None, option_map, refl, ap, arith, if◌then◌else◌}
 use Rattle.std.specs.Prelude.{filter, slice_get, bytes_eq}
 use Rattle.std.specs.List.{cons_option}
 use Rattle.std.specs.Ordering.{is_eq, match_ordering}

@@ -1,6 +1,6 @@
 -- The row like another one, as it is found; and counts that are made table by table.
 use Rattle.std.proofs.Common.{◌≡◌, ◌∙◌, ◌<◌, ℕ, zero, suc, List, [], ◌∷◌, ◌++◌, length, get_or, Option, Some, None, option_map, refl, sym, ap, subst, arith}
-use Rattle.std.specs.Prelude.{slice_get, option_and_then, option_copied}
+use Rattle.std.specs.Prelude.{slice_get, option_and_then}
 use Rattle.hippo_values.specs.declared.names.Name.{Name}
 use Rattle.hippo_model.specs.declared.audit.Audit.{Audit}
 use Rattle.hippo_model.specs.declared.born_row.BornRow.{BornRow}
@@ -10,7 +10,7 @@ use Rattle.hippo_model.specs.Histories.{schema_at}
 use Rattle.hippo_model.specs.Hits.{own_conditions, hits}
 use Rattle.hippo_model.specs.Rows.{key_of, row_at, born_at}
 use Rattle.hippo_keyed_rows.specs.RowSets.{KeyedRows, find_row, row_with, kept_at}
-use Rattle.hippo_keyed_rows.proofs.KeptRows.{shown, slice_get-find_row}
+use Rattle.hippo_keyed_rows.proofs.KeptRows.{slice_get-find_row}
 use Rattle.hippo_keyed_rows.proofs.RowsAfter.{row_with-table_rows}
 use Rattle.hippo_tables.specs.declared.tables.Tables.{Tables}
 use Rattle.hippo_tables.specs.Standing.{TablesStandFor}

@@ -1,10 +1,10 @@
 //! How many rows of each of its tables an audit's own conditions find.
-ghost use Rattle.std.specs.Prelude.{◌≡◌, ◌<◌, ℕ, true, length, min, ◌-◌, ◌+◌, slice_index_or, slice_set, option_copied, IfOk};
+ghost use Rattle.std.specs.Prelude.{◌≡◌, ◌<◌, ℕ, true, ◌-◌, ◌+◌, slice_index_or, slice_set, option_copied, IfOk};
 ghost use Rattle.hippo_model.specs.Terms.{History};
 ghost use Rattle.hippo_model.specs.Hits.{own_conditions};
 ghost use Rattle.hippo_tables.specs.Standing.{TablesStandFor};
 ghost use Rattle.hippo_hits.specs.Rows.{hits_among, table_hits};
-ghost use Rattle.hippo_hits.specs.Counts.{AreHits, HasNone, changed_count, audit_place, changed_counts, changed_hits};
+ghost use Rattle.hippo_hits.specs.Counts.{AreHits, HasNone, changed_count, audit_place, changed_hits};
 
 use crate::own::hit_of;
 use hippo_model::{Audit, Cells};

@@ -1,5 +1,5 @@
 //! An audit's own conditions on one of its tables: those whose columns all belong to it.
-ghost use Rattle.std.specs.Prelude.{◌≡◌, ◌||◌, ℕ, not, option_copied};
+ghost use Rattle.std.specs.Prelude.{◌≡◌, ◌||◌, not, option_copied};
 ghost use Rattle.std.specs.List.{list_all};
 ghost use Rattle.hippo_model.specs.Columns.{columns_in, condition_columns};
 ghost use Rattle.hippo_model.specs.Conditions.{is_true, outer_parts};

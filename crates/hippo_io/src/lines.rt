@@ -56,7 +56,7 @@ pub struct LineReader {
 }
 
 impl Model for LineReader {
-    ghost use Rattle.std.specs.Prelude.{◌≡◌, ◌-◌, ◌≤◌, ◌<◌, ◌↔◌, Some, vec_len, slice_range};
+    ghost use Rattle.std.specs.Prelude.{◌≡◌, ◌-◌, ◌≤◌, ◌<◌, ◌↔◌, Some, slice_range};
     ghost use Rattle.hippo_io.specs.Position.{Position};
 
     ghost Value = { Position };
@@ -151,7 +151,7 @@ fn text_of(piece: &[u8]) -> Line<'_>
 }
 
 impl LineReader {
-    ghost use Rattle.hippo_io.specs.HandingOut.{at_beginning, NextLine, HasHandedOut, HasGivenUp, input_limit, bytes_handed_out};
+    ghost use Rattle.hippo_io.specs.HandingOut.{at_beginning, NextLine, HasHandedOut, input_limit, bytes_handed_out};
     ghost use Rattle.hippo_io.specs.Moves.{IsGoing, Refills, FailsToRefill, SkipsLine, GivesUp, FindsNext};
     ghost use Rattle.std.specs.Result.{result_err};
     ghost use Rattle.hippo_io.specs.contracts.lines.LineReader.{the_row};

@@ -1,5 +1,5 @@
 //! A sink in memory that tells what was written, and fails where it is told to.
-ghost use Rattle.std.specs.Prelude.{◌≡◌, ℕ, ◌<◌, ◌≤◌, [], Some, length, take, IfOk, OnOk, OnErr, is_err};
+ghost use Rattle.std.specs.Prelude.{◌≡◌, ◌<◌, ◌≤◌, [], Some, length, take, IfOk, OnOk, OnErr, is_err};
 ghost use Rattle.hippo_io.specs.Faults.{HasRisen};
 ghost use Rattle.hippo_io.specs.Playback.{new_tally, write_fails, tally_after};
 ghost use Rattle.hippo_io.specs.Told.{Keeps, Appends};

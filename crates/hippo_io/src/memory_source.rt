@@ -1,5 +1,5 @@
 //! A source in memory that tells what is left, and fails where it is told to.
-ghost use Rattle.std.specs.Prelude.{◌≡◌, ℕ, ◌<◌, ◌≤◌, Some, length, min, take, IfOk, OnOk, OnErr, is_err};
+ghost use Rattle.std.specs.Prelude.{◌≡◌, ◌<◌, ◌≤◌, Some, length, min, take, IfOk, OnOk, OnErr, is_err};
 ghost use Rattle.hippo_io.specs.Faults.{HasRisen};
 ghost use Rattle.hippo_io.specs.Playback.{new_tally, fails_next, tally_after};
 ghost use Rattle.hippo_io.specs.Told.{Keeps, Takes, IsAtEnd};

@@ -1,5 +1,5 @@
 //! Any writer of std as a sink.
-ghost use Rattle.std.specs.Prelude.{◌≡◌, ℕ, ◌<◌, ◌≤◌, length, take, IfOk, OnOk, OnErr};
+ghost use Rattle.std.specs.Prelude.{◌≡◌, ◌<◌, ◌≤◌, length, take, IfOk, OnOk, OnErr};
 ghost use Rattle.hippo_io.specs.Adapters.{writer_of, write_faults};
 ghost use Rattle.hippo_io.specs.Faults.{HasRisen, next_count};
 ghost use Rattle.hippo_io.specs.Told.{Keeps, Appends};

@@ -1,5 +1,5 @@
 //! Any reader of std as a source.
-ghost use Rattle.std.specs.Prelude.{◌≡◌, ℕ, ◌<◌, ◌≤◌, length, IfOk, OnOk, OnErr};
+ghost use Rattle.std.specs.Prelude.{◌≡◌, ◌<◌, ◌≤◌, length, IfOk, OnOk, OnErr};
 ghost use Rattle.hippo_io.specs.Adapters.{reader_of, read_faults};
 ghost use Rattle.hippo_io.specs.Faults.{HasRisen, next_count};
 ghost use Rattle.hippo_io.specs.Told.{Keeps, Takes, IsAtEnd};

@@ -1,5 +1,5 @@
 -- Calls of a keeper, one after the other.
-use Rattle.std.proofs.Common.{◌≡◌, ◌∙◌, sym, refl, arith, subst, ℕ, Bool, true, false, Result, Ok, Err}
+use Rattle.std.proofs.Common.{◌≡◌, ◌∙◌, sym, refl, arith, subst, ℕ, Bool, true, false, Result}
 use Rattle.std.proofs.lemmas.Bool.{false≢true}
 use Rattle.hippo_io.specs.Faults.{HasRisen}
 use Rattle.hippo_keeper.specs.declared.faults.KeeperFault.{KeeperFault}

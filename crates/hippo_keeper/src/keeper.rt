@@ -1,5 +1,5 @@
 //! What keeps the history: the calls of every keeper, and what they promise.
-ghost use Rattle.std.specs.Prelude.{◌≡◌, ℕ, ◌+◌, ◌^◌, ◌<◌, ◌≤◌, true, false};
+ghost use Rattle.std.specs.Prelude.{◌≡◌, ◌+◌, ◌^◌, ◌<◌, ◌≤◌, true, false};
 ghost use Rattle.hippo_keeper.specs.Keeping.{KeeperState, IsReady, next_number, Starts, AppendsEntry};
 ghost use Rattle.hippo_keeper.specs.Selecting.{is_any, is_stored_version_of, was_asked_in, versions_read, ReadsEntries};
 

@@ -1,5 +1,5 @@
 //! Which kept entries a read hands over.
-ghost use Rattle.std.specs.Prelude.{◌≡◌, ◌+◌, ◌≤◌, length, take, filter, IfOk, OnOk};
+ghost use Rattle.std.specs.Prelude.{◌≡◌, ◌+◌, take, filter, IfOk};
 ghost use Rattle.hippo_keeper.specs.Selecting.{is_stored_version, is_selected, stored_versions};
 
 use crate::steps::Steps;

@@ -1,5 +1,5 @@
 -- Where a row stands that is put in, and where one stands whose place it takes.
-use Rattle.std.proofs.Common.{◌≡◌, ℕ, ◌+◌, ◌<◌, ◌≤◌, true, List, map, length, get_or, set, Some, sym, ap, ◌∙◌, subst, arith}
+use Rattle.std.proofs.Common.{◌≡◌, ℕ, ◌<◌, ◌≤◌, List, map, length, get_or, set, Some, sym, ap, ◌∙◌, arith}
 use Rattle.std.specs.List.{insert, HoldsAt}
 use Rattle.std.specs.List.Sorted.{IsPartitionPoint}
 use Rattle.std.specs.declared.cmp.Ordering.TheVariants.{Less, Equal, Greater}
@@ -9,7 +9,7 @@ use Rattle.std.proofs.lemmas.List.Quantifiers.{position-Some}
 use Rattle.hippo_values.specs.declared.moments.Moment.{Moment}
 use Rattle.hippo_values.specs.Order.{cells_cmp, same_cells}
 use Rattle.hippo_model.specs.declared.born_row.BornRow.{BornRow}
-use Rattle.hippo_model.specs.Terms.{Key, Place, Row}
+use Rattle.hippo_model.specs.Terms.{Place, Row}
 use Rattle.hippo_model.specs.Rows.{key_of}
 use Rattle.hippo_keyed_rows.specs.RowSets.{KeyedRows, IsAscending, IsFree, key_in, put_row, find_row, with_row}
 use Rattle.hippo_keyed_rows.proofs.Orders.{cells_total, same_exact}

@@ -1,5 +1,5 @@
 -- The words of a text, which have spaces between them.
-use Rattle.std.specs.Prelude.{ℕ, Bool, true, false, ◌==◌, List, [], ◌∷◌, length, drop, nat_lt, Option, Some, None, option_map}
+use Rattle.std.specs.Prelude.{Bool, true, false, List, [], ◌∷◌, length, drop, nat_lt, Option, Some, None, option_map}
 use Rattle.std.specs.List.{filter, slice_split, prefix_len, position_or_len, before_first, after_first}
 use Rattle.std.specs.Bool.{then_some}
 use Rattle.hippo_values.specs.Texts.{Txt, is_space}

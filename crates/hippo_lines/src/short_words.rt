@@ -1,5 +1,5 @@
 //! The short words, which say what form a line has.
-ghost use Rattle.std.specs.Prelude.{◌≡◌, map, bytes_eq};
+ghost use Rattle.std.specs.Prelude.{◌≡◌, bytes_eq};
 ghost use Rattle.std.specs.Map.{lookup};
 ghost use Rattle.hippo_values.specs.Names.{lower_case};
 ghost use Rattle.hippo_lines.specs.Forms.{short_word_of};

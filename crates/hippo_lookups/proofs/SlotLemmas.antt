@@ -1,12 +1,11 @@
 -- Rows that are chosen, and combinations that agree with them.
-use Rattle.std.proofs.Common.{◌≡◌, ℕ, zero, suc, ◌+◌, ◌<◌, ◌≤◌, true, false, ◌&&◌, List, [], ◌∷◌, ◌++◌, map, length, drop, refl, sym, ap, ◌∙◌, arith, Option, Some, None, unwrap_or, add-one, append_assoc, subst, not, nat_lt, ℤ, int_le}
-use Rattle.std.specs.Prelude.{slice_get, option_map}
+use Rattle.std.proofs.Common.{◌≡◌, ℕ, zero, suc, ◌+◌, ◌≤◌, true, false, ◌&&◌, List, [], ◌∷◌, ◌++◌, map, length, drop, refl, sym, ap, ◌∙◌, arith, Option, Some, None, unwrap_or, add-one, append_assoc, subst, not, nat_lt, int_le}
+use Rattle.std.specs.Prelude.{slice_get}
 use Rattle.std.specs.Prelude.{replicate, slice_set}
 use Rattle.std.specs.Option.{option_map_or}
 use Rattle.std.proofs.lemmas.Bool.{and_parts, false≢true}
 use Rattle.std.proofs.Math.Seq.{drop-nil}
 use Rattle.std.proofs.lemmas.List.{append-nil, drop_all, set-set}
-use Rattle.hippo_values.specs.declared.values.Value.{Value}
 use Rattle.hippo_values.specs.declared.values.Value.TheVariants.{Null as NullValue}
 use Rattle.hippo_model.specs.declared.cells.Cell.TheVariants.{Shown}
 use Rattle.hippo_model.specs.declared.born_row.BornRow.{BornRow}

@@ -4,13 +4,14 @@ ghost use Rattle.hippo_model.specs.declared.cells.Cell.TheVariants.{Shown};
 
 use hippo_values::{Duplicate, Memory, Sequence, Value};
 use std::alloc::Global;
+use std::hash::Hash;
 
 /// The values of a row, one for each column, or those of its key, in the key's order.
 pub type Cells = Sequence<Value>;
 
 /// A value shown, or denied by the rule with this entry number (0 where no rule ever spoke of the
 /// cell).
-#[derive(Debug, Drop, PartialEq, Eq, PartialOrd, Ord)]
+#[derive(Debug, Drop, PartialEq, Eq, PartialOrd, Ord, Hash)]
 pub enum Cell {
     Shown(Value),
     Denied(u64),

@@ -1,5 +1,5 @@
 //! The rules, choices, authorizations and items of a history, at every entry number.
-ghost use Rattle.std.specs.Prelude.{◌≡◌, ℕ, true, IsOk, ◌∷◌, [], ◌++◌, ◌+◌, length, take, map, option_map, OnOk, OnErr, IfOk};
+ghost use Rattle.std.specs.Prelude.{◌≡◌, ℕ, true, IsOk, ◌∷◌, [], ◌++◌, ◌+◌, OnOk, OnErr, IfOk};
 ghost use Rattle.hippo_model.specs.Terms.{History};
 ghost use Rattle.hippo_model.specs.declared.entry.Entry.{Entry as HistoryEntry};
 ghost use Rattle.hippo_model.specs.declared.entry.Act.{Act as HistoryAct};

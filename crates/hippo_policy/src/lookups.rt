@@ -1,5 +1,5 @@
 //! What the rules, choices and authorizations were at an entry number.
-ghost use Rattle.std.specs.Prelude.{◌≡◌, ℕ, take, option_copied, option_map, Bool, Some};
+ghost use Rattle.std.specs.Prelude.{◌≡◌, take, option_copied, Some};
 ghost use Rattle.hippo_model.specs.Terms.{History};
 ghost use Rattle.hippo_model.specs.Histories.{item_at};
 ghost use Rattle.hippo_model.specs.Rules.{rule_at, choice_at, authorized_at};

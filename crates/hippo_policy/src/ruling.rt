@@ -1,5 +1,5 @@
 //! What an ALLOW or a REVOKE says of a cell.
-ghost use Rattle.std.specs.Prelude.{◌≡◌, IfOk, Some, option_map};
+ghost use Rattle.std.specs.Prelude.{◌≡◌, IfOk, Some};
 ghost use Rattle.hippo_model.specs.Rules.{allowed, revoked};
 ghost use Rattle.hippo_policy.specs.Rulings.{ruling_of, ruling_in};
 

@@ -1,7 +1,7 @@
 //! Whether a cell is shown, at an entry number.
-ghost use Rattle.std.specs.Prelude.{◌≡◌, take, option_copied, Some, ◌-ℤ◌, pos, ◌*◌};
+ghost use Rattle.std.specs.Prelude.{◌≡◌, take, option_copied, Some, ◌-ℤ◌, ◌*◌};
 ghost use Rattle.hippo_model.specs.Terms.{History};
-ghost use Rattle.hippo_model.specs.Verdicts.{subject_of, consents, days_long, has_ended, verdict, verdict_by};
+ghost use Rattle.hippo_model.specs.Verdicts.{subject_of, consents, has_ended, verdict, verdict_by};
 ghost use Rattle.hippo_policy.specs.Books.{BookStandsFor};
 
 use crate::book::PolicyBook;

@@ -1,5 +1,5 @@
 -- What a program comes to where nothing was loaded.
-use Rattle.std.proofs.Common.{◌≡◌, ℕ, inl, inr, Option, refl, sym, subst}
+use Rattle.std.proofs.Common.{ℕ, inl, inr, Option, refl, sym, subst}
 use Rattle.hippo_values.specs.Texts.{Txt}
 use Rattle.hippo_keeper.specs.Keeping.{KeeperState}
 use Rattle.hippo_keeper.proofs.Results.{err_of}

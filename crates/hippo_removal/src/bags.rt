@@ -1,5 +1,5 @@
 //! Answers compared as bags.
-ghost use Rattle.std.specs.Prelude.{◌≡◌, ◌==◌, count_by};
+ghost use Rattle.std.specs.Prelude.{◌≡◌, ◌==◌};
 ghost use Rattle.std.specs.List.{list_all};
 ghost use Rattle.hippo_model.specs.Bags.{same_cell, same_row, occurrences, same_bag};
 

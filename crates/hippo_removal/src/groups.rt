@@ -1,5 +1,5 @@
 //! A row for each group, as the definitions make it.
-ghost use Rattle.std.specs.Prelude.{◌≡◌, filter, map, slice_index_or, take, IfOk};
+ghost use Rattle.std.specs.Prelude.{◌≡◌, map, slice_index_or, take, IfOk};
 ghost use Rattle.hippo_model.specs.declared.cells.Cell.TheVariants.{Shown as ShownCell, Denied as DeniedCell};
 ghost use Rattle.hippo_model.specs.Bags.{same_row};
 ghost use Rattle.hippo_model.specs.Forms.{value_in, lesser, greater, least_value, greatest_value, members, values_in};

@@ -1,12 +1,11 @@
 //! Virtual tuples of rows at hand, and the combinations that have them.
-ghost use Rattle.std.specs.Prelude.{◌≡◌, ◌∷◌, [], map, slice_index_or, option_copied, IfOk};
+ghost use Rattle.std.specs.Prelude.{◌≡◌, [], slice_index_or, option_copied, IfOk};
 ghost use Rattle.hippo_values.specs.Order.{same_cells};
 ghost use Rattle.hippo_model.specs.Rows.{cell_at};
 ghost use Rattle.hippo_keyed_rows.specs.RowSets.{key_in};
 ghost use Rattle.hippo_eval.specs.LentCells.{or_null};
 ghost use Rattle.hippo_lookups.specs.Places.{blank};
-ghost use Rattle.hippo_shared.specs.Sharing.{rows_named, shared_key_in, has_tuple_in, common_tables};
-ghost use Rattle.hippo_removal.specs.Removing.{tuple_of};
+ghost use Rattle.hippo_shared.specs.Sharing.{shared_key_in, has_tuple_in};
 
 use hippo_model::{Cells, Combo, Names, SharedRow, SharedTuple};
 use hippo_rows::Sets;

@@ -1,5 +1,5 @@
 //! Replies that say that a line was carried out, or how many rows or flags there were.
-ghost use Rattle.std.specs.Prelude.{◌≡◌, ◌+◌, ◌≤◌, ◌++◌, length, codes, IsOk, OnOk, OnErr};
+ghost use Rattle.std.specs.Prelude.{◌≡◌, ◌+◌, ◌≤◌, ◌++◌, length, IsOk, OnOk, OnErr};
 ghost use Rattle.hippo_report.specs.Notices.{done_line, number_line};
 
 use crate::pieces::append_pieces;

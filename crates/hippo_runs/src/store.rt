@@ -1,5 +1,5 @@
 //! The entries that a call left, which rows may change before the next one.
-ghost use Rattle.std.specs.Prelude.{◌≡◌, false, IsTrue, IfSome};
+ghost use Rattle.std.specs.Prelude.{false, IsTrue, IfSome};
 ghost use Rattle.hippo_keeper.specs.Keeping.{IsReady, RisesAbove};
 ghost use Rattle.hippo_keeper.specs.MemoryKeeping.{memory_keeper_state};
 

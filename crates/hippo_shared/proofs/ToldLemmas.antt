@@ -6,13 +6,12 @@ use Rattle.hippo_model.specs.declared.query.Masked.{Masked}
 use Rattle.hippo_model.specs.Masking.{Choices}
 use Rattle.hippo_keyed_rows.specs.RowSets.{KeyedRows}
 use Rattle.hippo_model.specs.Terms.{Place}
-use Rattle.hippo_sides.specs.declared.sides.Side.{Side}
-use Rattle.hippo_join.specs.Existence.{HasOne, Decides}
+use Rattle.hippo_join.specs.Existence.{Decides}
 use Rattle.hippo_lookups.specs.Places.{Fits, slot_at, stands}
 use Rattle.hippo_lookups.proofs.SlotLemmas.{Fits-at}
 use Rattle.hippo_shared.specs.declared.sides.Sides.{Sides}
 use Rattle.hippo_shared.specs.FirstPlaces.{AgreeAt, AreChosen, AreFirst, IsFirst}
-use Rattle.hippo_shared.specs.Searching.{AreTold, HasOneOf, HaveCommon, IsOnlyShared, SharedBy}
+use Rattle.hippo_shared.specs.Searching.{AreTold, HasOneOf, HaveCommon, IsOnlyShared}
 use Rattle.hippo_shared.proofs.SideLemmas.{share-both, one-agrees}
 
 -- ---- places that are chosen in some tables

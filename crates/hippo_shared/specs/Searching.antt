@@ -1,5 +1,5 @@
 -- The search for the first places of the common tables' rows: what it counts on, and what it finds.
-use Rattle.std.specs.Prelude.{◌≡◌, ℕ, ◌<◌, true, List, [], ◌∷◌, get_or, map, length, replicate, Option, None, Result, OnOk, IfOk, option_map}
+use Rattle.std.specs.Prelude.{◌≡◌, ℕ, true, List, [], ◌∷◌, get_or, map, length, replicate, Option, None, Result, OnOk, IfOk, option_map}
 use Rattle.std.specs.List.{All, Contains}
 use Rattle.std.specs.List.Sorted.{IsNonDecreasing}
 use Rattle.std.specs.Global.{Vec}

@@ -1,5 +1,5 @@
 //! The tables that a query and an audit have in common.
-ghost use Rattle.std.specs.Prelude.{◌≡◌, ◌<◌, ◌≤◌, List, IfOk, length, map, nat_eq, take};
+ghost use Rattle.std.specs.Prelude.{◌≡◌, ◌<◌, ◌≤◌, IfOk, length, map, nat_eq, take};
 ghost use Rattle.std.specs.List.{All, Contains, list_any};
 ghost use Rattle.hippo_model.specs.Terms.{Place};
 ghost use Rattle.hippo_shared.specs.Sharing.{common_tables, place_in};

@@ -1,5 +1,5 @@
 //! The rules in force, a line a column.
-ghost use Rattle.std.specs.Prelude.{◌≡◌, ◌++◌, ◌&&◌, ◌∷◌, [], Some, take, option_copied, slice_get, flat_map, is_some, OnOk, codes};
+ghost use Rattle.std.specs.Prelude.{◌≡◌, ◌++◌, ◌&&◌, [], Some, take, option_copied, slice_get, flat_map, is_some, OnOk, codes};
 ghost use Rattle.std.specs.Option.{option_map_or};
 ghost use Rattle.hippo_model.specs.Terms.{History};
 ghost use Rattle.hippo_model.specs.Rules.{allowed, revoked};

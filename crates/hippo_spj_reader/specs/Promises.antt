@@ -1,5 +1,5 @@
 -- What a reader promises, against what can be found at the front of its tokens.
-use Rattle.std.specs.Prelude.{◌≡◌, ◌<◌, ◌≤◌, List, [], ◌∷◌, length, Option, Some, None, option_and_then, option_map, IfSome, IfOk, IfErr, Result, Ok, Err}
+use Rattle.std.specs.Prelude.{◌≡◌, ◌<◌, ◌≤◌, List, [], ◌∷◌, length, Option, Some, None, option_map, IfSome, IfOk, IfErr, Result, Ok, Err}
 use Rattle.hippo_values.specs.Options.{◌>>=◌}
 use denote.Ref.{Bor}
 use Rattle.hippo_lexer.specs.declared.faults.SyntaxFault.{SyntaxFault}

@@ -1,6 +1,6 @@
 //! Conditions, operands and columns.
 
-ghost use Rattle.std.specs.Prelude.{◌≡◌, ◌≢◌, ℕ, ◌<◌, ◌≤◌, [], ◌∷◌, length, IfOk, slice_range, IfSome, option_map, MatchResult};
+ghost use Rattle.std.specs.Prelude.{◌≡◌, ◌≢◌, ℕ, ◌<◌, ◌≤◌, [], ◌∷◌, length, slice_range, IfSome, option_map, MatchResult};
 ghost use Rattle.hippo_lexer.specs.Words.{words_check};
 ghost use Rattle.hippo_spj_reader.specs.Promises.{Gives, GivesPart, LeavesNoMore, Reads, ReadsAll};
 ghost use Rattle.hippo_spj_reader.specs.Front.{kinds, kinds_between};

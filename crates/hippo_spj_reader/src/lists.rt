@@ -1,7 +1,5 @@
 //! The rules of the grammar as types, lists of their parts, and texts that are one part and nothing
 //! more.
-
-ghost use Rattle.std.specs.Prelude.{◌≡◌, ◌≤◌, length};
 ghost use Rattle.hippo_spj_reader.specs.Promises.{Gives, Reads, Passes, whole_of};
 ghost use Rattle.hippo_spj_reader.specs.Front.{kinds};
 ghost use Rattle.hippo_spj_reader.specs.ListFinder.{leading_list};

@@ -1,5 +1,5 @@
 -- The conditions of the queries say of a row what the tests say of its entry.
-use Rattle.std.proofs.Common.{◌≡◌, ◌∙◌, ℕ, zero, suc, ◌+◌, ◌<◌, ◌≤◌, ℤ, pos, negsuc, List, [], ◌∷◌, nat_lt, ◌==◌, int_le, bytes_eq, Bool, true, false, cond, ◌&&◌, ◌||◌, refl, sym, ap, ap₂, Less, Equal, Greater, int_cmp, arith}
+use Rattle.std.proofs.Common.{◌≡◌, ◌∙◌, ℕ, ℤ, pos, negsuc, List, [], ◌∷◌, nat_lt, ◌==◌, int_le, bytes_eq, Bool, true, false, ◌&&◌, ◌||◌, refl, ap, int_cmp, arith}
 use Rattle.std.proofs.lemmas.Bool.Decides.{nat_tests}
 use Rattle.std.proofs.lemmas.Map.Text.{is_eq-slice_cmp}
 use Rattle.std.specs.List.{list_all}

@@ -1,13 +1,12 @@
 //! The entries that rows of the table stand for.
 ghost use Rattle.std.specs.Prelude.{◌≡◌, ℕ, ◌≤◌, ◌<◌, ℤ, pos, List, length, map, Some, option_copied, IfOk, IfSome};
 ghost use Rattle.std.specs.declared.cmp.Ordering.TheVariants.{Less};
-ghost use Rattle.std.specs.List.{AllByRecursion};
 ghost use Rattle.std.specs.Ordering.{int_cmp};
 ghost use Rattle.sqlite_value.specs.declared.value.Value.TheVariants.{Int, Text, Blob};
 ghost use Rattle.sqlite_value.specs.Order.{column};
 ghost use Rattle.sqlite_trees.specs.Objects.{number_in};
 ghost use Rattle.hippo_keeper.specs.Keeping.{RisesAbove};
-ghost use Rattle.hippo_sqlite.specs.Tables.{HistoryRow, shown_row, stored_row, entry_in, kind_in, AreInOrder, AreAbove};
+ghost use Rattle.hippo_sqlite.specs.Tables.{HistoryRow, shown_row, stored_row, entry_in, kind_in, AreAbove};
 
 use hippo_keeper::KeeperFault;
 use hippo_model::{StoredEntry, StoredList};

@@ -2,7 +2,7 @@
 ghost use Rattle.std.specs.Prelude.{◌≡◌, ◌↔◌, ℕ, List, false, IfOk, OnOk, OnErr};
 ghost use Rattle.hippo_keeper.specs.Keeping.{Store, IsReady};
 ghost use Rattle.hippo_sqlite.specs.Links.{link_contents};
-ghost use Rattle.hippo_sqlite.specs.Standings.{new_standing, finds_by, sqlite_keeper_state, IsStarted};
+ghost use Rattle.hippo_sqlite.specs.Standings.{finds_by, sqlite_keeper_state, IsStarted};
 
 use crate::link::Link;
 use crate::opener::Opener;

@@ -1,5 +1,5 @@
 //! A keeper's connection to its store.
-ghost use Rattle.std.specs.Prelude.{◌≡◌, ℕ, ◌+◌, ◌^◌, ◌<◌, ◌≤◌, true, false, Err, List, [], map, length, if◌then◌else◌, IfOk};
+ghost use Rattle.std.specs.Prelude.{◌≡◌, ◌+◌, ◌^◌, ◌<◌, ◌≤◌, true, false, Err, List, [], map, length, if◌then◌else◌, IfOk};
 ghost use Rattle.sqlite.specs.State.{HasCleanDisk, Survives, CommitsShowing, Opens, IsLive};
 ghost use Rattle.sqlite.specs.Held.{state};
 ghost use Rattle.hippo_keeper.specs.Answering.{has_failed};

@@ -1,5 +1,5 @@
 //! AUTHORIZE, DEAUTHORIZE, ALLOW, REVOKE and CHOICE.
-ghost use Rattle.std.specs.Prelude.{◌≡◌, ◌<◌, ◌≤◌, length, IfOk};
+ghost use Rattle.std.specs.Prelude.{◌≡◌, ◌<◌};
 ghost use Rattle.hippo_spj_reader.specs.Promises.{Gives, Reads};
 ghost use Rattle.hippo_spj_reader.specs.Front.{kinds};
 ghost use Rattle.hippo_stmt_reader.specs.StatementFinder.{leading_grant, authorize_of, deauthorize_of, leading_disclosure, leading_with_item, days_of, leading_retention, allow_of, revoke_of, leading_yes_or_no, choice_of};

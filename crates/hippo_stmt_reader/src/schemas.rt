@@ -1,5 +1,5 @@
 //! CREATE TABLE, PURPOSE, RECIPIENT and ITEM.
-ghost use Rattle.std.specs.Prelude.{◌≡◌, ◌<◌, ◌≤◌, length, option_map, IfOk, IfSome};
+ghost use Rattle.std.specs.Prelude.{◌≡◌, ◌<◌, length, option_map, IfSome};
 ghost use Rattle.hippo_spj_reader.specs.Promises.{Gives, Reads};
 ghost use Rattle.hippo_spj_reader.specs.Front.{kinds};
 ghost use Rattle.hippo_stmt_reader.specs.StatementFinder.{column_kind_of, leading_column_kind, leading_column_def, after_column, leading_subject, create_table_of, create_purpose_of, create_recipient_of, leading_item_kind, create_item_of, create_of};

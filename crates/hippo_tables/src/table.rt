@@ -1,9 +1,9 @@
 //! One table: its schema and rows, and which entry named each row's key last.
-ghost use Rattle.std.specs.Prelude.{◌≡◌, ◌∷◌, [], ◌++◌, map, option_copied, option_map, option_and_then, slice_get, slice_index_or, OnOk, OnErr, IfOk, None};
+ghost use Rattle.std.specs.Prelude.{◌≡◌, option_copied, option_map, option_and_then, slice_get, slice_index_or, OnOk, OnErr, IfOk, None};
 ghost use Rattle.hippo_model.specs.Rows.{cell_at, key_of};
 ghost use Rattle.hippo_keyed_rows.specs.RowSets.{find_row};
 ghost use Rattle.hippo_tables.specs.Before.{before_of, renewed_table};
-ghost use Rattle.hippo_tables.specs.KeptTables.{KeptTable, empty_table, grown_table, after_insert, after_update, after_delete};
+ghost use Rattle.hippo_tables.specs.KeptTables.{KeptTable, empty_table, after_insert, after_update, after_delete};
 
 use hippo_keyed_rows::Pieces;
 use hippo_model::{Cells, Schema};

@@ -1,5 +1,5 @@
 //! The tables of a history.
-ghost use Rattle.std.specs.Prelude.{◌≡◌, ◌∷◌, [], ◌++◌, true, IsOk, OnOk, OnErr, IfOk, option_copied, option_map, option_and_then, if◌then◌else◌, bytes_eq};
+ghost use Rattle.std.specs.Prelude.{◌≡◌, [], true, IsOk, OnOk, OnErr, IfOk, option_copied, option_map, option_and_then, bytes_eq};
 ghost use Rattle.std.specs.HashMap.{get};
 ghost use Rattle.hippo_values.specs.declared.names.Name.{Name as TableName};
 ghost use Rattle.hippo_model.specs.Terms.{History};
@@ -7,10 +7,10 @@ ghost use Rattle.hippo_model.specs.declared.entry.Entry.{Entry as HistoryEntry};
 ghost use Rattle.hippo_model.specs.Histories.{schema_at};
 ghost use Rattle.hippo_model.specs.Rows.{key_of};
 ghost use Rattle.hippo_keyed_rows.specs.RowSets.{kept_at};
-ghost use Rattle.hippo_tables.specs.KeptTables.{KeptTable, after_insert, after_update, after_delete};
+ghost use Rattle.hippo_tables.specs.KeptTables.{after_insert, after_update, after_delete};
 ghost use Rattle.hippo_tables.specs.Before.{before_of, renewed_table};
 ghost use Rattle.hippo_tables.specs.Finished.{live_row, live_number};
-ghost use Rattle.hippo_tables.specs.Standing.{TablesStandFor, RemembersTables, TablesAdd, TablesAreAsBefore, Makes, InsertsIntoTable, Updates, Deletes, is_delete, leaves_tables, kept_table, with_change};
+ghost use Rattle.hippo_tables.specs.Standing.{TablesStandFor, RemembersTables, TablesAdd, TablesAreAsBefore, Makes, InsertsIntoTable, Updates, Deletes, is_delete, leaves_tables, with_change};
 
 use crate::table::{Before, Table};
 use hippo_model::{Act, Cells, Entry, Schema};

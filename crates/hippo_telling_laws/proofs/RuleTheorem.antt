@@ -22,7 +22,7 @@ use Rattle.hippo_model.specs.Keepable.{is_folded_name, item_is_keepable}
 use Rattle.hippo_model.specs.Terms.{Place}
 use Rattle.hippo_model.specs.Validity.{days_fit}
 use Rattle.hippo_spj_reader.specs.Front.{Kinds}
-use Rattle.hippo_spj_reader.specs.ListGrammar.{IsName, IsListOf}
+use Rattle.hippo_spj_reader.specs.ListGrammar.{IsName}
 use Rattle.hippo_spj_reader.specs.ListGrammar as lists
 use Rattle.hippo_stmt_reader.specs.StatementGrammar.{AreNames, IsWith, IsRetention, no_item, with_item, no_retention, retain, allow, revoke}
 use Rattle.hippo_report.specs.Cells.{comma}

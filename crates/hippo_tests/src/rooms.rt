@@ -1,28 +1,11 @@
 use hippo_csv::extract_line;
 use hippo_model::{Cell, CellRow};
-use hippo_values::{Memory, RoomySequence, RoomyTxt, Sequence, Txt, Value};
+use hippo_values::{Memory, RoomyTxt, Sequence, Txt, Value};
 use std::alloc::Global;
 use std::test::Fail;
 
-// The most rows of an answer.
-const MOST: usize = 100_000;
-
 // The longest line, in bytes.
 const LONGEST: usize = 65_536;
-
-// A room for the most members, filled twice: how many there were each time.
-fn filled_twice(alloc: Global) -> Result<[usize; 2], Memory> {
-    let mut list = RoomySequence::<usize, MOST>::with_room(alloc)?;
-    let mut counts = [0; 2];
-    for count in &mut counts {
-        for number in 0..MOST {
-            list.push(number)?;
-        }
-        *count = list.as_slice().len();
-        list.clear();
-    }
-    Ok(counts)
-}
 
 // A room for the longest line, filled twice: how many bytes there were each time.
 fn text_filled_twice(alloc: Global) -> Result<[usize; 2], Memory> {
@@ -41,14 +24,6 @@ fn text_filled_twice(alloc: Global) -> Result<[usize; 2], Memory> {
 #[test]
 fn room_for_the_longest_line(rt: HostRuntime) {
     assert_eq!(rt; text_filled_twice(rt.alloc()), Ok([LONGEST, LONGEST]));
-}
-
-#[test]
-fn room_for_the_most_members(rt: HostRuntime) -> Result<(), Fail> {
-    let alloc = rt.alloc();
-    assert_eq!(rt; filled_twice(alloc)?, [MOST, MOST]);
-    assert!(rt; Sequence::<Txt>::with_capacity(alloc, MOST)?.is_empty());
-    Ok(())
 }
 
 fn row(alloc: Global) -> Result<CellRow, Memory> {

@@ -1,5 +1,5 @@
 //! A condition with its columns found.
-ghost use Rattle.std.specs.Prelude.{◌≡◌, ◌∷◌, [], flat_map, map, if◌then◌else◌};
+ghost use Rattle.std.specs.Prelude.{◌∷◌, [], flat_map, map, if◌then◌else◌};
 ghost use Rattle.hippo_model.specs.declared.query.CondOf.TheVariants.{All, Any, Not, Compare, Between, Among, Missing};
 ghost use Rattle.hippo_model.specs.declared.query.Operand.TheVariants.{Column, Literal};
 ghost use Rattle.hippo_catalog.specs.Refusals.{Resolves};

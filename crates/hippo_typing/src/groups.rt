@@ -1,5 +1,5 @@
 //! The list and the GROUP BY columns of a grouped select.
-ghost use Rattle.std.specs.Prelude.{◌≡◌, ◌+◌, ◌≤◌, [], ◌∷◌, ◌++◌, map, filter_map, flat_map};
+ghost use Rattle.std.specs.Prelude.{◌≡◌, ◌+◌, ◌≤◌, ◌++◌, map, filter_map, flat_map};
 ghost use Rattle.std.specs.Prelude.{length, option_to_list, is_some, IfOk, OnOk};
 ghost use Rattle.std.specs.List.{list_any, position_or_len};
 ghost use Rattle.hippo_catalog.specs.Refusals.{Resolves};

@@ -1,5 +1,5 @@
 //! The tables of a statement.
-ghost use Rattle.std.specs.Prelude.{◌≡◌, ◌++◌, flat_map};
+ghost use Rattle.std.specs.Prelude.{◌++◌, flat_map};
 ghost use Rattle.hippo_catalog.specs.Catalogs.{schemas_of};
 ghost use Rattle.hippo_catalog.specs.Refusals.{Resolves, unknown_table, repeated_names};
 

@@ -12,11 +12,11 @@ use Rattle.hippo_values.specs.contracts.values.ValuePartialEq.TheImpl as derived
 use Rattle.hippo_values.specs.Order.{kind_rank, value_cmp}
 
 -- the number that a value is made of, and the text
-abbrev number_in : Value → ℤ
-number_in Null = pos 0
-number_in (Int number) = number
-number_in (Text text) = pos 0
-number_in (Day day) = day
+abbrev number_or_zero : Value → ℤ
+number_or_zero Null = pos 0
+number_or_zero (Int number) = number
+number_or_zero (Text text) = pos 0
+number_or_zero (Day day) = day
 
 abbrev text_in : Value → List ℕ
 text_in Null = []
@@ -27,12 +27,12 @@ text_in (Day day) = []
 -- the order by kind, number and text
 abbrev by_parts : Value → Value → Ordering
 by_parts a b = ordering_then (nat_cmp (kind_rank a) (kind_rank b))
-    (ordering_then (int_cmp (number_in a) (number_in b))
+    (ordering_then (int_cmp (number_or_zero a) (number_or_zero b))
     (slice_cmp nat_cmp (text_in a) (text_in b)))
 
 by_parts_total : IsTotalOrder by_parts
 by_parts_total = then_total (on_total kind_rank nat_cmp_total)
-    (then_total (on_total number_in int_cmp_total) (on_total text_in nat_list_cmp_total))
+    (then_total (on_total number_or_zero int_cmp_total) (on_total text_in nat_list_cmp_total))
 
 then_equal : (order : Ordering) → order ≡ ordering_then order Equal
 then_equal Less = refl

@@ -1,14 +1,18 @@
 //! Texts of cells, the short ones of which lie in the value itself.
-ghost use Rattle.std.specs.Prelude.{◌≡◌, ◌≤◌, length, nat_eq, refl, Some, IfOk};
+ghost use Rattle.std.specs.Prelude.{◌≡◌, ◌≤◌, length, nat_eq, refl, Some, IsOk, IfOk};
 ghost use Rattle.std.specs.Ordering.{nat_cmp};
 ghost use Rattle.std.specs.Cmp.{partial_equiv_from_equiv};
 ghost use Rattle.std.specs.Cmp.Lexicographic.{pointwise, slice_cmp, nat_list_eq_equiv, nat_list_cmp_total, texts_ties, texts_po};
+ghost use Rattle.std.specs.Cmp.Rules.{hashing};
+ghost use Rattle.std.specs.Hash as fed;
+ghost use Rattle.std.proofs.Common.{rules};
 ghost use Rattle.hippo_values.specs.CellTexts.{held_text};
 
 use crate::memory::{Duplicate, Memory};
 use std::alloc::Global;
 use std::cmp::Ordering;
 use std::fmt::{self, Debug, Formatter, Write};
+use std::hash::{Hash, Hasher};
 use std::marker::Model;
 use std::rc::RcStr;
 
@@ -86,7 +90,8 @@ impl Model for CellText {
 }
 
 fn make_held(alloc: Global, text: &str) -> Result<Held, Memory>
-    ensures { IfOk result (λ held. held_text held ≡ text.now) }
+    ensures made { IfOk result (λ held. held_text held ≡ text.now) }
+    ensures short { length text.now ≤ ROOM → IsOk result }
 {
     if text.len() <= ROOM {
         Ok(Held::Short(ShortText::new(text)))
@@ -107,7 +112,8 @@ fn copy_held(held: &Held) -> Result<Held, Memory>
 impl CellText {
     /// A text with the same bytes. One of up to 22 bytes takes no memory.
     pub fn from_str(alloc: Global, text: &str) -> Result<CellText, Memory>
-        ensures { IfOk result (λ made. made ≡ text.now) }
+        ensures made { IfOk result (λ made. made ≡ text.now) }
+        ensures short { length text.now ≤ 22 → IsOk result }
     {
         let held = make_held(alloc, text)?;
         Ok(CellText { held })
@@ -171,5 +177,15 @@ impl Ord for CellText {
 
     fn cmp(&self, other: &CellText) -> Ordering {
         self.as_str().cmp(other.as_str())
+    }
+}
+
+impl Hash for CellText {
+    ghost hash_input = { fed.str };
+
+    ghost respects_eq = { Prim.search (hashing, rules) };
+
+    fn hash<H: Hasher>(&self, state: &mut H) {
+        self.as_str().hash(state);
     }
 }

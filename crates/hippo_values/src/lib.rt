@@ -8,7 +8,6 @@ mod limits;
 mod memory;
 mod moments;
 mod names;
-mod roomy_sequence;
 mod sequence;
 mod texts;
 mod truths;
@@ -26,7 +25,6 @@ pub use limits::{
 pub use memory::{Duplicate, Memory};
 pub use moments::{DayNumber, Moment};
 pub use names::{Name, is_name};
-pub use roomy_sequence::RoomySequence;
 pub use sequence::Sequence;
 pub use texts::{RoomyTxt, Txt, keeps_text_rule};
 pub use truths::{CompareOp, Truth, compare, truth_and, truth_not, truth_or};

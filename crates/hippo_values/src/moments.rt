@@ -2,10 +2,11 @@
 ghost use Rattle.std.specs.Prelude.{◌≡◌, SomeIff};
 ghost use Rattle.hippo_values.specs.Moments.{IsDayNumber, IsMoment};
 
+use std::hash::Hash;
 use std::marker::Model;
 
 /// A day of the years 0001 to 9999, as the number of days from 1970-01-01.
-#[derive(Clone, Copy, Debug, PartialEq, Eq, PartialOrd, Ord)]
+#[derive(Clone, Copy, Debug, PartialEq, Eq, PartialOrd, Ord, Hash)]
 pub struct DayNumber {
     day: i32,
 }

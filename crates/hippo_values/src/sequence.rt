@@ -1,16 +1,17 @@
 //! Lists that contracts see as the list of their members.
 ghost use Rattle.std.specs.Prelude.{◌≡◌, [], ◌∷◌, ◌++◌, ◌<◌, ◌↔◌, length, take, slice_get, Some, IsTrue, IfOk, OnOk, OnErr};
-ghost use Rattle.std.specs.Cmp.{on_equiv, on_total, on_po, on_per};
+ghost use Rattle.std.specs.Hash as fed;
+ghost use Rattle.std.specs.Hash.{items_Alike};
 ghost use Rattle.std.specs.Cmp.Lexicographic.{pointwise, slice_cmp, slice_partial_cmp, lists_per, lists_equiv, lists_po, lists_total, lists_agrees, lists_ties};
 
 use crate::memory::{Duplicate, Memory};
 use std::alloc::Global;
 use std::cmp::Ordering;
 use std::fmt::{self, Debug, Formatter, Write};
+use std::hash::{Hash, Hasher};
 use std::marker::Model;
 
-/// A `Vec` that contracts see as the list of its members; of its room they say nothing
-/// (`RoomySequence`).
+/// A `Vec` that contracts see as the list of its members; of its room they say nothing.
 #[derive(Drop)]
 pub struct Sequence<T> {
     members: Vec<T>,
@@ -182,5 +183,15 @@ impl<T: Ord> Ord for Sequence<T> {
 
     fn cmp(&self, other: &Sequence<T>) -> Ordering {
         self.as_slice().cmp(&other.as_slice())
+    }
+}
+
+impl<T: Hash> Hash for Sequence<T> {
+    ghost hash_input = { fed.slice T.hash_input };
+
+    ghost respects_eq = { (items_Alike (record { fed = T.respects_eq })).fed };
+
+    fn hash<H: Hasher>(&self, state: &mut H) {
+        self.as_slice().hash(state);
     }
 }

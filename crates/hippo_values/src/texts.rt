@@ -1,5 +1,5 @@
 //! Texts that contracts see as their bytes.
-ghost use Rattle.std.specs.Prelude.{◌≡◌, ◌+◌, ◌≤◌, ◌==◌, ◌&&◌, not, nat_le, [], ◌++◌, length, take, nat_eq, refl, string_bytes, Some, IsOk, IfOk, OnOk, OnErr};
+ghost use Rattle.std.specs.Prelude.{◌≡◌, ◌+◌, ◌≤◌, ◌==◌, ◌&&◌, [], ◌++◌, length, take, nat_eq, refl, string_bytes, Some, IsOk, IfOk, OnOk, OnErr};
 ghost use Rattle.std.specs.Char.{encode_utf8};
 ghost use Rattle.std.specs.Str.{IsUtf8};
 ghost use Rattle.std.specs.Ordering.{nat_cmp};

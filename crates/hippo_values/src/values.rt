@@ -9,10 +9,11 @@ use crate::memory::{Duplicate, Memory};
 use crate::moments::DayNumber;
 use std::alloc::Global;
 use std::cmp::Ordering;
+use std::hash::Hash;
 
 /// What a cell of a table holds. Values are ordered by kind, in the order of the variants, and then
 /// within it: numbers and days by size, texts by their bytes.
-#[derive(Debug, Drop, PartialEq, Eq)]
+#[derive(Debug, Drop, PartialEq, Eq, Hash)]
 pub enum Value {
     Null,
     Int(i64),

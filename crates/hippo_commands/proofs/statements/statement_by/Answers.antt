@@ -1,7 +1,4 @@
-use Rattle.std.proofs.Common.{◌≡◌, ◌⊎◌, Err, inl, inr, sym, ap}
-use Rattle.hippo_model.specs.declared.statement.Stmt.{Stmt}
-use Rattle.hippo_report.specs.declared.refusal.Refusal.{Refusal}
-use Rattle.hippo_report.specs.declared.refusal.Refusal.TheVariants.{Memory}
+use Rattle.std.proofs.Common.{inl, sym}
 use Rattle.hippo_commands.specs.Commands.{syntax_refusal}
 use Rattle.hippo_commands.proofs.StatementLemmas.{read, refused, told}
 use Rattle.hippo_commands.proofs.statements.statement_by.Goals as goal

@@ -1,5 +1,5 @@
 -- One mark after the other.
-use Rattle.std.proofs.Common.{◌||◌, ap, ◌∙◌}
+use Rattle.std.proofs.Common.{◌||◌, ◌∙◌}
 use Rattle.std.specs.List.{list_any}
 use Rattle.hippo_sides.specs.Finding.{has_places}
 use Rattle.hippo_shared.specs.Marks.{is_one}

@@ -1,5 +1,5 @@
 -- One group after the other.
-use Rattle.std.proofs.Common.{◌||◌, ap, ◌∙◌}
+use Rattle.std.proofs.Common.{◌||◌, ◌∙◌}
 use Rattle.std.specs.List.{list_any}
 use Rattle.std.specs.Vec.Iter.{into_iter_items}
 use Rattle.hippo_sides.specs.Finding.{has_places}

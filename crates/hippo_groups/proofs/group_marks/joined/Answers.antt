@@ -1,10 +1,9 @@
 -- The mark, and the best values that were changed in place.
-use Rattle.std.proofs.Common.{◌≡◌, List, [], ◌∷◌, ◌++◌, map, sym, ap, ◌∙◌, arith}
+use Rattle.std.proofs.Common.{[], ◌∷◌, map, sym, ap, ◌∙◌, arith}
 use Rattle.std.proofs.lemmas.List.{map-append, with_items_is}
-use Rattle.hippo_model.specs.Terms.{Place}
 use Rattle.hippo_shared.specs.Marks.{mark_of}
 use Rattle.hippo_groups.specs.declared.group_marks.GroupMarks.{GroupMarks}
-use Rattle.hippo_groups.specs.GroupMarks.{PlacedRow, member_places, best_of}
+use Rattle.hippo_groups.specs.GroupMarks.{PlacedRow, member_places}
 use Rattle.hippo_groups.proofs.group_marks.joined.Goals as goal
 
 pub returns : goal.returns

@@ -1,5 +1,5 @@
 -- One row more.
-use Rattle.std.proofs.Common.{◌≡◌, ◌∙◌, ◌≤◌, ◌+◌, Some, ap, arith, length, drop, ℕ}
+use Rattle.std.proofs.Common.{◌≡◌, ◌∙◌, ◌+◌, Some, ap, arith, length, drop, ℕ}
 use Rattle.std.specs.Prelude.{filter}
 use Rattle.hippo_model.specs.Hits.{own_conditions, is_hit}
 use Rattle.hippo_hits.specs.Rows.{hit_of}

@@ -1,5 +1,5 @@
 -- The search goes by the keys, which ascend.
-use Rattle.std.proofs.Common.{◌≡◌, Some, sym, ap, ◌∙◌, subst, refl}
+use Rattle.std.proofs.Common.{subst, refl}
 use Rattle.std.specs.Option.{IsSome}
 use Rattle.hippo_model.specs.Rows.{key_of}
 use Rattle.hippo_keyed_rows.specs.RowSets.{KeyedRows, IsFree, find_row}

@@ -1,5 +1,5 @@
 -- The member is written in the piece that is reached, where the old one stood.
-use Rattle.std.proofs.Common.{◌≡◌, ◌-◌, Some, length, slice_set, slice_get, sym, ap, ◌∙◌, subst, arith}
+use Rattle.std.proofs.Common.{◌≡◌, ◌-◌, length, slice_set, slice_get, sym, ap, ◌∙◌, arith}
 use Rattle.hippo_keyed_rows.specs.Pieces.{contents, all_members}
 use Rattle.hippo_keyed_rows.proofs.PiecesLemmas.{joined_written, IsWhole-written, member_reached}
 use Rattle.hippo_keyed_rows.proofs.RowsByKey.{get_or-slice_get}

@@ -1,5 +1,5 @@
 -- The number goes where the row stands.
-use Rattle.std.proofs.Common.{◌≡◌, length, None, Some, unwrap_or, sym, ap, ◌∙◌, arith}
+use Rattle.std.proofs.Common.{◌≡◌, length, unwrap_or, sym, ap, ◌∙◌, arith}
 use Rattle.std.proofs.lemmas.List.Edits.{length-insert}
 use Rattle.hippo_model.specs.declared.born_row.BornRow.{BornRow}
 use Rattle.hippo_model.specs.Terms.{Key}
