@@ -1,48 +1,72 @@
--- What is kept of rows that were found, one row more.
-use Rattle.std.proofs.Common.{◌≡◌, Bool, true, false, cond, ◌||◌, List, [], ◌∷◌, ◌++◌, refl, sym, ap, ◌∙◌}
-use Rattle.std.specs.Ordering.{is_eq}
-use Rattle.std.specs.BTreeSet as tree
+-- Different rows that are kept, one row more.
+use Rattle.std.proofs.Common.{◌≡◌, Bool, true, false, cond, not, ◌&&◌, List, [], ◌∷◌, ◌++◌, refl, sym, ap, ◌∙◌}
+use Rattle.std.specs.List.{list_any, list_all}
+use Rattle.std.specs.Cmp.Lexicographic.{pointwise}
 use Rattle.std.proofs.lemmas.List.{append-nil}
+use Rattle.indexmap.specs.IndexSet.{insert_key}
+use Rattle.hippo_values.specs.OrderLaws.{value_ties}
+use Rattle.hippo_model.specs.declared.cells.Cell.{Cell}
+use Rattle.hippo_model.specs.declared.cells.Cell.TheVariants.{Shown, Denied}
 use Rattle.hippo_model.specs.Terms.{ShownRow}
-use Rattle.hippo_model.specs.Bags.{same_row}
+use Rattle.hippo_model.specs.Bags.{same_cell, same_row}
 use Rattle.hippo_model.specs.Forms.{different_rows}
-use Rattle.hippo_distinct.specs.declared.deduplication.DifferentRows.{DifferentRows}
-use Rattle.hippo_distinct.specs.DistinctRows.{stands_in, AreDifferent}
-use Rattle.hippo_distinct.proofs.CellOrder.{row_order, order_same}
-use Rattle.hippo_distinct.proofs.DifferentLemmas.{if_new, different_rows-push, same_row-exact, stands-push}
+use Rattle.hippo_model.specs.contracts.cells.CellPartialEq.TheImpl as derived
+use Rattle.hippo_distinct.specs.DistinctRows.{stands_in}
+use Rattle.hippo_distinct.proofs.DifferentLemmas.{if_new, different_rows-push, same_row-exact}
+use Rattle.hippo_distinct.proofs.NeededRows.{all_different, not_all}
 
--- the different rows with one row more, by whether it was found before
-rows_more : (found kept : List ShownRow) (row : ShownRow) (stands : Bool) → stands_in row found ≡ stands → kept ≡ different_rows found ++ if_new stands row → kept ≡ different_rows (found ++ row ∷ [])
-rows_more found kept row stands is rows =
-    rows ∙ ap (λ (stands : Bool). different_rows found ++ if_new stands row) (sym is) ∙ sym (different_rows-push found row)
+pub same_row-sym : (a b : ShownRow) → same_row a b ≡ same_row b a
+same_row-sym a b = by (same_row a b) (same_row b a) refl refl
+  where
+    by : (one other : Bool) → same_row a b ≡ one → same_row b a ≡ other → same_row a b ≡ same_row b a
+    by true true e f = e ∙ sym f
+    by false false e f = e ∙ sym f
+    by true false e f = ap (λ (row : ShownRow). same_row row b) (same_row-exact a b e) ∙ ap (same_row b) (sym (same_row-exact a b e))
+    by false true e f = ap (λ (row : ShownRow). same_row row b) (sym (same_row-exact b a f)) ∙ ap (same_row b) (same_row-exact b a f)
 
-module _ (found : List ShownRow) (kept : DifferentRows) (row : ShownRow) (are : AreDifferent row_order found kept) where
-  -- a row that was found before
-  pub known : tree.contains row_order kept.seen row ≡ true → AreDifferent row_order (found ++ row ∷ []) kept
-  known there = record {
-    rows = rows_more found kept.rows row true stands (are.rows ∙ sym (append-nil (different_rows found)));
-    seen = λ other. are.seen other ∙ already (stands_in other found) (same_row row other) (λ same. ap (λ (one : ShownRow). stands_in one found) (sym (same_row-exact row other same)) ∙ stands) ∙ sym (stands-push other row found);
-  }
-    where
-      stands : stands_in row found ≡ true
-      stands = sym (are.seen row) ∙ there
+-- rows are equal where they are the same
+abbrev pub row_eq : ShownRow → ShownRow → Bool
+row_eq = pointwise (derived.ghosts).eq
 
-      already : (stands same : Bool) → (same ≡ true → stands ≡ true) → stands ≡ (stands || same)
-      already true same then = refl
-      already false true then = then refl
-      already false false then = refl
+cell_eq-same : (a b : Cell) → (derived.ghosts).eq a b ≡ same_cell a b
+cell_eq-same (Shown a) (Shown b) = value_ties a b
+cell_eq-same (Denied a) (Denied b) = refl
+cell_eq-same (Shown a) (Denied b) = refl
+cell_eq-same (Denied a) (Shown b) = refl
 
-  -- a row that is new
-  pub added : (after : DifferentRows) → tree.contains row_order kept.seen row ≡ false → after.rows ≡ kept.rows ++ row ∷ []
-      → ((other : ShownRow) → tree.contains row_order after.seen other ≡ cond (is_eq (row_order row other)) true (tree.contains row_order kept.seen other))
-      → AreDifferent row_order (found ++ row ∷ []) after
-  added after missing pushed inserted = record {
-    rows = rows_more found after.rows row false (sym (are.seen row) ∙ missing) (pushed ∙ ap (λ (rows : List ShownRow). rows ++ row ∷ []) are.rows);
-    seen = λ other. inserted other ∙ (λ i. cond (order_same row other i) true (are.seen other i)) ∙ one_more (same_row row other) (stands_in other found) ∙ sym (stands-push other row found);
-  }
-    where
-      one_more : (same stands : Bool) → cond same true stands ≡ (stands || same)
-      one_more true true = refl
-      one_more true false = refl
-      one_more false true = refl
-      one_more false false = refl
+pub row_eq-same : (a b : ShownRow) → row_eq a b ≡ same_row a b
+row_eq-same [] [] = refl
+row_eq-same [] (b ∷ bs) = refl
+row_eq-same (a ∷ rest) [] = refl
+row_eq-same (a ∷ rest) (b ∷ bs) = λ i. cell_eq-same a b i && row_eq-same rest bs i
+
+not_not : (test : Bool) → not (not test) ≡ test
+not_not true = refl
+not_not false = refl
+
+any-not-all : (test : ShownRow → Bool) (rows : List ShownRow) → list_any test rows ≡ not (list_all (λ row. not (test row)) rows)
+any-not-all test rows = sym (λ i. list_any (λ row. not_not (test row) i) rows) ∙ sym (not_all (λ row. not (test row)) rows)
+
+-- some of the different rows pass a test where some of all do
+pub any-different_rows : (test : ShownRow → Bool) (rows : List ShownRow) → list_any test (different_rows rows) ≡ list_any test rows
+any-different_rows test rows = any-not-all test (different_rows rows) ∙ ap not (all_different (λ row. not (test row)) rows) ∙ sym (any-not-all test rows)
+
+-- a row stands among the different rows where it stands among all
+pub stands-different_rows : (row : ShownRow) (rows : List ShownRow) → stands_in row (different_rows rows) ≡ stands_in row rows
+stands-different_rows row rows = any-different_rows (λ other. same_row other row) rows
+
+-- what a set asks is whether a row stands among its own
+pub asks-stands_in : (row : ShownRow) (rows : List ShownRow) → list_any (row_eq row) rows ≡ stands_in row rows
+asks-stands_in row rows = λ i. list_any (λ other. (row_eq-same row other ∙ same_row-sym row other) i) rows
+
+-- the different rows with one row more are those with the row put in
+pub put_in : (kept found : List ShownRow) (row : ShownRow) → kept ≡ different_rows found → insert_key row_eq kept row ≡ different_rows (found ++ row ∷ [])
+put_in kept found row are =
+    ap (λ (rows : List ShownRow). insert_key row_eq rows row) are
+    ∙ (λ i. cond ((asks-stands_in row (different_rows found) ∙ stands-different_rows row found) i) (different_rows found) (different_rows found ++ row ∷ []))
+    ∙ by (stands_in row found)
+    ∙ sym (different_rows-push found row)
+  where
+    by : (stands : Bool) → cond stands (different_rows found) (different_rows found ++ row ∷ []) ≡ different_rows found ++ if_new stands row
+    by true = sym (append-nil (different_rows found))
+    by false = refl

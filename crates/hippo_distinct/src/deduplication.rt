@@ -1,82 +1,59 @@
 //! The different rows of a query's answer, as a walk over the combinations that count finds them.
-ghost use Rattle.std.specs.Prelude.{[], ◌∷◌, ◌++◌, List, OnOk};
-ghost use Rattle.hippo_model.specs.Terms.{ShownRow};
+ghost use Rattle.std.specs.Prelude.{◌≡◌, IfOk};
 ghost use Rattle.hippo_model.specs.Forms.{different_rows};
 ghost use Rattle.hippo_model.specs.Masking.{masked_answer};
 ghost use Rattle.hippo_eval.specs.Answering.{IsAnswered};
 ghost use Rattle.hippo_eval.specs.Walks.{rows_of};
-ghost use Rattle.hippo_distinct.specs.DistinctRows.{AreDifferent};
 
 use hippo_eval::{ANSWER_LIMIT, EvalFault, Gatherer};
 use hippo_join::gather_joined;
-use hippo_model::{Answer, Cell, CellRow, ChoiceView, Masked};
+use hippo_model::{Answer, CellRow, ChoiceView, Masked};
 use hippo_rows::Sets;
-use hippo_values::{Duplicate, Memory, Sequence};
+use hippo_values::{Memory, Sequence};
+use indexmap::IndexSet;
 use std::alloc::Global;
-use std::collections::BTreeSet;
 
-// Different rows in the order in which they were found, and the same rows to look them up.
-#[derive(Drop)]
-struct DifferentRows {
-    rows: Answer,
-    seen: BTreeSet<CellRow>,
+// The rows of a set, in its order.
+fn listed(alloc: Global, rows: IndexSet<CellRow>) -> Result<Vec<CellRow>, Memory>
+    ensures { IfOk result (λ listed. listed.items ≡ rows.keys) }
+{
+    Ok(rows.into_iter().collect(alloc)?)
 }
 
-impl DifferentRows {
-    fn new(alloc: Global) -> DifferentRows
-        ensures { AreDifferent ⟦<Sequence<Cell> as Ord>⟧.cmp [] result }
-    {
-        DifferentRows {
-            rows: Sequence::new(alloc),
-            seen: BTreeSet::new(alloc),
-        }
-    }
-
-    // Adds a row, if no equal one was found.
-    fn add(&mut self, alloc: Global, row: CellRow) -> Result<(), Memory>
-        ensures { (found : List ShownRow)
-            → AreDifferent ⟦<Sequence<Cell> as Ord>⟧.cmp found self.old
-            → OnOk result (AreDifferent ⟦<Sequence<Cell> as Ord>⟧.cmp (found ++ row ∷ [])
-            self.new) }
-    {
-        if self.seen.contains(&row) {
-            return Ok(());
-        }
-        self.seen.insert(row.copy(alloc)?)?;
-        self.rows.push(row)?;
-        Ok(())
-    }
-}
-
-// Gathers the different rows.
+// Gathers the different rows, in the order in which they are found.
 #[derive(Drop)]
 struct Different;
 
 impl Gatherer for Different {
+    ghost use Rattle.std.specs.Prelude.{◌≡◌};
     ghost use Rattle.hippo_model.specs.Forms.{different_rows};
-    ghost use Rattle.hippo_distinct.specs.DistinctRows.{AreDifferent};
 
-    type Rows = DifferentRows;
+    type Rows = IndexSet<CellRow>;
 
-    ghost Holds = { λ gatherer found kept. AreDifferent ⟦<Sequence<Cell> as Ord>⟧.cmp found kept };
+    ghost Holds = { λ gatherer found kept. kept.keys ≡ different_rows found };
 
     ghost answer = { λ gatherer found. different_rows found };
 
-    fn start(&self, alloc: Global) -> DifferentRows {
-        DifferentRows::new(alloc)
+    fn start(&self, alloc: Global) -> IndexSet<CellRow> {
+        IndexSet::new(alloc)
     }
 
-    fn len(&self, rows: &DifferentRows) -> usize {
-        rows.rows.len()
+    fn len(&self, rows: &IndexSet<CellRow>) -> usize {
+        rows.len()
     }
 
-    fn add(&self, alloc: Global, rows: &mut DifferentRows, row: CellRow) -> Result<(), Memory> {
-        rows.add(alloc, row)
+    fn add(
+        &self,
+        _alloc: Global,
+        rows: &mut IndexSet<CellRow>,
+        row: CellRow,
+    ) -> Result<(), Memory> {
+        rows.insert(row)?;
+        Ok(())
     }
 
-    fn finish(&self, rows: DifferentRows) -> Answer {
-        let DifferentRows { rows, .. } = rows;
-        rows
+    fn finish(&self, alloc: Global, rows: IndexSet<CellRow>) -> Result<Answer, Memory> {
+        Ok(Sequence::from_vec(listed(alloc, rows)?))
     }
 }
 

@@ -55,8 +55,8 @@ impl Gatherer for Every {
         rows.push(row)
     }
 
-    fn finish(&self, rows: Answer) -> Answer {
-        rows
+    fn finish(&self, _alloc: Global, rows: Answer) -> Result<Answer, Memory> {
+        Ok(rows)
     }
 }
 

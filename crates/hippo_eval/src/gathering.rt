@@ -16,7 +16,7 @@ use std::alloc::Global;
 
 /// How the rows that are found for an answer are gathered, one after the other.
 pub trait Gatherer {
-    ghost use Rattle.std.specs.Prelude.{◌≡◌, [], ◌∷◌, ◌++◌, List, OnOk, length};
+    ghost use Rattle.std.specs.Prelude.{◌≡◌, [], ◌∷◌, ◌++◌, List, IfOk, OnOk, length};
     ghost use Rattle.hippo_model.specs.Terms.{ShownRow};
     ghost use Rattle.hippo_eval.specs.Gathering.{IsFinished};
 
@@ -43,9 +43,9 @@ pub trait Gatherer {
             → OnOk result (Holds self.now (found ++ row ∷ []) rows.new) };
 
     /// The rows that are answered. Where more are found, they do not get fewer.
-    fn finish(&self, rows: Self::Rows) -> Answer
+    fn finish(&self, alloc: Global, rows: Self::Rows) -> Result<Answer, Memory>
         ensures { (found : List ShownRow) → Holds self.now found rows
-            → IsFinished (answer self.now) found result };
+            → IfOk result (IsFinished (answer self.now) found) };
 }
 
 // Gathers the rows of a query, and one at most beyond the limit.
@@ -118,7 +118,7 @@ pub fn gather<C: ChoiceView, G: Gatherer>(
     };
     let mut rows = gatherer.start(alloc);
     match walk(alloc, sets, &finder, &mut rows) {
-        Ok(()) => limited(gatherer.finish(rows), limit),
+        Ok(()) => limited(gatherer.finish(alloc, rows)?, limit),
         Err(Memory) => Err(EvalFault::Memory),
     }
 }

@@ -18,7 +18,6 @@ use Rattle.hippo_eval.specs.Walks.{rows_of}
 use Rattle.hippo_sides.specs.Finding.{has_places}
 use Rattle.hippo_lookups.specs.Places.{in_range}
 use Rattle.hippo_distinct.proofs.BagLemmas.{bag-from_same}
-use Rattle.hippo_distinct.proofs.CellOrder.{row_order}
 use Rattle.hippo_shared.specs.Candidates.{AreCandidates}
 use Rattle.hippo_shared.specs.Marks.{row_places, same_places}
 use Rattle.hippo_shared.specs.Needs.{needs_by}
@@ -63,7 +62,7 @@ module _ (choices : Choices) (query : Masked) (shape : Shape) (audit : List Name
   told : AllByRecursion IsTold combinations
   told = all_told query.tables audit query_sets audit_sets long_query long_audit same ascend
 
-  module _ (groups : MarkedGroups) (are : AreMarkedGroups row_order shape (placed_rows choices query query_sets tables combinations) groups) (places : List Place) where
+  module _ (groups : MarkedGroups) (are : AreMarkedGroups shape (placed_rows choices query query_sets tables combinations) groups) (places : List Place) where
     abbrev is_changed : Bool
     is_changed = list_any (changes_without places) groups.marks.items
 
@@ -98,7 +97,7 @@ module _ (choices : Choices) (query : Masked) (shape : Shape) (audit : List Name
         by false e = without e
 
   -- the places that the marks give are those of the tuples that the query needs
-  pub changing_are : (groups : MarkedGroups) → AreMarkedGroups row_order shape (placed_rows choices query query_sets tables combinations) groups
+  pub changing_are : (groups : MarkedGroups) → AreMarkedGroups shape (placed_rows choices query query_sets tables combinations) groups
       → (candidates : List (List Place)) → ((places : List Place) → has_places places candidates ≡ list_any (changes_without places) groups.marks.items)
       → AreCandidates needs audit audit_sets common candidates
   changing_are groups are candidates given places = given places ∙ says groups are places

@@ -9,33 +9,10 @@ use Rattle.hippo_model.specs.Terms.{ShownRow, Place}
 use Rattle.hippo_model.specs.Bags.{same_row}
 use Rattle.hippo_model.specs.Forms.{different_rows}
 use Rattle.hippo_distinct.specs.DistinctRows.{stands_in}
-use Rattle.hippo_distinct.proofs.DifferentLemmas.{if_new, different_rows-push, same_row-exact}
-use Rattle.hippo_distinct.proofs.NeededRows.{same_row-refl, all_different, not_all}
+use Rattle.hippo_distinct.proofs.DifferentLemmas.{if_new, different_rows-push}
+use Rattle.hippo_distinct.proofs.KeptLemmas.{same_row-sym, stands-different_rows}
+use Rattle.hippo_distinct.proofs.NeededRows.{same_row-refl}
 use Rattle.hippo_groups.specs.KeptGroups.{members_of, keys_of}
-
-pub same_row-sym : (a b : ShownRow) → same_row a b ≡ same_row b a
-same_row-sym a b = by (same_row a b) (same_row b a) refl refl
-  where
-    by : (one other : Bool) → same_row a b ≡ one → same_row b a ≡ other → same_row a b ≡ same_row b a
-    by true true e f = e ∙ sym f
-    by false false e f = e ∙ sym f
-    by true false e f = ap (λ (row : ShownRow). same_row row b) (same_row-exact a b e) ∙ ap (same_row b) (sym (same_row-exact a b e))
-    by false true e f = ap (λ (row : ShownRow). same_row row b) (sym (same_row-exact b a f)) ∙ ap (same_row b) (same_row-exact b a f)
-
-not_not : (test : Bool) → not (not test) ≡ test
-not_not true = refl
-not_not false = refl
-
-any-not-all : (test : ShownRow → Bool) (rows : List ShownRow) → list_any test rows ≡ not (list_all (λ row. not (test row)) rows)
-any-not-all test rows = sym (λ i. list_any (λ row. not_not (test row) i) rows) ∙ sym (not_all (λ row. not (test row)) rows)
-
--- some of the different rows pass a test where some of all do
-pub any-different_rows : (test : ShownRow → Bool) (rows : List ShownRow) → list_any test (different_rows rows) ≡ list_any test rows
-any-different_rows test rows = any-not-all test (different_rows rows) ∙ ap not (all_different (λ row. not (test row)) rows) ∙ sym (any-not-all test rows)
-
--- a row stands among the different rows where it stands among all
-pub stands-different_rows : (row : ShownRow) (rows : List ShownRow) → stands_in row (different_rows rows) ≡ stands_in row rows
-stands-different_rows row rows = any-different_rows (λ other. same_row other row) rows
 
 pub stands-there : (row : ShownRow) (front back : List ShownRow) → stands_in row (front ++ row ∷ back) ≡ true
 stands-there row [] back = or_left (same_row row row) (stands_in row back) (same_row-refl row)

@@ -1,24 +1,20 @@
 -- What is kept of groups, one member more.
-use Rattle.std.proofs.Common.{◌≡◌, ℕ, zero, suc, ◌<◌, ◌≤◌, Bool, true, false, cond, List, [], ◌∷◌, ◌++◌, map, take, drop, length, Option, Some, None, Vec, Global, refl, sym, ap, subst, ◌∙◌, arith, length-append}
-use Rattle.std.specs.Prelude.{slice_get, MatchOption, Result, Ok, Err, OnOk}
-use Rattle.std.specs.Cmp.{eq_by_cmp_equiv}
-use Rattle.std.specs.Map.{lookup, KeepsOthers}
-use Rattle.std.specs.Ordering.{is_eq, eq_by_cmp}
-use Rattle.std.specs.declared.cmp.Ordering.{Ordering}
-use Rattle.std.specs.BTreeMap as tree
+use Rattle.std.proofs.Common.{◌≡◌, ℕ, suc, ◌<◌, ◌≤◌, Bool, true, false, cond, ◌||◌, List, [], ◌∷◌, ◌++◌, map, take, drop, length, Some, Vec, Global, refl, sym, ap, ◌∙◌, arith, length-append}
+use Rattle.std.specs.Prelude.{slice_get, get_or, option_map, position, Result, Ok, Err, OnOk}
+use Rattle.std.specs.List.{list_any}
 use Rattle.std.proofs.Math.Seq.{split_at}
-use Rattle.std.proofs.lemmas.Bool.{or_from}
 use Rattle.std.proofs.lemmas.List.{length-map, length-take-le, map-append}
-use Rattle.std.proofs.lemmas.Option.{slice_get_within, get_or_from_slice_get}
+use Rattle.std.proofs.lemmas.List.Quantifiers.{position-Some}
+use Rattle.std.proofs.lemmas.Option.{slice_get-map, slice_get-get_or, slice_get_within, get_or_from_slice_get}
+use Rattle.indexmap.specs.IndexSet.{insert_key}
 use Rattle.hippo_model.specs.declared.cells.Cell.{Cell}
 use Rattle.hippo_model.specs.declared.query.Shape.{Shape}
 use Rattle.hippo_model.specs.Terms.{ShownRow, Place}
-use Rattle.hippo_model.specs.Bags.{same_row}
 use Rattle.hippo_model.specs.Forms.{different_rows, group_cell, grouped_rows}
 use Rattle.hippo_distinct.specs.DistinctRows.{stands_in}
-use Rattle.hippo_distinct.proofs.CellOrder.{row_order, row_total, order_same}
-use Rattle.hippo_distinct.proofs.DifferentLemmas.{same_row-exact, stands-push, different_rows-append}
-use Rattle.hippo_groups.specs.KeptGroups.{members_of, keys_of, GroupPlaces, group_place, HasPlaces, AreKept}
+use Rattle.hippo_distinct.proofs.DifferentLemmas.{same_row-exact, different_rows-append}
+use Rattle.hippo_distinct.proofs.KeptLemmas.{row_eq, row_eq-same, asks-stands_in}
+use Rattle.hippo_groups.specs.KeptGroups.{members_of, keys_of, GroupKeys, AreKept}
 use Rattle.hippo_groups.proofs.GroupLemmas.{kept_at, keys-new, kept-new, keys-same, kept-before, kept-joined}
 
 -- a list, cut around the place of a member
@@ -27,46 +23,33 @@ cut_at rows place row there =
     split_at rows place row (slice_get_within rows place row there)
     ∙ ap (λ (one : ShownRow). take place rows ++ one ∷ drop (suc place) rows) (get_or_from_slice_get rows place row row there)
 
-get-before : (rows more : List ShownRow) (place : ℕ) (row : ShownRow) → slice_get rows place ≡ Some row → slice_get (rows ++ more) place ≡ Some row
-get-before [] more place row there = absurd cc
-get-before (first ∷ rows) more zero row there = there
-get-before (first ∷ rows) more (suc place) row there = get-before rows more place row there
-
-get-last : (rows : List ShownRow) (row : ShownRow) → slice_get (rows ++ row ∷ []) (length rows) ≡ Some row
-get-last [] row = refl
-get-last (first ∷ rows) row = get-last rows row
-
--- where a key stands, or that it does not
-abbrev Placed : List ShownRow → ShownRow → Option ℕ → Type 0
-Placed keys key at = MatchOption at (stands_in key keys ≡ false) (λ place. slice_get keys place ≡ Some key)
-
--- ---- the places of groups, one more
 abbrev KeyCells : Type 0
 KeyCells = Vec Cell Global
 
-abbrev cells_order : KeyCells → KeyCells → Ordering
-cells_order one other = row_order one.items other.items
+abbrev pub cells_of : GroupKeys → List ShownRow
+cells_of groups = map (λ key. key.items) groups
 
-same_cells : (a b : ShownRow) → is_eq (row_order a b) ≡ true → a ≡ b
-same_cells a b same = same_row-exact a b (sym (order_same a b) ∙ same)
+-- where the cells of a key are found, the key stands
+stands-found : (groups : GroupKeys) (key : ShownRow) (place : ℕ) → position (λ cells. row_eq key cells.items) groups ≡ Some place → slice_get (cells_of groups) place ≡ Some key
+stands-found [] key place at = absurd cc
+stands-found (first ∷ groups) key place at =
+    let told = position-Some (λ cells. row_eq key cells.items) (first ∷ groups) place first at in
+    let cells : KeyCells = get_or (first ∷ groups) place first in
+    slice_get-map (λ (cells : KeyCells). cells.items) (first ∷ groups) place
+    ∙ ap (option_map (λ (cells : KeyCells). cells.items)) (slice_get-get_or (first ∷ groups) place first told.0)
+    ∙ ap Some (sym (same_row-exact key cells.items (sym (row_eq-same key cells.items) ∙ told.1)))
 
-others_kept : (old new : List (KeyCells × Place)) (key : KeyCells) → KeepsOthers (eq_by_cmp cells_order) (tree.is_at (cells_order key)) old new
-    → (other : ShownRow) → is_eq (row_order key.items other) ≡ false → lookup (λ cells. is_eq (row_order other cells.items)) new ≡ lookup (λ cells. is_eq (row_order other cells.items)) old
-unfolding KeepsOthers
-others_kept old new key keeps other apart =
-    keeps (λ cells. is_eq (row_order other cells.items)) (λ one two. (eq_by_cmp_equiv row_total).congr other one.items two.items)
-    (λ cells same. ap (λ (row : ShownRow). is_eq (row_order other row)) (sym (same_cells key.items cells.items same)) ∙ (eq_by_cmp_equiv row_total).symm other key.items ∙ apart)
+-- whether a key's cells are kept is whether it stands among the keys
+stands-among : (groups : GroupKeys) (key : ShownRow) → list_any (λ cells. row_eq key cells.items) groups ≡ list_any (row_eq key) (cells_of groups)
+stands-among [] key = refl
+stands-among (first ∷ groups) key = ap (λ (later : Bool). row_eq key first.items || later) (stands-among groups key)
 
-put_there : (old new : GroupPlaces) (key : KeyCells) (place : Place) → tree.Updates cells_order old new key (Some place)
-    → (other : ShownRow) → group_place row_order new other ≡ cond (is_eq (row_order key.items other)) (Some place) (group_place row_order old other)
-put_there old new key place updates other = by (is_eq (row_order key.items other)) refl
-  where
-    by : (same : Bool) → is_eq (row_order key.items other) ≡ same → group_place row_order new other ≡ cond same (Some place) (group_place row_order old other)
-    by true e = ap (group_place row_order new) (sym (same_cells key.items other e)) ∙ updates.1
-    by false e = others_kept old.entries new.entries key updates.3 other e
+-- a key that is not kept goes last
+put_last : (groups : GroupKeys) (cells : KeyCells) → list_any (λ other. row_eq cells.items other.items) groups ≡ false → insert_key (λ one other. row_eq one.items other.items) groups cells ≡ groups ++ cells ∷ []
+put_last groups cells missing = ap (λ kept. cond kept groups (groups ++ cells ∷ [])) missing
 
-module _ {M K : Type 0} (row_of : M → ShownRow) (keys : Place) (kept_of : ShownRow → List M → K) (found : List M) (member : M) (kept : List K) (places : GroupPlaces)
-    (are : AreKept row_order row_of keys kept_of found kept places) where
+module _ {M K : Type 0} (row_of : M → ShownRow) (keys : Place) (kept_of : ShownRow → List M → K) (found : List M) (member : M) (kept : List K) (groups : GroupKeys)
+    (are : AreKept row_of keys kept_of found kept groups) where
   abbrev key : ShownRow
   key = take keys (row_of member)
 
@@ -74,12 +57,12 @@ module _ {M K : Type 0} (row_of : M → ShownRow) (keys : Place) (kept_of : Show
   before = keys_of row_of keys found
 
   -- a member of a group that is there
-  module _ (place : ℕ) (known : group_place row_order places key ≡ Some place) where
+  module _ (place : ℕ) (known : position (λ cells. row_eq key cells.items) groups ≡ Some place) where
     joined : (after : List K)
         → ((front back : List K) (key : ShownRow) (members : List M) → kept ≡ front ++ kept_of key members ∷ back → place ≡ length front → after ≡ front ++ kept_of key (members ++ member ∷ []) ∷ back)
-        → AreKept row_order row_of keys kept_of (found ++ member ∷ []) after places
+        → AreKept row_of keys kept_of (found ++ member ∷ []) after groups
     joined after joins =
-        let there : slice_get before place ≡ Some key = subst (Placed before key) known (are.placed key) in
+        let there : slice_get before place ≡ Some key = ap (λ (rows : List ShownRow). slice_get rows place) (sym are.keyed) ∙ stands-found groups key place known in
         let front : List ShownRow = take place before in
         let back : List ShownRow = drop (suc place) before in
         let split : before ≡ front ++ key ∷ back = cut_at before place key there in
@@ -89,39 +72,32 @@ module _ {M K : Type 0} (row_of : M → ShownRow) (keys : Place) (kept_of : Show
               (are.each ∙ kept-before row_of keys kept_of found member front back split)
               (omega (arith, length-map front (kept_at row_of keys kept_of found), length-take-le place before))
               ∙ kept-joined row_of keys kept_of found member front back split;
-          placed = subst (λ (all : List ShownRow). HasPlaces row_order all places) (sym (keys-same row_of keys kept_of found member front back split)) are.placed;
+          keyed = are.keyed ∙ sym (keys-same row_of keys kept_of found member front back split);
         }
 
     pub joined-if : {T E : Type 0} (outcome : Result T E) (after : List K)
         → ((front back : List K) (key : ShownRow) (members : List M) → kept ≡ front ++ kept_of key members ∷ back → place ≡ length front
         → OnOk outcome (after ≡ front ++ kept_of key (members ++ member ∷ []) ∷ back))
-        → OnOk outcome (AreKept row_order row_of keys kept_of (found ++ member ∷ []) after places)
+        → OnOk outcome (AreKept row_of keys kept_of (found ++ member ∷ []) after groups)
     joined-if (Ok value) after joins = joined after joins
     joined-if (Err fault) after joins = tt
 
   -- a member of a group that is new
-  pub begun : group_place row_order places key ≡ None → (after : List K) (later : GroupPlaces) (cells : KeyCells) (place : ℕ) → cells.items ≡ key → place ≡ length kept
+  pub begun : list_any (λ cells. row_eq key cells.items) groups ≡ false → (after : List K) (later : GroupKeys) (cells : KeyCells) → cells.items ≡ key
       → after ≡ kept ++ kept_of key (member ∷ []) ∷ []
-      → tree.Updates cells_order places later cells (Some place)
-      → AreKept row_order row_of keys kept_of (found ++ member ∷ []) after later
-  begun missing after later cells place is last pushed updates = record {
+      → later ≡ insert_key (λ one other. row_eq one.items other.items) groups cells
+      → AreKept row_of keys kept_of (found ++ member ∷ []) after later
+  begun missing after later cells is pushed put = record {
     each = pushed ∙ ap (λ (all : List K). all ++ kept_of key (member ∷ []) ∷ []) are.each ∙ sym (kept-new row_of keys kept_of found member none);
-    placed = subst (λ (all : List ShownRow). HasPlaces row_order all later) (sym (keys-new row_of keys kept_of found member none)) (λ other.
-        subst (Placed (before ++ key ∷ []) other)
-        (sym (put_there places later cells place updates other ∙ ap (λ (same : Bool). cond same (Some place) (group_place row_order places other)) (ap (λ (row : ShownRow). is_eq (row_order row other)) is ∙ order_same key other)))
-        (at_place other (same_row key other) refl (group_place row_order places other) (are.placed other)));
+    keyed =
+        ap cells_of (put ∙ put_last groups cells (ap (λ (row : ShownRow). list_any (λ other. row_eq row other.items) groups) is ∙ missing))
+        ∙ map-append (λ (cells : KeyCells). cells.items) groups (cells ∷ [])
+        ∙ (λ i. are.keyed i ++ is i ∷ [])
+        ∙ sym (keys-new row_of keys kept_of found member none);
   }
     where
       none : stands_in key before ≡ false
-      none = subst (Placed before key) missing (are.placed key)
-
-      at_end : place ≡ length before
-      at_end = last ∙ ap length are.each ∙ length-map before (kept_at row_of keys kept_of found)
-
-      at_place : (other : ShownRow) (same : Bool) → same_row key other ≡ same → (at : Option ℕ) → Placed before other at → Placed (before ++ key ∷ []) other (cond same (Some place) at)
-      at_place other true e at was = ap (slice_get (before ++ key ∷ [])) at_end ∙ get-last before key ∙ ap Some (same_row-exact key other e)
-      at_place other false e None was = stands-push other key before ∙ or_from (stands_in other before) (same_row key other) was e
-      at_place other false e (Some at) was = get-before before (key ∷ []) at other was
+      none = ap (stands_in key) (sym are.keyed) ∙ sym (asks-stands_in key (cells_of groups)) ∙ sym (stands-among groups key) ∙ missing
 
 -- with more rows there are no fewer groups
 pub not_fewer : (shape : Shape) (found rows : List ShownRow) → rows ≡ grouped_rows shape found → (later : List ShownRow) → length rows ≤ length (grouped_rows shape (found ++ later))

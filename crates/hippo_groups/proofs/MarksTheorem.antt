@@ -28,7 +28,8 @@ use Rattle.hippo_groups.specs.declared.group_marks.GroupMarks.{GroupMarks}
 use Rattle.hippo_groups.specs.GroupMarks.{PlacedRow, placed_rows, shown_value, member_places, best_by, best_of, marks_of, is_best_changed, changes_without}
 use Rattle.hippo_groups.specs.KeptGroups.{members_of, keys_of}
 use Rattle.hippo_groups.proofs.BestTheorem.{IsBest, least_is_best, greatest_is_best, some-have-it, changes}
-use Rattle.hippo_groups.proofs.GroupLemmas.{any-different_rows, kept_at}
+use Rattle.hippo_distinct.proofs.KeptLemmas.{any-different_rows}
+use Rattle.hippo_groups.proofs.GroupLemmas.{kept_at}
 
 -- equal places are the same
 places-exact : (some others : List Place) → same_places some others ≡ true → some ≡ others

@@ -6,7 +6,7 @@ ghost use Rattle.hippo_model.specs.Forms.{grouped_rows};
 ghost use Rattle.hippo_model.specs.Masking.{masked_answer};
 ghost use Rattle.hippo_eval.specs.Answering.{IsAnswered};
 ghost use Rattle.hippo_eval.specs.Walks.{rows_of};
-ghost use Rattle.hippo_groups.specs.KeptGroups.{group_place, AreGroups};
+ghost use Rattle.hippo_groups.specs.KeptGroups.{AreGroups};
 
 use crate::group_rows::{join_at, row_of_first};
 use hippo_eval::{ANSWER_LIMIT, EvalFault, Gatherer};
@@ -14,15 +14,14 @@ use hippo_join::gather_joined;
 use hippo_model::{Answer, Cell, CellRow, ChoiceView, Masked, Shape};
 use hippo_rows::Sets;
 use hippo_values::{Memory, Sequence};
+use indexmap::IndexSet;
 use std::alloc::Global;
-use std::collections::BTreeMap;
 
-// The rows of the groups in the order of their first members, and the place of each group by the
-// cells of its key.
+// The keys of the groups, in the order of their first members, and their rows at the same places.
 #[derive(Drop)]
 struct Groups {
+    keys: IndexSet<Vec<Cell>>,
     rows: Vec<CellRow>,
-    places: BTreeMap<Vec<Cell>, usize>,
 }
 
 // The first cells of a row, so many; all, where it has fewer.
@@ -44,36 +43,25 @@ pub(crate) fn into_front(row: CellRow, keys: usize) -> Vec<Cell>
 
 impl Groups {
     fn new(alloc: Global) -> Groups
-        ensures { (shape : shapes.Shape)
-            → AreGroups ⟦<Sequence<Cell> as Ord>⟧.cmp shape [] result }
+        ensures { (shape : shapes.Shape) → AreGroups shape [] result }
     {
         Groups {
+            keys: IndexSet::new(alloc),
             rows: Vec::new(alloc),
-            places: BTreeMap::new(alloc),
         }
-    }
-
-    // Where the group with this key stands, if there is one.
-    fn place(&self, key: &[Cell]) -> Option<usize>
-        ensures { result ≡ group_place ⟦<Sequence<Cell> as Ord>⟧.cmp self.now.places key.now }
-    {
-        self.places.get(key).copied()
     }
 
     // Takes in a row, in its own group or as the first of a new one.
     fn add(&mut self, alloc: Global, shape: &Shape, row: CellRow) -> Result<(), Memory>
-        ensures { (found : List ShownRow)
-            → AreGroups ⟦<Sequence<Cell> as Ord>⟧.cmp shape.now found self.old
-            → OnOk result (AreGroups ⟦<Sequence<Cell> as Ord>⟧.cmp shape.now
-            (found ++ row ∷ []) self.new) }
+        ensures { (found : List ShownRow) → AreGroups shape.now found self.old
+            → OnOk result (AreGroups shape.now (found ++ row ∷ []) self.new) }
     {
         let key = front(&row, shape.keys);
-        if let Some(place) = self.place(key) {
+        if let Some(place) = self.keys.get_index_of(key) {
             return join_at(alloc, &shape.outs, &mut self.rows, place, &row);
         }
         let first = row_of_first(alloc, &shape.outs, key, &row)?;
-        let cells = into_front(row, shape.keys);
-        self.places.insert(cells, self.rows.len())?;
+        self.keys.insert(into_front(row, shape.keys))?;
         self.rows.push(first)?;
         Ok(())
     }
@@ -91,8 +79,7 @@ impl<'a> Gatherer for ByShape<'a> {
 
     type Rows = Groups;
 
-    ghost Holds = { λ gatherer found kept. AreGroups ⟦<Sequence<Cell> as Ord>⟧.cmp
-        gatherer.shape.now found kept };
+    ghost Holds = { λ gatherer found kept. AreGroups gatherer.shape.now found kept };
 
     ghost answer = { λ gatherer found. grouped_rows gatherer.shape.now found };
 
@@ -108,9 +95,9 @@ impl<'a> Gatherer for ByShape<'a> {
         groups.add(alloc, self.shape, row)
     }
 
-    fn finish(&self, groups: Groups) -> Answer {
+    fn finish(&self, _alloc: Global, groups: Groups) -> Result<Answer, Memory> {
         let Groups { rows, .. } = groups;
-        Sequence::from_vec(rows)
+        Ok(Sequence::from_vec(rows))
     }
 }
 

@@ -7,7 +7,7 @@ ghost use Rattle.hippo_model.specs.Terms.{Place};
 ghost use Rattle.hippo_eval.specs.Walks.{rows_of};
 ghost use Rattle.hippo_sides.specs.Finding.{has_places};
 ghost use Rattle.hippo_groups.specs.GroupMarks.{PlacedRow, placed_rows, changes_without};
-ghost use Rattle.hippo_groups.specs.KeptGroups.{group_place, AreMarkedGroups};
+ghost use Rattle.hippo_groups.specs.KeptGroups.{AreMarkedGroups};
 
 use crate::group_marks::{GroupMarks, candidates, join_at, marks_of_first};
 use crate::grouping::{front, into_front};
@@ -16,34 +16,26 @@ use hippo_join::walk_joined;
 use hippo_model::{Cell, CellRow, ChoiceView, Combo, Masked, Places, Shape};
 use hippo_rows::Sets;
 use hippo_shared::row_places;
-use hippo_values::{Memory, Sequence};
+use hippo_values::Memory;
+use indexmap::IndexSet;
 use std::alloc::Global;
-use std::collections::{BTreeMap, BTreeSet};
+use std::collections::BTreeSet;
 
-// The marks of the groups in the order of their first members, and the place of each group by the
-// cells of its key.
+// The keys of the groups, in the order of their first members, and their marks at the same places.
 #[derive(Drop)]
 pub(crate) struct MarkedGroups {
+    pub keys: IndexSet<Vec<Cell>>,
     pub marks: Vec<GroupMarks>,
-    pub places: BTreeMap<Vec<Cell>, usize>,
 }
 
 impl MarkedGroups {
     fn new(alloc: Global) -> MarkedGroups
-        ensures { (shape : shapes.Shape)
-            → AreMarkedGroups ⟦<Sequence<Cell> as Ord>⟧.cmp shape [] result }
+        ensures { (shape : shapes.Shape) → AreMarkedGroups shape [] result }
     {
         MarkedGroups {
+            keys: IndexSet::new(alloc),
             marks: Vec::new(alloc),
-            places: BTreeMap::new(alloc),
         }
-    }
-
-    // Where the group with this key stands, if there is one.
-    fn place(&self, key: &[Cell]) -> Option<usize>
-        ensures { result ≡ group_place ⟦<Sequence<Cell> as Ord>⟧.cmp self.now.places key.now }
-    {
-        self.places.get(key).copied()
     }
 
     // Takes in a row and the places of its combination, in its own group or as the first of a new
@@ -55,18 +47,16 @@ impl MarkedGroups {
         row: CellRow,
         places: &Places,
     ) -> Result<(), Memory>
-        ensures { (found : List PlacedRow)
-            → AreMarkedGroups ⟦<Sequence<Cell> as Ord>⟧.cmp shape.now found self.old
-            → OnOk result (AreMarkedGroups ⟦<Sequence<Cell> as Ord>⟧.cmp shape.now
+        ensures { (found : List PlacedRow) → AreMarkedGroups shape.now found self.old
+            → OnOk result (AreMarkedGroups shape.now
             (found ++ record { row = row; places = places.now } ∷ []) self.new) }
     {
         let key = front(&row, shape.keys);
-        if let Some(place) = self.place(key) {
+        if let Some(place) = self.keys.get_index_of(key) {
             return join_at(alloc, &shape.outs, &mut self.marks, place, &row, places);
         }
         let first = marks_of_first(alloc, &shape.outs, &row, places)?;
-        let cells = into_front(row, shape.keys);
-        self.places.insert(cells, self.marks.len())?;
+        self.keys.insert(into_front(row, shape.keys))?;
         self.marks.push(first)?;
         Ok(())
     }
@@ -98,8 +88,7 @@ impl<'a, C: ChoiceView> Visitor for Marker<'a, C> {
 
     type State = MarkedGroups;
 
-    ghost Keeps = { λ marker combinations groups. AreMarkedGroups ⟦<Sequence<Cell> as Ord>⟧.cmp
-        marker.shape.now
+    ghost Keeps = { λ marker combinations groups. AreMarkedGroups marker.shape.now
         (placed_rows (C.choices marker.choices.now) marker.query.now marker.sets.now
         marker.tables.now combinations)
         groups };
@@ -128,7 +117,7 @@ pub(crate) fn marked_groups<C: ChoiceView>(
     tables: &[usize],
     choices: &C,
 ) -> Result<MarkedGroups, Memory>
-    ensures { IfOk result (λ groups. AreMarkedGroups ⟦<Sequence<Cell> as Ord>⟧.cmp shape.now
+    ensures { IfOk result (λ groups. AreMarkedGroups shape.now
         (placed_rows (C.choices choices.now) query.now sets.now tables.now
         (product (rows_of sets.now))) groups) }
 {

@@ -69,7 +69,7 @@ pub fn gather_joined<C: ChoiceView, G: Gatherer>(
     };
     let mut rows = gatherer.start(alloc);
     match walk_joined(alloc, query, sets, choices, &finder, &mut rows) {
-        Ok(()) => limited(gatherer.finish(rows), limit),
+        Ok(()) => limited(gatherer.finish(alloc, rows)?, limit),
         Err(Memory) => Err(EvalFault::Memory),
     }
 }

@@ -7,7 +7,6 @@ use Rattle.hippo_model.specs.Masking.{Choices}
 use Rattle.hippo_model.specs.Terms.{Place}
 use Rattle.hippo_eval.specs.Walks.{rows_of}
 use Rattle.hippo_distinct.proofs.AloneLemmas.{none-needed}
-use Rattle.hippo_distinct.proofs.CellOrder.{row_order}
 use Rattle.hippo_shared.specs.Needs.{needs_by}
 use Rattle.hippo_shared.specs.Sharing.{common_tables, place_in}
 use Rattle.hippo_groups.specs.GroupMarks.{placed_rows}
@@ -26,7 +25,7 @@ returns g c =
     let tables : c.deref.result.now ≡ map (place_in c.args.query.now.tables) (common_tables c.args.query.now.tables c.args.audited.now.audit.now.tables) =
     c.deref.ensures.value ∙ c.in_ok-common.ensures.query
     ∙ (λ i. map (place_in (c.as_slice.ensures i)) (common_tables (c.as_slice.ensures i) (c.as_slice-tables.ensures i))) in
-    let marked = subst (λ (places : List Place). AreMarkedGroups row_order c.args.shape.now
+    let marked = subst (λ (places : List Place). AreMarkedGroups c.args.shape.now
     (placed_rows choices c.args.query.now c.args.audited.now.query_sets.now places (product (rows_of c.args.audited.now.query_sets.now))) c.in_ok-groups.groups) tables c.in_ok-groups.ensures in
     let are = changing_are choices c.args.query.now c.args.shape.now c.args.audited.now.audit.now.tables c.args.audited.now.query_sets.now c.args.audited.now.audit_sets.now c.requires.query_sets c.requires.audit_sets
     c.requires.rows c.know_order.ensures c.in_ok-groups.groups marked c.in_ok-candidates.candidates.keys c.in_ok-candidates.ensures in

@@ -2,7 +2,6 @@
 use Rattle.std.proofs.Common.{List, [], subst}
 use Rattle.hippo_model.specs.Answers.{product}
 use Rattle.hippo_eval.specs.Walks.{rows_of}
-use Rattle.hippo_distinct.proofs.CellOrder.{row_order}
 use Rattle.hippo_groups.specs.GroupMarks.{PlacedRow}
 use Rattle.hippo_groups.specs.KeptGroups.{AreMarkedGroups}
 use Rattle.hippo_groups.proofs.MarkLemmas.{placed-counting}
@@ -10,6 +9,6 @@ use Rattle.hippo_groups.proofs.marking.marked_groups.Goals as goal
 
 pub returns : goal.returns
 returns g c =
-    subst (λ (found : List PlacedRow). AreMarkedGroups row_order c.args.shape.now found c.walk_joined.new.state)
+    subst (λ (found : List PlacedRow). AreMarkedGroups c.args.shape.now found c.walk_joined.new.state)
     (placed-counting (g.C.ChoiceView.choices c.args.choices.now) c.args.query.now c.args.sets.now c.args.tables.now (product (rows_of c.args.sets.now)))
     (c.in_ok-walk_joined.ensures [] (c.new-groups.ensures c.args.shape.now))

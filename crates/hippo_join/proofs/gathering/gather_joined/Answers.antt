@@ -6,12 +6,12 @@ use Rattle.hippo_eval.proofs.FoundLemmas.{answered-whole}
 use Rattle.hippo_join.proofs.GatheringLemmas.{counted-answer}
 use Rattle.hippo_join.proofs.gathering.gather_joined.Goals as goal
 
-pub returns-in-Ok : goal.returns-in-Ok
-returns-in-Ok g c =
+pub returns-in_ok-finish-in-Ok : goal.returns-in_ok-finish-in-Ok
+returns-in_ok-finish-in-Ok g c =
     let Holds = g.G.Gatherer.Holds c.args.gatherer.now in
     let answer = g.G.Gatherer.answer c.args.gatherer.now in
     let counted = c.in-Ok.ensures [] (record { front = []; later = []; is = refl; holds = c.start-rows.ensures; whole = λ few. refl }) in
     let are =
     subst (λ (found : List ShownRow). IsGathered Holds answer c.args.limit found c.walk_joined.new.state) (counted-answer (g.C.ChoiceView.choices c.args.choices.now) c.args.query.now c.args.sets.now) counted in
-    let both = answered-whole Holds answer c.args.limit _ _ are c.finish.result (c.finish.ensures are.front are.holds) in
+    let both = answered-whole Holds answer c.args.limit _ _ are _ (c.in_ok-finish-in-Ok.ensures are.front are.holds) in
     c.limited.ensures _ both.0 both.1
