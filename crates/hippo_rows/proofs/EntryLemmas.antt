@@ -1,12 +1,15 @@
 -- Entries of an order by a column: each row of the set keeps its own.
-use Rattle.std.proofs.Common.{◌≡◌, Bool, true, false, ℕ, zero, suc, ◌+◌, ◌<◌, ◌≤◌, List, [], ◌∷◌, ◌++◌, map, length, Option, Some, None, IfSome, if◌then◌else◌, slice_get, inl, inr, sym, ap, ◌∙◌, refl, subst, arith, add-one, add-zero}
+use Rattle.std.proofs.Common.{◌≡◌, Bool, true, false, ℕ, zero, suc, ◌+◌, ◌<◌, ◌≤◌, List, [], ◌∷◌, ◌++◌, map, length, get_or, Option, Some, None, IfSome, if◌then◌else◌, slice_get, inl, inr, sym, ap, ◌∙◌, refl, subst, arith, add-one, add-zero, zero-add}
 use Rattle.std.specs.Prelude.{option_map, OnOk, Result, Ok, Err}
-use Rattle.std.specs.List.{range_with_len}
+use Rattle.std.specs.List.{All, Contains, range_with_len}
+use Rattle.std.specs.List.Sorted.{IsPermutation}
 use Rattle.std.specs.Ordering.{is_eq, ordering_then}
 use Rattle.std.specs.declared.cmp.Ordering.{Ordering}
 use Rattle.std.specs.declared.cmp.Ordering.TheVariants.{Less, Equal, Greater}
 use Rattle.std.proofs.lemmas.Bool.{cases_lt, false≢true}
 use Rattle.std.proofs.lemmas.Cmp.{tied_itself}
+use Rattle.std.proofs.lemmas.List.FromFn.{get_or-range_with_len, length-range_with_len}
+use Rattle.std.proofs.lemmas.List.Sorted.{All-permutation, Contains-permutation}
 use Rattle.hippo_values.specs.declared.moments.Moment.{Moment}
 use Rattle.hippo_values.specs.declared.values.Value.{Value}
 use Rattle.hippo_values.specs.Order.{value_cmp, cells_cmp, same_cells}
@@ -14,7 +17,7 @@ use Rattle.hippo_model.specs.declared.born_row.BornRow.{BornRow}
 use Rattle.hippo_model.specs.Terms.{Key, Place, Row}
 use Rattle.hippo_model.specs.Rows.{cell_at, key_of}
 use Rattle.hippo_keyed_rows.specs.RowSets.{KeyedRows, IsAscending, key_in, with_row, without_row, find_row, row_with}
-use Rattle.hippo_rows.specs.ColumnOrders.{order_key, HasOrderKey, AreOrderKeysOf, AreReadyFor}
+use Rattle.hippo_rows.specs.ColumnOrders.{order_key, HasOrderKey, AreOrderKeysOf, AreEntered, AreReadyFor}
 use Rattle.hippo_keyed_rows.proofs.Orders.{cells_total, same_exact, value_exact}
 use Rattle.hippo_keyed_rows.proofs.RowsByKey.{row_with-put, row_with-take_other, row_with-take_own, key_in-row_with, place-row_with, slice_get-within, row_with-found, row_at-is}
 
@@ -205,40 +208,58 @@ forgotten-at column set entries taken place old are ascends found at =
 
 -- ---- entries of one row after the other
 
--- the rows before a place have their entries
-pub record AreFilled (column : Place) (set entries : KeyedRows) (end : ℕ) : Type 0 where
+-- the rows at the first places of a list have their entries
+pub record AreFilled (column : Place) (set : KeyedRows) (places : List Place) (entries : KeyedRows) (end : ℕ) : Type 0 where
   pub key : entries.key ≡ range_with_len 0 (suc (length set.key))
-  pub so_far : (place : Place) → place < end → (kept : BornRow) → slice_get set.rows place ≡ Some kept → HasOrderKey entries (order_key column set.key kept.row)
+  pub so_far : (at : ℕ) → at < end → (place : Place) → get_or places at place ≡ place → (kept : BornRow) → slice_get set.rows place ≡ Some kept → HasOrderKey entries (order_key column set.key kept.row)
 
-pub AreFilled-none : (column : Place) (set entries : KeyedRows) → entries.key ≡ range_with_len 0 (suc (length set.key)) → AreFilled column set entries 0
-AreFilled-none column set entries key = record { key = key; so_far = λ place none kept at. absurd (omega arith) }
+pub AreFilled-none : (column : Place) (set : KeyedRows) (places : List Place) (entries : KeyedRows) → entries.key ≡ range_with_len 0 (suc (length set.key)) → AreFilled column set places entries 0
+AreFilled-none column set places entries key = record { key = key; so_far = λ at none place is kept there. absurd (omega arith) }
 
-pub AreFilled-next : (column : Place) (set entries later : KeyedRows) (place : Place) (row : Row) (born : Moment) → option_map (λ kept. kept.row) (slice_get set.rows place) ≡ Some row
-    → later ≡ with_row (record { row = order_key column set.key row; born = born }) entries → AreFilled column set entries place → AreFilled column set later (place + 1)
-AreFilled-next column set entries later place row born at is filled =
+pub AreFilled-next : (column : Place) (set : KeyedRows) (places : List Place) (entries later : KeyedRows) (end : ℕ) (own : Place) (row : Row) (born : Moment) → ((place : Place) → get_or places end place ≡ place → place ≡ own)
+    → option_map (λ kept. kept.row) (slice_get set.rows own) ≡ Some row
+    → later ≡ with_row (record { row = order_key column set.key row; born = born }) entries → AreFilled column set places entries end → AreFilled column set places later (end + 1)
+AreFilled-next column set places entries later end own row born only at is filled =
     let entry = order_key column set.key row in
-    let own : key_of entries.key entry ≡ entry = own-key column set.key row entries.key filled.key in
-    subst (λ (made : KeyedRows). AreFilled column set made (place + 1)) (sym is) (record {
+    let itself : key_of entries.key entry ≡ entry = own-key column set.key row entries.key filled.key in
+    subst (λ (made : KeyedRows). AreFilled column set places made (end + 1)) (sym is) (record {
       key = filled.key;
-      so_far = λ other within kept at_other. elim (cases_lt other place) [
-        | inl before ↦ HasOrderKey-put entries born entry own (order_key column set.key kept.row) (filled.so_far other before kept at_other)
+      so_far = λ other within place is_place kept at_place. elim (cases_lt other end) [
+        | inl before ↦ HasOrderKey-put entries born entry itself (order_key column set.key kept.row) (filled.so_far other before place is_place kept at_place)
         | inr here ↦
-            let one : other ≡ place = omega arith in
-            let same : Some kept.row ≡ Some row = ap (option_map (λ (k : BornRow). k.row)) (sym at_other ∙ ap (slice_get set.rows) one) ∙ at in
+            let one : other ≡ end = omega arith in
+            let own_place : place ≡ own = only place (ap (λ (n : ℕ). get_or places n place) (sym one) ∙ is_place) in
+            let same : Some kept.row ≡ Some row = ap (option_map (λ (k : BornRow). k.row)) (sym at_place ∙ ap (slice_get set.rows) own_place) ∙ at in
             let is_row : kept.row ≡ row = cc in
-            subst (λ (r : Row). HasOrderKey (put entries born entry own) (order_key column set.key r)) (sym is_row) (HasOrderKey-own entries born entry own)
+            subst (λ (r : Row). HasOrderKey (put entries born entry itself) (order_key column set.key r)) (sym is_row) (HasOrderKey-own entries born entry itself)
       ];
     })
 
-pub AreFilled-all : (column : Place) (set entries : KeyedRows) (end : ℕ) → length set.rows ≤ end → AreFilled column set entries end → AreOrderKeysOf column set entries
-AreFilled-all column set entries end past filled = record {
+-- where all places of a list have been gone through, the rows at them have their entries
+pub AreFilled-all : (column : Place) (set : KeyedRows) (places : List Place) (entries : KeyedRows) (end : ℕ) → length places ≤ end → AreFilled column set places entries end → AreEntered column set places entries
+AreFilled-all column set places entries end past filled = record {
   key = filled.key;
+  each = λ place among kept at. filled.so_far among.0 (let within = among.1 in omega arith) place among.2 kept at;
+}
+
+-- where these are the places of all rows, in whatever order, each row has its entry
+pub entered-all : (column : Place) (set : KeyedRows) (places : List Place) (entries : KeyedRows) → IsPermutation (range_with_len 0 (length set.rows)) places → AreEntered column set places entries → AreOrderKeysOf column set entries
+entered-all column set places entries moved entered = record {
+  key = entered.key;
   covers = λ key. by_row key (row_with key set) refl;
 }
   where
+    among : (place : Place) → place < length set.rows → Contains places place
+    among place within = Contains-permutation (range_with_len 0 (length set.rows)) places place moved
+        (place, simp length-range_with_len within, get_or-range_with_len 0 (length set.rows) place place within ∙ zero-add place)
+
     by_row : (key : Key) (found : Option BornRow) → row_with key set ≡ found → IfSome found (λ kept. HasOrderKey entries (order_key column set.key kept.row))
     by_row key None is = tt
     by_row key (Some kept) is =
         let at = place-row_with set.key set.rows key kept is in
-        let within = slice_get-within set.rows at.0 kept at.1 in
-        filled.so_far at.0 (omega arith) kept at.1
+        entered.each at.0 (among at.0 (slice_get-within set.rows at.0 kept at.1)) kept at.1
+
+-- the places of all rows, in whatever order, are places of rows
+pub places-below : (n : ℕ) (places : List Place) → IsPermutation (range_with_len 0 n) places → All (λ place. place < n) places
+places-below n places moved =
+    All-permutation (λ place. place < n) (range_with_len 0 n) places moved (λ k d within. let l : k < n = simp length-range_with_len at within in rw (get_or-range_with_len 0 n k d l) (omega arith))

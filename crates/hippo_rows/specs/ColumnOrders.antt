@@ -23,6 +23,14 @@ pub record AreOrderKeysOf (column : Place) (set entries : KeyedRows) : Type 0 wh
   pub covers : (own : Key) → IfSome (row_with own set)
       (λ kept. HasOrderKey entries (order_key column set.key kept.row))
 
+-- the rows at some places have their entries
+pub record AreEntered (column : Place) (set : KeyedRows) (places : List Place) (entries : KeyedRows)
+    : Type 0 where
+  pub key : entries.key ≡ range_with_len 0 (suc (length set.key))
+  pub each : (place : Place) → Contains places place → (kept : BornRow)
+      → slice_get set.rows place ≡ Some kept
+      → HasOrderKey entries (order_key column set.key kept.row)
+
 -- an order is one of a set, where it has entries
 abbrev pub IsOrderOf : KeyedRows → ColumnOrder → Type 0
 IsOrderOf set order = IfSome order.entries (λ entries. AreOrderKeysOf order.column set entries)

@@ -1,5 +1,6 @@
 //! Orders of a table's rows by a column that is not the first of its key.
-ghost use Rattle.std.specs.Prelude.{◌≡◌, ◌<◌, ◌≤◌, ◌++◌, ◌∷◌, [], true, false, ℕ, suc, length, Some, slice_get, IfOk, IfSome, OnOk};
+ghost use Rattle.std.specs.Prelude.{◌≡◌, ◌<◌, ◌≤◌, ◌++◌, ◌∷◌, [], true, false, ℕ, suc, length, map, Some, slice_get, IfOk, IfSome, OnOk};
+ghost use Rattle.std.specs.List.Sorted.{IsPermutation};
 ghost use Rattle.std.specs.List.{All, Contains, range_with_len};
 ghost use Rattle.std.specs.Ordering.{is_eq};
 ghost use Rattle.hippo_values.specs.Order.{value_cmp};
@@ -10,7 +11,7 @@ ghost use Rattle.hippo_model.specs.Terms.{Place};
 ghost use Rattle.hippo_model.specs.Rows.{cell_at, key_of};
 ghost use Rattle.hippo_keyed_rows.specs.RowSets.{KeyedRows, with_row, without_row, find_row, value_at_place};
 ghost use Rattle.hippo_rows.specs.Ranges.{IsEdge, KeepsBound};
-ghost use Rattle.hippo_rows.specs.ColumnOrders.{order_key, AreOrderKeysOf, AreGathered, IsOrderOf, AreOrdersOf, AreReadyFor, IsReadyFor};
+ghost use Rattle.hippo_rows.specs.ColumnOrders.{order_key, AreOrderKeysOf, AreEntered, AreGathered, IsOrderOf, AreOrdersOf, AreReadyFor, IsReadyFor};
 
 use crate::ranges::{Bound, ends_within};
 use hippo_keyed_rows::KeyedSet;
@@ -255,25 +256,65 @@ fn places_to(alloc: Global, last: usize) -> Result<Places, Memory>
     Ok(places)
 }
 
-// Puts in the entries of all rows.
-fn fill(alloc: Global, column: usize, set: &KeyedSet, entries: &mut KeyedSet) -> Result<(), Memory>
+// The place of each row, behind the row's value in a column.
+fn ranked<'a>(
+    alloc: Global,
+    column: usize,
+    set: &'a KeyedSet,
+) -> Result<Vec<(Option<&'a Value>, usize)>, Memory>
+    ensures { IfOk result (λ ranked. map (λ pair. pair.1) ranked.items
+        ≡ range_with_len 0 (length set.now.rows)) }
+{
+    let mut ranked = Vec::with_capacity(alloc, set.len())?;
+    for place in 0..set.len() {
+        ranked.push((set.row(place).as_slice().get(column), place))?;
+    }
+    Ok(ranked)
+}
+
+fn places_in(alloc: Global, ranked: &[(Option<&Value>, usize)]) -> Result<Vec<usize>, Memory>
+    ensures { IfOk result (λ places. places.items ≡ map (λ pair. pair.1) ranked.now) }
+{
+    Ok(ranked.iter().map(|pair| pair.1).collect(alloc)?)
+}
+
+// The places of all rows, in the order of their values in a column.
+fn places_by(alloc: Global, column: usize, set: &KeyedSet) -> Result<Vec<usize>, Memory>
+    ensures { IfOk result (λ places. IsPermutation (range_with_len 0 (length set.now.rows))
+        places.items) }
+{
+    let mut ranked = ranked(alloc, column, set)?;
+    ranked.sort_unstable();
+    places_in(alloc, &ranked)
+}
+
+// Puts in the entries of the rows at some places.
+fn fill(
+    alloc: Global,
+    column: usize,
+    set: &KeyedSet,
+    places: &[usize],
+    entries: &mut KeyedSet,
+) -> Result<(), Memory>
+    requires { All (λ place. place < length set.now.rows) places.now }
     ensures { entries.old.key ≡ range_with_len 0 (suc (length set.now.key))
-        → OnOk result (AreOrderKeysOf column set.now entries.new) }
+        → OnOk result (AreEntered column set.now places.now entries.new) }
 {
     let key = set.key().as_slice();
-    for place in 0..set.len() {
-        let row = set.row(place).as_slice();
-        enter(alloc, column, key, row, set.born(place), entries)?;
+    for place in places {
+        let row = set.row(*place).as_slice();
+        enter(alloc, column, key, row, set.born(*place), entries)?;
     }
     Ok(())
 }
 
-// The entries of a set's rows.
+// The entries of a set's rows. They are put in by their order, each behind those before it.
 pub(crate) fn entries_of(alloc: Global, column: usize, set: &KeyedSet) -> Result<KeyedSet, Memory>
     ensures { IfOk result (λ entries. AreOrderKeysOf column set.now entries) }
 {
+    let places = places_by(alloc, column, set)?;
     let mut entries = KeyedSet::new(alloc, places_to(alloc, set.key().len())?);
-    fill(alloc, column, set, &mut entries)?;
+    fill(alloc, column, set, &places, &mut entries)?;
     Ok(entries)
 }
 
