@@ -1,5 +1,5 @@
 -- From the checks of a statement that changes something, and from recording its entry, to what carrying it out does.
-use Rattle.std.proofs.Common.{◌≡◌, ◌⊎◌, ◌∙◌, ◌≤◌, ◌<◌, ◌+◌, ◌^◌, inl, inr, refl, sym, ap, subst, arith, ℕ, Bool, length, true, false}
+use Rattle.std.proofs.Common.{◌≡◌, ◌⊎◌, ◌∙◌, ◌≤◌, ◌<◌, ◌^◌, inl, inr, refl, sym, ap, subst, arith, ℕ, Bool, length, true, false}
 use Rattle.std.specs.Prelude.{codes, int_le, [], ◌∷◌, ◌++◌}
 use Rattle.std.proofs.lemmas.Bool.{false≢true, and_from}
 use Rattle.hippo_values.specs.Texts.{Txt}

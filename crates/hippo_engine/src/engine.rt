@@ -15,7 +15,7 @@ ghost use Rattle.hippo_engine.specs.Performing.{Needs, Performs};
 use crate::faults::EngineFault;
 use hippo_commands::{Command, command_of};
 use hippo_io::{Line, Sink};
-use hippo_judging::{Deed, Delivery, judge, who_commands};
+use hippo_judging::{Deed, judge, who_commands};
 use hippo_keeper::{Keeper, Steps};
 use hippo_replay::State;
 use hippo_report::Format;
@@ -132,14 +132,8 @@ impl Engine {
             Deed::DropJob { job } => self.drop_job(job),
             Deed::EndWatch { watch } => self.end_watch(watch),
             Deed::Change { entry } => return self.change(alloc, keeper, entry),
-            Deed::Answer { question } => {
-                return self.question(alloc, keeper, question, Delivery::Rows);
-            }
-            Deed::OpenCursor { cursor, question } => {
-                return self.question(alloc, keeper, question, Delivery::Cursor(cursor));
-            }
-            Deed::Extract { question } => {
-                return self.question(alloc, keeper, question, Delivery::Records);
+            Deed::Ask { question, delivery } => {
+                return self.question(alloc, keeper, question, delivery);
             }
             Deed::Explain { entry } => return self.explain(alloc, keeper, entry, steps),
             Deed::Audit { audit } => return self.audit(alloc, keeper, audit, steps),

@@ -32,7 +32,6 @@ use Rattle.hippo_lines.specs.Forms as requests
 use Rattle.hippo_commands.specs.Commands.{Command, make_request, who_commands}
 use Rattle.hippo_commands.specs.Commands as commands
 use Rattle.hippo_judging.specs.declared.asking.Delivery.{Delivery}
-use Rattle.hippo_judging.specs.declared.asking.Delivery.TheVariants as delivered
 use Rattle.hippo_judging.specs.declared.asking.Handing.{Handing}
 use Rattle.hippo_judging.specs.declared.asking.Handing.TheVariants.{Rows, Records, Cursor}
 use Rattle.hippo_judging.specs.declared.asking.WrittenQuestion.{WrittenQuestion}
@@ -44,7 +43,7 @@ use Rattle.hippo_judging.specs.declared.deeds.Unjudged.{Unjudged}
 use Rattle.hippo_judging.specs.Checks.{Checked, Refuses, by_console, by_session, open_session, job_at, held_watch, reply_room}
 use Rattle.hippo_judging.specs.Deeds as deeds
 use Rattle.hippo_judging.specs.Changes.{IsChange}
-use Rattle.hippo_judging.specs.Findings.{AddsNextEntry, IsJudged, IsRefused, MayBeAsked, IsAuditOfState, Does, FindsDeed, deed_by, with_free_number, without_reading, Judges, may_do_nothing}
+use Rattle.hippo_judging.specs.Findings.{AddsNextEntry, IsJudged, IsRefused, MayBeAsked, IsAuditOfState, Does, FindsDeed, with_free_number, without_reading, Judges, may_do_nothing}
 use Rattle.hippo_judging.specs.Judging.{judged, audit_in}
 use Rattle.hippo_judging.proofs.FollowingLemmas.{some_so}
 
@@ -230,14 +229,8 @@ module _ (state : State) (world : HeldWorld) (written : RawAudit) (text : Txt) w
         (λ history stands. inl (judged_audit sets history stands ∙ by_free_watch None free))
 
 -- ---- questions
-module _ (command : Command) (state : State) (world : HeldWorld) (question : Question) where
-  by_delivery : (delivery : Delivery) → MayBeAsked command question delivery state world → Does command (deed_by question delivery) state world
-  by_delivery delivered.Rows asks = asks
-  by_delivery delivered.Records asks = asks
-  by_delivery (delivered.Cursor number) asks = asks
-
-  pub question_done : (deed : Deed) (delivery : Delivery) → deed ≡ deed_by question delivery → MayBeAsked command question delivery state world → Does command deed state world
-  question_done deed delivery is asks = subst (λ (one : Deed). Does command one state world) (sym is) (by_delivery delivery asks)
+pub question_done : (command : Command) (state : State) (world : HeldWorld) (question : Question) (deed : Deed) (delivery : Delivery) → deed ≡ kinds.Ask question delivery → MayBeAsked command question delivery state world → Does command deed state world
+question_done command state world question deed delivery is asks = subst (λ (one : Deed). Does command one state world) (sym is) asks
 
 -- what begins with an audit is refused where that is
 pub refused_audit : (state : State) (world : HeldWorld) (written : RawAudit) (command : Command) (next : Audit → Checked deeds.Deed) (refusal : Refusal) → may_do_nothing command ≡ true

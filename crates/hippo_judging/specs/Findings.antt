@@ -33,7 +33,6 @@ use Rattle.hippo_following.specs.CommandLaws.{StandsInLine as StandsIn}
 use Rattle.hippo_commands.specs.Commands.{Command, wrong, make_request, who_commands, takes_memory}
 use Rattle.hippo_commands.specs.Commands as commands
 use Rattle.hippo_judging.specs.declared.asking.Delivery.{Delivery}
-use Rattle.hippo_judging.specs.declared.asking.Delivery.TheVariants as delivered
 use Rattle.hippo_judging.specs.declared.deeds.Deed.{Deed}
 use Rattle.hippo_judging.specs.declared.deeds.Deed.TheVariants as kinds
 use Rattle.hippo_judging.specs.declared.deeds.Question.{Question}
@@ -110,12 +109,6 @@ question_by asker question = record {
   query = question.query;
 }
 
--- what is to be done for a question, by how its answer is handed out
-abbrev pub deed_by : Question → Delivery → Deed
-deed_by question delivered.Rows = kinds.Answer question
-deed_by question delivered.Records = kinds.Extract question
-deed_by question (delivered.Cursor number) = kinds.OpenCursor number question
-
 -- a question can be answered, and its entry may follow
 pub record MayBeAsked (command : Command) (question : Question) (delivery : Delivery)
     (state : State) (world : HeldWorld)
@@ -162,12 +155,8 @@ Does command (kinds.DropJob number) state world =
 Does command (kinds.EndWatch number) state world =
     IsJudged command state world (Ok (deeds.end_watch number))
 Does command (kinds.Change entry) state world = AddsNextEntry command entry state world
-Does command (kinds.Answer question) state world =
-    MayBeAsked command question delivered.Rows state world
-Does command (kinds.OpenCursor number question) state world =
-    MayBeAsked command question (delivered.Cursor number) state world
-Does command (kinds.Extract question) state world =
-    MayBeAsked command question delivered.Records state world
+Does command (kinds.Ask question delivery) state world =
+    MayBeAsked command question delivery state world
 Does command (kinds.Explain entry) state world = ⊥
 Does command (kinds.Audit audit) state world =
     ((written : RawAudit) × (text : Txt)

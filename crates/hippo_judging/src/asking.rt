@@ -15,7 +15,8 @@ ghost use Rattle.hippo_judging.specs.declared.asking.Delivery.TheVariants as del
 ghost use Rattle.hippo_judging.specs.Judging.{delivery_for, judged_question, text_between};
 ghost use Rattle.hippo_judging.specs.Asking.{IsWritten, written_command, IsAnswerable};
 ghost use Rattle.hippo_judging.specs.Asking.{delivery_in_room, asking_with, deed_asked};
-ghost use Rattle.hippo_judging.specs.Findings.{IsOfLine, FindsDeed, deed_by};
+ghost use Rattle.hippo_judging.specs.declared.deeds.Deed.TheVariants.{Ask};
+ghost use Rattle.hippo_judging.specs.Findings.{IsOfLine, FindsDeed};
 
 use crate::deeds::{Deed, Question};
 use crate::refusals::{check_room, name_refusal};
@@ -230,7 +231,7 @@ fn names_fit(asker: &Session)
 
 // What is to be done for a question, whose text is the line's own.
 fn deed_of<'t>(session: u8, text: &'t str, asking: Asking<'_>) -> Deed<'t>
-    ensures { result ≡ deed_by (record {
+    ensures { result ≡ Ask (record {
       session = session;
       text = text.entry;
       query = asking.entry.query;
@@ -242,10 +243,9 @@ fn deed_of<'t>(session: u8, text: &'t str, asking: Asking<'_>) -> Deed<'t>
         text,
         query: asking.query,
     };
-    match asking.delivery {
-        Delivery::Rows => Deed::Answer { question },
-        Delivery::Records => Deed::Extract { question },
-        Delivery::Cursor(cursor) => Deed::OpenCursor { cursor, question },
+    Deed::Ask {
+        question,
+        delivery: asking.delivery,
     }
 }
 

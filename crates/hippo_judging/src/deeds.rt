@@ -1,4 +1,5 @@
 //! What is to be done for a line that is not refused.
+use crate::asking::Delivery;
 use hippo_backlog::ReadFault;
 use hippo_model::{Audit, Entry, Pair, Query};
 use hippo_report::Refusal;
@@ -17,29 +18,64 @@ pub struct Question<'a> {
 #[derive(Drop)]
 pub enum Deed<'a> {
     DoNothing,
-    SetClock { moment: Moment },
-    LogIn { session: u8, user: Name, pair: Pair },
-    LogOut { session: u8 },
+    SetClock {
+        moment: Moment,
+    },
+    LogIn {
+        session: u8,
+        user: Name,
+        pair: Pair,
+    },
+    LogOut {
+        session: u8,
+    },
     /// So many further rows of a cursor of a session.
-    HandOut { session: u8, cursor: u8, count: u32 },
-    CloseCursor { session: u8, cursor: u8 },
+    HandOut {
+        session: u8,
+        cursor: u8,
+        count: u32,
+    },
+    CloseCursor {
+        session: u8,
+        cursor: u8,
+    },
     /// So many further entry numbers of a job.
-    StepJob { job: u8, count: u32 },
-    DropJob { job: u8 },
-    EndWatch { watch: u8 },
+    StepJob {
+        job: u8,
+        count: u32,
+    },
+    DropJob {
+        job: u8,
+    },
+    EndWatch {
+        watch: u8,
+    },
     /// The entry that is added.
-    Change { entry: Entry },
-    Answer { question: Question<'a> },
-    /// With the number that the cursor gets, in the question's session.
-    OpenCursor { cursor: u8, question: Question<'a> },
-    Extract { question: Question<'a> },
+    Change {
+        entry: Entry,
+    },
+    /// How the question's answer is handed out.
+    Ask {
+        question: Question<'a>,
+        delivery: Delivery,
+    },
     /// The entry of the question that is explained.
-    Explain { entry: Entry },
-    Audit { audit: Audit },
+    Explain {
+        entry: Entry,
+    },
+    Audit {
+        audit: Audit,
+    },
     /// With the number that the job gets.
-    BeginAudit { job: usize, audit: Audit },
+    BeginAudit {
+        job: usize,
+        audit: Audit,
+    },
     /// With the number that the watch gets.
-    Watch { watch: usize, audit: Audit },
+    Watch {
+        watch: usize,
+        audit: Audit,
+    },
 }
 
 /// Why nothing is to be done for a line.

@@ -27,13 +27,7 @@ pub change-requires-clause-follows : goal.change-requires-clause-follows
 change-requires-clause-follows g c = let needs = rw c.in-Change.is at c.requires.needs in needs.1.follows
 
 pub question-requires-clause-needs : goal.question-requires-clause-needs
-question-requires-clause-needs g c = rw c.in-Answer.is at c.requires.needs
-
-pub question-requires-in-OpenCursor-clause-needs : goal.question-requires-in-OpenCursor-clause-needs
-question-requires-in-OpenCursor-clause-needs g c = rw c.in-OpenCursor.is at c.requires.needs
-
-pub question-requires-in-Extract-clause-needs : goal.question-requires-in-Extract-clause-needs
-question-requires-in-Extract-clause-needs g c = rw c.in-Extract.is at c.requires.needs
+question-requires-clause-needs g c = rw c.in-Ask.is at c.requires.needs
 
 pub audit-requires-clause-differ : goal.audit-requires-clause-differ
 audit-requires-clause-differ g c = let needs = rw c.in-Audit.is at c.requires.needs in needs.1.1.differ
@@ -96,14 +90,8 @@ pub returns-in-Change-clause-performs : goal.returns-in-Change-clause-performs
 returns-in-Change-clause-performs g c =
     rw c.in-Change.is (λ command does. c.change.ensures.carries command c.args.steps.now (changes_by command c.in-Change.entry c.args.self.now does))
 
-pub returns-in-Answer-clause-performs : goal.returns-in-Answer-clause-performs
-returns-in-Answer-clause-performs g c = rw c.in-Answer.is (λ command does. c.question.ensures.carries command c.args.steps.now does)
-
-pub returns-in-OpenCursor-clause-performs : goal.returns-in-OpenCursor-clause-performs
-returns-in-OpenCursor-clause-performs g c = rw c.in-OpenCursor.is (λ command does. c.question-in-OpenCursor.ensures.carries command c.args.steps.now does)
-
-pub returns-in-Extract-clause-performs : goal.returns-in-Extract-clause-performs
-returns-in-Extract-clause-performs g c = rw c.in-Extract.is (λ command does. c.question-in-Extract.ensures.carries command c.args.steps.now does)
+pub returns-in-Ask-clause-performs : goal.returns-in-Ask-clause-performs
+returns-in-Ask-clause-performs g c = rw c.in-Ask.is (λ command does. c.question.ensures.carries command c.args.steps.now does)
 
 pub returns-in-Explain-clause-performs : goal.returns-in-Explain-clause-performs
 returns-in-Explain-clause-performs g c = rw c.in-Explain.is c.explain.ensures.explained
