@@ -1,9 +1,11 @@
 //! The words and the input of a call, and what is to fail around it.
 
 use hippo_entry_texts::first_word;
+use hippo_io::{MemorySink, MemorySource};
 use hippo_keeper::{KeeperFail, KeeperFails};
-use hippo_values::{Calls, Memory, Sequence, Txt};
+use hippo_values::{Bytes, Calls, Memory, Sequence, Txt};
 use std::alloc::Global;
+use std::mem;
 
 // The most bytes that a case may write, where it does not say.
 const ROOM: usize = 1_000_000;
@@ -49,6 +51,19 @@ impl Case {
             room: ROOM,
             is_brief: false,
         }
+    }
+
+    /// The source that it asks for, which takes its input.
+    pub fn take_source(&mut self, alloc: Global) -> MemorySource {
+        let input = mem::replace(&mut self.input, Vec::new(alloc));
+        let failing = mem::replace(&mut self.failing_reads, Calls::new(alloc));
+        MemorySource::new(Bytes::from_vec(input), failing)
+    }
+
+    /// The sink that it asks for, or want of memory.
+    pub fn take_sink(&mut self, alloc: Global) -> Result<MemorySink, Memory> {
+        let failing = mem::replace(&mut self.failing_writes, Calls::new(alloc));
+        MemorySink::new(alloc, self.room, failing)
     }
 
     fn add_text(&mut self, text: &str) -> Result<(), Memory> {

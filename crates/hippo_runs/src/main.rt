@@ -27,7 +27,7 @@ use hippo_io::{MemorySink, MemorySource};
 use hippo_keeper::{KeeperFails, MemoryKeeper, Steps};
 use hippo_model::StoredList;
 use hippo_serve::hippo_top;
-use hippo_values::{Bytes, Duplicate, Memory, Txt};
+use hippo_values::{Duplicate, Memory, Txt};
 use std::alloc::Global;
 use std::io::{self, Write};
 use std::marker::Brand;
@@ -74,22 +74,32 @@ fn said(alloc: Global, output: &[u8], is_brief: bool, status: u8) -> Result<Stri
     Ok(format!(in alloc; "{output}status {status}\n")?)
 }
 
-// What a case comes to over a keeper, and the entries that are kept then.
-fn outcome(alloc: Global, case: Case, keeper: MemoryKeeper) -> Result<(String, StoredList), Memory>
-    requires ready { IsReady false (memory_keeper_state keeper) }
+// What the program writes over these, as a case wants it, and its status.
+fn said_over(
+    alloc: Global,
+    case: &Case,
+    source: &mut MemorySource,
+    sink: &mut MemorySink,
+    keeper: &mut MemoryKeeper,
+) -> Result<String, Memory>
+    requires ready { IsReady false (memory_keeper_state keeper.old) }
 {
-    let mut keeper = keeper;
-    let mut source = MemorySource::new(Bytes::from_vec(case.input), case.failing_reads);
-    let mut sink = MemorySink::new(alloc, case.room, case.failing_writes)?;
-    let status = called(
-        alloc,
-        case.words.as_slice(),
-        &mut source,
-        &mut sink,
-        &mut keeper,
-    );
-    let said = said(alloc, sink.bytes(), case.is_brief, status)?;
-    Ok((said, keeper.restart().kept().copy(alloc)?))
+    let status = called(alloc, case.words.as_slice(), source, sink, keeper);
+    said(alloc, sink.bytes(), case.is_brief, status)
+}
+
+// What a case comes to over a keeper.
+fn outcome(alloc: Global, case: &mut Case, keeper: &mut MemoryKeeper) -> Result<String, Memory>
+    requires ready { IsReady false (memory_keeper_state keeper.old) }
+{
+    let mut source = case.take_source(alloc);
+    let mut sink = case.take_sink(alloc)?;
+    said_over(alloc, &*case, &mut source, &mut sink, keeper)
+}
+
+// The entries that a keeper left.
+fn left(alloc: Global, keeper: MemoryKeeper) -> Result<StoredList, Memory> {
+    keeper.restart().kept().copy(alloc)
 }
 
 // The case that is being written, and the entries that the last call left.
@@ -109,13 +119,13 @@ impl Rows {
 
     // Calls the program over these entries; no text where their numbers do not rise.
     fn call(&mut self, alloc: Global, kept: StoredList) -> Result<Option<String>, Memory> {
-        let mut case = mem::replace(&mut self.case, Case::new(alloc));
-        let failing = mem::replace(&mut case.failing, KeeperFails::new(alloc));
-        let Some(keeper) = keeper_of(kept, failing) else {
+        let failing = mem::replace(&mut self.case.failing, KeeperFails::new(alloc));
+        let Some(mut keeper) = keeper_of(kept, failing) else {
             return Ok(None);
         };
-        let (said, left) = outcome(alloc, case, keeper)?;
-        self.kept = left;
+        let said = outcome(alloc, &mut self.case, &mut keeper)?;
+        self.case = Case::new(alloc);
+        self.kept = left(alloc, keeper)?;
         Ok(Some(said))
     }
 
@@ -151,17 +161,27 @@ impl Rows {
     }
 }
 
-fn main(rt: HostRuntime) -> io::Result<()> {
-    let alloc = rt.alloc();
-    let mut rows = Rows::new(alloc);
-    for line in rt.lines(alloc) {
-        let written = rows
-            .carry_out(alloc, line?.as_str())
-            .map_err(|_| io::ErrorKind::OutOfMemory)?;
-        let Some(written) = written else {
-            return Err(io::ErrorKind::InvalidInput.into());
-        };
-        rt.stdout().write_all(written.as_bytes())?;
+// Does what a line asks for, and gives the text that is written then.
+fn written(alloc: Global, rows: &mut Rows, line: &str) -> io::Result<String> {
+    let written = rows
+        .carry_out(alloc, line)
+        .map_err(|_| io::ErrorKind::OutOfMemory)?;
+    match written {
+        Some(text) => Ok(text),
+        None => Err(io::ErrorKind::InvalidInput.into()),
+    }
+}
+
+// Does what each line of standard input asks for.
+fn carry_out_all(rt: HostRuntime, rows: &mut Rows) -> io::Result<()> {
+    for line in rt.lines(rt.alloc()) {
+        let text = written(rt.alloc(), rows, line?.as_str())?;
+        rt.stdout().write_all(text.as_bytes())?;
     }
     Ok(())
+}
+
+fn main(rt: HostRuntime) -> io::Result<()> {
+    let mut rows = Rows::new(rt.alloc());
+    carry_out_all(rt, &mut rows)
 }
