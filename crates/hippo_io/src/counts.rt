@@ -7,7 +7,7 @@ use hippo_values::Calls;
 use std::marker::Model;
 
 /// Counts calls and faults, and knows by their numbers which calls are to fail.
-#[derive(Debug, Drop)]
+#[derive(Drop)]
 pub(crate) struct CallCounter {
     failing: Calls,
     made: u64,

@@ -44,7 +44,7 @@ pub enum LineFault {
 
 /// Cuts the bytes of a source into lines. A line ends at a line feed or at the end of the input,
 /// has at most 65,536 bytes before that, and loses one carriage return at its end.
-#[derive(Debug, Drop)]
+#[derive(Drop)]
 pub struct LineReader {
     // `buffer[start..end]` was taken from the source and not yet handed out.
     buffer: Vec<u8>,
@@ -345,6 +345,3 @@ impl LineReader {
         }
     }
 }
-
-#[cfg(test)]
-mod tests;

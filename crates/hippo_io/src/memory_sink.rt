@@ -13,7 +13,7 @@ use std::marker::Model;
 
 /// A sink that keeps bytes in memory and fails at the calls that it is told. It has all its room
 /// from the beginning.
-#[derive(Debug, Drop)]
+#[derive(Drop)]
 pub struct MemorySink {
     bytes: Vec<u8>,
     room: usize,

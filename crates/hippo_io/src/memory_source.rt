@@ -10,7 +10,7 @@ use hippo_values::{Bytes, Calls};
 use std::marker::Model;
 
 /// A source that gives bytes out of memory and fails at the calls that it is told.
-#[derive(Debug, Drop)]
+#[derive(Drop)]
 pub struct MemorySource {
     bytes: Bytes,
     place: usize,

@@ -11,7 +11,7 @@ use std::io::Write;
 
 /// A sink over any writer. It counts each error of the writer as a fault, and each write of a piece
 /// with bytes that takes none of them.
-#[derive(Debug, Drop)]
+#[derive(Drop)]
 pub struct StdSink<W> {
     inner: W,
     faults: u64,

@@ -9,7 +9,7 @@ use crate::source::{Failed, Source};
 use std::io::Read;
 
 /// A source over any reader. It counts each error of the reader as a fault, and does not try again.
-#[derive(Debug, Drop)]
+#[derive(Drop)]
 pub struct StdSource<R> {
     inner: R,
     faults: u64,

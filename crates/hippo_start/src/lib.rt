@@ -37,7 +37,7 @@ pub trait Program {
 
 /// How a program ended: its exit status. Only [`start`] makes one, so a `main` that answers one
 /// cannot end with a status of its own.
-#[derive(Debug, Drop)]
+#[derive(Drop)]
 pub struct Ended {
     status: u8,
 }

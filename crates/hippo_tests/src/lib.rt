@@ -1,4 +1,5 @@
-//! Tests of public calls that no program makes: ample memory suffices, also at their largest use.
+//! Tests of public calls that no program makes: ample memory suffices, also at their largest use;
+//! and of sources and sinks over std's readers and writers that falter.
 //! What programs do is shown by the rows of `hippo_read` and `hippo_runs`.
 #![tactic(auto)]
 
@@ -8,3 +9,5 @@ mod copies;
 mod evaluation;
 #[cfg(test)]
 mod rooms;
+#[cfg(test)]
+mod streams;
