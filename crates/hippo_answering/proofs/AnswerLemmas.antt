@@ -21,11 +21,11 @@ use Rattle.hippo_eval.specs.Walks.{rows_of}
 use Rattle.hippo_policy.specs.declared.book.PolicyBook.{PolicyBook}
 use Rattle.hippo_tables.specs.declared.tables.Tables.{Tables}
 use Rattle.hippo_tables.specs.KeptTables.{table_at}
-use Rattle.hippo_tables.specs.Standing.{TablesStandFor}
+use Rattle.hippo_tables.specs.Standing.{TablesStandFor, AreKeptTables, are_created}
 use Rattle.hippo_rewrite.specs.Rewriting.{rewritten_query}
 use Rattle.hippo_rewrite.specs.RewritingLaws.{HasTables, rules_at, tables_at}
 use Rattle.hippo_rewrite.proofs.RulesInForce.{rewritten_answer-raw}
-use Rattle.hippo_answering.specs.States.{AreKeptTables, AreStateOf, are_created, schemas_at}
+use Rattle.hippo_answering.specs.States.{AreStateOf, schemas_at}
 
 is_some-map : {A B : Type 0} (f : A → B) (option : Option A) → is_some (option_map f option) ≡ is_some option
 is_some-map f None = refl

@@ -1,6 +1,5 @@
 -- The state of a history, of which answers are made.
-use Rattle.std.specs.Prelude.{◌≡◌, ℕ, Bool, true, List, length, filter_map, is_some}
-use Rattle.std.specs.List.{list_all}
+use Rattle.std.specs.Prelude.{◌≡◌, ℕ, true, List, length, filter_map}
 use Rattle.hippo_values.specs.declared.moments.Moment.{Moment}
 use Rattle.hippo_values.specs.declared.names.Name.{Name}
 use Rattle.hippo_model.specs.declared.audit.Pair.{Pair}
@@ -19,19 +18,9 @@ abbrev pub context_of : Pair → Moment → Context
 context_of pair moment =
     record { purpose = pair.purpose; recipient = pair.recipient; moment = moment }
 
--- whether each of some tables is created
-abbrev pub are_created : History → List Name → Bool
-are_created history names = list_all (λ name. is_some (schema_at history name)) names
-
 -- the schemas of tables that are created, in the order of their names
 abbrev pub schemas_at : History → List Name → List Schema
 schemas_at history names = filter_map (schema_at history) names
-
--- tables with these names are kept: they are created in some history that what is kept stands for
-pub record AreKeptTables (tables : Tables) (names : List Name) : Type 0 where
-  pub history : History
-  pub stands : standing.TablesStandFor tables history
-  pub created : are_created history names ≡ true
 
 -- a book and tables stand for a valid history of so many entries
 pub record AreStateOf

@@ -5,12 +5,12 @@ ghost use Rattle.hippo_model.specs.Forms.{rows_by_form};
 ghost use Rattle.hippo_model.specs.Answers.{answer};
 ghost use Rattle.hippo_model.specs.Masking.{masked_answer};
 ghost use Rattle.hippo_policy.specs.Books.{BookStandsFor};
-ghost use Rattle.hippo_tables.specs.Standing.{TablesStandFor};
+ghost use Rattle.hippo_tables.specs.Standing.{TablesStandFor, AreKeptTables};
 ghost use Rattle.hippo_eval.specs.Walks.{rows_of};
 ghost use Rattle.hippo_eval.specs.Answering.{IsAnswered};
 ghost use Rattle.hippo_rewrite.specs.Rewriting.{rewritten_query};
 ghost use Rattle.hippo_rewrite.specs.RewritingLaws.{rules_at};
-ghost use Rattle.hippo_answering.specs.States.{AreKeptTables, AreStateOf, context_of, schemas_at};
+ghost use Rattle.hippo_answering.specs.States.{AreStateOf, context_of, schemas_at};
 
 use crate::asked::{schemas_of, sets_of, sizes_of};
 use hippo_distinct::distinct;

@@ -3,8 +3,8 @@ ghost use Rattle.std.specs.Prelude.{◌≡◌, ◌∷◌, [], IfOk, Some, length
 ghost use Rattle.hippo_model.specs.Terms.{History};
 ghost use Rattle.hippo_model.specs.Histories.{schema_at};
 ghost use Rattle.hippo_keyed_rows.specs.RowSets.{kept_at};
-ghost use Rattle.hippo_tables.specs.Standing.{TablesStandFor};
-ghost use Rattle.hippo_answering.specs.States.{AreKeptTables, schemas_at};
+ghost use Rattle.hippo_tables.specs.Standing.{TablesStandFor, AreKeptTables};
+ghost use Rattle.hippo_answering.specs.States.{schemas_at};
 
 use hippo_model::{Lent, LentSchemas, Names, Schema, Sizes};
 use hippo_rows::{RowSet, Sets};

@@ -62,7 +62,7 @@ fn reached_by(max: u64, end: u64, piece: &[StoredEntry], reached: u64) -> u64
 ///
 /// Each is used once, in the order of their numbers. It knows up to which number all such entries
 /// were read, so that nothing is asked for twice.
-#[derive(Debug, Drop)]
+#[derive(Drop)]
 pub struct Ahead {
     piece: StoredList,
     // How many members of the piece are used.

@@ -27,7 +27,7 @@ fn raised(place: u64, number: u64) -> u64
 
 /// The rows of a table as they were after the entries up to a place, and the versions behind it
 /// that wait.
-#[derive(Debug, Drop)]
+#[derive(Drop)]
 pub struct Versions {
     rows: RowSet,
     ahead: Ahead,

@@ -17,7 +17,7 @@ use indexmap::{IndexMap, IndexSet};
 use std::alloc::Global;
 
 /// What the entry that was added last creates.
-#[derive(Clone, Copy, Debug, PartialEq, Eq)]
+#[derive(Clone, Copy, PartialEq, Eq)]
 pub enum Newest {
     Nothing,
     Table,

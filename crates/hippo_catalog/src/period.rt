@@ -2,7 +2,7 @@
 use hippo_values::Moment;
 
 /// The two ends of an audit's period, as far as its texts are moments.
-#[derive(Debug, Drop)]
+#[derive(Drop)]
 pub struct Period {
     pub from: Option<Moment>,
     pub to: Option<Moment>,

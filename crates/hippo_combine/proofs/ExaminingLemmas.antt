@@ -49,7 +49,7 @@ use Rattle.hippo_combine.specs.Combining.{IsSoundCombine, combine_terms}
 use Rattle.hippo_combine.proofs.ExaminerLemmas.{only_memory, undamaged, no_entry}
 use Rattle.hippo_combine.proofs.HeldLemmas.{all-from}
 use Rattle.hippo_combine.proofs.UnreadLemmas.{taken_and_unread}
-use Rattle.hippo_combine.proofs.PastLemmas.{front_valid, lasting, created_by_meaning, are_common}
+use Rattle.hippo_examining.proofs.PastLemmas.{front_valid, lasting, created_by_meaning, are_common}
 use Rattle.hippo_combine.proofs.SharingLemmas.{as_many, same_rows, stand_so, sets_are, schemas_are}
 
 -- ---- what is shared over the rows that are held

@@ -33,7 +33,7 @@ use Rattle.hippo_intervals.specs.Living.{HeldLives, LivesFit}
 use Rattle.hippo_intervals.proofs.LivesLemmas.{LivesAreThoseOf-fits}
 use Rattle.hippo_combine.specs.Held.{lives_of, schema_held, rows_held, place_held, has_some, are_held, AreHeldAt, TablesFit}
 use Rattle.hippo_combine.proofs.ExaminerLemmas.{find_none, nothing_of_audit}
-use Rattle.hippo_combine.proofs.PastLemmas.{front_valid, lasting, no_rows_yet}
+use Rattle.hippo_examining.proofs.PastLemmas.{front_valid, lasting, no_rows_yet}
 
 abbrev no_set : KeyedRows
 no_set = record { key = []; rows = [] }

@@ -16,7 +16,7 @@ use std::sync::ledger::Ledger;
 /// Examines logged questions in the order of their numbers, over the rows of each table that it
 /// needed so far. They are brought forward from question to question, so each version of a row is
 /// read once.
-#[derive(Debug, Drop)]
+#[derive(Drop)]
 pub struct Combine {
     tables: Vec<Lives>,
     // The number of the entry that it was asked about last.

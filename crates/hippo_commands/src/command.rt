@@ -5,7 +5,7 @@ use hippo_report::{Refusal, Speaker};
 use hippo_values::Moment;
 
 /// What a line commands. Texts are the line's own.
-#[derive(Debug, Drop)]
+#[derive(Drop)]
 pub enum Command<'a> {
     /// The line is empty, has only spaces, or begins with `#`.
     Nothing,

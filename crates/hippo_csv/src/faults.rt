@@ -5,7 +5,7 @@ ghost use Rattle.hippo_csv.specs.declared.faults.CsvFault.TheVariants as faults;
 use hippo_values::Memory;
 
 /// Why the fields of a record are no row of a table.
-#[derive(Clone, Copy, Debug, PartialEq, Eq)]
+#[derive(Clone, Copy, PartialEq, Eq)]
 pub enum CsvFault {
     /// There are more or fewer of them than columns.
     Count,

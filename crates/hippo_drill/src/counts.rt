@@ -10,7 +10,7 @@ use std::alloc::{AllocError, Global};
 
 /// How many replies there were so far, and how many of their lines have the second words `row`,
 /// `flag` and `no`.
-#[derive(Clone, Copy, Debug, PartialEq, Eq)]
+#[derive(Clone, Copy, PartialEq, Eq)]
 pub struct Counts {
     pub replies: u64,
     pub rows: u64,

@@ -14,7 +14,7 @@ use std::marker::Model;
 /// are inserted, and each tenth patient opts out of showing the phone; a nurse logs in. Then each
 /// patient's phone changes, and after each change the nurse asks for the patients of a zip. At last
 /// an audit asks who saw the phones of a zip. The number moves the zips.
-#[derive(Debug, Drop)]
+#[derive(Drop)]
 pub struct Drill {
     size: u64,
     number: u64,

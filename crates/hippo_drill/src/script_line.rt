@@ -6,7 +6,7 @@ ghost use Rattle.hippo_drill.specs.Kinds.{script_text};
 use std::alloc::{AllocError, Global};
 
 /// A line of the script, by what tells it from others of its kind: the number of its patient.
-#[derive(Clone, Copy, Debug, PartialEq, Eq)]
+#[derive(Clone, Copy, PartialEq, Eq)]
 pub(crate) enum ScriptLine {
     /// A line that is the same in each script.
     Same(&'static str),

@@ -37,7 +37,7 @@ use Rattle.hippo_report.specs.declared.refusal.Refusal.TheVariants as refusals
 use Rattle.hippo_flags.specs.Flags.{flag_line}
 use Rattle.hippo_report.specs.Refusals.{refusal_line}
 use Rattle.hippo_world.specs.declared.worlds.World.{World as HeldWorld}
-use Rattle.hippo_world.specs.Worlds.{World}
+use Rattle.hippo_sessions.specs.Worlds.{World}
 use Rattle.hippo_world.specs.Holding.{world_of, JobsFit, WatchesFit, tallies_of}
 use Rattle.hippo_engine.specs.declared.engine.Engine.{Engine}
 use Rattle.hippo_engine.specs.declared.faults.EngineFault.{EngineFault}
@@ -49,11 +49,11 @@ use Rattle.hippo_judging.specs.declared.deeds.Deed.TheVariants as kinds
 use Rattle.hippo_judging.specs.Checks.{Checked}
 use Rattle.hippo_judging.specs.Deeds.{Deed}
 use Rattle.hippo_judging.specs.Deeds as deeds
-use Rattle.hippo_engine.specs.Effects.{Effect, only_reply, effect_of, audit_effect, lines_and_count, IsEffect}
+use Rattle.hippo_effects.specs.Effects.{Effect, only_reply, effect_of, audit_effect, lines_and_count, IsEffect}
 use Rattle.hippo_judging.specs.Judging.{judged}
-use Rattle.hippo_engine.specs.Ledgers.{at_once}
+use Rattle.hippo_effects.specs.Ledgers.{at_once}
 use Rattle.hippo_engine.proofs.LookingLemmas.{Carries-looked}
-use Rattle.hippo_engine.proofs.ShortLemmas.{short, done_for}
+use Rattle.hippo_effects.proofs.ShortLemmas.{short, done_for}
 
 -- what a job found, where it looked over all
 abbrev pub found_by : Result (Unit {0}) ReadFault → Job Combine → Result (List Flag) ReadFault
@@ -155,7 +155,7 @@ module _ (text : Txt) (written : RawAudit) (audit : Audit) (old new : Engine) (b
   abbrev audits : Command
   audits = make_statement Console (stmt.Audit written) text
 
-  pub Carries-audit_effect : (result : Result (Unit {0}) EngineFault) → AtWork old before → IsJudged audits old.state old.world (Ok (deeds.audit audit))
+  pub Carries-audit_effect : (result : Result (Unit {0}) EngineFault) → AtWork old before → IsJudged audits old.state (world_of old.world) (Ok (deeds.audit audit))
       → ((history : History) → StandsFor old.state history → IsAuditOf history audit)
       → new.state ≡ old.state → new.world ≡ old.world → TellsFlags old.world.format audit old.state result new.reply before after steps steps'
       → Carries audits result old new before after steps steps'
@@ -189,12 +189,12 @@ module _ (text : Txt) (written : RawAudit) (audit : Audit) (old new : Engine) (b
           subst (λ (r : Txt). IsEffect history (world_of old.world) audits (only_reply (world_of old.world) r)) (sym said) (short_of_memory history (world_of old.world) audits audit refl refl is)
 
 pub Carries-does : (command : Command) (audit : Audit) (old new : Engine) (before after : KeeperState) (steps steps' : ℕ) (result : Result (Unit {0}) EngineFault) → AtWork old before
-    → Does command (kinds.Audit audit) old.state old.world → new.state ≡ old.state → new.world ≡ old.world → TellsFlags old.world.format audit old.state result new.reply before after steps steps'
+    → Does command (kinds.Audit audit) old.state (world_of old.world) → new.state ≡ old.state → new.world ≡ old.world → TellsFlags old.world.format audit old.state result new.reply before after steps steps'
     → Carries command result old new before after steps steps'
 Carries-does command audit old new before after steps steps' result at_work ((written, text, is), means, does) same_state same_world tells =
     subst (λ (c : Command). Carries c result old new before after steps steps') (sym is)
     (Carries-audit_effect text written audit old new before after steps steps' result at_work
-    (subst (λ (c : Command). IsJudged c old.state old.world (Ok (deeds.audit audit))) is does) means.fits same_state same_world tells)
+    (subst (λ (c : Command). IsJudged c old.state (world_of old.world) (Ok (deeds.audit audit))) is does) means.fits same_state same_world tells)
 
 -- how the line ends, by the job or by what it found
 pub ended_view : (result : Result (Unit {0}) EngineFault) (found : Result (Job Combine) ReadFault) → result ≡ reading_end found → result ≡ reading_end (result_map_both (λ (job : Job Combine). job.waiting) (λ fault. fault) found)

@@ -23,7 +23,7 @@ use Rattle.hippo_report.specs.declared.refusal.Refusal.TheVariants as refusals
 use Rattle.hippo_report.specs.Notices.{number_line}
 use Rattle.hippo_report.specs.Refusals.{refusal_line}
 use Rattle.hippo_world.specs.declared.worlds.World.{World as HeldWorld}
-use Rattle.hippo_world.specs.Worlds.{World}
+use Rattle.hippo_sessions.specs.Worlds.{World}
 use Rattle.hippo_tables.specs.declared.tables.Tables.{Tables}
 use Rattle.hippo_tables.specs.Standing.{TablesStandFor}
 use Rattle.hippo_watch.specs.Watches.{ComesNext}
@@ -42,12 +42,12 @@ use Rattle.hippo_judging.specs.Findings.{AddsNextEntry, IsRefused, may_do_nothin
 use Rattle.hippo_judging.specs.Checks.{Refuses, reply_room}
 use Rattle.hippo_judging.specs.Deeds.{next_entry}
 use Rattle.hippo_judging.specs.Deeds as deeds
-use Rattle.hippo_engine.specs.Effects.{Effect, only_reply, deed_effect, effect_of, judgement_effect, IsEffect}
+use Rattle.hippo_effects.specs.Effects.{Effect, only_reply, deed_effect, effect_of, judgement_effect, IsEffect}
 use Rattle.hippo_judging.specs.Judging.{judged}
-use Rattle.hippo_engine.specs.Ledgers.{none_taken}
+use Rattle.hippo_effects.specs.Ledgers.{none_taken}
 use Rattle.hippo_engine.proofs.CarryingLemmas.{Holds-same, Holds-more}
-use Rattle.hippo_engine.proofs.ClockLemmas.{int_le-refl}
-use Rattle.hippo_engine.proofs.ShortLemmas.{short, refused}
+use Rattle.hippo_effects.proofs.ClockLemmas.{int_le-refl}
+use Rattle.hippo_effects.proofs.ShortLemmas.{short, refused}
 
 -- want of memory is told either way
 pub told_short : (reply : Txt) → (reply ≡ refusal_line Console refusals.Memory) ⊎ (reply ≡ refusal_line Console refusals.Memory) → reply ≡ refusal_line Console refusals.Memory
@@ -55,7 +55,7 @@ told_short reply (inl is) = is
 told_short reply (inr is) = is
 
 -- a command that is refused adds nothing
-pub quiet_refusal : (command : Command) (who : Speaker) (refusal : Refusal) (old new : Engine) → who ≡ who_commands command → IsRefused command refusal old.state old.world
+pub quiet_refusal : (command : Command) (who : Speaker) (refusal : Refusal) (old new : Engine) → who ≡ who_commands command → IsRefused command refusal old.state (world_of old.world)
     → new.state ≡ old.state → new.world ≡ old.world → SaysRefusal who refusal new.reply → IsQuiet command old new
 quiet_refusal command who refusal old new who_is is state_is world_is says = record {
   same = state_is;
@@ -100,7 +100,7 @@ adds_change history world command entry change =
     ap (judgement_effect history world (who_commands command)) change.judged_so ∙ next_is history world entry change.next
 
 -- what the checks of a change found
-pub changes_by : (command : Command) (entry : Entry) (engine : Engine) → AddsNextEntry command entry engine.state engine.world → Changes command entry engine
+pub changes_by : (command : Command) (entry : Entry) (engine : Engine) → AddsNextEntry command entry engine.state (world_of engine.world) → Changes command entry engine
 changes_by command entry engine is = record {
   who = is.console;
   memory = is.memory;

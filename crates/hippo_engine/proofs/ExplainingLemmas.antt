@@ -26,7 +26,7 @@ use Rattle.hippo_report.specs.declared.refusal.Refusal.{Refusal}
 use Rattle.hippo_report.specs.declared.refusal.Refusal.TheVariants as refusals
 use Rattle.hippo_report.specs.Refusals.{refusal_line}
 use Rattle.hippo_world.specs.declared.worlds.World.{World as HeldWorld}
-use Rattle.hippo_world.specs.Worlds.{World}
+use Rattle.hippo_sessions.specs.Worlds.{World}
 use Rattle.hippo_world.specs.Holding.{world_of, JobsFit, WatchesFit, tallies_of}
 use Rattle.hippo_commands.specs.Commands.{Command, make_statement}
 use Rattle.hippo_engine.specs.declared.engine.Engine.{Engine}
@@ -36,16 +36,16 @@ use Rattle.hippo_judging.specs.Checks.{Checked, question_at}
 use Rattle.hippo_judging.specs.Deeds.{Deed}
 use Rattle.hippo_judging.specs.Deeds as deeds
 use Rattle.hippo_judging.specs.Findings.{HasLookedUp, LooksUp, LooksUpFor}
-use Rattle.hippo_engine.specs.Effects.{Effect, row_limit, only_reply, judgement_effect, effect_of, explain_effect, lines_and_count, denial_line, IsEffect}
+use Rattle.hippo_effects.specs.Effects.{Effect, row_limit, only_reply, judgement_effect, effect_of, explain_effect, lines_and_count, denial_line, IsEffect}
 use Rattle.hippo_judging.specs.Judging.{judged}
-use Rattle.hippo_engine.specs.Ledgers.{at_once}
+use Rattle.hippo_effects.specs.Ledgers.{at_once}
 use Rattle.hippo_engine.specs.Carrying.{AtWork, line_as_call, is_carried, Carries}
 use Rattle.hippo_judging.proofs.EntryLemmas.{err_of}
 use Rattle.hippo_engine.specs.Explaining.{Explanation, AreDenied, IsFound, Explains, explained_line, told_of, told_cells, explaining_end, TellsCells}
 use Rattle.hippo_engine.specs.Performing.{Explained}
 use Rattle.hippo_engine.specs.Explaining as explaining
 use Rattle.hippo_engine.proofs.LookingLemmas.{Carries-looked}
-use Rattle.hippo_engine.proofs.ShortLemmas.{short, refused, done_for}
+use Rattle.hippo_effects.proofs.ShortLemmas.{short, refused, done_for}
 
 abbrev looked_up : Option Entry → Result (Option Entry) ReadFault
 looked_up entry = Ok entry

@@ -31,28 +31,29 @@ use Rattle.hippo_flags.specs.Flags.{flag_line}
 use Rattle.hippo_report.specs.Notices.{done_line, number_line}
 use Rattle.hippo_report.specs.Refusals.{refusal_line}
 use Rattle.hippo_world.specs.declared.worlds.World.{World as HeldWorld}
-use Rattle.hippo_world.specs.Auditing.{HeldJob, taken_by_job, HasBegun, IsLooking, AreLooking, JobTally, job_tally, job_tallies}
+use Rattle.hippo_sessions.specs.Tallies.{JobTally}
+use Rattle.hippo_world.specs.Auditing.{HeldJob, taken_by_job, HasBegun, IsLooking, AreLooking, job_tally, job_tallies}
 use Rattle.hippo_world.specs.Holding.{world_of, WatchesFit, tallies_of}
-use Rattle.hippo_world.specs.Worlds.{World, at_number, with_at, free_number}
-use Rattle.hippo_world.proofs.NumberLemmas.{put_back}
-use Rattle.hippo_world.proofs.HeldLemmas.{seen-at, seen-with, seen-free, StandsAt, held_stands}
+use Rattle.hippo_sessions.specs.Worlds.{World, at_number, with_at, free_number}
+use Rattle.hippo_sessions.proofs.NumberLemmas.{put_back}
+use Rattle.hippo_sessions.proofs.HeldLemmas.{seen-at, seen-with, seen-free, StandsAt, held_stands}
 use Rattle.hippo_world.proofs.AuditLemmas.{all_with, one_has, IsLooking-begun, IsLooking-written, tally-begun}
 use Rattle.hippo_engine.specs.declared.engine.Engine.{Engine}
 use Rattle.hippo_engine.specs.declared.faults.EngineFault.{EngineFault}
 use Rattle.hippo_engine.specs.Auditing.{reading_end}
-use Rattle.hippo_judging.specs.Checks.{Checked}
+use Rattle.hippo_judging.specs.Checks.{Checked, StandsJob}
 use Rattle.hippo_engine.specs.Carrying.{AtWork, line_as_call, is_carried, shown_effect, AddsNothing, Carries}
 use Rattle.hippo_judging.specs.Deeds.{Deed}
 use Rattle.hippo_judging.specs.Deeds as deeds
-use Rattle.hippo_engine.specs.Effects.{Effect, only_reply, effect_of, job_step_effect as stepped, step_flags, step_line, job_up_to, with_job, new_open_audit, IsShort, IsShortStep, IsEffect}
+use Rattle.hippo_effects.specs.Effects.{Effect, only_reply, effect_of, job_step_effect as stepped, step_flags, step_line, job_up_to, with_job, new_open_audit, IsShort, IsShortStep, IsEffect}
 use Rattle.hippo_engine.specs.Jobs.{BeginsAt, progress_line, step_text, TellsStep}
 use Rattle.hippo_judging.specs.Judging.{judged}
-use Rattle.hippo_engine.specs.Ledgers.{begins_job, job_begun, job_stepped, job_dropped}
+use Rattle.hippo_effects.specs.Ledgers.{begins_job, job_begun, job_stepped, job_dropped}
 use Rattle.hippo_judging.specs.Findings.{IsJudged, Does}
 use Rattle.hippo_judging.specs.declared.deeds.Deed.TheVariants as kinds
 use Rattle.hippo_engine.proofs.AuditingLemmas.{ended_same, undamaged_end}
 use Rattle.hippo_engine.proofs.LookingLemmas.{Carries-looked}
-use Rattle.hippo_engine.proofs.ShortLemmas.{done_for}
+use Rattle.hippo_effects.proofs.ShortLemmas.{done_for}
 
 -- the world with another job at a number, as it is seen
 world_with : (held : HeldWorld) (number : ℕ) (job : Option HeldJob) (jobs : List (Option HeldJob)) → jobs ≡ with_at held.jobs number job
@@ -71,7 +72,7 @@ tallies_put jobs number job jobs' is = ap job_tallies is ∙ seen-with job_tally
 
 -- ---- a job begins
 module _ (command : Command) (number : ℕ) (audit : Audit) (old new : Engine) (begins : begins_job command ≡ true)
-    (does : IsJudged command old.state old.world (Ok (deeds.begin_audit number audit)))
+    (does : IsJudged command old.state (world_of old.world) (Ok (deeds.begin_audit number audit)))
     (audit_is : (history : History) → StandsFor old.state history → IsAuditOf history audit) where
   pub AddsNothing-begun : free_number old.world.jobs ≡ Some number → BeginsAt number audit old new → AddsNothing command old new
   AddsNothing-begun is begun = record {
@@ -306,11 +307,19 @@ module _ (number count : ℕ) (past : Past) (looked : Result (Unit {0}) ReadFaul
         undamaged = λ other e. undamaged_end looked other over.undamaged e;
       }))
 
+-- a job that is seen at a number is held there
+held_of : {A B : Type 0} (f : A → B) (found : Option A) (one : B) → option_map f found ≡ Some one → (held : A) × (found ≡ Some held)
+held_of f None one is = absurd cc
+held_of f (Some held) one is = (held, refl)
+
+pub job_held : (held : HeldWorld) (number : ℕ) → StandsJob (world_of held) number → (job : HeldJob) × (at_number held.jobs number ≡ Some job)
+job_held held number there = held_of open_audit (at_number held.jobs number) there.0 (sym (seen-at open_audit held.jobs number) ∙ there.1)
+
 -- a job that stands at a number is there
 pub held_there : (jobs : List (Option HeldJob)) (number : ℕ) (job : HeldJob) → at_number jobs number ≡ Some job → ◌≡◌ {A = Option HeldJob} None (at_number jobs number) → ⊥
 held_there jobs number job there none = let both : ◌≡◌ {A = Option HeldJob} None (Some job) = none ∙ there in absurd cc
 
 -- BEGIN AUDIT at the console
-pub AddsNothing-does : (command : Command) (number : ℕ) (audit : Audit) (old new : Engine) → Does command (kinds.BeginAudit number audit) old.state old.world → BeginsAt number audit old new → AddsNothing command old new
+pub AddsNothing-does : (command : Command) (number : ℕ) (audit : Audit) (old new : Engine) → Does command (kinds.BeginAudit number audit) old.state (world_of old.world) → BeginsAt number audit old new → AddsNothing command old new
 AddsNothing-does command number audit old new ((written, text, is), means, free, does) begun =
-    AddsNothing-begun command number audit old new (ap begins_job is) does means.fits free begun
+    AddsNothing-begun command number audit old new (ap begins_job is) does means.fits (sym (seen-free open_audit old.world.jobs) ∙ free) begun

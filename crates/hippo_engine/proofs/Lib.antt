@@ -1,10 +1,3 @@
-pub mod ExampleLines
-mod RunExamples
-mod LedgerExamples
-pub mod EffectTheorem
-pub mod ShortLemmas
-pub mod ClockLemmas
-pub mod LedgerLemmas
 pub mod CarryingLemmas
 mod LineLemmas
 mod ChangeLemmas

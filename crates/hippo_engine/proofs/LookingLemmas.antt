@@ -14,8 +14,8 @@ use Rattle.hippo_engine.specs.declared.engine.Engine.{Engine}
 use Rattle.hippo_engine.specs.declared.faults.EngineFault.{EngineFault}
 use Rattle.hippo_engine.specs.declared.faults.EngineFault.TheVariants.{Damaged}
 use Rattle.hippo_judging.specs.Judging.{judged}
-use Rattle.hippo_engine.specs.Effects.{effect_of, IsEffect}
-use Rattle.hippo_engine.specs.Ledgers.{reads_kept, Tallies}
+use Rattle.hippo_effects.specs.Effects.{effect_of, IsEffect}
+use Rattle.hippo_effects.specs.Ledgers.{reads_kept, Tallies}
 use Rattle.hippo_engine.specs.Carrying.{Holds, AtWork, line_as_call, is_carried, shown_effect, Carries}
 use Rattle.hippo_engine.proofs.CarryingLemmas.{Holds-same, IsTimely-same}
 

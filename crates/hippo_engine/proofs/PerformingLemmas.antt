@@ -22,15 +22,15 @@ use Rattle.hippo_judging.specs.Findings.{IsJudged, Judges, is_still, may_do_noth
 use Rattle.hippo_engine.specs.declared.engine.Engine.{Engine}
 use Rattle.hippo_engine.specs.declared.faults.EngineFault.{EngineFault}
 use Rattle.hippo_engine.specs.Carrying.{AtWork, shown_effect, IsQuiet, Carries}
-use Rattle.hippo_engine.specs.Effects.{Effect, only_reply, deed_effect, IsEffect}
+use Rattle.hippo_effects.specs.Effects.{Effect, only_reply, deed_effect, IsEffect}
 use Rattle.hippo_engine.specs.Performing.{Needs, Performs, SaysUnjudged}
 use Rattle.hippo_engine.proofs.CarryingLemmas.{Carries-quiet}
 use Rattle.hippo_engine.proofs.ChangeLemmas.{quiet_refusal}
 use Rattle.hippo_engine.proofs.ExplainingLemmas.{Carries-told, Carries-unasked, Carries-unread}
-use Rattle.hippo_engine.proofs.ShortLemmas.{short, done_for}
+use Rattle.hippo_effects.proofs.ShortLemmas.{short, done_for}
 
 -- a deed that leaves state, jobs and watches alone is done
-pub quiet_done : (command : Command) (deed : deeds.Deed) (old new : Engine) → IsJudged command old.state old.world (Ok deed) → new.state ≡ old.state → KeepsAudits old.world new.world
+pub quiet_done : (command : Command) (deed : deeds.Deed) (old new : Engine) → IsJudged command old.state (world_of old.world) (Ok deed) → new.state ≡ old.state → KeepsAudits old.world new.world
     → ((history : History) → shown_effect new ≡ deed_effect history (world_of old.world) deed) → IsQuiet command old new
 quiet_done command deed old new does same audits shows = record {
   same = same;
@@ -61,7 +61,7 @@ module _ (command : Command) (old new : Engine) (before between after : KeeperSt
       (subst (λ (n : ℕ). Carries command result old new between after n steps') idle carries)
 
   -- a command is judged, and what is found is performed
-  pub Carries-performed : (deed : Deed) (result : Result (Unit {0}) EngineFault) → Judges command (Ok deed) old.state old.world before between start steps
+  pub Carries-performed : (deed : Deed) (result : Result (Unit {0}) EngineFault) → Judges command (Ok deed) old.state (world_of old.world) before between start steps
       → (is_still (Ok deed) ≡ true → between ≡ before) → (is_still (Ok deed) ≡ true → steps ≡ start) → Performs deed result old new between after steps steps'
       → Carries command result old new before after start steps'
   Carries-performed (kinds.Explain entry) result (number, looks) same idle performs = Carries-told command number entry result old new before between after start steps steps' at_work looks performs
@@ -69,7 +69,7 @@ module _ (command : Command) (old new : Engine) (before between after : KeeperSt
 
 -- or why not is said
 pub Carries-refused : (command : Command) (who : Speaker) (unjudged : Unjudged) (result : Result (Unit {0}) EngineFault) (old new : Engine) (before after : KeeperState) (steps steps' : ℕ)
-    → who ≡ who_commands command → AtWork old before → Judges command (Err unjudged) old.state old.world before after steps steps'
+    → who ≡ who_commands command → AtWork old before → Judges command (Err unjudged) old.state (world_of old.world) before after steps steps'
     → (is_still (Err unjudged) ≡ true → after ≡ before) → (is_still (Err unjudged) ≡ true → steps' ≡ steps) → SaysUnjudged who unjudged result old new
     → Carries command result old new before after steps steps'
 Carries-refused command who (Refused refusal) result old new before after steps steps' who_is at_work refuses same idle says =
@@ -97,11 +97,11 @@ AtWork-looked engine result before after at_work fine call stays = record {
 
 -- what was found can be performed
 pub AtWork-judged : (command : Command) (deed : Deed) (engine : Engine) (before after : KeeperState) (steps steps' : ℕ) → AtWork engine before
-    → Judges command (Ok deed) engine.state engine.world before after steps steps' → (is_still (Ok deed) ≡ true → after ≡ before) → AtWork engine after
+    → Judges command (Ok deed) engine.state (world_of engine.world) before after steps steps' → (is_still (Ok deed) ≡ true → after ≡ before) → AtWork engine after
 AtWork-judged command (kinds.Explain entry) engine before after steps steps' at_work (number, looks) same = AtWork-looked engine (Ok (Some entry)) before after at_work refl looks.looks.call looks.looks.stays
 AtWork-judged command deed engine before after steps steps' at_work does same = subst (λ (k : KeeperState). AtWork engine k) (sym (same refl)) at_work
 
 pub Needs-judged : (command : Command) (deed : Deed) (engine : Engine) (before after : KeeperState) (steps steps' : ℕ)
-    → Judges command (Ok deed) engine.state engine.world before after steps steps' → Needs deed engine
+    → Judges command (Ok deed) engine.state (world_of engine.world) before after steps steps' → Needs deed engine
 Needs-judged command (kinds.Explain entry) engine before after steps steps' looks = tt
 Needs-judged command deed engine before after steps steps' does = (command, does)

@@ -20,9 +20,9 @@ use Rattle.hippo_replay.specs.Recording.{KeepsEntry}
 use Rattle.hippo_replay.proofs.StateLemmas.{latest_moment-append}
 use Rattle.hippo_keeper.proofs.CallLemmas.{IsAfterCall-as}
 use Rattle.hippo_keeper.proofs.Results.{ok_of, err_of, well}
-use Rattle.hippo_world.specs.declared.sessions.Session.{Session}
+use Rattle.hippo_sessions.specs.declared.sessions.Session.{Session}
 use Rattle.hippo_world.specs.declared.worlds.World.{World as HeldWorld}
-use Rattle.hippo_world.specs.Worlds.{World, session_at}
+use Rattle.hippo_sessions.specs.Worlds.{World, session_at}
 use Rattle.hippo_world.specs.Holding.{world_of, KeepsAudits, WatchesFit}
 use Rattle.hippo_values.specs.declared.memory.Memory.{Memory as NoMemory}
 use Rattle.hippo_world.proofs.AuditLemmas.{JobsFit-more, JobsFit-same, tallies_of-same, WatchesFit-more, WatchesFit-same}
@@ -36,18 +36,18 @@ use Rattle.hippo_judging.specs.declared.asking.Delivery.TheVariants as delivered
 use Rattle.hippo_judging.specs.Checks.{Checked}
 use Rattle.hippo_judging.specs.Deeds.{Deed, Question, question_act, next_entry}
 use Rattle.hippo_judging.specs.Judging.{deed_for, judged}
-use Rattle.hippo_engine.specs.Effects.{Effect, only_reply, row_limit, question_rows, within_limit, question_effect, deed_effect, effect_of, IsShortAnswer, IsShort, IsEffect}
+use Rattle.hippo_effects.specs.Effects.{Effect, only_reply, row_limit, question_rows, within_limit, question_effect, deed_effect, effect_of, IsShortAnswer, IsShort, IsEffect}
 use Rattle.hippo_judging.specs.Findings.{may_do_nothing}
 use Rattle.hippo_judging.specs.declared.deeds.Question.{Question as AskedQuestion}
 use Rattle.hippo_judging.specs.Findings.{IsJudged, question_by}
-use Rattle.hippo_engine.specs.Ledgers.{none_taken}
+use Rattle.hippo_effects.specs.Ledgers.{none_taken}
 use Rattle.hippo_engine.specs.Carrying.{Carries}
 use Rattle.hippo_engine.proofs.CarryingLemmas.{Holds-same, Holds-more, IsTimely-same}
-use Rattle.hippo_engine.proofs.ClockLemmas.{int_le-refl, either_clock}
+use Rattle.hippo_effects.proofs.ClockLemmas.{int_le-refl, either_clock}
 use Rattle.hippo_judging.specs.Asking.{question_of, deed_asked, question_entry}
 use Rattle.hippo_engine.specs.Questions.{KeptAnswer, Asks, answer_said, world_left, HandsOutAnswer, Replies}
 use Rattle.hippo_engine.specs.Watching.{alarms_now}
-use Rattle.hippo_engine.proofs.ShortLemmas.{takes_some, short, done_for}
+use Rattle.hippo_effects.proofs.ShortLemmas.{takes_some, short, done_for}
 
 -- what is kept does not hang on what is answered
 pub KeepsEntry-ok : {A B : Type 0} (one : A) (other : B) (entry : Entry) (held : State) (before after : KeeperState) → KeepsEntry entry (ok_of KeeperFault one) held before after → KeepsEntry entry (ok_of KeeperFault other) held before after
@@ -191,9 +191,9 @@ pub asker_missing : (held : Option Session) (asker : Session) → None ≡ held 
 asker_missing held asker none there = let both : ◌≡◌ {A = Option Session} None (Some asker) = none ∙ there in absurd cc
 
 pub judged_by : (command : Command) (engine : Engine) (question : AskedQuestion) (delivery : Delivery) (one other : Session) → one ≡ other
-    → IsJudged command engine.state engine.world (Ok (deed_for other (question_by other question) delivery)) → IsJudged command engine.state engine.world (Ok (deed_for one (question_by one question) delivery))
+    → IsJudged command engine.state (world_of engine.world) (Ok (deed_for other (question_by other question) delivery)) → IsJudged command engine.state (world_of engine.world) (Ok (deed_for one (question_by one question) delivery))
 judged_by command engine question delivery one other same does =
-    subst (λ (asker : Session). IsJudged command engine.state engine.world (Ok (deed_for asker (question_by asker question) delivery))) (sym same) does
+    subst (λ (asker : Session). IsJudged command engine.state (world_of engine.world) (Ok (deed_for asker (question_by asker question) delivery))) (sym same) does
 
 module _ (session : ℕ) (asks_it : Command) (asked_for : Asking) (who : who_commands asks_it ≡ speaker.Session session) (takes : may_do_nothing asks_it ≡ true) (old new : Engine) (before after : KeeperState) (steps : ℕ) (sound : IsSound old.state) (timely : IsTimely old.state old.world.clock) (same_audits : KeepsAudits old.world new.world) where
   -- a question that is not refused

@@ -31,24 +31,24 @@ use Rattle.hippo_report.specs.Notices.{done_line, number_line}
 use Rattle.hippo_report.specs.declared.refusal.Refusal.TheVariants.{Memory}
 use Rattle.hippo_report.specs.Refusals.{refusal_line}
 use Rattle.hippo_world.specs.declared.worlds.World.{World as HeldWorld}
-use Rattle.hippo_world.specs.Worlds.{World, with_at}
+use Rattle.hippo_sessions.specs.Worlds.{World, with_at}
 use Rattle.hippo_world.specs.Holding.{world_of, JobsFit, WatchesFit, tallies_of}
 use Rattle.hippo_world.specs.Auditing.{watched, AreWatching}
 use Rattle.hippo_world.proofs.AuditLemmas.{all_with}
-use Rattle.hippo_world.proofs.HeldLemmas.{seen-with}
+use Rattle.hippo_sessions.proofs.HeldLemmas.{seen-with}
 use Rattle.hippo_commands.specs.Commands.{Command, who_commands}
 use Rattle.hippo_engine.specs.declared.engine.Engine.{Engine}
 use Rattle.hippo_engine.specs.Carrying.{AddsNothing, shown_effect}
 use Rattle.hippo_judging.specs.Deeds.{Deed, Question, question_act, next_entry}
 use Rattle.hippo_judging.specs.Deeds as deeds
-use Rattle.hippo_engine.specs.Effects.{only_reply, deed_effect, alarms_from}
-use Rattle.hippo_engine.specs.Ledgers.{none_taken}
+use Rattle.hippo_effects.specs.Effects.{only_reply, deed_effect, alarms_from}
+use Rattle.hippo_effects.specs.Ledgers.{none_taken}
 use Rattle.hippo_engine.specs.Watching.{AddsAlarm, AddsAlarms, alarms_now}
 use Rattle.hippo_judging.specs.declared.deeds.Deed.TheVariants as kinds
 use Rattle.hippo_judging.specs.Findings.{IsJudged, Does, may_do_nothing}
 use Rattle.hippo_engine.proofs.CarryingLemmas.{AddsNothing-quiet}
 use Rattle.hippo_engine.proofs.PerformingLemmas.{quiet_short}
-use Rattle.hippo_engine.proofs.ShortLemmas.{done_for}
+use Rattle.hippo_effects.proofs.ShortLemmas.{done_for}
 
 -- ---- one watch
 abbrev Said : Type 0
@@ -154,7 +154,7 @@ world_with held number watch new is =
     ap world_of is ∙ ap (λ (list : List (Option Audit)). record (world_of held) { watches = list }) (seen-with watched held.watches number watch)
 
 -- a watch stands at a number, or none does any more
-module _ (command : Command) (deed : Deed) (number : ℕ) (held : Option AuditHits) (old new : Engine) (same : new.state ≡ old.state) (does : IsJudged command old.state old.world (Ok deed)) where
+module _ (command : Command) (deed : Deed) (number : ℕ) (held : Option AuditHits) (old new : Engine) (same : new.state ≡ old.state) (does : IsJudged command old.state (world_of old.world) (Ok deed)) where
   pub puts_watch : new.world ≡ record old.world { watches = with_at old.world.watches number held }
       → ((history : History) → StandsFor old.state history → IfSome held (IsWatchOf history))
       → ((history : History) → shown_effect new ≡ deed_effect history (world_of old.world) deed) → AddsNothing command old new
@@ -167,7 +167,7 @@ module _ (command : Command) (deed : Deed) (number : ℕ) (held : Option AuditHi
     counts = λ versions steps. none_taken refl (ap tallies_of world_is);
   }
 
-pub sets_watch : (command : Command) (number : ℕ) (audit : Audit) (watch : AuditHits) (old new : Engine) → Does command (kinds.Watch number audit) old.state old.world → new.state ≡ old.state
+pub sets_watch : (command : Command) (number : ℕ) (audit : Audit) (watch : AuditHits) (old new : Engine) → Does command (kinds.Watch number audit) old.state (world_of old.world) → new.state ≡ old.state
     → watch.audit ≡ audit → ((history : History) → TablesStandFor old.state.tables history → AreHits history audit watch.hits)
     → new.world ≡ record old.world { watches = with_at old.world.watches number (Some watch) } → new.reply ≡ number_line 0 (codes "watch") number → AddsNothing command old new
 sets_watch command number audit watch old new does same is counted world_is said =
@@ -180,12 +180,12 @@ sets_watch command number audit watch old new does same is counted world_is said
     ∙ ap (λ (a : Audit). record (world_of old.world) { watches = with_at (world_of old.world).watches number (Some a) }) is) i) (said i))
 
 -- or memory was short for it
-pub watch_short : (command : Command) (number : ℕ) (audit : Audit) (old new : Engine) → Does command (kinds.Watch number audit) old.state old.world → new.state ≡ old.state
+pub watch_short : (command : Command) (number : ℕ) (audit : Audit) (old new : Engine) → Does command (kinds.Watch number audit) old.state (world_of old.world) → new.state ≡ old.state
     → new.world ≡ old.world → new.reply ≡ refusal_line Console Memory → AddsNothing command old new
 watch_short command number audit old new ((written, text, is), means, does) same world_is said =
     AddsNothing-quiet command old new (quiet_short command Console old new (ap who_commands is) (ap may_do_nothing is) same world_is said)
 
-pub ends_watch : (command : Command) (number : ℕ) (old new : Engine) → Does command (kinds.EndWatch number) old.state old.world → new.state ≡ old.state
+pub ends_watch : (command : Command) (number : ℕ) (old new : Engine) → Does command (kinds.EndWatch number) old.state (world_of old.world) → new.state ≡ old.state
     → new.world ≡ record old.world { watches = with_at old.world.watches number None } → new.reply ≡ done_line Console → AddsNothing command old new
 ends_watch command number old new does same world_is said =
     puts_watch command (deeds.end_watch number) number None old new same does world_is (λ history stands. tt)

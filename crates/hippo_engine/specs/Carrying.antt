@@ -21,8 +21,8 @@ use Rattle.hippo_engine.specs.declared.engine.Engine.{Engine}
 use Rattle.hippo_engine.specs.declared.faults.EngineFault.{EngineFault}
 use Rattle.hippo_engine.specs.declared.faults.EngineFault.TheVariants.{Keeper, Write, Damaged}
 use Rattle.hippo_judging.specs.Judging.{judged}
-use Rattle.hippo_engine.specs.Effects.{Effect, only_reply, effect_of, IsEffect}
-use Rattle.hippo_engine.specs.Ledgers.{reads_kept, Tallies}
+use Rattle.hippo_effects.specs.Effects.{Effect, only_reply, effect_of, IsEffect}
+use Rattle.hippo_effects.specs.Ledgers.{reads_kept, Tallies}
 
 -- a keeper keeps a history, and an engine holds what it says
 pub record Holds (history : History) (engine : Engine) (keeper : KeeperState) : Type 0 where

@@ -21,7 +21,7 @@ use Rattle.hippo_report.specs.Refusals.{refusal_line}
 use Rattle.hippo_engine.specs.declared.faults.EngineFault.{EngineFault}
 use Rattle.hippo_engine.specs.declared.faults.EngineFault.TheVariants as engine
 use Rattle.hippo_judging.specs.Checks.{question_at}
-use Rattle.hippo_engine.specs.Effects.{row_limit, denial_line, lines_and_count}
+use Rattle.hippo_effects.specs.Effects.{row_limit, denial_line, lines_and_count}
 
 -- what EXPLAIN finds; no question where it names none
 abbrev pub Explanation : Type 0

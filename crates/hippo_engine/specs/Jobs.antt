@@ -11,7 +11,7 @@ use Rattle.hippo_flags.specs.Flags.{flag_line}
 use Rattle.hippo_report.specs.Notices.{number_line}
 use Rattle.hippo_report.specs.Refusals.{refusal_line}
 use Rattle.hippo_world.specs.Auditing.{HeldJob, HasBegun}
-use Rattle.hippo_world.specs.Worlds.{with_at}
+use Rattle.hippo_sessions.specs.Worlds.{with_at}
 use Rattle.hippo_engine.specs.declared.engine.Engine.{Engine}
 
 -- a job over all that is there begins at a number, which is said

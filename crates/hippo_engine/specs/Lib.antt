@@ -1,5 +1,3 @@
-pub mod Effects
-pub mod Ledgers
 pub mod Carrying
 pub mod Changing
 pub mod Questions
@@ -8,5 +6,3 @@ pub mod Explaining
 pub mod Auditing
 pub mod Jobs
 pub mod Performing
-pub mod Runs
-pub mod EffectLaws

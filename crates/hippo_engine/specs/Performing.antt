@@ -19,16 +19,17 @@ use Rattle.hippo_judging.specs.declared.deeds.Deed.TheVariants as kinds
 use Rattle.hippo_judging.specs.declared.deeds.Unjudged.{Unjudged}
 use Rattle.hippo_judging.specs.declared.deeds.Unjudged.TheVariants.{Refused, NoQuestion, Unread}
 use Rattle.hippo_judging.specs.Checks.{reply_room}
+use Rattle.hippo_world.specs.Holding.{world_of}
 use Rattle.hippo_judging.specs.Findings.{Does}
 use Rattle.hippo_engine.specs.declared.engine.Engine.{Engine}
 use Rattle.hippo_engine.specs.declared.faults.EngineFault.{EngineFault}
 use Rattle.hippo_engine.specs.Carrying.{Carries}
-use Rattle.hippo_engine.specs.Effects.{row_limit}
+use Rattle.hippo_effects.specs.Effects.{row_limit}
 use Rattle.hippo_engine.specs.Explaining.{told_of, told_cells, explaining_end}
 
 -- there is a command for which this is to be done
 abbrev pub MayDo : Deed → Engine → Type 0
-MayDo deed engine = (command : Command) × Does command deed engine.state engine.world
+MayDo deed engine = (command : Command) × Does command deed engine.state (world_of engine.world)
 
 -- so it is, but of a question that is explained nothing is asked
 abbrev pub Needs : Deed → Engine → Type 0
@@ -59,7 +60,7 @@ abbrev pub Performs :
 Performs (kinds.Explain entry) result old new before after steps steps' =
     Explained entry result old new before after steps steps'
 Performs deed result old new before after steps steps' =
-    (command : Command) → Does command deed old.state old.world
+    (command : Command) → Does command deed old.state (world_of old.world)
     → Carries command result old new before after steps steps'
 
 -- a reply says a refusal, or that memory was short; what is short is said whatever memory there is

@@ -18,14 +18,14 @@ use Rattle.hippo_eval.specs.Answering.{IsAnswered}
 use Rattle.hippo_replay.specs.declared.state.State.{State}
 use Rattle.hippo_replay.specs.Standing.{StandsFor}
 use Rattle.hippo_replay.specs.Recording.{KeepsEntry}
-use Rattle.hippo_world.specs.declared.sessions.Session.{Session}
-use Rattle.hippo_world.specs.Worlds.{World, session_at, with_session, with_cursor, new_cursor}
+use Rattle.hippo_sessions.specs.declared.sessions.Session.{Session}
+use Rattle.hippo_sessions.specs.Worlds.{World, session_at, with_session, with_cursor, new_cursor}
 use Rattle.hippo_judging.specs.declared.asking.Delivery.{Delivery}
 use Rattle.hippo_judging.specs.declared.asking.Delivery.TheVariants as delivered
 use Rattle.hippo_engine.specs.declared.faults.EngineFault.{EngineFault}
 use Rattle.hippo_engine.specs.declared.faults.EngineFault.TheVariants.{Keeper}
 use Rattle.hippo_judging.specs.Deeds.{Question}
-use Rattle.hippo_engine.specs.Effects.{row_limit, question_rows, within_limit, lines_and_count}
+use Rattle.hippo_effects.specs.Effects.{row_limit, question_rows, within_limit, lines_and_count}
 
 -- what keeping a question and answering it comes to: its rows, that they are too many, or want of
 -- memory

@@ -8,10 +8,10 @@ use Rattle.hippo_hits.specs.declared.counts.AuditHits.{AuditHits}
 use Rattle.hippo_watch.specs.declared.alarms.AskedNow.{AskedNow}
 use Rattle.hippo_watch.specs.Alarms.{IsAskedNext}
 use Rattle.hippo_watch.specs.Watches.{IsWatchOf}
-use Rattle.hippo_world.specs.Worlds.{World}
+use Rattle.hippo_sessions.specs.Worlds.{World}
 use Rattle.hippo_world.specs.Auditing.{watched, AreWatching}
 use Rattle.hippo_judging.specs.Deeds.{Question, question_act, next_entry}
-use Rattle.hippo_engine.specs.Effects.{alarm_line, alarms_from, alarms}
+use Rattle.hippo_effects.specs.Effects.{alarm_line, alarms_from, alarms}
 
 -- what stands at a watch's number says of a question that is asked now is added to a text
 abbrev pub AddsAlarm : AskedNow → ℕ → Option AuditHits → Txt → Txt → Type 0

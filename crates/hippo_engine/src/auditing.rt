@@ -9,12 +9,13 @@ ghost use Rattle.hippo_flags.specs.Flags.{flag_line};
 ghost use Rattle.hippo_report.specs.declared.speaker.Speaker.TheVariants.{Console};
 ghost use Rattle.hippo_report.specs.Refusals.{refusal_line};
 ghost use Rattle.hippo_commands.specs.Commands.{Command};
+ghost use Rattle.hippo_world.specs.Holding.{world_of};
 ghost use Rattle.hippo_judging.specs.declared.deeds.Deed.TheVariants as deeds;
 ghost use Rattle.hippo_judging.specs.Findings.{Does};
 ghost use Rattle.hippo_engine.specs.declared.faults.EngineFault.TheVariants.{Write as WriteFailed};
 ghost use Rattle.hippo_engine.specs.Auditing.{FindsFlags, reading_end, told_flags, TellsFlags};
 ghost use Rattle.hippo_engine.specs.Carrying.{AtWork, Carries};
-ghost use Rattle.hippo_engine.specs.Effects.{lines_and_count};
+ghost use Rattle.hippo_effects.specs.Effects.{lines_and_count};
 
 use crate::engine::{Engine, Reply};
 use crate::faults::EngineFault;
@@ -150,7 +151,7 @@ impl Engine {
         requires at_work { AtWork self.old (P.state keeper.old) }
         requires differ { IsDistinct bytes_eq audit.tables }
         ensures carries { (command : Command)
-            → Does command (deeds.Audit audit) self.old.state self.old.world
+            → Does command (deeds.Audit audit) self.old.state (world_of self.old.world)
             → Carries command result self.old self.new
             (P.state keeper.old) (P.state keeper.new) steps.old steps.new }
         ensures unwritten { result ≢ Bad WriteFailed }

@@ -3,7 +3,7 @@ ghost use Rattle.std.specs.Prelude.{◌≡◌, ◌≢◌, [], false, IsUtf8, Err
 ghost use Rattle.hippo_io.specs.Faults.{HasRisen};
 ghost use Rattle.hippo_io.specs.LineTexts.{line_text};
 ghost use Rattle.hippo_io.specs.Told.{Appends, AppendsFront};
-ghost use Rattle.hippo_world.specs.Worlds.{opening};
+ghost use Rattle.hippo_sessions.specs.Worlds.{opening};
 ghost use Rattle.hippo_world.specs.Holding.{world_of};
 ghost use Rattle.hippo_commands.specs.Commands.{input_command};
 ghost use Rattle.hippo_commands.specs.Lent.{command};
@@ -84,10 +84,17 @@ impl Engine {
                 reply,
             }),
             Err(Memory) => {
-                drop(state);
+                state.close();
                 Err(Memory)
             }
         }
+    }
+
+    /// Lets go of all that it holds.
+    pub fn close(self) {
+        let Engine { state, world, .. } = self;
+        state.close();
+        world.close();
     }
 
     /// The reply to the last line; empty before the first, and for a line that has none.

@@ -5,7 +5,7 @@ ghost use Rattle.hippo_report.specs.declared.refusal.Refusal.TheVariants as refu
 ghost use Rattle.hippo_report.specs.declared.speaker.Speaker.TheVariants.{Console};
 ghost use Rattle.hippo_report.specs.Refusals.{refusal_line};
 ghost use Rattle.hippo_engine.specs.declared.faults.EngineFault.TheVariants.{Write as WriteFailed};
-ghost use Rattle.hippo_engine.specs.Effects.{denial_line, lines_and_count};
+ghost use Rattle.hippo_effects.specs.Effects.{denial_line, lines_and_count};
 ghost use Rattle.hippo_engine.specs.Explaining.{told_of, told_cells, explaining_end};
 ghost use Rattle.hippo_engine.specs.Performing.{TellsEntry, Explained};
 

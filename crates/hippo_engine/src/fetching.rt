@@ -2,13 +2,13 @@
 ghost use Rattle.std.specs.Prelude.{◌≡◌, ◌++◌, nat_lt, flat_map, codes, if◌then◌else◌, OnOk};
 ghost use Rattle.hippo_report.specs.Cells.{answer_line};
 ghost use Rattle.hippo_report.specs.Notices.{number_line};
-ghost use Rattle.hippo_world.specs.Worlds.{rows_next, moved_on};
-ghost use Rattle.hippo_engine.specs.Effects.{handed_line};
+ghost use Rattle.hippo_sessions.specs.Worlds.{rows_next, moved_on};
+ghost use Rattle.hippo_effects.specs.Effects.{handed_line};
 
 use crate::engine::Reply;
 use hippo_report::{answer_lines, number_line};
+use hippo_sessions::Cursor;
 use hippo_values::Memory;
-use hippo_world::Cursor;
 
 /// Says how much is done, while there is more.
 pub(crate) fn append_part(session: u8, given: u64, out: &mut Reply) -> Result<(), Memory>

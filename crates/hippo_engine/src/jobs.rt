@@ -5,6 +5,7 @@ ghost use Rattle.hippo_lines.specs.Forms as requests;
 ghost use Rattle.hippo_report.specs.declared.speaker.Speaker.TheVariants.{Console};
 ghost use Rattle.hippo_commands.specs.Commands.{make_request};
 ghost use Rattle.hippo_engine.specs.declared.faults.EngineFault.TheVariants.{Write as WriteFailed};
+ghost use Rattle.hippo_world.specs.Holding.{world_of};
 ghost use Rattle.hippo_judging.specs.Checks.{StandsJob};
 ghost use Rattle.hippo_engine.specs.Auditing.{reading_end};
 ghost use Rattle.hippo_engine.specs.Carrying.{AtWork, AddsNothing, Carries};
@@ -109,7 +110,7 @@ impl Engine {
         steps: &mut Steps<L>,
     ) -> Result<(), EngineFault>
         requires at_work { AtWork self.old (P.state keeper.old) }
-        requires there { StandsJob self.old.world number }
+        requires there { StandsJob (world_of self.old.world) number }
         ensures carries { Carries (make_request Console (requests.steps number count)) result
             self.old self.new
             (P.state keeper.old) (P.state keeper.new) steps.old steps.new }
@@ -134,7 +135,7 @@ impl Engine {
 
     /// Gives up the job at a number. Takes no memory.
     pub(crate) fn drop_job(&mut self, number: u8)
-        requires there { StandsJob self.old.world number }
+        requires there { StandsJob (world_of self.old.world) number }
         ensures { AddsNothing (make_request Console (requests.drops number)) self.old self.new }
     {
         self.world.jobs.put(usize::from(number), None);

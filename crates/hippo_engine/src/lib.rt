@@ -1,4 +1,4 @@
-//! What each line of the input does, and the engine that does it.
+//! The engine, which carries out each line of the input.
 #![tactic(auto)]
 
 mod auditing;
@@ -8,7 +8,6 @@ mod explaining;
 mod faults;
 mod fetching;
 mod jobs;
-pub mod laws;
 mod plain;
 mod questions;
 mod replies;

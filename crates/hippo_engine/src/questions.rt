@@ -13,13 +13,13 @@ ghost use Rattle.hippo_eval.specs.Answering.{IsAnswered};
 ghost use Rattle.hippo_typing.specs.Meanings.{meaning};
 ghost use Rattle.hippo_replay.specs.Standing.{StandsFor, MayFollow, IsNext, takes_no_memory};
 ghost use Rattle.hippo_replay.specs.Recording.{IsBacked};
-ghost use Rattle.hippo_world.specs.declared.sessions.Session.{Session as KeptSession};
-ghost use Rattle.hippo_world.specs.Worlds.{session_at};
+ghost use Rattle.hippo_sessions.specs.declared.sessions.Session.{Session as KeptSession};
+ghost use Rattle.hippo_sessions.specs.Worlds.{session_at};
 ghost use Rattle.hippo_world.specs.Holding.{world_of, KeepsAudits};
 ghost use Rattle.hippo_commands.specs.Commands.{Command};
 ghost use Rattle.hippo_engine.specs.declared.faults.EngineFault.TheVariants.{Write as WriteFailed};
 ghost use Rattle.hippo_engine.specs.Carrying.{AtWork, Carries};
-ghost use Rattle.hippo_engine.specs.Effects.{row_limit, question_rows, lines_and_count};
+ghost use Rattle.hippo_effects.specs.Effects.{row_limit, question_rows, lines_and_count};
 ghost use Rattle.hippo_judging.specs.Asking.{question_of, question_entry, IsAnswerable};
 ghost use Rattle.hippo_judging.specs.Findings.{MayBeAsked};
 ghost use Rattle.hippo_engine.specs.Questions.{Asks, short_line, answer_said, world_left};
@@ -37,8 +37,9 @@ use hippo_keeper::{Keeper, KeeperFault};
 use hippo_model::{Act, Answer, CellRow, Entry};
 use hippo_replay::State;
 use hippo_report::{Refusal, Speaker, answer_lines, number_line, refusal_line};
+use hippo_sessions::{Session, WorldView};
 use hippo_values::{Duplicate, Memory, Moment, Txt};
-use hippo_world::{Session, World};
+use hippo_world::World;
 use std::alloc::Global;
 
 fn asked_act(alloc: Global, asker: &Session, text: &str) -> Result<Act, Memory>
@@ -394,9 +395,9 @@ impl Engine {
     ) -> Result<(), EngineFault>
         requires at_work { AtWork self.old (P.state keeper.old) }
         requires needs { (command : Command)
-            × MayBeAsked command question delivery self.old.state self.old.world }
+            × MayBeAsked command question delivery self.old.state (world_of self.old.world) }
         ensures carries { (command : Command) (steps : ℕ)
-            → MayBeAsked command question.entry delivery self.old.state self.old.world
+            → MayBeAsked command question.entry delivery self.old.state (world_of self.old.world)
             → Carries command result self.old self.new (P.state keeper.old) (P.state keeper.new)
             steps steps }
         ensures unwritten { result ≢ Bad WriteFailed }

@@ -1,7 +1,7 @@
 //! The clock, sessions and cursors.
 ghost use Rattle.std.specs.Prelude.{◌≡◌, option_copied, option_and_then};
 ghost use Rattle.hippo_world.specs.Holding.{world_of};
-ghost use Rattle.hippo_world.specs.Worlds.{at_number, session_at};
+ghost use Rattle.hippo_sessions.specs.Worlds.{at_number, session_at};
 ghost use Rattle.hippo_commands.specs.Commands.{Command};
 ghost use Rattle.hippo_judging.specs.declared.deeds.Deed.TheVariants as deeds;
 ghost use Rattle.hippo_judging.specs.Findings.{Does};
@@ -13,8 +13,9 @@ use crate::fetching::print_next;
 use crate::replies::{refuse_for_memory, say_done};
 use hippo_model::Pair;
 use hippo_report::Speaker;
+use hippo_sessions::{Cursor, WorldView};
 use hippo_values::{Memory, Moment, Name};
-use hippo_world::{Cursor, World};
+use hippo_world::World;
 use std::alloc::Global;
 
 // The cursor at a number of an open session.
@@ -32,7 +33,7 @@ fn cursor_at(world: &World, session: u8, cursor: u8) -> Option<&Cursor>
 impl Engine {
     /// A line that says nothing has no reply.
     pub(crate) fn do_nothing(&mut self)
-        ensures { (command : Command) → Does command deeds.DoNothing self.old.state self.old.world
+        ensures { (command : Command) → Does command deeds.DoNothing self.old.state (world_of self.old.world)
             → IsQuiet command self.old self.new }
     {
         self.reply.clear();
@@ -41,7 +42,7 @@ impl Engine {
     /// Sets the clock. Takes no memory.
     pub(crate) fn set_clock(&mut self, moment: Moment)
         ensures { (command : Command) → Does command (deeds.SetClock moment) self.old.state
-            self.old.world
+            (world_of self.old.world)
             → IsQuiet command self.old self.new }
     {
         self.world.clock = moment;
@@ -51,7 +52,7 @@ impl Engine {
     /// Opens a session, or says that memory was short.
     pub(crate) fn log_in(&mut self, alloc: Global, session: u8, user: Name, pair: Pair)
         ensures { (command : Command) → Does command (deeds.LogIn session user pair) self.old.state
-            self.old.world
+            (world_of self.old.world)
             → IsQuiet command self.old self.new }
     {
         match self.world.log_in(alloc, session, user, pair) {
@@ -63,7 +64,7 @@ impl Engine {
     /// Closes a session. Takes no memory.
     pub(crate) fn log_out(&mut self, session: u8)
         ensures { (command : Command) → Does command (deeds.LogOut session) self.old.state
-            self.old.world
+            (world_of self.old.world)
             → IsQuiet command self.old self.new }
     {
         self.world.log_out(session);
@@ -75,7 +76,7 @@ impl Engine {
     pub(crate) fn hand_out(&mut self, session: u8, cursor: u8, count: u32)
         requires { MayDo (deeds.HandOut session cursor count) self.old }
         ensures { (command : Command)
-            → Does command (deeds.HandOut session cursor count) self.old.state self.old.world
+            → Does command (deeds.HandOut session cursor count) self.old.state (world_of self.old.world)
             → IsQuiet command self.old self.new }
     {
         match cursor_at(&self.world, session, cursor) {
@@ -90,7 +91,7 @@ impl Engine {
     /// Closes a cursor. Takes no memory.
     pub(crate) fn close_cursor(&mut self, session: u8, cursor: u8)
         ensures { (command : Command) → Does command (deeds.CloseCursor session cursor)
-            self.old.state self.old.world
+            self.old.state (world_of self.old.world)
             → IsQuiet command self.old self.new }
     {
         self.world.close_cursor(session, cursor);

@@ -188,7 +188,7 @@ impl Engine {
     pub(crate) fn watch(&mut self, alloc: Global, number: usize, audit: Audit)
         requires differ { IsDistinct bytes_eq audit.tables }
         ensures { (command : Command) → Does command (deeds.Watch number audit) self.old.state
-            self.old.world
+            (world_of self.old.world)
             → AddsNothing command self.old self.new }
     {
         match Watch::new(alloc, audit, &self.state.tables) {
@@ -203,7 +203,7 @@ impl Engine {
     /// Ends a watch. Takes no memory.
     pub(crate) fn end_watch(&mut self, number: u8)
         ensures { (command : Command) → Does command (deeds.EndWatch number) self.old.state
-            self.old.world
+            (world_of self.old.world)
             → AddsNothing command self.old self.new }
     {
         self.world.watches.put(usize::from(number), None);

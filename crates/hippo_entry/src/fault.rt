@@ -5,7 +5,7 @@ ghost use Rattle.hippo_entry.specs.declared.fault.Fault.TheVariants as fault;
 use hippo_values::Memory;
 
 /// Why a part was not read.
-#[derive(Clone, Copy, Debug, PartialEq, Eq)]
+#[derive(Clone, Copy, PartialEq, Eq)]
 pub enum Fault {
     /// No such part stands first.
     NoPart,

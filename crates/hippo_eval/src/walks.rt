@@ -10,7 +10,7 @@ use hippo_values::Memory;
 use std::alloc::Global;
 
 /// Whether a visitor wants more combinations.
-#[derive(Clone, Copy, Debug, PartialEq, Eq)]
+#[derive(Clone, Copy, PartialEq, Eq)]
 pub enum Onward {
     More,
     /// What is kept already holds whatever combinations follow.

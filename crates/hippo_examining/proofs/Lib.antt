@@ -1,6 +1,7 @@
 pub mod ExaminingLemmas
 pub mod KeyColumns
 pub mod NeededExamples
+pub mod PastLemmas
 pub mod PlainTheorem
 pub mod QueryTheorem
 pub mod RowLemmas

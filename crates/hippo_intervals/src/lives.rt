@@ -18,7 +18,7 @@ use std::sync::ledger::Ledger;
 /// A version lives from its own entry to the one before the next version of its key; a delete ends
 /// a row and begins none. The place only moves forward. Versions that were read beyond it wait, so
 /// each is read once.
-#[derive(Debug, Drop)]
+#[derive(Drop)]
 pub struct Lives {
     schema: Schema,
     versions: Versions,

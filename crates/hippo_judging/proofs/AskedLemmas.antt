@@ -22,10 +22,8 @@ use Rattle.hippo_following.specs.Written.{names_fit}
 use Rattle.hippo_following.proofs.AskedTheorem.{questions_may_follow}
 use Rattle.hippo_replay.specs.declared.state.State.{State}
 use Rattle.hippo_replay.specs.Standing.{StandsFor, MayFollow, IsTimely}
-use Rattle.hippo_world.specs.declared.sessions.Session.{Session}
-use Rattle.hippo_world.specs.declared.worlds.World.{World as HeldWorld}
-use Rattle.hippo_world.specs.Worlds.{World, session_at}
-use Rattle.hippo_world.specs.Holding.{world_of}
+use Rattle.hippo_sessions.specs.declared.sessions.Session.{Session}
+use Rattle.hippo_sessions.specs.Worlds.{World, session_at}
 use Rattle.hippo_judging.specs.declared.asking.Asking.{Asking}
 use Rattle.hippo_judging.specs.declared.asking.Delivery.{Delivery}
 use Rattle.hippo_judging.specs.declared.asking.Delivery.TheVariants as delivered
@@ -121,17 +119,17 @@ asks_select Records select start end = refl
 asks_select Cursor select start end = refl
 
 -- the entry that the checks of a question found may follow
-pub question_follows : (state : State) (held : HeldWorld) (session : ℕ) (written : WrittenQuestion) (text : Txt) (asking : Asking)
+pub question_follows : (state : State) (held : World) (session : ℕ) (written : WrittenQuestion) (text : Txt) (asking : Asking)
     → IsTimely state held.clock → is_moment held.clock ≡ true → names_fit asking.asker.now.user asking.asker.now.pair.purpose asking.asker.now.pair.recipient ≡ true
     → IsOfLine (written_command session written text) → length (written_text written text) ≤ line_limit → state.count + 1 < 2 ^ 63
-    → ((history : History) → StandsFor state history → judged history (world_of held) (written_command session written text) ≡ Ok (deed_asked session asking))
+    → ((history : History) → StandsFor state history → judged history held (written_command session written text) ≡ Ok (deed_asked session asking))
     → MayFollow state (question_entry state held.clock (question_of 0 asking))
 question_follows state held session written text asking timely fits names of_line short below found = λ history stands.
     let asker : Session = asking.asker.now in
     let part : Txt = written_text written text in
     let number : state.count + 1 ≡ length history + 1 = ap (λ (n : ℕ). n + 1) stands.count in
-    let asked = is_asked written.handing history (world_of held) session written.select.now part asking
-    (sym (judged_written written text history (world_of held) session) ∙ found history stands) in
+    let asked = is_asked written.handing history held session written.select.now part asking
+    (sym (judged_written written text history held session) ∙ found history stands) in
     let room = has_room_at state history held.clock (state.count + 1) stands timely fits number below in
     let follows = questions_may_follow history held.clock asker.user asker.pair.purpose asker.pair.recipient text written.select.now written.start written.end room (record {
       utf8 = of_line.1.utf8;
@@ -146,19 +144,19 @@ question_follows state held session written text asking timely fits names of_lin
     subst (λ (entry : Entry). may_follow meaning history entry ≡ true) (sym same) follows
 
 -- a question that was found may be asked
-pub may_be_asked : (state : State) (held : HeldWorld) (session : ℕ) (written : WrittenQuestion) (text : Txt) (asking : Asking) (question : AskedQuestion)
+pub may_be_asked : (state : State) (held : World) (session : ℕ) (written : WrittenQuestion) (text : Txt) (asking : Asking) (question : AskedQuestion)
     → IsTimely state held.clock → is_moment held.clock ≡ true → names_fit asking.asker.now.user asking.asker.now.pair.purpose asking.asker.now.pair.recipient ≡ true
     → IsOfLine (written_command session written text) → length (written_text written text) ≤ line_limit → state.count + 1 < 2 ^ 63 → IsAnswerable state asking.query
-    → open_session (world_of held) session ≡ Ok asking.asker.now → question.session ≡ session → asking.text.now ≡ question.text.now → question.query ≡ asking.query
-    → ((history : History) → StandsFor state history → judged_question written.handing history (world_of held) (speaker.Session session) written.select.now (written_text written text) ≡ Ok (deed_asked session asking))
+    → open_session held session ≡ Ok asking.asker.now → question.session ≡ session → asking.text.now ≡ question.text.now → question.query ≡ asking.query
+    → ((history : History) → StandsFor state history → judged_question written.handing history held (speaker.Session session) written.select.now (written_text written text) ≡ Ok (deed_asked session asking))
     → MayBeAsked (written_command session written text) question asking.delivery state held
 may_be_asked state held session written text asking question timely fits names of_line short below answerable opened own same query found =
     let asker : Session = asking.asker.now in
-    let judged_is : (history : History) → StandsFor state history → judged history (world_of held) (written_command session written text) ≡ Ok (deed_asked session asking) =
-    λ history stands. judged_written written text history (world_of held) session ∙ found history stands in
+    let judged_is : (history : History) → StandsFor state history → judged history held (written_command session written text) ≡ Ok (deed_asked session asking) =
+    λ history stands. judged_written written text history held session ∙ found history stands in
     record {
       asker = asker;
-      there = subst (λ (n : ℕ). session_at (world_of held) n ≡ Some asker) (sym own) (is_there (world_of held) session asker opened);
+      there = subst (λ (n : ℕ). session_at held n ≡ Some asker) (sym own) (is_there held session asker opened);
       who = ap speaker.Session (sym own);
       memory = refl;
       does = λ history stands.
@@ -172,9 +170,9 @@ may_be_asked state held session written text asking question timely fits names o
     }
 
 -- or it is refused
-pub refused_question : (state : State) (held : HeldWorld) (session : ℕ) (written : WrittenQuestion) (text : Txt) (refusal : Refusal)
-    → ((history : History) → StandsFor state history → Refuses (judged_question written.handing history (world_of held) (speaker.Session session) written.select.now (written_text written text)) refusal)
+pub refused_question : (state : State) (held : World) (session : ℕ) (written : WrittenQuestion) (text : Txt) (refusal : Refusal)
+    → ((history : History) → StandsFor state history → Refuses (judged_question written.handing history held (speaker.Session session) written.select.now (written_text written text)) refusal)
     → IsRefused (written_command session written text) refusal state held
 refused_question state held session written text refusal refuses =
     refused_or_short (written_command session written text) refusal state held refl
-    (λ history stands. subst (λ (judgement : Checked Deed). Refuses judgement refusal) (sym (judged_written written text history (world_of held) session)) (refuses history stands))
+    (λ history stands. subst (λ (judgement : Checked Deed). Refuses judgement refusal) (sym (judged_written written text history held session)) (refuses history stands))

@@ -20,12 +20,12 @@ use Rattle.hippo_following.proofs.RefusalLemmas.{none_of_both, there}
 use Rattle.hippo_report.specs.declared.refusal.Refusal.{Refusal}
 use Rattle.hippo_report.specs.declared.refusal.Refusal.TheVariants.{Memory, Meaningless}
 use Rattle.hippo_report.specs.declared.speaker.Speaker.TheVariants as speaker
-use Rattle.hippo_answering.specs.States.{are_created}
+use Rattle.hippo_tables.specs.Standing.{are_created}
 use Rattle.hippo_commands.specs.Commands as commands
-use Rattle.hippo_world.specs.Worlds.{World}
+use Rattle.hippo_sessions.specs.Worlds.{World}
 use Rattle.hippo_replay.specs.declared.state.State.{State}
 use Rattle.hippo_replay.specs.Standing.{StandsFor}
-use Rattle.hippo_world.specs.declared.sessions.Session.{Session}
+use Rattle.hippo_sessions.specs.declared.sessions.Session.{Session}
 use Rattle.hippo_judging.specs.Deeds.{Deed, Question}
 use Rattle.hippo_judging.specs.Checks.{Checked, Finds, open_session, by_authorized_user, unless_refused, has_room}
 use Rattle.hippo_judging.specs.declared.asking.Asking.{Asking}

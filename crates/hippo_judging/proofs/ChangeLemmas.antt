@@ -13,7 +13,7 @@ use Rattle.hippo_keeper.proofs.Results.{err_of}
 use Rattle.hippo_report.specs.declared.refusal.Refusal.{Refusal}
 use Rattle.hippo_report.specs.declared.speaker.Speaker.{Speaker}
 use Rattle.hippo_report.specs.declared.refusal.Refusal.TheVariants as refusals
-use Rattle.hippo_world.specs.Worlds.{World}
+use Rattle.hippo_sessions.specs.Worlds.{World}
 use Rattle.hippo_commands.specs.Commands.{make_statement}
 use Rattle.hippo_judging.specs.Checks.{Refuses, Checked}
 use Rattle.hippo_judging.specs.Deeds.{Deed}

@@ -1,6 +1,6 @@
 -- From the checks of each command to what judging it finds.
 use Rattle.std.proofs.Common.{◌≡◌, ◌∙◌, ◌≤◌, ◌<◌, ◌^◌, ℕ, inl, inr, refl, sym, ap, subst, true, false, length, Option, Some, None, Result, Ok, Err}
-use Rattle.std.specs.Prelude.{ok_or, option_map}
+use Rattle.std.specs.Prelude.{is_some, ok_or}
 use Rattle.std.proofs.lemmas.Bool.{false≢true}
 use Rattle.hippo_values.specs.Texts.{Txt}
 use Rattle.hippo_values.specs.Results.{◌>>=◌}
@@ -12,44 +12,37 @@ use Rattle.hippo_model.specs.declared.statement.Stmt.{Stmt}
 use Rattle.hippo_model.specs.declared.statement.Stmt.TheVariants as stmt
 use Rattle.hippo_model.specs.Terms.{History}
 use Rattle.hippo_keeper.specs.Keeping.{KeeperState}
-use Rattle.hippo_audit_job.specs.Jobs.{OpenAudit, open_audit}
-use Rattle.hippo_hits.specs.declared.counts.AuditHits.{AuditHits}
+use Rattle.hippo_audit_job.specs.Jobs.{OpenAudit}
 use Rattle.hippo_replay.specs.declared.state.State.{State}
 use Rattle.hippo_replay.specs.Standing.{StandsFor, MayFollow}
 use Rattle.hippo_report.specs.declared.refusal.Refusal.{Refusal}
-use Rattle.hippo_report.specs.declared.refusal.Refusal.TheVariants.{SessionsOnly, ConsoleOnly, NoSession, NoJob, NoWatch, JobLimit, WatchLimit}
+use Rattle.hippo_report.specs.declared.refusal.Refusal.TheVariants.{SessionsOnly, ConsoleOnly, NoSession, NoCursor, NoJob, NoWatch, JobLimit, WatchLimit}
 use Rattle.hippo_report.specs.declared.speaker.Speaker.{Speaker}
 use Rattle.hippo_report.specs.declared.speaker.Speaker.TheVariants.{Nobody, Console}
 use Rattle.hippo_report.specs.declared.speaker.Speaker.TheVariants as speaker
 use Rattle.hippo_report.specs.Refusals.{refusal_line}
-use Rattle.hippo_world.specs.declared.sessions.Session.{Session}
-use Rattle.hippo_world.specs.declared.worlds.World.{World as HeldWorld}
-use Rattle.hippo_world.specs.Auditing.{HeldJob, watched}
-use Rattle.hippo_world.specs.Holding.{world_of}
-use Rattle.hippo_world.specs.Worlds.{World, at_number, session_at, free_number}
-use Rattle.hippo_world.proofs.HeldLemmas.{seen-at, seen-free}
+use Rattle.hippo_sessions.specs.declared.sessions.Session.{Session}
+use Rattle.hippo_sessions.specs.Worlds.{World, at_number, session_at, free_number}
 use Rattle.hippo_lines.specs.Forms as requests
 use Rattle.hippo_commands.specs.Commands.{Command, make_request, who_commands}
 use Rattle.hippo_commands.specs.Commands as commands
-use Rattle.hippo_judging.specs.declared.asking.Delivery.{Delivery}
 use Rattle.hippo_judging.specs.declared.asking.Handing.{Handing}
 use Rattle.hippo_judging.specs.declared.asking.Handing.TheVariants.{Rows, Records, Cursor}
 use Rattle.hippo_judging.specs.declared.asking.WrittenQuestion.{WrittenQuestion}
 use Rattle.hippo_judging.specs.Asking.{is_asking, statement_asked, written_statement}
 use Rattle.hippo_judging.specs.declared.deeds.Deed.{Deed}
 use Rattle.hippo_judging.specs.declared.deeds.Deed.TheVariants as kinds
-use Rattle.hippo_judging.specs.declared.deeds.Question.{Question}
 use Rattle.hippo_judging.specs.declared.deeds.Unjudged.{Unjudged}
-use Rattle.hippo_judging.specs.Checks.{Checked, Refuses, by_console, by_session, open_session, job_at, held_watch, reply_room}
+use Rattle.hippo_judging.specs.Checks.{Checked, Refuses, by_console, by_session, open_session, cursor_in_session, job_at, StandsJob, held_watch, reply_room}
 use Rattle.hippo_judging.specs.Deeds as deeds
 use Rattle.hippo_judging.specs.Changes.{IsChange}
-use Rattle.hippo_judging.specs.Findings.{AddsNextEntry, IsJudged, IsRefused, MayBeAsked, IsAuditOfState, Does, FindsDeed, with_free_number, without_reading, Judges, may_do_nothing}
+use Rattle.hippo_judging.specs.Findings.{AddsNextEntry, IsJudged, IsRefused, IsAuditOfState, Does, FindsDeed, with_free_number, without_reading, Judges, may_do_nothing}
 use Rattle.hippo_judging.specs.Judging.{judged, audit_in}
 use Rattle.hippo_judging.proofs.FollowingLemmas.{some_so}
 
 -- a command that takes memory is refused, or memory was short
-pub refused_or_short : (command : Command) (refusal : Refusal) (state : State) (world : HeldWorld) → may_do_nothing command ≡ true
-    → ((history : History) → StandsFor state history → Refuses (judged history (world_of world) command) refusal) → IsRefused command refusal state world
+pub refused_or_short : (command : Command) (refusal : Refusal) (state : State) (world : World) → may_do_nothing command ≡ true
+    → ((history : History) → StandsFor state history → Refuses (judged history world command) refusal) → IsRefused command refusal state world
 refused_or_short command refusal state world takes refuses = record {
   refuses = refuses;
   exact = λ none. absurd (false≢true (sym none ∙ takes));
@@ -57,7 +50,7 @@ refused_or_short command refusal state world takes refuses = record {
 }
 
 -- a command is refused, and that is short
-pub refused_so : (command : Command) (refusal : Refusal) (state : State) (world : HeldWorld) → IsJudged command state world (Err refusal)
+pub refused_so : (command : Command) (refusal : Refusal) (state : State) (world : World) → IsJudged command state world (Err refusal)
     → length (refusal_line (who_commands command) refusal) ≤ reply_room → IsRefused command refusal state world
 refused_so command refusal state world is fits = record {
   refuses = λ history stands. inl (is history stands);
@@ -71,13 +64,13 @@ refuses_on checked next refusal (inl is) = inl (ap (λ c. c >>= next) is)
 refuses_on checked next refusal (inr short) = inr short
 
 -- what was found without reading is found whatever the keeper keeps
-pub judges_unread : (command : Command) (found : Checked Deed) (state : State) (world : HeldWorld) (before after : KeeperState) (steps steps' : ℕ) → FindsDeed command found state world
+pub judges_unread : (command : Command) (found : Checked Deed) (state : State) (world : World) (before after : KeeperState) (steps steps' : ℕ) → FindsDeed command found state world
     → Judges command (without_reading found) state world before after steps steps'
 judges_unread command (Ok (kinds.Explain entry)) state world before after steps steps' is = absurd is
 judges_unread command (Ok deed) state world before after steps steps' is = is
 judges_unread command (Err refusal) state world before after steps steps' is = is
 
-pub judges_found : (command : Command) (found : Checked Deed) (result : Result Deed Unjudged) (state : State) (world : HeldWorld) (before after : KeeperState) (steps steps' : ℕ) → result ≡ without_reading found → FindsDeed command found state world
+pub judges_found : (command : Command) (found : Checked Deed) (result : Result Deed Unjudged) (state : State) (world : World) (before after : KeeperState) (steps steps' : ℕ) → result ≡ without_reading found → FindsDeed command found state world
     → Judges command result state world before after steps steps'
 judges_found command found result state world before after steps steps' is finds =
     subst (λ (one : Result Deed Unjudged). Judges command one state world before after steps steps') (sym is) (judges_unread command found state world before after steps steps' finds)
@@ -93,11 +86,11 @@ for_console who (stmt.Extract select start end) text history world refused plain
 for_console Nobody statement text history world refused plain = refl
 for_console (speaker.Session number) statement text history world refused plain = refl
 
-pub console_only : (who : Speaker) (statement : Stmt) (text : Txt) (state : State) (world : HeldWorld) → by_console who ≡ Err ConsoleOnly → is_asking statement ≡ false
+pub console_only : (who : Speaker) (statement : Stmt) (text : Txt) (state : State) (world : World) → by_console who ≡ Err ConsoleOnly → is_asking statement ≡ false
     → IsRefused (commands.make_statement who statement text) ConsoleOnly state world
 console_only who statement text state world refused plain =
     refused_or_short (commands.make_statement who statement text) ConsoleOnly state world refl
-    (λ history stands. inl (for_console who statement text history (world_of world) refused plain))
+    (λ history stands. inl (for_console who statement text history world refused plain))
 
 -- a question is a session's
 for_sessions : (who : Speaker) (handing : Handing) (select : RawSelect) (start end : ℕ) (text : Txt) (history : History) (world : World) → by_session who ≡ Err SessionsOnly
@@ -110,52 +103,76 @@ for_sessions Console Rows select start end text history world refused = refl
 for_sessions Console Records select start end text history world refused = refl
 for_sessions Console Cursor select start end text history world refused = refl
 
-pub sessions_only : (who : Speaker) (statement : Stmt) (written : WrittenQuestion) (text : Txt) (state : State) (world : HeldWorld) → by_session who ≡ Err SessionsOnly → statement ≡ written_statement written
+pub sessions_only : (who : Speaker) (statement : Stmt) (written : WrittenQuestion) (text : Txt) (state : State) (world : World) → by_session who ≡ Err SessionsOnly → statement ≡ written_statement written
     → IsRefused (commands.make_statement who statement text) SessionsOnly state world
 sessions_only who statement written text state world refused asks =
     subst (λ (one : Stmt). IsRefused (commands.make_statement who one text) SessionsOnly state world) (sym asks)
     (refused_or_short (commands.make_statement who (written_statement written) text) SessionsOnly state world refl
-    (λ history stands. inl (for_sessions who written.handing written.select.now written.start written.end text history (world_of world) refused)))
+    (λ history stands. inl (for_sessions who written.handing written.select.now written.start written.end text history world refused)))
 
 -- ---- sessions and cursors
 -- a session that is open is there
 pub is_there : (world : World) (number : ℕ) (session : Session) → open_session world number ≡ Ok session → session_at world number ≡ Some session
 is_there world number session is = some_so (session_at world number) NoSession session is
 
--- ---- jobs
--- a job that does not stand at a number is not seen there
-pub no_job : (world : HeldWorld) (number : ℕ) → at_number world.jobs number ≡ None → job_at (world_of world) number ≡ Err (NoJob number)
-no_job world number none = ap (λ (held : Option OpenAudit). ok_or held (NoJob number)) (seen-at open_audit world.jobs number ∙ ap (option_map open_audit) none)
+-- what follows from a check that is refused is refused so
+refused_first : {A B : Type 0} (found : Checked A) (next : A → Checked B) (last : A → B → deeds.Deed) (refusal : Refusal) → ◌≡◌ {A = Checked B} (found >>= next) (Err refusal)
+    → (found >>= λ one. next one >>= λ other. Ok (last one other)) ≡ Err refusal
+refused_first {A} {B} (Ok one) next last refusal is = ap (λ (checked : Checked B). checked >>= λ other. Ok (last one other)) is
+refused_first (Err other) next last refusal is = let same : other ≡ refusal = cc in ap Err same
 
--- whether a watch stands at a number
-pub watch_there : (world : HeldWorld) (number : ℕ) (found : Option AuditHits) → at_number world.watches number ≡ found
-    → held_watch (world_of world) number ≡ (ok_or (option_map watched found) (NoWatch number) >>= λ audit. Ok tt)
-watch_there world number found there =
-    ap (λ (held : Option Audit). ok_or held (NoWatch number) >>= λ audit. Ok tt) (seen-at watched world.watches number ∙ ap (option_map watched) there)
+-- closing a cursor is refused where it is not open
+pub refused_close : (world : World) (state : State) (number at : ℕ) (refusal : Refusal) → cursor_in_session world number at ≡ Err refusal
+    → length (refusal_line (speaker.Session number) refusal) ≤ reply_room → IsRefused (make_request (speaker.Session number) (requests.closes at)) refusal state world
+refused_close world state number at refusal is fits =
+    refused_so (make_request (speaker.Session number) (requests.closes at)) refusal state world
+    (λ history stands. refused_first (open_session world number) (λ session. ok_or (at_number session.cursors at) (NoCursor at)) (λ session cursor. deeds.close_cursor number session at) refusal is) fits
+
+-- ---- jobs
+none_there : {A : Type 0} (found : Option A) → is_some found ≡ false → found ≡ None
+none_there None is = refl
+none_there (Some one) is = absurd cc
+
+some_there : {A : Type 0} (found : Option A) → is_some found ≡ true → (one : A) × (found ≡ Some one)
+some_there None is = absurd cc
+some_there (Some one) is = (one, refl)
+
+-- a job stands at a number, or it is not found there
+pub job_there : (world : World) (number : ℕ) → is_some (at_number world.jobs number) ≡ true → StandsJob world number
+job_there world number is = some_there (at_number world.jobs number) is
+
+pub no_job : (world : World) (number : ℕ) → is_some (at_number world.jobs number) ≡ false → job_at world number ≡ Err (NoJob number)
+no_job world number is = ap (λ (held : Option OpenAudit). ok_or held (NoJob number)) (none_there (at_number world.jobs number) is)
+
+-- a watch stands at a number, or it is not found there
+pub watch_there : (world : World) (number : ℕ) → is_some (at_number world.watches number) ≡ true → held_watch world number ≡ Ok tt
+watch_there world number is =
+    let there = some_there (at_number world.watches number) is in
+    ap (λ (held : Option Audit). ok_or held (NoWatch number) >>= λ audit. Ok tt) there.1
+
+pub no_watch : (world : World) (number : ℕ) → is_some (at_number world.watches number) ≡ false → held_watch world number ≡ Err (NoWatch number)
+no_watch world number is = ap (λ (held : Option Audit). ok_or held (NoWatch number) >>= λ audit. Ok tt) (none_there (at_number world.watches number) is)
 
 watch_first : (found : Checked Audit) (deed : deeds.Deed) (refusal : Refusal) → ◌≡◌ {A = Checked (Unit {0})} (found >>= λ audit. Ok tt) (Err refusal) → (found >>= λ audit. Ok deed) ≡ Err refusal
 watch_first (Ok audit) deed refusal is = absurd cc
 watch_first (Err other) deed refusal is = let same : other ≡ refusal = cc in ap Err same
 
 -- ending a watch is refused where none stands
-pub refused_unwatch : (world : HeldWorld) (state : State) (number : ℕ) (refusal : Refusal) → held_watch (world_of world) number ≡ Err refusal
+pub refused_unwatch : (world : World) (state : State) (number : ℕ) (refusal : Refusal) → held_watch world number ≡ Err refusal
     → length (refusal_line Console refusal) ≤ reply_room → IsRefused (make_request Console (requests.unwatches number)) refusal state world
 refused_unwatch world state number refusal is fits =
     refused_so (make_request Console (requests.unwatches number)) refusal state world
-    (λ history stands. watch_first (ok_or (at_number (world_of world).watches number) (NoWatch number)) (deeds.end_watch number) refusal is) fits
+    (λ history stands. watch_first (ok_or (at_number world.watches number) (NoWatch number)) (deeds.end_watch number) refusal is) fits
 
 -- a step of a job that stands there, and its end
-module _ (world : HeldWorld) (state : State) (number : ℕ) (job : HeldJob) (there : at_number world.jobs number ≡ Some job) where
-  seen : at_number (world_of world).jobs number ≡ Some (open_audit job)
-  seen = seen-at open_audit world.jobs number ∙ ap (option_map open_audit) there
-
+module _ (world : World) (state : State) (number : ℕ) (job : OpenAudit) (there : at_number world.jobs number ≡ Some job) where
   pub may_step : (count : ℕ) → Does (make_request Console (requests.steps number count)) (kinds.StepJob number count) state world
   may_step count = (
     refl,
     record {
       job = job;
       there = there;
-      does = λ history stands. ap (λ (held : Option OpenAudit). ok_or held (NoJob number) >>= λ one. Ok (deeds.step_job number one count)) seen;
+      does = λ history stands. ap (λ (held : Option OpenAudit). ok_or held (NoJob number) >>= λ one. Ok (deeds.step_job number one count)) there;
     },
   )
 
@@ -165,24 +182,24 @@ module _ (world : HeldWorld) (state : State) (number : ℕ) (job : HeldJob) (the
     record {
       job = job;
       there = there;
-      does = λ history stands. ap (λ (held : Option OpenAudit). ok_or held (NoJob number) >>= λ one. Ok (deeds.drop_job number)) seen;
+      does = λ history stands. ap (λ (held : Option OpenAudit). ok_or held (NoJob number) >>= λ one. Ok (deeds.drop_job number)) there;
     },
   )
 
-pub refused_step : (world : HeldWorld) (state : State) (number count : ℕ) (refusal : Refusal) → job_at (world_of world) number ≡ Err refusal
+pub refused_step : (world : World) (state : State) (number count : ℕ) (refusal : Refusal) → job_at world number ≡ Err refusal
     → length (refusal_line Console refusal) ≤ reply_room → IsRefused (make_request Console (requests.steps number count)) refusal state world
 refused_step world state number count refusal is fits =
     refused_so (make_request Console (requests.steps number count)) refusal state world
     (λ history stands. ap (λ (checked : Checked OpenAudit). checked >>= λ job. Ok (deeds.step_job number job count)) is) fits
 
-pub refused_drop : (world : HeldWorld) (state : State) (number : ℕ) (refusal : Refusal) → job_at (world_of world) number ≡ Err refusal
+pub refused_drop : (world : World) (state : State) (number : ℕ) (refusal : Refusal) → job_at world number ≡ Err refusal
     → length (refusal_line Console refusal) ≤ reply_room → IsRefused (make_request Console (requests.drops number)) refusal state world
 refused_drop world state number refusal is fits =
     refused_so (make_request Console (requests.drops number)) refusal state world
     (λ history stands. ap (λ (checked : Checked OpenAudit). checked >>= λ job. Ok (deeds.drop_job number)) is) fits
 
 -- ---- audits
-module _ (state : State) (world : HeldWorld) (written : RawAudit) (text : Txt) where
+module _ (state : State) (world : World) (written : RawAudit) (text : Txt) where
   abbrev of_audit : (Audit → Checked deeds.Deed) → History → Checked deeds.Deed
   of_audit next history = audit_in history Console written >>= next
 
@@ -194,13 +211,13 @@ module _ (state : State) (world : HeldWorld) (written : RawAudit) (text : Txt) w
     may_audit = ((written, text, refl), means, judged_audit (λ one. Ok (deeds.audit one)))
 
     abbrev begins : Audit → Checked deeds.Deed
-    begins one = ok_or (free_number (world_of world).jobs) JobLimit >>= λ number. Ok (deeds.begin_audit number one)
+    begins one = ok_or (free_number world.jobs) JobLimit >>= λ number. Ok (deeds.begin_audit number one)
 
     abbrev sets : Audit → Checked deeds.Deed
-    sets one = ok_or (free_number (world_of world).watches) WatchLimit >>= λ number. Ok (deeds.watch number one)
+    sets one = ok_or (free_number world.watches) WatchLimit >>= λ number. Ok (deeds.watch number one)
 
     by_free : (found : Option ℕ) → free_number world.jobs ≡ found → begins audit ≡ (ok_or found JobLimit >>= λ number. Ok (deeds.begin_audit number audit))
-    by_free found free = ap (λ (one : Option ℕ). ok_or one JobLimit >>= λ number. Ok (deeds.begin_audit number audit)) (seen-free open_audit world.jobs ∙ free)
+    by_free found free = ap (λ (one : Option ℕ). ok_or one JobLimit >>= λ number. Ok (deeds.begin_audit number audit)) free
 
     -- a job begins where a number is free
     pub may_begin : (found : Option ℕ) → free_number world.jobs ≡ found → FindsDeed (commands.make_statement Console (stmt.BeginAudit written) text) (with_free_number kinds.BeginAudit JobLimit audit found) state world
@@ -215,7 +232,7 @@ module _ (state : State) (world : HeldWorld) (written : RawAudit) (text : Txt) w
         (λ history stands. inl (judged_audit begins history stands ∙ by_free None free))
 
     by_free_watch : (found : Option ℕ) → free_number world.watches ≡ found → sets audit ≡ (ok_or found WatchLimit >>= λ number. Ok (deeds.watch number audit))
-    by_free_watch found free = ap (λ (one : Option ℕ). ok_or one WatchLimit >>= λ number. Ok (deeds.watch number audit)) (seen-free watched world.watches ∙ free)
+    by_free_watch found free = ap (λ (one : Option ℕ). ok_or one WatchLimit >>= λ number. Ok (deeds.watch number audit)) free
 
     -- a watch is set where a number is free
     pub may_watch : (found : Option ℕ) → free_number world.watches ≡ found → FindsDeed (commands.make_statement Console (stmt.Watch written) text) (with_free_number kinds.Watch WatchLimit audit found) state world
@@ -228,13 +245,9 @@ module _ (state : State) (world : HeldWorld) (written : RawAudit) (text : Txt) w
         refused_or_short (commands.make_statement Console (stmt.Watch written) text) WatchLimit state world refl
         (λ history stands. inl (judged_audit sets history stands ∙ by_free_watch None free))
 
--- ---- questions
-pub question_done : (command : Command) (state : State) (world : HeldWorld) (question : Question) (deed : Deed) (delivery : Delivery) → deed ≡ kinds.Ask question delivery → MayBeAsked command question delivery state world → Does command deed state world
-question_done command state world question deed delivery is asks = subst (λ (one : Deed). Does command one state world) (sym is) asks
-
 -- what begins with an audit is refused where that is
-pub refused_audit : (state : State) (world : HeldWorld) (written : RawAudit) (command : Command) (next : Audit → Checked deeds.Deed) (refusal : Refusal) → may_do_nothing command ≡ true
-    → ((history : History) → judged history (world_of world) command ≡ (audit_in history Console written >>= next))
+pub refused_audit : (state : State) (world : World) (written : RawAudit) (command : Command) (next : Audit → Checked deeds.Deed) (refusal : Refusal) → may_do_nothing command ≡ true
+    → ((history : History) → judged history world command ≡ (audit_in history Console written >>= next))
     → ((history : History) → StandsFor state history → Refuses (audit_in history Console written) refusal) → IsRefused command refusal state world
 refused_audit state world written command next refusal takes begins refuses =
     refused_or_short command refusal state world takes
@@ -242,14 +255,14 @@ refused_audit state world written command next refusal takes begins refuses =
     (refuses_on (audit_in history Console written) next refusal (refuses history stands)))
 
 -- ---- changes
-module _ (state : State) (world : HeldWorld) (command : Command) (judgement : History → Checked deeds.Deed) (takes : may_do_nothing command ≡ true)
-    (begins : (history : History) → judged history (world_of world) command ≡ judgement history) where
-  pub may_change : (entry : Entry) → who_commands command ≡ Console → ((history : History) → StandsFor state history → IsChange history (world_of world) (judgement history) entry) → entry.seq < 2 ^ 63 → MayFollow state entry
+module _ (state : State) (world : World) (command : Command) (judgement : History → Checked deeds.Deed) (takes : may_do_nothing command ≡ true)
+    (begins : (history : History) → judged history world command ≡ judgement history) where
+  pub may_change : (entry : Entry) → who_commands command ≡ Console → ((history : History) → StandsFor state history → IsChange history world (judgement history) entry) → entry.seq < 2 ^ 63 → MayFollow state entry
       → AddsNextEntry command entry state world
   may_change entry console is number follows = record {
     console = console;
     memory = takes;
-    does = λ history stands. subst (λ (one : Checked deeds.Deed). IsChange history (world_of world) one entry) (sym (begins history)) (is history stands);
+    does = λ history stands. subst (λ (one : Checked deeds.Deed). IsChange history world one entry) (sym (begins history)) (is history stands);
     number = number;
     follows = follows;
   }

@@ -27,9 +27,7 @@ use Rattle.hippo_following.proofs.FollowingTheorem.{changes_may_follow}
 use Rattle.hippo_replay.specs.declared.state.State.{State}
 use Rattle.hippo_replay.specs.Standing.{StandsFor, MayFollow, IsTimely}
 use Rattle.hippo_replay.proofs.AcceptanceLemmas.{order_is}
-use Rattle.hippo_world.specs.declared.worlds.World.{World as HeldWorld}
-use Rattle.hippo_world.specs.Worlds.{World}
-use Rattle.hippo_world.specs.Holding.{world_of}
+use Rattle.hippo_sessions.specs.Worlds.{World}
 use Rattle.hippo_judging.specs.Changes.{FindsChange}
 use Rattle.hippo_judging.specs.Checks.{Checked, unless_refused, act_made, has_room}
 use Rattle.hippo_judging.specs.Deeds.{Deed}
@@ -96,14 +94,14 @@ has_room_at state history moment number stands timely fits is below = record {
 }
 
 -- the entry that the checks of a change found may follow
-pub change_follows : (state : State) (held : HeldWorld) (statement : Stmt) (found : Result Entry Refusal) → IsTimely state held.clock → is_written statement ≡ true
-    → ((history : History) → StandsFor state history → FindsChange history (world_of held) (judged_change history (world_of held) Console statement) found)
+pub change_follows : (state : State) (held : World) (statement : Stmt) (found : Result Entry Refusal) → IsTimely state held.clock → is_written statement ≡ true
+    → ((history : History) → StandsFor state history → FindsChange history held (judged_change history held Console statement) found)
     → IfOk found (λ entry. entry.seq < 2 ^ 63) → IfOk found (λ entry. is_moment entry.moment ≡ true) → IfOk found (λ entry. MayFollow state entry)
 change_follows state held statement (Ok entry) timely written finds below fits = λ history stands.
     let change = finds history stands in
     let moment : entry.moment ≡ held.clock = ap (λ (e : Entry). e.moment) change.next in
     let number : entry.seq ≡ length history + 1 = ap (λ (e : Entry). e.seq) change.next in
     let room = has_room_at state history held.clock entry.seq stands timely (subst (λ (m : Moment). is_moment m ≡ true) moment fits) number below in
-    let comes = comes_to history (world_of held) statement entry.act written change.judged_so in
+    let comes = comes_to history held statement entry.act written change.judged_so in
     subst (λ (e : Entry). may_follow meaning history e ≡ true) (sym change.next) (changes_may_follow meaning history held.clock statement entry.act stands.valid room comes)
 change_follows state held statement (Err refusal) timely written finds below fits = tt

@@ -9,7 +9,7 @@ use Rattle.hippo_model.specs.Terms.{History}
 use Rattle.hippo_catalog.specs.Catalogs.{KnownNames, known_at}
 use Rattle.hippo_report.specs.declared.refusal.Refusal.{Refusal}
 use Rattle.hippo_report.specs.declared.speaker.Speaker.TheVariants.{Console}
-use Rattle.hippo_world.specs.Worlds.{World}
+use Rattle.hippo_sessions.specs.Worlds.{World}
 use Rattle.hippo_judging.specs.Changes.{FindsChange}
 use Rattle.hippo_judging.specs.Checks.{Checked, Refuses}
 use Rattle.hippo_judging.specs.Deeds.{Deed}

@@ -10,9 +10,9 @@ use Rattle.hippo_model.specs.declared.statement.Stmt.{Stmt}
 use Rattle.hippo_model.specs.declared.statement.Stmt.TheVariants as stmt
 use Rattle.hippo_report.specs.declared.refusal.Refusal.TheVariants.{HistoryFull}
 use Rattle.hippo_report.specs.declared.speaker.Speaker.TheVariants as speaker
-use Rattle.hippo_answering.specs.States.{AreKeptTables}
+use Rattle.hippo_tables.specs.Standing.{AreKeptTables}
 use Rattle.hippo_replay.specs.declared.state.State.{State}
-use Rattle.hippo_world.specs.declared.sessions.Session.{Session}
+use Rattle.hippo_sessions.specs.declared.sessions.Session.{Session}
 use Rattle.hippo_commands.specs.Commands.{Command}
 use Rattle.hippo_commands.specs.Commands as commands
 use Rattle.hippo_judging.specs.declared.asking.Asking.{Asking}

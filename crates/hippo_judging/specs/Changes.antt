@@ -12,7 +12,7 @@ use Rattle.hippo_catalog.specs.ChangesRefused.{change_refused}
 use Rattle.hippo_catalog.specs.ChangesWanted.{wanted_by}
 use Rattle.hippo_report.specs.declared.refusal.Refusal.{Refusal}
 use Rattle.hippo_report.specs.declared.refusal.Refusal.TheVariants.{BadSyntax}
-use Rattle.hippo_world.specs.Worlds.{World}
+use Rattle.hippo_sessions.specs.Worlds.{World}
 use Rattle.hippo_judging.specs.Checks.{Checked, Refuses, unless_refused, has_room}
 use Rattle.hippo_judging.specs.Deeds.{Deed, next_entry}
 use Rattle.hippo_judging.specs.Deeds as deeds

@@ -19,11 +19,9 @@ use Rattle.hippo_report.specs.declared.refusal.Refusal.{Refusal}
 use Rattle.hippo_report.specs.declared.refusal.Refusal.TheVariants.{NoSession, SessionOpen, NotAuthorized, ConsoleOnly, SessionsOnly, Meaningless, KeyThere, KeyMissing, HistoryFull, NoCursor, NoJob, NoWatch, Memory}
 use Rattle.hippo_report.specs.declared.speaker.Speaker.{Speaker}
 use Rattle.hippo_report.specs.declared.speaker.Speaker.TheVariants.{Console, Session}
-use Rattle.hippo_world.specs.declared.cursors.Cursor.{Cursor}
-use Rattle.hippo_world.specs.declared.sessions.Session.{Session as OpenSession}
-use Rattle.hippo_world.specs.declared.worlds.World.{World as HeldWorld}
-use Rattle.hippo_world.specs.Auditing.{HeldJob}
-use Rattle.hippo_world.specs.Worlds.{World, at_number, session_at}
+use Rattle.hippo_sessions.specs.declared.cursors.Cursor.{Cursor}
+use Rattle.hippo_sessions.specs.declared.sessions.Session.{Session as OpenSession}
+use Rattle.hippo_sessions.specs.Worlds.{World, at_number, session_at}
 
 -- what a check finds, or the refusal
 abbrev pub Checked : Type 0 → Type 0
@@ -107,8 +105,8 @@ abbrev pub job_at : World → ℕ → Checked OpenAudit
 job_at world at = ok_or (at_number world.jobs at) (NoJob at)
 
 -- a job stands at this number
-abbrev pub StandsJob : HeldWorld → ℕ → Type 0
-StandsJob world number = (job : HeldJob) × (at_number world.jobs number ≡ Some job)
+abbrev pub StandsJob : World → ℕ → Type 0
+StandsJob world number = (job : OpenAudit) × (at_number world.jobs number ≡ Some job)
 
 -- a watch stands at this number
 abbrev pub held_watch : World → ℕ → Checked (Unit {0})

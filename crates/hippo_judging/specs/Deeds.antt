@@ -10,9 +10,9 @@ use Rattle.hippo_model.specs.declared.entry.Entry.{Entry}
 use Rattle.hippo_model.specs.declared.query.Query.{Query}
 use Rattle.hippo_model.specs.Terms.{History}
 use Rattle.hippo_values.specs.Texts.{Txt}
-use Rattle.hippo_world.specs.declared.cursors.Cursor.{Cursor}
-use Rattle.hippo_world.specs.declared.sessions.Session.{Session}
-use Rattle.hippo_world.specs.Worlds.{World}
+use Rattle.hippo_sessions.specs.declared.cursors.Cursor.{Cursor}
+use Rattle.hippo_sessions.specs.declared.sessions.Session.{Session}
+use Rattle.hippo_sessions.specs.Worlds.{World}
 use Rattle.hippo_audit_job.specs.Jobs.{OpenAudit}
 
 -- a question of a session: its text, and what that means

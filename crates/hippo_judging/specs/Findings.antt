@@ -15,19 +15,16 @@ use Rattle.hippo_backlog.specs.Calls as reads
 use Rattle.hippo_backlog.specs.declared.faults.ReadFault.{ReadFault}
 use Rattle.hippo_backlog.specs.declared.faults.ReadFault.TheVariants.{Damaged}
 use Rattle.hippo_audit_job.specs.Examining.{IsAuditOf}
-use Rattle.hippo_audit_job.specs.Jobs.{open_audit}
+use Rattle.hippo_audit_job.specs.Jobs.{OpenAudit}
 use Rattle.hippo_replay.specs.declared.state.State.{State}
 use Rattle.hippo_replay.specs.Standing.{StandsFor, MayFollow}
 use Rattle.hippo_report.specs.declared.refusal.Refusal.{Refusal}
 use Rattle.hippo_report.specs.declared.speaker.Speaker.TheVariants.{Nobody, Console}
 use Rattle.hippo_report.specs.declared.speaker.Speaker.TheVariants as speaker
 use Rattle.hippo_report.specs.Refusals.{refusal_line}
-use Rattle.hippo_world.specs.declared.cursors.Cursor.{Cursor}
-use Rattle.hippo_world.specs.declared.sessions.Session.{Session}
-use Rattle.hippo_world.specs.declared.worlds.World.{World as HeldWorld}
-use Rattle.hippo_world.specs.Auditing.{HeldJob}
-use Rattle.hippo_world.specs.Holding.{world_of}
-use Rattle.hippo_world.specs.Worlds.{at_number, session_at, free_number}
+use Rattle.hippo_sessions.specs.declared.cursors.Cursor.{Cursor}
+use Rattle.hippo_sessions.specs.declared.sessions.Session.{Session}
+use Rattle.hippo_sessions.specs.Worlds.{World, at_number, session_at, free_number}
 use Rattle.hippo_lines.specs.Forms as requests
 use Rattle.hippo_following.specs.CommandLaws.{StandsInLine as StandsIn}
 use Rattle.hippo_commands.specs.Commands.{Command, wrong, make_request, who_commands, takes_memory}
@@ -59,43 +56,43 @@ may_do_nothing (make_request who (requests.steps job count)) = false
 may_do_nothing command = takes_memory command
 
 -- a command is judged so, whatever history the state stands for
-abbrev pub IsJudged : Command → State → HeldWorld → Checked deeds.Deed → Type 0
+abbrev pub IsJudged : Command → State → World → Checked deeds.Deed → Type 0
 IsJudged command state world judgement =
     (history : History) → StandsFor state history
-    → judged history (world_of world) command ≡ judgement
+    → judged history world command ≡ judgement
 
 -- a command is refused, or memory was short, if it takes any; where it may not be answered so, its
 -- refusal is short
-pub record IsRefused (command : Command) (refusal : Refusal) (state : State) (world : HeldWorld)
+pub record IsRefused (command : Command) (refusal : Refusal) (state : State) (world : World)
     : Type 0 where
   pub refuses : (history : History) → StandsFor state history
-      → Refuses (judged history (world_of world) command) refusal
+      → Refuses (judged history world command) refusal
   pub exact : may_do_nothing command ≡ false → IsJudged command state world (Err refusal)
   pub short : may_do_nothing command ≡ false
       → length (refusal_line (who_commands command) refusal) ≤ reply_room
 
 -- the cursor at a number of an open session
-pub record HoldsCursor (world : HeldWorld) (session at : ℕ) (holds : Session → Cursor → Type 0)
+pub record HoldsCursor (world : World) (session at : ℕ) (holds : Session → Cursor → Type 0)
     : Type 0 where
   pub held : Session
   pub cursor : Cursor
-  pub there : session_at (world_of world) session ≡ Some held
+  pub there : session_at world session ≡ Some held
   pub stands : at_number held.cursors at ≡ Some cursor
   pub does : holds held cursor
 
 -- the job at a number
-pub record HoldsJob (world : HeldWorld) (number : ℕ) (holds : HeldJob → Type 0) : Type 0 where
-  pub job : HeldJob
+pub record HoldsJob (world : World) (number : ℕ) (holds : OpenAudit → Type 0) : Type 0 where
+  pub job : OpenAudit
   pub there : at_number world.jobs number ≡ Some job
   pub does : holds job
 
 -- an entry is the next one, and may follow
-pub record AddsNextEntry (command : Command) (entry : Entry) (state : State) (world : HeldWorld)
+pub record AddsNextEntry (command : Command) (entry : Entry) (state : State) (world : World)
     : Type 0 where
   pub console : who_commands command ≡ Console
   pub memory : may_do_nothing command ≡ true
   pub does : (history : History) → StandsFor state history
-      → IsChange history (world_of world) (judged history (world_of world) command) entry
+      → IsChange history world (judged history world command) entry
   pub number : entry.seq < 2 ^ 63
   pub follows : MayFollow state entry
 
@@ -111,10 +108,10 @@ question_by asker question = record {
 
 -- a question can be answered, and its entry may follow
 pub record MayBeAsked (command : Command) (question : Question) (delivery : Delivery)
-    (state : State) (world : HeldWorld)
+    (state : State) (world : World)
     : Type 0 where
   pub asker : Session
-  pub there : session_at (world_of world) question.session ≡ Some asker
+  pub there : session_at world question.session ≡ Some asker
   pub who : who_commands command ≡ speaker.Session question.session
   pub memory : may_do_nothing command ≡ true
   pub does : IsJudged command state world
@@ -129,7 +126,7 @@ pub record IsAuditOfState (audit : Audit) (state : State) : Type 0 where
   pub differ : IsDistinct bytes_eq audit.tables
 
 -- what is to be done for a command, and what performing it needs
-abbrev pub Does : Command → Deed → State → HeldWorld → Type 0
+abbrev pub Does : Command → Deed → State → World → Type 0
 Does command kinds.DoNothing state world = IsJudged command state world (Ok deeds.do_nothing)
 Does command (kinds.SetClock moment) state world =
     IsJudged command state world (Ok (deeds.set_clock moment))
@@ -148,7 +145,7 @@ Does command (kinds.CloseCursor session at) state world =
 Does command (kinds.StepJob number count) state world =
     (command ≡ make_request Console (requests.steps number count))
     × HoldsJob world number (λ job. IsJudged command state world
-    (Ok (deeds.step_job number (open_audit job) count)))
+    (Ok (deeds.step_job number job count)))
 Does command (kinds.DropJob number) state world =
     (command ≡ make_request Console (requests.drops number))
     × HoldsJob world number (λ job. IsJudged command state world (Ok (deeds.drop_job number)))
@@ -173,7 +170,7 @@ Does command (kinds.Watch number audit) state world =
     × IsAuditOfState audit state × IsJudged command state world (Ok (deeds.watch number audit))
 
 -- a command that names no logged question does this, or is refused
-abbrev pub FindsDeed : Command → Result Deed Refusal → State → HeldWorld → Type 0
+abbrev pub FindsDeed : Command → Result Deed Refusal → State → World → Type 0
 FindsDeed command (Ok deed) state world = Does command deed state world
 FindsDeed command (Err refusal) state world = IsRefused command refusal state world
 
@@ -213,7 +210,7 @@ pub record LooksUpFor (command : Command) (number : ℤ) (result : Result (Optio
   pub looks : LooksUp number result state before after steps steps'
 
 -- what judging a command comes to: a question's entry or none was looked up, or nothing was read
-abbrev pub Judges : Command → Result Deed Unjudged → State → HeldWorld → KeeperState → KeeperState
+abbrev pub Judges : Command → Result Deed Unjudged → State → World → KeeperState → KeeperState
     → ℕ → ℕ → Type 0
 Judges command (Ok (kinds.Explain entry)) state world before after steps steps' =
     (number : ℤ) × LooksUpFor command number (Ok (Some entry)) state before after steps steps'

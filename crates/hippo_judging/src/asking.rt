@@ -9,7 +9,6 @@ ghost use Rattle.hippo_catalog.specs.Catalogs.{known_at};
 ghost use Rattle.hippo_catalog.specs.Selects.{select_refused, query_of};
 ghost use Rattle.hippo_following.specs.Written.{names_fit};
 ghost use Rattle.hippo_replay.specs.Standing.{StandsFor, IsSound, IsTimely};
-ghost use Rattle.hippo_world.specs.Holding.{world_of};
 ghost use Rattle.hippo_judging.specs.Checks.{Finds, open_session, unless_refused};
 ghost use Rattle.hippo_judging.specs.declared.asking.Delivery.TheVariants as delivered;
 ghost use Rattle.hippo_judging.specs.Judging.{delivery_for, judged_question, text_between};
@@ -25,14 +24,14 @@ use hippo_following::{moment_fits, name_fits};
 use hippo_model::{Query, RawSelect, Stmt};
 use hippo_replay::State;
 use hippo_report::Refusal;
+use hippo_sessions::{Session, WorldView};
 use hippo_typing::resolve_select;
 use hippo_values::LINE_LIMIT;
-use hippo_world::{Session, World};
 use std::alloc::Global;
 
 /// What a question wants its answer to be: rows or records, which are the reply, or a cursor that
 /// holds it.
-#[derive(Clone, Copy, Debug, PartialEq, Eq)]
+#[derive(Clone, Copy, PartialEq, Eq)]
 pub enum Handing {
     Rows,
     Records,
@@ -50,7 +49,7 @@ pub struct WrittenQuestion<'a> {
 }
 
 /// How an answer is handed out: as wanted, with the number of the cursor that is to hold it.
-#[derive(Clone, Copy, Debug, PartialEq, Eq)]
+#[derive(Clone, Copy, PartialEq, Eq)]
 pub enum Delivery {
     Rows,
     Records,
@@ -104,10 +103,10 @@ fn cut(text: &str, start: usize, end: usize) -> Result<&str, Refusal>
 }
 
 // Who asks in a session.
-fn asker(world: &World, session: u8) -> Result<&Session, Refusal>
-    ensures { MatchResult result (λ asker. open_session (world_of world.now) session
+fn asker<W: WorldView>(world: &W, session: u8) -> Result<&Session, Refusal>
+    ensures { MatchResult result (λ asker. open_session (W.seen world.now) session
         ≡ Good asker.now)
-        (λ refusal. open_session (world_of world.now) session ≡ Bad refusal) }
+        (λ refusal. open_session (W.seen world.now) session ≡ Bad refusal) }
 {
     open_session(world, session)
 }
@@ -188,20 +187,20 @@ fn with_delivery(
 }
 
 // What a question asks whose own text is cut out.
-fn question<'a>(
+fn question<'a, W: WorldView>(
     alloc: Global,
     state: &State,
-    world: &'a World,
+    world: &'a W,
     session: u8,
     written: &WrittenQuestion<'_>,
     text: &'a str,
 ) -> Result<Asking<'a>, Refusal>
     requires { IsSound state.now }
     ensures found { (history : History) → StandsFor state.now history → Finds (deed_asked session)
-        (judged_question written.now.handing history (world_of world.now) (speaker.Session session)
+        (judged_question written.now.handing history (W.seen world.now) (speaker.Session session)
         written.now.select.now text.now)
         result }
-    ensures asker { IfOk result (λ asking. open_session (world_of world.now) session
+    ensures asker { IfOk result (λ asking. open_session (W.seen world.now) session
         ≡ Good asking.asker.now) }
     ensures answerable { IfOk result (λ asking. IsAnswerable state.now asking.query) }
     ensures text { IfOk result (λ asking. asking.text.now ≡ text.now) }
@@ -210,7 +209,7 @@ fn question<'a>(
     let asker = asker(world, session)?;
     check_allowed(state, &asker.user, &asker.pair)?;
     let query = meaning(alloc, state, written.select)?;
-    let delivery = delivery_in_room(written.handing, asker, state.count, world.limit);
+    let delivery = delivery_in_room(written.handing, asker, state.count, world.limit());
     let asking = Asking {
         asker,
         text,
@@ -253,24 +252,24 @@ fn deed_of<'t>(session: u8, text: &'t str, asking: Asking<'_>) -> Deed<'t>
 /// be asked: its session has to be open, its user still authorized, its names and types have to
 /// mean something, an OPEN's session has to have a cursor left, and the history has to have room.
 /// Want of memory may refuse it, too.
-pub(crate) fn judge_question<'t>(
+pub(crate) fn judge_question<'t, W: WorldView>(
     alloc: Global,
     state: &State,
-    world: &World,
+    world: &W,
     session: u8,
     written: &WrittenQuestion<'_>,
     text: &'t str,
 ) -> Result<Deed<'t>, Refusal>
     requires sound { IsSound state.now }
-    requires timely { IsTimely state.now world.now.clock }
+    requires timely { IsTimely state.now (W.seen world.now).clock }
     requires of_line { IsOfLine (written_command session written.now text.now) }
-    ensures { FindsDeed (written_command session written.now text.now) result state.now world.now }
+    ensures { FindsDeed (written_command session written.now text.now) result state.now (W.seen world.now) }
 {
     let part = cut(text, written.start, written.end)?;
     match question(alloc, state, world, session, written, part) {
         Ok(asking) => {
             names_fit(asking.asker);
-            moment_fits(world.clock);
+            moment_fits(world.clock());
             Ok(deed_of(session, part, asking))
         }
         Err(refusal) => Err(refusal),

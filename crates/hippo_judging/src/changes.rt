@@ -6,7 +6,6 @@ ghost use Rattle.hippo_tables.specs.Finished.{finished_act};
 ghost use Rattle.hippo_tables.specs.Standing.{TablesStandFor};
 ghost use Rattle.hippo_report.specs.declared.speaker.Speaker.TheVariants.{Console};
 ghost use Rattle.hippo_replay.specs.Standing.{StandsFor, MayFollow, IsTimely};
-ghost use Rattle.hippo_world.specs.Holding.{world_of};
 ghost use Rattle.hippo_following.specs.Written.{is_written};
 ghost use Rattle.hippo_judging.specs.Checks.{Finds, rows_refusal, act_made};
 ghost use Rattle.hippo_judging.specs.Judging.{judged_wanted, judged_change};
@@ -19,8 +18,8 @@ use hippo_following::moment_fits;
 use hippo_model::{Act, Entry, Stmt, TableFault, Wanted};
 use hippo_replay::State;
 use hippo_report::Refusal;
+use hippo_sessions::WorldView;
 use hippo_tables::Tables;
-use hippo_world::World;
 use std::alloc::Global;
 
 fn rows_refusal(fault: TableFault) -> Refusal
@@ -55,18 +54,18 @@ fn check_rows(alloc: Global, tables: &Tables, wanted: Wanted) -> Result<Act, Ref
 }
 
 // The next entry with an act, where the history has room for it.
-fn entry_in_room(count: u64, world: &World, act: Act) -> Result<Entry, Refusal>
+fn entry_in_room<W: WorldView>(count: u64, world: &W, act: Act) -> Result<Entry, Refusal>
     ensures found { (history : History) → count ≡ length history
-        → FindsChange history (world_of world.now) (change_in_room history (world_of world.now) act)
+        → FindsChange history (W.seen world.now) (change_in_room history (W.seen world.now) act)
         result }
     ensures number { IfOk result (λ entry. entry.seq < 2 ^ 63) }
     ensures moment { IfOk result (λ entry. is_moment entry.moment ≡ true) }
 {
-    moment_fits(world.clock);
-    if count < u64::from(world.limit) {
+    moment_fits(world.clock());
+    if count < u64::from(world.limit()) {
         Ok(Entry {
             seq: count + 1,
-            moment: world.clock,
+            moment: world.clock(),
             act,
         })
     } else {
@@ -76,15 +75,15 @@ fn entry_in_room(count: u64, world: &World, act: Act) -> Result<Entry, Refusal>
 }
 
 // The entry that makes what is wanted, where rows and room let it be.
-fn entry_wanted(
+fn entry_wanted<W: WorldView>(
     alloc: Global,
     state: &State,
-    world: &World,
+    world: &W,
     wanted: Wanted,
 ) -> Result<Entry, Refusal>
     ensures found { (history : History) → StandsFor state.now history
-        → FindsChange history (world_of world.now)
-        (judged_wanted history (world_of world.now) wanted) result }
+        → FindsChange history (W.seen world.now)
+        (judged_wanted history (W.seen world.now) wanted) result }
     ensures number { IfOk result (λ entry. entry.seq < 2 ^ 63) }
     ensures moment { IfOk result (λ entry. is_moment entry.moment ≡ true) }
 {
@@ -95,15 +94,15 @@ fn entry_wanted(
 }
 
 // The entry that a statement which changes something adds, or its first refusal.
-fn entry_for(
+fn entry_for<W: WorldView>(
     alloc: Global,
     state: &State,
-    world: &World,
+    world: &W,
     statement: &Stmt,
 ) -> Result<Entry, Refusal>
     ensures found { (history : History) → StandsFor state.now history
-        → FindsChange history (world_of world.now)
-        (judged_change history (world_of world.now) Console statement.now) result }
+        → FindsChange history (W.seen world.now)
+        (judged_change history (W.seen world.now) Console statement.now) result }
     ensures number { IfOk result (λ entry. entry.seq < 2 ^ 63) }
     ensures moment { IfOk result (λ entry. is_moment entry.moment ≡ true) }
 {
@@ -117,17 +116,17 @@ fn entry_for(
 /// clock's moment. It may follow the history. Or its first refusal: that its names or types are
 /// wrong, that the rows which are there do not let it be, or that the history is full. Want of
 /// memory may refuse it, too.
-pub(crate) fn entry_of_change(
+pub(crate) fn entry_of_change<W: WorldView>(
     alloc: Global,
     state: &State,
-    world: &World,
+    world: &W,
     statement: &Stmt,
 ) -> Result<Entry, Refusal>
-    requires timely { IsTimely state.now world.now.clock }
+    requires timely { IsTimely state.now (W.seen world.now).clock }
     requires written { is_written statement.now ≡ true }
     ensures found { (history : History) → StandsFor state.now history
-        → FindsChange history (world_of world.now)
-        (judged_change history (world_of world.now) Console statement.now) result }
+        → FindsChange history (W.seen world.now)
+        (judged_change history (W.seen world.now) Console statement.now) result }
     ensures number { IfOk result (λ entry. entry.seq < 2 ^ 63) }
     ensures follows { IfOk result (λ entry. MayFollow state.now entry) }
 {

@@ -54,7 +54,7 @@ pub enum Deed<'a> {
     Change {
         entry: Entry,
     },
-    /// How the question's answer is handed out.
+    /// The question that is asked, and how its answer is handed out.
     Ask {
         question: Question<'a>,
         delivery: Delivery,
@@ -79,7 +79,7 @@ pub enum Deed<'a> {
 }
 
 /// Why nothing is to be done for a line.
-#[derive(Debug, Drop)]
+#[derive(Drop)]
 pub enum Unjudged {
     /// Its first refusal, or want of memory.
     Refused(Refusal),

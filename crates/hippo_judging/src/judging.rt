@@ -13,7 +13,7 @@ use hippo_commands::Command;
 use hippo_keeper::{Keeper, Steps};
 use hippo_replay::State;
 use hippo_report::Speaker;
-use hippo_world::World;
+use hippo_sessions::WorldView;
 use std::alloc::Global;
 use std::sync::ledger::Ledger;
 
@@ -33,19 +33,19 @@ pub fn who_commands(found: &Command<'_>) -> Speaker
 /// What is to be done for a command, or why not: its first refusal, or want of memory. An EXPLAIN
 /// of the console looks up its question in what the keeper keeps, where each version that is read
 /// counts as a step; nothing else reads.
-pub fn judge<'t, P: Keeper, L: Ledger>(
+pub fn judge<'t, P: Keeper, L: Ledger, W: WorldView>(
     alloc: Global,
     state: &State,
-    world: &World,
+    world: &W,
     keeper: &mut P,
     found: Command<'t>,
     steps: &mut Steps<L>,
 ) -> Result<Deed<'t>, Unjudged>
     requires sound { IsSound state.now }
-    requires timely { IsTimely state.now world.now.clock }
+    requires timely { IsTimely state.now (W.seen world.now).clock }
     requires ready { IsReady true (P.state keeper.old) }
     requires of_line { IsOfLine (command found) }
-    ensures judges { Judges (command found.entry) result state.now world.now (P.state keeper.old)
+    ensures judges { Judges (command found.entry) result state.now (W.seen world.now) (P.state keeper.old)
         (P.state keeper.new)
         steps.old steps.new }
     ensures still { is_still result ≡ true → keeper.new ≡ keeper.old }

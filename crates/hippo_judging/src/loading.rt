@@ -12,7 +12,6 @@ ghost use Rattle.hippo_following.specs.Written.{is_typed, is_written};
 ghost use Rattle.hippo_report.specs.declared.speaker.Speaker.TheVariants.{Console};
 ghost use Rattle.hippo_replay.specs.Standing.{StandsFor, MayFollow, IsTimely};
 ghost use Rattle.hippo_report.specs.declared.refusal.Refusal.TheVariants.{Memory as NoMemory};
-ghost use Rattle.hippo_world.specs.Holding.{world_of};
 ghost use Rattle.hippo_judging.specs.Checks.{Finds};
 ghost use Rattle.hippo_judging.specs.Judging.{record_refusal, loaded_row, loaded_insert, judged_load};
 ghost use Rattle.hippo_judging.specs.Changes.{FindsChange};
@@ -25,8 +24,8 @@ use hippo_lines::WrittenName;
 use hippo_model::{Cells, Entry, NameFault, Schema, Stmt};
 use hippo_replay::State;
 use hippo_report::Refusal;
+use hippo_sessions::WorldView;
 use hippo_values::{DayNumber, Duplicate, Memory, Name, Value};
-use hippo_world::World;
 use std::alloc::Global;
 
 // The refusal of the field at a place, which names its column.
@@ -152,17 +151,17 @@ fn insert_of(
 /// The entry that a record for a table adds, which is that of its row's INSERT and may follow the
 /// history. Or its first refusal: that there is no such table, that the text is not one record with
 /// a field of its form for each column, or that of the INSERT. Want of memory may refuse it, too.
-pub(crate) fn entry_of_record(
+pub(crate) fn entry_of_record<W: WorldView>(
     alloc: Global,
     state: &State,
-    world: &World,
+    world: &W,
     table: &WrittenName<'_>,
     text: &str,
 ) -> Result<Entry, Refusal>
-    requires timely { IsTimely state.now world.now.clock }
+    requires timely { IsTimely state.now (W.seen world.now).clock }
     ensures found { (history : History) → StandsFor state.now history
-        → FindsChange history (world_of world.now)
-        (judged_load history (world_of world.now) Console table.now text.now) result }
+        → FindsChange history (W.seen world.now)
+        (judged_load history (W.seen world.now) Console table.now text.now) result }
     ensures number { IfOk result (λ entry. entry.seq < 2 ^ 63) }
     ensures follows { IfOk result (λ entry. MayFollow state.now entry) }
 {

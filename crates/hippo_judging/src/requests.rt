@@ -6,7 +6,7 @@ ghost use Rattle.hippo_commands.specs.Commands as commands;
 ghost use Rattle.hippo_replay.specs.declared.state.State.{State as HeldState};
 ghost use Rattle.hippo_replay.specs.Standing.{IsTimely};
 ghost use Rattle.hippo_report.specs.declared.speaker.Speaker.TheVariants.{Nobody, Console, Session};
-ghost use Rattle.hippo_world.specs.declared.worlds.World.{World as HeldWorld};
+ghost use Rattle.hippo_sessions.specs.Worlds.{World};
 ghost use Rattle.hippo_judging.specs.Findings.{FindsDeed, IsRefused};
 
 use crate::console_checks::{check_job, held_watch};
@@ -17,8 +17,8 @@ use hippo_lines::{RequestForm, WrittenName};
 use hippo_model::Pair;
 use hippo_replay::State;
 use hippo_report::{Refusal, Speaker};
+use hippo_sessions::WorldView;
 use hippo_values::{Memory, Moment, Name};
-use hippo_world::World;
 use std::alloc::Global;
 
 fn is_earlier(moment: &Moment, clock: &Moment) -> bool
@@ -28,11 +28,12 @@ fn is_earlier(moment: &Moment, clock: &Moment) -> bool
 }
 
 /// The clock does not go back.
-pub(crate) fn judge_clock(world: &World, moment: Moment) -> Result<Deed<'static>, Refusal>
-    ensures { (state : HeldState) → FindsDeed (commands.set_clock moment) result state world.now }
+pub(crate) fn judge_clock<W: WorldView>(world: &W, moment: Moment) -> Result<Deed<'static>, Refusal>
+    ensures { (state : HeldState) → FindsDeed (commands.set_clock moment) result state (W.seen world.now) }
 {
-    if is_earlier(&moment, &world.clock) {
-        Err(Refusal::MomentBack(world.clock))
+    let clock = world.clock();
+    if is_earlier(&moment, &clock) {
+        Err(Refusal::MomentBack(clock))
     } else {
         Ok(Deed::SetClock { moment })
     }
@@ -55,16 +56,16 @@ fn login_names(
     Ok((user, Pair { purpose, recipient }))
 }
 
-fn judge_user(
+fn judge_user<W: WorldView>(
     state: &State,
-    world: &World,
+    world: &W,
     session: u8,
     user: Name,
     pair: Pair,
 ) -> Result<Deed<'static>, Refusal>
     ensures { FindsDeed (commands.make_request (Session session)
         (requests.logs_in user pair.purpose pair.recipient)) result
-        state.now world.now }
+        state.now (W.seen world.now) }
 {
     match check_login(state, world, session, &user, &pair) {
         Ok(()) => Ok(Deed::LogIn {
@@ -76,10 +77,10 @@ fn judge_user(
     }
 }
 
-fn judge_login(
+fn judge_login<W: WorldView>(
     alloc: Global,
     state: &State,
-    world: &World,
+    world: &W,
     session: u8,
     user: &WrittenName<'_>,
     purpose: &WrittenName<'_>,
@@ -87,7 +88,7 @@ fn judge_login(
 ) -> Result<Deed<'static>, Refusal>
     ensures { FindsDeed (commands.make_request (Session session)
         (requests.logs_in user.now purpose.now recipient.now)) result
-        state.now world.now }
+        state.now (W.seen world.now) }
 {
     match login_names(alloc, user, purpose, recipient) {
         Ok((user, pair)) => judge_user(state, world, session, user, pair),
@@ -95,9 +96,9 @@ fn judge_login(
     }
 }
 
-fn judge_logout(world: &World, session: u8) -> Result<Deed<'static>, Refusal>
+fn judge_logout<W: WorldView>(world: &W, session: u8) -> Result<Deed<'static>, Refusal>
     ensures { (state : HeldState) → FindsDeed (commands.make_request (Session session)
-        requests.logs_out) result state world.now }
+        requests.logs_out) result state (W.seen world.now) }
 {
     match open_session(world, session) {
         Ok(_) => Ok(Deed::LogOut { session }),
@@ -105,10 +106,15 @@ fn judge_logout(world: &World, session: u8) -> Result<Deed<'static>, Refusal>
     }
 }
 
-fn judge_fetch(world: &World, session: u8, cursor: u8, count: u32) -> Result<Deed<'static>, Refusal>
+fn judge_fetch<W: WorldView>(
+    world: &W,
+    session: u8,
+    cursor: u8,
+    count: u32,
+) -> Result<Deed<'static>, Refusal>
     ensures { (state : HeldState)
         → FindsDeed (commands.make_request (Session session) (requests.fetches cursor count)) result
-        state world.now }
+        state (W.seen world.now) }
 {
     match open_cursor(world, session, cursor) {
         Ok(_) => Ok(Deed::HandOut {
@@ -120,10 +126,10 @@ fn judge_fetch(world: &World, session: u8, cursor: u8, count: u32) -> Result<Dee
     }
 }
 
-fn judge_close(world: &World, session: u8, cursor: u8) -> Result<Deed<'static>, Refusal>
+fn judge_close<W: WorldView>(world: &W, session: u8, cursor: u8) -> Result<Deed<'static>, Refusal>
     ensures { (state : HeldState)
         → FindsDeed (commands.make_request (Session session) (requests.closes cursor)) result state
-        world.now }
+        (W.seen world.now) }
 {
     match open_cursor(world, session, cursor) {
         Ok(_) => Ok(Deed::CloseCursor { session, cursor }),
@@ -131,10 +137,10 @@ fn judge_close(world: &World, session: u8, cursor: u8) -> Result<Deed<'static>, 
     }
 }
 
-fn judge_step(world: &World, job: u8, count: u32) -> Result<Deed<'static>, Refusal>
+fn judge_step<W: WorldView>(world: &W, job: u8, count: u32) -> Result<Deed<'static>, Refusal>
     ensures { (state : HeldState)
         → FindsDeed (commands.make_request Console (requests.steps job count)) result state
-        world.now }
+        (W.seen world.now) }
 {
     match check_job(world, job) {
         Ok(()) => Ok(Deed::StepJob { job, count }),
@@ -142,9 +148,9 @@ fn judge_step(world: &World, job: u8, count: u32) -> Result<Deed<'static>, Refus
     }
 }
 
-fn judge_drop(world: &World, job: u8) -> Result<Deed<'static>, Refusal>
+fn judge_drop<W: WorldView>(world: &W, job: u8) -> Result<Deed<'static>, Refusal>
     ensures { (state : HeldState)
-        → FindsDeed (commands.make_request Console (requests.drops job)) result state world.now }
+        → FindsDeed (commands.make_request Console (requests.drops job)) result state (W.seen world.now) }
 {
     match check_job(world, job) {
         Ok(()) => Ok(Deed::DropJob { job }),
@@ -152,10 +158,10 @@ fn judge_drop(world: &World, job: u8) -> Result<Deed<'static>, Refusal>
     }
 }
 
-fn judge_unwatch(world: &World, watch: u8) -> Result<Deed<'static>, Refusal>
+fn judge_unwatch<W: WorldView>(world: &W, watch: u8) -> Result<Deed<'static>, Refusal>
     ensures { (state : HeldState)
         → FindsDeed (commands.make_request Console (requests.unwatches watch)) result state
-        world.now }
+        (W.seen world.now) }
 {
     match held_watch(world, watch) {
         Ok(()) => Ok(Deed::EndWatch { watch }),
@@ -163,16 +169,16 @@ fn judge_unwatch(world: &World, watch: u8) -> Result<Deed<'static>, Refusal>
     }
 }
 
-fn judge_load(
+fn judge_load<W: WorldView>(
     alloc: Global,
     state: &State,
-    world: &World,
+    world: &W,
     table: &WrittenName<'_>,
     text: &str,
 ) -> Result<Deed<'static>, Refusal>
-    requires timely { IsTimely state.now world.now.clock }
+    requires timely { IsTimely state.now (W.seen world.now).clock }
     ensures { FindsDeed (commands.make_request Console (requests.loads table.now text.now)) result
-        state.now world.now }
+        state.now (W.seen world.now) }
 {
     match entry_of_record(alloc, state, world, table, text) {
         Ok(entry) => Ok(Deed::Change { entry }),
@@ -181,15 +187,15 @@ fn judge_load(
 }
 
 // What is to be done for what a short word asks for in a session; what is the console's is refused.
-fn request_of_session(
+fn request_of_session<W: WorldView>(
     alloc: Global,
     state: &State,
-    world: &World,
+    world: &W,
     session: u8,
     asked: &RequestForm<'_>,
 ) -> Result<Deed<'static>, Refusal>
     ensures { FindsDeed (commands.make_request (Session session) (request asked.now)) result
-        state.now world.now }
+        state.now (W.seen world.now) }
 {
     match asked {
         RequestForm::Login {
@@ -208,15 +214,15 @@ fn request_of_session(
 }
 
 // What is to be done for what a short word asks for at the console; what is a session's is refused.
-fn request_of_console(
+fn request_of_console<W: WorldView>(
     alloc: Global,
     state: &State,
-    world: &World,
+    world: &W,
     asked: &RequestForm<'_>,
 ) -> Result<Deed<'static>, Refusal>
-    requires timely { IsTimely state.now world.now.clock }
+    requires timely { IsTimely state.now (W.seen world.now).clock }
     ensures { FindsDeed (commands.make_request Console (request asked.now)) result state.now
-        world.now }
+        (W.seen world.now) }
 {
     match asked {
         RequestForm::Step { job, count } => judge_step(world, *job, *count),
@@ -235,7 +241,7 @@ fn request_of_console(
 
 // Why what a short word asks for is refused to nobody.
 fn refused_to_nobody(asked: &RequestForm<'_>) -> Refusal
-    ensures { (state : HeldState) (world : HeldWorld)
+    ensures { (state : HeldState) (world : World)
         → IsRefused (commands.make_request Nobody (request asked.now)) result state world }
 {
     match asked {
@@ -252,15 +258,15 @@ fn refused_to_nobody(asked: &RequestForm<'_>) -> Refusal
 
 /// What is to be done for what a short word asks for, or why not: each is a session's or the
 /// console's.
-pub(crate) fn judge_request(
+pub(crate) fn judge_request<W: WorldView>(
     alloc: Global,
     state: &State,
-    world: &World,
+    world: &W,
     who: Speaker,
     asked: &RequestForm<'_>,
 ) -> Result<Deed<'static>, Refusal>
-    requires timely { IsTimely state.now world.now.clock }
-    ensures { FindsDeed (commands.make_request who (request asked.now)) result state.now world.now }
+    requires timely { IsTimely state.now (W.seen world.now).clock }
+    ensures { FindsDeed (commands.make_request who (request asked.now)) result state.now (W.seen world.now) }
 {
     match who {
         Speaker::Session(session) => request_of_session(alloc, state, world, session, asked),

@@ -6,21 +6,20 @@ ghost use Rattle.hippo_replay.specs.Standing.{StandsFor};
 ghost use Rattle.hippo_report.specs.declared.refusal.Refusal.TheVariants.{NoCursor as CursorMissing};
 ghost use Rattle.hippo_report.specs.Refusals.{refusal_line};
 ghost use Rattle.hippo_report.specs.declared.speaker.Speaker.TheVariants as speaker;
-ghost use Rattle.hippo_world.specs.Worlds.{at_number};
-ghost use Rattle.hippo_world.specs.Holding.{world_of};
+ghost use Rattle.hippo_sessions.specs.Worlds.{at_number};
 ghost use Rattle.hippo_judging.specs.Checks.{open_session, cursor_in_session, closed_session, by_authorized_user};
 ghost use Rattle.hippo_judging.specs.Checks.{may_log_in, reply_room};
 
 use hippo_model::{Authorization, Pair};
 use hippo_replay::State;
 use hippo_report::Refusal;
+use hippo_sessions::{Cursor, Session, WorldView};
 use hippo_values::Name;
-use hippo_world::{Cursor, Session, World};
 
 /// The open session with a number; or the refusal that none is open with it, which is short.
-pub(crate) fn open_session(world: &World, number: u8) -> Result<&Session, Refusal>
+pub(crate) fn open_session<W: WorldView>(world: &W, number: u8) -> Result<&Session, Refusal>
     ensures found { result_map_both (λ session. session.now) (λ refusal. refusal) result
-        ≡ open_session (world_of world.now) number }
+        ≡ open_session (W.seen world.now) number }
     ensures fits { IfErr result (λ refusal. length (refusal_line (speaker.Session number) refusal)
         ≤ reply_room) }
 {
@@ -44,9 +43,13 @@ fn held_cursor(session: &Session, number: u8, cursor: u8) -> Result<&Cursor, Ref
 
 /// The cursor with a number in the open session with a number; or the refusal of `open_session`, or
 /// that there is no such cursor. Its refusals are short.
-pub(crate) fn open_cursor(world: &World, number: u8, cursor: u8) -> Result<&Cursor, Refusal>
+pub(crate) fn open_cursor<W: WorldView>(
+    world: &W,
+    number: u8,
+    cursor: u8,
+) -> Result<&Cursor, Refusal>
     ensures found { result_map_both (λ held. held.now) (λ refusal. refusal) result
-        ≡ cursor_in_session (world_of world.now) number cursor }
+        ≡ cursor_in_session (W.seen world.now) number cursor }
     ensures fits { IfErr result (λ refusal. length (refusal_line (speaker.Session number) refusal)
         ≤ reply_room) }
 {
@@ -57,8 +60,8 @@ pub(crate) fn open_cursor(world: &World, number: u8, cursor: u8) -> Result<&Curs
 }
 
 // Whether no session is open with a number.
-fn check_closed(world: &World, number: u8) -> Result<(), Refusal>
-    ensures { result ≡ closed_session (world_of world.now) number }
+fn check_closed<W: WorldView>(world: &W, number: u8) -> Result<(), Refusal>
+    ensures { result ≡ closed_session (W.seen world.now) number }
 {
     match world.session(number) {
         Some(_) => Err(Refusal::SessionOpen),
@@ -82,15 +85,15 @@ pub(crate) fn check_allowed(state: &State, user: &Name, pair: &Pair) -> Result<(
 
 /// Whether a user may open the session with a number, to ask for a purpose and recipient; or the
 /// refusal that one is open with the number, or that the user is not authorized.
-pub(crate) fn check_login(
+pub(crate) fn check_login<W: WorldView>(
     state: &State,
-    world: &World,
+    world: &W,
     number: u8,
     user: &Name,
     pair: &Pair,
 ) -> Result<(), Refusal>
     ensures { (history : History) → StandsFor state.now history
-        → result ≡ may_log_in history (world_of world.now) number user.now pair.now }
+        → result ≡ may_log_in history (W.seen world.now) number user.now pair.now }
 {
     match check_closed(world, number) {
         Ok(()) => check_allowed(state, user, pair),

@@ -10,7 +10,7 @@ ghost use Rattle.hippo_replay.specs.Standing.{IsSound, IsTimely};
 ghost use Rattle.hippo_report.specs.declared.speaker.Speaker.TheVariants.{Nobody, Console, Session};
 ghost use Rattle.hippo_replay.specs.declared.state.State.{State as HeldState};
 ghost use Rattle.hippo_report.specs.declared.refusal.Refusal.TheVariants as refusals;
-ghost use Rattle.hippo_world.specs.declared.worlds.World.{World as HeldWorld};
+ghost use Rattle.hippo_sessions.specs.Worlds.{World};
 ghost use Rattle.hippo_judging.specs.declared.deeds.Deed.TheVariants as kinds;
 ghost use Rattle.hippo_judging.specs.Findings.{IsOfLine, IsRefused, FindsDeed, with_free_number, without_reading, Judges, is_still};
 
@@ -23,21 +23,21 @@ use hippo_keeper::{Keeper, Steps};
 use hippo_model::{Audit, RawAudit, Stmt};
 use hippo_replay::State;
 use hippo_report::{Refusal, Speaker};
-use hippo_world::World;
+use hippo_sessions::WorldView;
 use std::alloc::Global;
 use std::sync::ledger::Ledger;
 
-fn judge_change(
+fn judge_change<W: WorldView>(
     alloc: Global,
     state: &State,
-    world: &World,
+    world: &W,
     statement: &Stmt,
 ) -> Result<Deed<'static>, Refusal>
-    requires timely { IsTimely state.now world.now.clock }
+    requires timely { IsTimely state.now (W.seen world.now).clock }
     requires changes { changes_something statement.now ≡ true }
     requires written { is_written statement.now ≡ true }
     ensures { (text : Text) → FindsDeed (commands.make_statement Console statement.now text) result
-        state.now world.now }
+        state.now (W.seen world.now) }
 {
     match entry_of_change(alloc, state, world, statement) {
         Ok(entry) => Ok(Deed::Change { entry }),
@@ -47,7 +47,7 @@ fn judge_change(
 
 fn judge_audit(alloc: Global, state: &State, written: &RawAudit) -> Result<Deed<'static>, Refusal>
     requires sound { IsSound state.now }
-    ensures { (text : Text) (world : HeldWorld)
+    ensures { (text : Text) (world : World)
         → FindsDeed (commands.make_statement Console (stmt.Audit written.now) text) result state.now
         world }
 {
@@ -70,19 +70,19 @@ fn begun_with(audit: Audit, free: Option<usize>) -> Result<Deed<'static>, Refusa
     }
 }
 
-fn judge_begin(
+fn judge_begin<W: WorldView>(
     alloc: Global,
     state: &State,
-    world: &World,
+    world: &W,
     written: &RawAudit,
 ) -> Result<Deed<'static>, Refusal>
     requires sound { IsSound state.now }
     ensures { (text : Text) → FindsDeed (commands.make_statement Console
         (stmt.BeginAudit written.now) text) result
-        state.now world.now }
+        state.now (W.seen world.now) }
 {
     match audit_in(alloc, state, written) {
-        Ok(audit) => begun_with(audit, world.jobs.free()),
+        Ok(audit) => begun_with(audit, world.free_job()),
         Err(refusal) => Err(refusal),
     }
 }
@@ -100,19 +100,19 @@ fn set_with(audit: Audit, free: Option<usize>) -> Result<Deed<'static>, Refusal>
     }
 }
 
-fn judge_watch(
+fn judge_watch<W: WorldView>(
     alloc: Global,
     state: &State,
-    world: &World,
+    world: &W,
     written: &RawAudit,
 ) -> Result<Deed<'static>, Refusal>
     requires sound { IsSound state.now }
     ensures { (text : Text) → FindsDeed (commands.make_statement Console (stmt.Watch written.now)
         text) result
-        state.now world.now }
+        state.now (W.seen world.now) }
 {
     match audit_in(alloc, state, written) {
-        Ok(audit) => set_with(audit, world.watches.free()),
+        Ok(audit) => set_with(audit, world.free_watch()),
         Err(refusal) => Err(refusal),
     }
 }
@@ -136,7 +136,7 @@ fn look_up<P: Keeper, L: Ledger>(
     steps: &mut Steps<L>,
 ) -> Result<Deed<'static>, Unjudged>
     requires ready { IsReady true (P.state keeper.old) }
-    ensures judges { (text : Text) (world : HeldWorld)
+    ensures judges { (text : Text) (world : World)
         → Judges (commands.make_statement Console (stmt.Explain number.now) text) result
         state.now world (P.state keeper.old) (P.state keeper.new) steps.old steps.new }
     ensures looks { is_still result ≡ false }
@@ -149,19 +149,19 @@ fn look_up<P: Keeper, L: Ledger>(
 }
 
 // What is to be done for a statement of a session: it asks a question, or is refused.
-fn statement_of_session<'t>(
+fn statement_of_session<'t, W: WorldView>(
     alloc: Global,
     state: &State,
-    world: &World,
+    world: &W,
     session: u8,
     statement: &Stmt,
     text: &'t str,
 ) -> Result<Deed<'t>, Refusal>
     requires sound { IsSound state.now }
-    requires timely { IsTimely state.now world.now.clock }
+    requires timely { IsTimely state.now (W.seen world.now).clock }
     requires of_line { IsOfLine (commands.make_statement (Session session) statement.now text.now) }
     ensures { FindsDeed (commands.make_statement (Session session) statement.now text.now) result
-        state.now world.now }
+        state.now (W.seen world.now) }
 {
     match written_question(statement) {
         Some(written) => judge_question(alloc, state, world, session, &written, text),
@@ -170,20 +170,20 @@ fn statement_of_session<'t>(
 }
 
 // What is to be done for a statement of the console. Only EXPLAIN reads what is kept.
-fn statement_of_console<P: Keeper, L: Ledger>(
+fn statement_of_console<P: Keeper, L: Ledger, W: WorldView>(
     alloc: Global,
     state: &State,
-    world: &World,
+    world: &W,
     keeper: &mut P,
     statement: &Stmt,
     steps: &mut Steps<L>,
 ) -> Result<Deed<'static>, Unjudged>
     requires sound { IsSound state.now }
-    requires timely { IsTimely state.now world.now.clock }
+    requires timely { IsTimely state.now (W.seen world.now).clock }
     requires ready { IsReady true (P.state keeper.old) }
     requires written { is_written statement.now ≡ true }
     ensures judges { (text : Text)
-        → Judges (commands.make_statement Console statement.now text) result state.now world.now
+        → Judges (commands.make_statement Console statement.now text) result state.now (W.seen world.now)
         (P.state keeper.old) (P.state keeper.new) steps.old steps.new }
     ensures still { is_still result ≡ true → keeper.new ≡ keeper.old }
     ensures idle { is_still result ≡ true → steps.new ≡ steps.old }
@@ -202,7 +202,7 @@ fn statement_of_console<P: Keeper, L: Ledger>(
 
 // Why a statement is refused to nobody.
 fn refused_to_nobody(statement: &Stmt) -> Refusal
-    ensures { (text : Text) (state : HeldState) (world : HeldWorld)
+    ensures { (text : Text) (state : HeldState) (world : World)
         → IsRefused (commands.make_statement Nobody statement.now text) result state world }
 {
     match written_question(statement) {
@@ -213,10 +213,10 @@ fn refused_to_nobody(statement: &Stmt) -> Refusal
 
 /// What is to be done for a statement that stands in a text, or why not: a question is a session's,
 /// all else is the console's. Only EXPLAIN reads what is kept.
-pub(crate) fn judge_statement<'t, P: Keeper, L: Ledger>(
+pub(crate) fn judge_statement<'t, P: Keeper, L: Ledger, W: WorldView>(
     alloc: Global,
     state: &State,
-    world: &World,
+    world: &W,
     keeper: &mut P,
     who: Speaker,
     statement: &Stmt,
@@ -224,11 +224,11 @@ pub(crate) fn judge_statement<'t, P: Keeper, L: Ledger>(
     steps: &mut Steps<L>,
 ) -> Result<Deed<'t>, Unjudged>
     requires sound { IsSound state.now }
-    requires timely { IsTimely state.now world.now.clock }
+    requires timely { IsTimely state.now (W.seen world.now).clock }
     requires ready { IsReady true (P.state keeper.old) }
     requires of_line { IsOfLine (commands.make_statement who statement.now text.now) }
     ensures judges { Judges (commands.make_statement who statement.now text.now) result
-        state.now world.now
+        state.now (W.seen world.now)
         (P.state keeper.old) (P.state keeper.new) steps.old steps.new }
     ensures still { is_still result ≡ true → keeper.new ≡ keeper.old }
     ensures idle { is_still result ≡ true → steps.new ≡ steps.old }

@@ -14,7 +14,7 @@ pub enum KeeperFault {
 }
 
 /// A call of a keeper in memory that is to fail.
-#[derive(Clone, Copy, Debug, PartialEq, Eq)]
+#[derive(Clone, Copy, PartialEq, Eq)]
 pub struct KeeperFail {
     /// The number of the call, counted from 1 over all calls.
     pub call: u64,

@@ -16,7 +16,7 @@ use std::marker::Model;
 use std::sync::ledger::Ledger;
 
 /// A keeper that holds its entries in memory and fails at the calls that it is told.
-#[derive(Debug, Drop)]
+#[derive(Drop)]
 pub struct MemoryKeeper {
     kept: StoredList,
     failing: KeeperFails,

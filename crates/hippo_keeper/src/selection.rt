@@ -18,7 +18,7 @@ const DELETE: u8 = 4;
 const ASKED: u8 = 13;
 
 /// What a read asks for.
-#[derive(Clone, Copy, Debug)]
+#[derive(Clone, Copy)]
 pub(crate) enum Selection<'a> {
     All,
     /// The versions of a table's rows.

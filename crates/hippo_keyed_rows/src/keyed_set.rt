@@ -130,7 +130,7 @@ fn search(rows: &Pieces<BornRow>, places: &[usize], sought: &Sought<'_>) -> Resu
 }
 
 /// The rows of a table in the order of their keys, each with the moment at which it was born.
-#[derive(Debug, Drop)]
+#[derive(Drop)]
 pub struct KeyedSet {
     key: Places,
     rows: Pieces<BornRow>,

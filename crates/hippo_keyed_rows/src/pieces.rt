@@ -5,7 +5,6 @@ ghost use Rattle.hippo_keyed_rows.specs.Pieces.{contents, all_members, start_of,
 
 use hippo_values::Memory;
 use std::alloc::Global;
-use std::fmt::{self, Debug, Formatter, Write};
 use std::marker::Model;
 use std::mem;
 
@@ -268,12 +267,5 @@ impl<T: Drop> Pieces<T> {
         take_out(&mut self.pieces, index, place - start);
         self.count -= 1;
         mark(&mut self.pieces, index, start);
-    }
-}
-
-impl<T: Debug> Debug for Pieces<T> {
-    fn fmt<W: Write>(&self, f: &mut Formatter<W>) -> fmt::Result {
-        let members = self.pieces.iter().flat_map(|piece| piece.members.iter());
-        f.debug_list().entries(members).finish()
     }
 }

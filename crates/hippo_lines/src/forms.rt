@@ -2,7 +2,7 @@
 use crate::written_name::WrittenName;
 
 /// What a short word behind a session's number asks for, with the words behind it.
-#[derive(Debug, Drop)]
+#[derive(Drop)]
 pub enum RequestForm<'a> {
     /// Open the session.
     Login {
@@ -42,7 +42,7 @@ pub enum RequestForm<'a> {
 }
 
 /// The form of a line. Texts are the line's own.
-#[derive(Debug, Drop)]
+#[derive(Drop)]
 pub enum LineForm<'a> {
     /// The line is empty, has only spaces, or begins with `#`.
     Silent,

@@ -5,7 +5,7 @@ ghost use Rattle.hippo_values.specs.Names.{lower_case};
 ghost use Rattle.hippo_lines.specs.Forms.{short_word_of};
 
 /// A word behind a session's number that says what form the line has.
-#[derive(Clone, Copy, Debug, PartialEq, Eq)]
+#[derive(Clone, Copy, PartialEq, Eq)]
 pub enum ShortWord {
     Login,
     Logout,

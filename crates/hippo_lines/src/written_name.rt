@@ -8,7 +8,7 @@ use std::marker::Model;
 
 /// A word of a line that is a name: a letter, then letters, digits and `_`, at most 63 bytes, and
 /// not reserved.
-#[derive(Debug, Drop)]
+#[derive(Drop)]
 pub struct WrittenName<'a> {
     word: &'a str,
 }

@@ -14,7 +14,7 @@ pub struct Pair {
 pub type Pairs = Sequence<Pair>;
 
 /// An audit expression: which columns, of which rows, in which period.
-#[derive(Debug, Drop, PartialEq, Eq)]
+#[derive(Debug, Drop)]
 pub struct Audit {
     pub from: Moment,
     pub to: Moment,
@@ -27,7 +27,7 @@ pub struct Audit {
 }
 
 /// A row of a table, by its key.
-#[derive(Debug, Drop, PartialEq, Eq)]
+#[derive(Drop)]
 pub struct SharedRow {
     pub table: Name,
     pub key: Cells,
@@ -37,7 +37,7 @@ pub struct SharedRow {
 pub type SharedTuple = Sequence<SharedRow>;
 
 /// A query that an audit found, with the rows that it shares.
-#[derive(Debug, Drop, PartialEq, Eq)]
+#[derive(Drop)]
 pub struct Flag {
     pub seq: u64,
     pub moment: Moment,

@@ -11,7 +11,7 @@ pub type Cells = Sequence<Value>;
 
 /// A value shown, or denied by the rule with this entry number (0 where no rule ever spoke of the
 /// cell).
-#[derive(Debug, Drop, PartialEq, Eq, PartialOrd, Ord, Hash)]
+#[derive(Drop, PartialEq, Eq, PartialOrd, Ord, Hash)]
 pub enum Cell {
     Shown(Value),
     Denied(u64),

@@ -17,7 +17,7 @@ pub enum ItemKind {
 }
 
 /// What one entry of the history records.
-#[derive(Debug, Drop, PartialEq, Eq)]
+#[derive(Debug, Drop)]
 pub enum Act {
     Create(Schema),
     Insert {
@@ -80,7 +80,7 @@ pub enum Act {
 }
 
 /// One change or query of the history, with its number and moment.
-#[derive(Debug, Drop, PartialEq, Eq)]
+#[derive(Drop)]
 pub struct Entry {
     pub seq: u64,
     pub moment: Moment,

@@ -7,7 +7,7 @@ use std::alloc::{AllocError, AllocFailed};
 
 /// Why a statement that is in the grammar means nothing after the entries so far, with what its
 /// refusal names.
-#[derive(Debug, Drop, PartialEq, Eq)]
+#[derive(Drop)]
 pub enum NameFault {
     /// The table that is not there.
     UnknownTable(Name),

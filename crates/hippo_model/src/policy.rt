@@ -3,7 +3,7 @@ use crate::schema::Places;
 use hippo_values::{Name, Sequence};
 
 /// The last rule on a cell for a purpose and recipient, as of some entry number.
-#[derive(Clone, Copy, Debug, PartialEq, Eq)]
+#[derive(Clone, Copy)]
 pub enum RuleAt<'a> {
     /// No rule ever named the cell.
     Unnamed,
@@ -25,7 +25,7 @@ pub enum RuleAt<'a> {
 }
 
 /// Whether a user may ask for a purpose and recipient.
-#[derive(Clone, Copy, Debug, PartialEq, Eq)]
+#[derive(Clone, Copy)]
 pub enum Authorization {
     Yes,
     /// Not authorized, by the last entry that says so, or 0 where none speaks of the user.
@@ -33,14 +33,14 @@ pub enum Authorization {
 }
 
 /// Whether a cell is shown, or which rule denies it (0 where no rule names the cell).
-#[derive(Clone, Copy, Debug, PartialEq, Eq)]
+#[derive(Clone, Copy)]
 pub enum Verdict {
     Shown,
     Denied(u64),
 }
 
 /// What decides whether the cells of a column are shown.
-#[derive(Debug, Drop, PartialEq, Eq)]
+#[derive(Drop)]
 pub enum Gate {
     Always,
     Never(u64),
@@ -62,7 +62,7 @@ pub enum Gate {
 pub type Gates = Sequence<Gate>;
 
 /// The rules of one table for a purpose and recipient, at some entry number.
-#[derive(Debug, Drop, PartialEq, Eq)]
+#[derive(Drop)]
 pub struct TableRules {
     /// One for each column.
     pub gates: Gates,

@@ -19,7 +19,7 @@ pub struct Ref {
 pub type Refs = Sequence<Ref>;
 
 /// What a condition compares: a column's value in a row, or a literal.
-#[derive(Debug, Drop, PartialEq, Eq)]
+#[derive(Debug, Drop)]
 pub enum Operand {
     Column(Ref),
     Literal(Value),
@@ -28,7 +28,7 @@ pub enum Operand {
 pub type Operands = Sequence<Operand>;
 
 /// A condition over operands of some kind.
-#[derive(Debug, Drop, PartialEq, Eq)]
+#[derive(Debug, Drop)]
 pub enum CondOf<O> {
     All(Sequence<CondOf<O>>),
     Any(Sequence<CondOf<O>>),
@@ -52,7 +52,7 @@ pub type Outs = Sequence<Out>;
 
 /// How a grouped query's rows are made: its first `keys` items are the GROUP BY columns, the others
 /// the arguments of MIN and MAX.
-#[derive(Debug, Drop, PartialEq, Eq)]
+#[derive(Debug, Drop)]
 pub struct Shape {
     pub keys: usize,
     /// The row's cells, in their order.
@@ -60,7 +60,7 @@ pub struct Shape {
 }
 
 /// Which rows a query answers.
-#[derive(Debug, Drop, PartialEq, Eq)]
+#[derive(Debug, Drop)]
 pub enum Form {
     /// One for each combination of rows.
     Plain,
@@ -71,7 +71,7 @@ pub enum Form {
 }
 
 /// A select, each of whose columns is found in one table of its FROM list.
-#[derive(Debug, Drop, PartialEq, Eq)]
+#[derive(Debug, Drop)]
 pub struct Query {
     pub items: Refs,
     pub tables: Names,
@@ -80,7 +80,7 @@ pub struct Query {
 }
 
 /// What stands for a column reference where the policy's rules are written into a query.
-#[derive(Debug, Drop, PartialEq, Eq)]
+#[derive(Drop)]
 pub enum Expr {
     Keep(Ref),
     Null(u64),
@@ -106,7 +106,7 @@ pub enum Expr {
 pub type Exprs = Sequence<Expr>;
 
 /// A key cell that has to be shown for a row to count.
-#[derive(Debug, Drop, PartialEq, Eq)]
+#[derive(Drop)]
 pub struct Guard {
     /// The table's place in FROM.
     pub table: usize,
@@ -116,7 +116,7 @@ pub struct Guard {
 pub type Guards = Sequence<Guard>;
 
 /// A query with the policy's rules written into it, over unmasked rows.
-#[derive(Debug, Drop, PartialEq, Eq)]
+#[derive(Drop)]
 pub struct Masked {
     pub items: Exprs,
     pub tables: Names,

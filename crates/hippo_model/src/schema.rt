@@ -9,7 +9,7 @@ pub enum ColumnKind {
     Date,
 }
 
-#[derive(Debug, Drop, PartialEq, Eq)]
+#[derive(Debug, Drop)]
 pub struct Column {
     pub name: Name,
     pub kind: ColumnKind,
@@ -24,7 +24,7 @@ pub type Places = Sequence<usize>;
 pub type Names = Sequence<Name>;
 
 /// A table's name and columns.
-#[derive(Debug, Drop, PartialEq, Eq)]
+#[derive(Debug, Drop)]
 pub struct Schema {
     pub name: Name,
     pub columns: Columns,

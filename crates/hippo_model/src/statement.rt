@@ -7,7 +7,7 @@ use crate::schema::{Columns, Names, Places};
 use hippo_values::{Boxed, Name, Sequence, Txt, Value};
 
 /// A column as it is written, with its table or without.
-#[derive(Debug, Drop, PartialEq, Eq)]
+#[derive(Debug, Drop)]
 pub struct RawColumn {
     pub table: Option<Name>,
     pub column: Name,
@@ -17,7 +17,7 @@ pub type RawColumns = Sequence<RawColumn>;
 
 /// What a condition compares, as it is written. The column is boxed, since conditions are moved
 /// often.
-#[derive(Debug, Drop, PartialEq, Eq)]
+#[derive(Debug, Drop)]
 pub enum RawOperand {
     Column(Boxed<RawColumn>),
     Literal(Value),
@@ -26,7 +26,7 @@ pub enum RawOperand {
 pub type RawCond = CondOf<RawOperand>;
 
 /// An item of a select list, as it is written.
-#[derive(Debug, Drop, PartialEq, Eq)]
+#[derive(Debug, Drop)]
 pub enum RawItem {
     All,
     AllOf(Name),
@@ -36,7 +36,7 @@ pub enum RawItem {
 pub type RawItems = Sequence<RawItem>;
 
 /// A member of a grouped select's list, as it is written.
-#[derive(Debug, Drop, PartialEq, Eq)]
+#[derive(Debug, Drop)]
 pub enum RawOut {
     Column(RawColumn),
     Min(RawColumn),
@@ -46,7 +46,7 @@ pub enum RawOut {
 pub type RawOuts = Sequence<RawOut>;
 
 /// Which rows a select answers, as it is written.
-#[derive(Debug, Drop, PartialEq, Eq)]
+#[derive(Debug, Drop)]
 pub enum RawForm {
     /// One for each combination of rows.
     Plain,
@@ -57,7 +57,7 @@ pub enum RawForm {
 }
 
 /// A select as it is written. That of a grouped one has no `items`: its list is in its form.
-#[derive(Debug, Drop, PartialEq, Eq)]
+#[derive(Debug, Drop)]
 pub struct RawSelect {
     pub items: RawItems,
     pub tables: Names,
@@ -66,7 +66,7 @@ pub struct RawSelect {
 }
 
 /// An audit expression as it is written.
-#[derive(Debug, Drop, PartialEq, Eq)]
+#[derive(Debug, Drop)]
 pub struct RawAudit {
     pub from: Txt,
     pub to: Txt,
@@ -78,7 +78,7 @@ pub struct RawAudit {
 }
 
 /// A statement as it is written; its lists are in the text's order.
-#[derive(Debug, Drop, PartialEq, Eq)]
+#[derive(Debug, Drop)]
 pub enum Stmt {
     CreateTable {
         table: Name,
@@ -166,7 +166,7 @@ pub enum Stmt {
 
 /// A change that is right by names and types; what it does may still wait for the rows that are
 /// there.
-#[derive(Debug, Drop, PartialEq, Eq)]
+#[derive(Drop)]
 pub enum Wanted {
     Ready(Act),
     Add {

@@ -4,7 +4,7 @@ use std::alloc::Global;
 
 /// An entry of the history as it is kept: its body in bytes, and beside it what a keeper looks
 /// entries up by.
-#[derive(Debug, Drop, PartialEq, Eq)]
+#[derive(Drop)]
 pub struct StoredEntry {
     pub seq: u64,
     /// Seconds from 1970-01-01T00:00:00Z.

@@ -5,7 +5,7 @@ ghost use Rattle.hippo_model.specs.declared.table_fault.TableFault.TheVariants a
 use hippo_values::Memory;
 
 /// Why a change does not fit the rows as they are.
-#[derive(Debug, Drop, PartialEq, Eq)]
+#[derive(Drop)]
 pub enum TableFault {
     /// A row has the key of the one that is inserted; the number of the last entry that names the
     /// key.

@@ -30,7 +30,7 @@ use Rattle.hippo_shared.specs.HistoryLaws.{sets_at}
 use Rattle.hippo_audit_job.specs.declared.past.Past.{Past}
 use Rattle.hippo_examining.specs.Examining.{AreOfHistory}
 use Rattle.hippo_combine.proofs.ExaminerLemmas.{nothing_of_audit}
-use Rattle.hippo_combine.proofs.PastLemmas.{front_valid, lasting, no_rows_yet, are_common}
+use Rattle.hippo_examining.proofs.PastLemmas.{front_valid, lasting, no_rows_yet, are_common}
 use Rattle.hippo_removal.specs.Removals.{have_rows, rows_then, AreThen}
 
 abbrev no_set : KeyedRows

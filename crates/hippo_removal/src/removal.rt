@@ -22,7 +22,7 @@ use std::sync::ledger::Ledger;
 /// tuple in turn out of both products and answering again. It holds nothing between questions,
 /// reads each version again for each, and walks whole products: it is there to be believed, and for
 /// tests that compare.
-#[derive(Debug, Drop)]
+#[derive(Drop)]
 pub struct Removal;
 
 impl Removal {

@@ -2,7 +2,7 @@ use hippo_model::NameFault;
 use hippo_values::{Moment, Name, Txt};
 
 /// Why a line is not carried out, with what the refusal names.
-#[derive(Debug, Drop, PartialEq, Eq)]
+#[derive(Drop)]
 pub enum Refusal {
     /// The line is not UTF-8, or has none of the forms of a line.
     BadLine,

@@ -3,7 +3,7 @@ ghost use Rattle.std.specs.Prelude.{◌≡◌};
 ghost use Rattle.hippo_report.specs.Speakers.{speaker_at};
 
 /// Who a line speaks for; its reply begins so.
-#[derive(Clone, Copy, Debug, PartialEq, Eq)]
+#[derive(Clone, Copy, PartialEq, Eq)]
 pub enum Speaker {
     /// The line names no session.
     Nobody,

@@ -21,7 +21,7 @@ use std::alloc::Global;
 
 // An order of rows by a column. An entry is a row's value there, and the row's key behind it. There
 // are none where memory was short for them.
-#[derive(Debug, Drop)]
+#[derive(Drop)]
 pub(crate) struct ColumnOrder {
     pub(crate) column: usize,
     pub(crate) entries: Option<KeyedSet>,

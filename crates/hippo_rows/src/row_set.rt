@@ -25,7 +25,7 @@ const ORDER_LIMIT: usize = 8;
 const FEW_ROWS: usize = 256;
 
 /// The rows of a table in the order of their keys, each with the moment at which it was born.
-#[derive(Debug, Drop)]
+#[derive(Drop)]
 pub struct RowSet {
     set: KeyedSet,
     orders: Vec<ColumnOrder>,

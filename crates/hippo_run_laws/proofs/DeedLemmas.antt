@@ -22,10 +22,10 @@ use Rattle.hippo_tables.specs.Finished.{finished_act}
 use Rattle.hippo_report.specs.declared.refusal.Refusal.{Refusal}
 use Rattle.hippo_report.specs.declared.speaker.Speaker.{Speaker}
 use Rattle.hippo_report.specs.declared.refusal.Refusal.TheVariants.{BadSyntax, NoCursor, NoJob, NoWatch, JobLimit, WatchLimit, NoSuchQuery, MomentBack}
-use Rattle.hippo_world.specs.declared.cursors.Cursor.{Cursor as HeldCursor}
-use Rattle.hippo_world.specs.declared.sessions.Session.{Session}
+use Rattle.hippo_sessions.specs.declared.cursors.Cursor.{Cursor as HeldCursor}
+use Rattle.hippo_sessions.specs.declared.sessions.Session.{Session}
 use Rattle.hippo_audit_job.specs.Jobs.{OpenAudit}
-use Rattle.hippo_world.specs.Worlds.{World, at_number, free_number}
+use Rattle.hippo_sessions.specs.Worlds.{World, at_number, free_number}
 use Rattle.hippo_lines.specs.Forms.{logs_in, logs_out, fetches, closes, steps, drops, unwatches, loads}
 use Rattle.hippo_commands.specs.Commands.{Command, nothing, wrong, make_request, make_statement}
 use Rattle.hippo_commands.specs.Commands as commands

@@ -16,14 +16,14 @@ use Rattle.hippo_report.specs.Notices.{number_line}
 use Rattle.hippo_report.specs.Refusals.{refusal_line}
 use Rattle.hippo_report.specs.declared.refusal.Refusal.TheVariants.{Memory}
 use Rattle.hippo_audit_job.specs.Jobs.{OpenAudit, step_end}
-use Rattle.hippo_world.specs.Worlds.{World, at_number, with_at, free_number}
+use Rattle.hippo_sessions.specs.Worlds.{World, at_number, with_at, free_number}
 use Rattle.hippo_commands.specs.Commands.{Command, command_of, who_commands}
 use Rattle.hippo_judging.specs.Deeds.{Deed}
 use Rattle.hippo_judging.specs.Deeds as deeds
 use Rattle.hippo_judging.specs.Checks.{Checked}
 use Rattle.hippo_judging.specs.Judging.{judged}
-use Rattle.hippo_engine.specs.Effects.{Effect, deed_effect, judgement_effect, row_limit, question_rows, only_reply, flag_lines, step_flags, job_up_to, with_job, new_open_audit, IsShort, IsEffect}
-use Rattle.hippo_engine.specs.Runs.{IsRun, world_after}
+use Rattle.hippo_effects.specs.Effects.{Effect, deed_effect, judgement_effect, row_limit, question_rows, only_reply, flag_lines, step_flags, job_up_to, with_job, new_open_audit, IsShort, IsEffect}
+use Rattle.hippo_effects.specs.Runs.{IsRun, world_after}
 use Rattle.hippo_run_laws.specs.Lines.{OfEachLine, NoneJudged}
 use Rattle.hippo_run_laws.specs.Jobs.{Portion, no_portion, JudgedWrites, WritesPortion, flags_in, last_end, HaveAllFlags}
 use Rattle.hippo_run_laws.specs.RunLaws.{AnyCut, StepsReplyAsOneAudit}

@@ -3,7 +3,7 @@ use Rattle.std.proofs.Common.{◌≡◌, ◌≢◌, ◌∙◌, sym, ap, refl, ar
 use Rattle.std.proofs.lemmas.Option.{slice_get-get_or}
 use Rattle.std.proofs.lemmas.List.Quantifiers.{position-Some}
 use Rattle.std.specs.Option.{option_flatten}
-use Rattle.hippo_world.specs.Worlds.{at_number, with_at, free_number}
+use Rattle.hippo_sessions.specs.Worlds.{at_number, with_at, free_number}
 
 set_there : {A : Type 0} (places : List A) (place : ℕ) (old new : A) → slice_get places place ≡ Some old → slice_get (slice_set places place new) place ≡ Some new
 set_there [] place old new is = absurd cc

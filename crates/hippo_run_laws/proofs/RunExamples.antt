@@ -17,7 +17,7 @@ use Rattle.hippo_report.specs.Notices.{number_line}
 use Rattle.hippo_report.specs.Refusals.{refusal_line}
 use Rattle.hippo_audit_job.specs.Jobs.{OpenAudit}
 use Rattle.hippo_watch.specs.AlarmLines.{alarm_text}
-use Rattle.hippo_world.specs.Worlds.{World}
+use Rattle.hippo_sessions.specs.Worlds.{World}
 use Rattle.hippo_lines.specs.Words.{words_of}
 use Rattle.hippo_lines.specs.Forms.{steps}
 use Rattle.hippo_commands.specs.Commands.{Command, wrong, make_request, command_of}
@@ -40,9 +40,9 @@ use Rattle.hippo_stmt_reader.specs.StatementFinder.{placed_select_of, open_of, e
 use Rattle.hippo_typing.specs.Meanings.{meaning, meaning_in}
 use Rattle.std.specs.Option.{option_map_or}
 use Rattle.hippo_judging.specs.Deeds as deeds
-use Rattle.hippo_engine.specs.Effects.{Effect, effect_of, deed_effect, alarms, only_reply, with_job, with_watch, new_open_audit, job_up_to}
-use Rattle.hippo_engine.specs.Runs.{IsRun}
-use Rattle.hippo_engine.proofs.ExampleLines.{patient, treatment, nurse, entry, nurses_pair, clinic, world_within, question, all_rows, asked_for}
+use Rattle.hippo_effects.specs.Effects.{Effect, effect_of, deed_effect, alarms, only_reply, with_job, with_watch, new_open_audit, job_up_to}
+use Rattle.hippo_effects.specs.Runs.{IsRun}
+use Rattle.hippo_effects.proofs.ExampleLines.{patient, treatment, nurse, entry, nurses_pair, clinic, world_within, question, all_rows, asked_for}
 use Rattle.hippo_run_laws.specs.Lines.{OfEachLine}
 use Rattle.hippo_run_laws.specs.Jobs.{Portion, no_portion, portion_reply, StepWrites, JudgedWrites, WritesPortion, flags_in, last_end}
 use Rattle.hippo_run_laws.specs.Watches.{alarm_of, alarm_texts, JudgedHeard, IsHeard}

@@ -14,14 +14,14 @@ use Rattle.hippo_typing.specs.Meanings.{meaning}
 use Rattle.hippo_watch.specs.AlarmLines.{alarm_text}
 use Rattle.hippo_report.specs.Refusals.{refusal_line}
 use Rattle.hippo_report.specs.declared.refusal.Refusal.TheVariants.{Memory}
-use Rattle.hippo_world.specs.Worlds.{World, at_number, free_number}
+use Rattle.hippo_sessions.specs.Worlds.{World, at_number, free_number}
 use Rattle.hippo_commands.specs.Commands.{Command, command_of, who_commands}
 use Rattle.hippo_judging.specs.Deeds.{Deed, Question, question_act, next_entry}
 use Rattle.hippo_judging.specs.Deeds as deeds
 use Rattle.hippo_judging.specs.Checks.{Checked}
 use Rattle.hippo_judging.specs.Judging.{judged}
-use Rattle.hippo_engine.specs.Effects.{Effect, row_limit, question_rows, alarm_line, question_effect, world_with_cursor, deed_effect, judgement_effect, IsShort, IsEffect}
-use Rattle.hippo_engine.specs.Runs.{IsRun}
+use Rattle.hippo_effects.specs.Effects.{Effect, row_limit, question_rows, alarm_line, question_effect, world_with_cursor, deed_effect, judgement_effect, IsShort, IsEffect}
+use Rattle.hippo_effects.specs.Runs.{IsRun}
 use Rattle.hippo_run_laws.specs.Lines.{NoneJudged}
 use Rattle.hippo_run_laws.specs.Watches.{alarm_of, alarm_texts, answer_to, question_answered, Heard, DeedHeard, JudgedHeard, flags_at, HasHeard}
 use Rattle.hippo_run_laws.specs.RunLaws.{AlarmsAreFlags, StandingAudits}

@@ -13,14 +13,14 @@ use Rattle.hippo_report.specs.declared.refusal.Refusal.TheVariants.{Memory}
 use Rattle.hippo_report.specs.Notices.{number_line}
 use Rattle.hippo_report.specs.Refusals.{refusal_line}
 use Rattle.hippo_audit_job.specs.Jobs.{OpenAudit, step_end}
-use Rattle.hippo_world.specs.Worlds.{World, at_number}
+use Rattle.hippo_sessions.specs.Worlds.{World, at_number}
 use Rattle.hippo_commands.specs.Commands.{Command, who_commands}
 use Rattle.hippo_judging.specs.Deeds.{Deed}
 use Rattle.hippo_judging.specs.Deeds as deeds
 use Rattle.hippo_judging.specs.Checks.{Checked}
 use Rattle.hippo_judging.specs.Judging.{judged}
-use Rattle.hippo_engine.specs.Effects.{Effect, flag_lines}
-use Rattle.hippo_engine.specs.Runs.{world_after}
+use Rattle.hippo_effects.specs.Effects.{Effect, flag_lines}
+use Rattle.hippo_effects.specs.Runs.{world_after}
 use Rattle.hippo_run_laws.specs.Lines.{OfEachLine}
 
 -- what a line writes of a job: some flags, and how many there are in all, where it says that the

@@ -2,11 +2,11 @@
 use Rattle.std.specs.Prelude.{◌≡◌, ◌≢◌, List, [], ◌∷◌, ◌++◌, Ok}
 use Rattle.hippo_io.specs.Lines.{LineText}
 use Rattle.hippo_model.specs.Terms.{History}
-use Rattle.hippo_world.specs.Worlds.{World}
+use Rattle.hippo_sessions.specs.Worlds.{World}
 use Rattle.hippo_commands.specs.Commands.{Command, command_of}
 use Rattle.hippo_judging.specs.Deeds.{Deed}
 use Rattle.hippo_judging.specs.Judging.{judged}
-use Rattle.hippo_engine.specs.Effects.{Effect, deed_effect}
+use Rattle.hippo_effects.specs.Effects.{Effect, deed_effect}
 
 -- of each line a relation holds, between its command in a history and a world, its effect, and what
 -- is told of it

@@ -7,12 +7,12 @@ use Rattle.hippo_model.specs.Audits.{flag_of}
 use Rattle.hippo_model.specs.Validity.{is_valid}
 use Rattle.hippo_typing.specs.Meanings.{meaning}
 use Rattle.hippo_report.specs.Notices.{number_line}
-use Rattle.hippo_world.specs.Worlds.{World}
+use Rattle.hippo_sessions.specs.Worlds.{World}
 use Rattle.hippo_commands.specs.Commands.{Command, command_of}
 use Rattle.hippo_judging.specs.Deeds.{Deed, Question, question_act, next_entry}
 use Rattle.hippo_judging.specs.Deeds as deeds
-use Rattle.hippo_engine.specs.Effects.{Effect, deed_effect, flag_lines}
-use Rattle.hippo_engine.specs.Runs.{IsRun}
+use Rattle.hippo_effects.specs.Effects.{Effect, deed_effect, flag_lines}
+use Rattle.hippo_effects.specs.Runs.{IsRun}
 use Rattle.hippo_run_laws.specs.Lines.{IsDone, NoneJudged}
 use Rattle.hippo_run_laws.specs.Jobs.{HasWritten, last_end, flags_in}
 use Rattle.hippo_run_laws.specs.Watches.{answer_to, alarm_texts, question_answered, HasHeard}

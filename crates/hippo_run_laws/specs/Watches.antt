@@ -13,14 +13,14 @@ use Rattle.hippo_typing.specs.Meanings.{meaning}
 use Rattle.hippo_report.specs.declared.refusal.Refusal.TheVariants.{Memory}
 use Rattle.hippo_report.specs.Refusals.{refusal_line}
 use Rattle.hippo_watch.specs.AlarmLines.{alarm_text}
-use Rattle.hippo_world.specs.Worlds.{World, at_number}
+use Rattle.hippo_sessions.specs.Worlds.{World, at_number}
 use Rattle.hippo_commands.specs.Commands.{Command, who_commands}
 use Rattle.hippo_judging.specs.Deeds.{Deed, Question, question_act, next_entry}
 use Rattle.hippo_judging.specs.Deeds as deeds
 use Rattle.hippo_judging.specs.Checks.{Checked}
 use Rattle.hippo_judging.specs.Judging.{judged}
-use Rattle.hippo_engine.specs.Effects.{Effect, deed_effect}
-use Rattle.hippo_engine.specs.Runs.{history_after}
+use Rattle.hippo_effects.specs.Effects.{Effect, deed_effect}
+use Rattle.hippo_effects.specs.Runs.{history_after}
 use Rattle.hippo_run_laws.specs.Lines.{OfEachLine}
 
 -- the alarm that a flag is to the watch at a number

@@ -27,12 +27,12 @@ use Rattle.hippo_typing.specs.Meanings.{Means, meaning}
 use Rattle.hippo_typing.proofs.MeaningTheorem.{Means-found}
 use Rattle.hippo_report.specs.declared.speaker.Speaker.TheVariants as speaker
 use Rattle.hippo_report.specs.Notices.{done_line}
-use Rattle.hippo_world.specs.Worlds.{World, with_session}
+use Rattle.hippo_sessions.specs.Worlds.{World, with_session}
 use Rattle.hippo_commands.specs.Commands.{command_of}
 use Rattle.hippo_judging.specs.declared.asking.Handing.TheVariants.{Rows}
 use Rattle.hippo_judging.specs.Deeds.{next_entry}
 use Rattle.hippo_judging.specs.Judging.{judged_question, text_between}
-use Rattle.hippo_engine.specs.Effects.{Effect, judgement_effect, effect_of, only_reply}
+use Rattle.hippo_effects.specs.Effects.{Effect, judgement_effect, effect_of, only_reply}
 use Rattle.hippo_telling_laws.proofs.ReadingTheorem.{three-names}
 use Rattle.hippo_script_laws.specs.ScriptLaws.{ends_with, is_bare, is_free, is_lost, is_unfed, login_line_of, question_lines, history_by_rules}
 use Rattle.hippo_script_laws.proofs.LineLemmas.{makes_request-it, logs-in-it, logs-out-it}

@@ -27,8 +27,8 @@ use Rattle.hippo_catalog.specs.ChangesWanted.{wanted_by}
 use Rattle.hippo_catalog.specs.Selects.{query_of, select_refused}
 use Rattle.hippo_tables.specs.Finished.{finished_act}
 use Rattle.hippo_report.specs.declared.refusal.Refusal.TheVariants.{BadSyntax, HistoryFull, MomentBack, NoSession, SessionOpen}
-use Rattle.hippo_world.specs.declared.sessions.Session.{Session}
-use Rattle.hippo_world.specs.Worlds.{World, new_session, with_session}
+use Rattle.hippo_sessions.specs.declared.sessions.Session.{Session}
+use Rattle.hippo_sessions.specs.Worlds.{World, new_session, with_session}
 use Rattle.hippo_judging.specs.declared.asking.Handing.TheVariants.{Rows}
 use Rattle.hippo_report.specs.declared.speaker.Speaker.TheVariants.{Console}
 use Rattle.hippo_report.specs.declared.speaker.Speaker.TheVariants as speaker

@@ -28,11 +28,11 @@ use Rattle.hippo_report.specs.declared.speaker.Speaker.TheVariants.{Nobody, Cons
 use Rattle.hippo_report.specs.Notices.{done_line, number_line}
 use Rattle.hippo_lines.specs.Words.{is_filled, words_of}
 use Rattle.hippo_lines.specs.Forms.{short_word_of}
-use Rattle.hippo_world.specs.Worlds.{World, opening}
+use Rattle.hippo_sessions.specs.Worlds.{World, opening}
 use Rattle.hippo_commands.specs.Commands.{command_of}
 use Rattle.hippo_model.specs.HandedOver.{is_question}
 use Rattle.hippo_judging.specs.Deeds.{next_entry}
-use Rattle.hippo_engine.specs.Effects.{Effect, judgement_effect, effect_of, only_reply}
+use Rattle.hippo_effects.specs.Effects.{Effect, judgement_effect, effect_of, only_reply}
 use Rattle.hippo_following.proofs.HistoryLemmas.{acceptable, followed, keepable}
 use Rattle.hippo_telling.specs.Telling.{schema_before, told_act}
 use Rattle.hippo_telling_laws.specs.TellingLaws.{MakesAgain, is_stated}

@@ -19,10 +19,10 @@ use Rattle.hippo_model.specs.Validity.{is_valid}
 use Rattle.hippo_typing.specs.Meanings.{meaning}
 use Rattle.hippo_reading_laws.specs.QuestionLaws.{IsQuestion}
 use Rattle.hippo_report.specs.declared.format.Format.{Format}
-use Rattle.hippo_world.specs.Worlds.{World, opening}
+use Rattle.hippo_sessions.specs.Worlds.{World, opening}
 use Rattle.hippo_commands.specs.Commands.{command_of}
 use Rattle.hippo_model.specs.HandedOver.{is_question}
-use Rattle.hippo_engine.specs.Effects.{Effect, effect_of}
+use Rattle.hippo_effects.specs.Effects.{Effect, effect_of}
 use Rattle.hippo_telling.specs.Telling.{schema_before, told_act}
 use Rattle.hippo_telling_laws.specs.TellingLaws.{is_stated}
 use Rattle.hippo_showing.specs.declared.asking.Excerpt.{Excerpt}

@@ -14,7 +14,7 @@ use Rattle.hippo_report.specs.declared.format.Format.TheVariants.{Text}
 use Rattle.hippo_report.specs.declared.refusal.Refusal.TheVariants.{Memory}
 use Rattle.hippo_report.specs.Refusals.{refusal_line}
 use Rattle.hippo_replay.specs.Standing.{latest_moment, StandsFor}
-use Rattle.hippo_world.specs.Worlds.{World, opening}
+use Rattle.hippo_sessions.specs.Worlds.{World, opening}
 use Rattle.hippo_world.specs.Holding.{world_of}
 use Rattle.hippo_commands.specs.Commands.{Command, command_of, who_commands}
 use Rattle.hippo_engine.specs.declared.engine.Engine.{Engine}
@@ -23,9 +23,9 @@ use Rattle.hippo_engine.proofs.CarryingLemmas.{IsTimely-begun, Holds-opening}
 use Rattle.hippo_judging.specs.Checks.{Checked}
 use Rattle.hippo_judging.specs.Deeds as deeds
 use Rattle.hippo_judging.specs.Deeds.{Deed}
-use Rattle.hippo_engine.specs.Effects.{Effect, effect_of, IsEffect, IsShort}
+use Rattle.hippo_effects.specs.Effects.{Effect, effect_of, IsEffect, IsShort}
 use Rattle.hippo_judging.specs.Judging.{judged}
-use Rattle.hippo_engine.specs.Runs.{history_after}
+use Rattle.hippo_effects.specs.Runs.{history_after}
 use Rattle.hippo_serve.specs.declared.drilling.Drilling.{Drilling}
 use Rattle.hippo_serve.specs.Drilling.{drill_limit, effects_of, drill_effects, replies_of, HasDone, HasDrilled}
 use Rattle.hippo_serve.proofs.RunLemmas.{history_after-append}

@@ -15,15 +15,15 @@ use Rattle.hippo_model.specs.Terms.{History}
 use Rattle.hippo_keeper.specs.Keeping.{KeeperState, IsAfterCall}
 use Rattle.hippo_report.specs.declared.speaker.Speaker.TheVariants.{Nobody}
 use Rattle.hippo_report.specs.declared.refusal.Refusal.TheVariants.{MomentBack}
-use Rattle.hippo_world.specs.Worlds.{World}
+use Rattle.hippo_sessions.specs.Worlds.{World}
 use Rattle.hippo_commands.specs.Commands.{Command, clock_command, command_by, command_of}
 use Rattle.hippo_engine.specs.declared.engine.Engine.{Engine}
 use Rattle.hippo_engine.specs.declared.faults.EngineFault.TheVariants.{Write}
 use Rattle.hippo_engine.specs.Carrying.{AtWork, BreaksOff}
 use Rattle.hippo_judging.specs.Checks.{refused_if}
 use Rattle.hippo_judging.specs.Deeds as deeds
-use Rattle.hippo_engine.specs.Effects.{judgement_effect, effect_of}
-use Rattle.hippo_engine.specs.Ledgers.{reads_kept}
+use Rattle.hippo_effects.specs.Effects.{judgement_effect, effect_of}
+use Rattle.hippo_effects.specs.Ledgers.{reads_kept}
 use Rattle.hippo_words.specs.declared.calls.Job.{Job}
 use Rattle.hippo_words.specs.declared.calls.Setting.{Setting}
 use Rattle.hippo_serve.specs.declared.endings.Ending.{Ending}

@@ -14,8 +14,8 @@ use Rattle.hippo_model.specs.Terms.{History}
 use Rattle.hippo_model.specs.declared.entry.Entry.{Entry}
 use Rattle.hippo_model.specs.Versions.{is_version, versions}
 use Rattle.hippo_keeper.specs.Keeping.{KeeperState}
-use Rattle.hippo_world.specs.Auditing.{JobTally}
-use Rattle.hippo_world.specs.Worlds.{World, none_held}
+use Rattle.hippo_sessions.specs.Tallies.{JobTally}
+use Rattle.hippo_sessions.specs.Worlds.{World, none_held}
 use Rattle.hippo_world.specs.Holding.{world_of, tallies_of}
 use Rattle.hippo_world.proofs.AuditLemmas.{tallies_of-opening}
 use Rattle.hippo_commands.specs.Commands.{Command, command_of}
@@ -23,10 +23,10 @@ use Rattle.hippo_engine.specs.declared.engine.Engine.{Engine}
 use Rattle.hippo_engine.specs.declared.faults.EngineFault.{EngineFault}
 use Rattle.hippo_engine.specs.declared.faults.EngineFault.TheVariants.{Keeper, Write, Damaged}
 use Rattle.hippo_engine.specs.Carrying.{Holds, is_carried, Carries, HasEffect, BreaksOff}
-use Rattle.hippo_engine.specs.Effects.{Effect, IsEffect, effect_of}
-use Rattle.hippo_engine.specs.Ledgers.{audits_of, RunSum}
-use Rattle.hippo_engine.specs.Runs.{IsRun, audits_in, replies, history_after, world_after}
-use Rattle.hippo_engine.proofs.LedgerLemmas.{RunSum-start, RunSum-line, RunSum-end}
+use Rattle.hippo_effects.specs.Effects.{Effect, IsEffect, effect_of}
+use Rattle.hippo_effects.specs.Ledgers.{audits_of, RunSum}
+use Rattle.hippo_effects.specs.Runs.{IsRun, audits_in, replies, history_after, world_after}
+use Rattle.hippo_effects.proofs.LedgerLemmas.{RunSum-start, RunSum-line, RunSum-end}
 use Rattle.hippo_words.specs.declared.calls.Job.{Job}
 use Rattle.hippo_words.specs.declared.calls.Setting.{Setting}
 use Rattle.hippo_serve.specs.Keeping.{KeepsHistory}

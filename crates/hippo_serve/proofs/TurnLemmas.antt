@@ -17,7 +17,7 @@ use Rattle.hippo_programs.specs.Lines.{damaged_line}
 use Rattle.hippo_programs.specs.Saying.{Says}
 use Rattle.hippo_report.specs.declared.format.Format.{Format}
 use Rattle.hippo_world.specs.Holding.{world_of}
-use Rattle.hippo_world.specs.Worlds.{opening}
+use Rattle.hippo_sessions.specs.Worlds.{opening}
 use Rattle.hippo_commands.specs.Commands.{Command, command_of, input_command}
 use Rattle.hippo_engine.specs.declared.engine.Engine.{Engine}
 use Rattle.hippo_engine.specs.declared.faults.EngineFault.{EngineFault}

@@ -11,13 +11,13 @@ use Rattle.hippo_keeper.specs.Keeping.{KeeperState}
 use Rattle.hippo_keeper.specs.MemoryKeeping.{memory_keeper_state}
 use Rattle.hippo_report.specs.declared.format.Format.TheVariants.{Text}
 use Rattle.hippo_replay.specs.Standing.{latest_moment}
-use Rattle.hippo_world.specs.Worlds.{World, opening}
+use Rattle.hippo_sessions.specs.Worlds.{World, opening}
 use Rattle.hippo_world.specs.Holding.{world_of}
 use Rattle.hippo_commands.specs.Commands.{command_of}
 use Rattle.hippo_engine.specs.declared.engine.Engine.{Engine}
 use Rattle.hippo_engine.specs.Carrying.{Holds}
-use Rattle.hippo_engine.specs.Effects.{Effect, effect_of}
-use Rattle.hippo_engine.specs.Runs.{history_after}
+use Rattle.hippo_effects.specs.Effects.{Effect, effect_of}
+use Rattle.hippo_effects.specs.Runs.{history_after}
 use Rattle.hippo_serve.specs.declared.drilling.Drilling.{Drilling}
 
 -- each line's effect by the rules, on the history and the world that the line before it left

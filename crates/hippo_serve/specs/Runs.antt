@@ -12,15 +12,15 @@ use Rattle.hippo_model.specs.Versions.{versions}
 use Rattle.hippo_keeper.specs.Keeping.{KeeperState}
 use Rattle.hippo_typing.specs.Meanings.{meaning}
 use Rattle.hippo_replay.specs.Standing.{latest_moment}
-use Rattle.hippo_world.specs.Worlds.{World, opening}
+use Rattle.hippo_sessions.specs.Worlds.{World, opening}
 use Rattle.hippo_world.specs.Holding.{world_of, tallies_of}
 use Rattle.hippo_commands.specs.Commands.{Command, command_of}
 use Rattle.hippo_engine.specs.declared.engine.Engine.{Engine}
 use Rattle.hippo_engine.specs.declared.faults.EngineFault.TheVariants.{Keeper, Write, Damaged as DamagedAt}
 use Rattle.hippo_engine.specs.Carrying.{Holds, Carries}
-use Rattle.hippo_engine.specs.Effects.{Effect, effect_of}
-use Rattle.hippo_engine.specs.Ledgers.{reads_kept, RunSum}
-use Rattle.hippo_engine.specs.Runs.{IsRun, audits_in, replies, history_after, world_after}
+use Rattle.hippo_effects.specs.Effects.{Effect, effect_of}
+use Rattle.hippo_effects.specs.Ledgers.{reads_kept, RunSum}
+use Rattle.hippo_effects.specs.Runs.{IsRun, audits_in, replies, history_after, world_after}
 use Rattle.hippo_words.specs.declared.calls.Job.{Job}
 use Rattle.hippo_words.specs.declared.calls.Setting.{Setting}
 use Rattle.hippo_serve.specs.declared.endings.Ending.{Ending}

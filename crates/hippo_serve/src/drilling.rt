@@ -10,10 +10,10 @@ ghost use Rattle.hippo_report.specs.declared.refusal.Refusal.TheVariants.{Memory
 ghost use Rattle.hippo_report.specs.Refusals.{refusal_line};
 ghost use Rattle.hippo_replay.specs.Standing.{latest_moment, StandsFor};
 ghost use Rattle.hippo_world.specs.Holding.{world_of};
-ghost use Rattle.hippo_world.specs.Worlds.{opening};
+ghost use Rattle.hippo_sessions.specs.Worlds.{opening};
 ghost use Rattle.hippo_commands.specs.Commands.{command_of};
 ghost use Rattle.hippo_engine.specs.Carrying.{Holds, AtWork};
-ghost use Rattle.hippo_engine.specs.Effects.{effect_of};
+ghost use Rattle.hippo_effects.specs.Effects.{effect_of};
 ghost use Rattle.hippo_programs.specs.Saying.{Says};
 ghost use Rattle.hippo_serve.specs.declared.endings.Ending.TheVariants.{Served, WriteFault, NoMemory};
 ghost use Rattle.hippo_serve.specs.Drilling.{drill_limit, summary, HasDone, HasDrilled};
@@ -195,7 +195,8 @@ fn run_script<L: Ledger>(
     match Drilling::begin(alloc, size, number) {
         Ok(mut drilling) => {
             let said = drilling.say_all(alloc, &mut steps);
-            drop(drilling);
+            let Drilling { engine, .. } = drilling;
+            engine.close();
             said
         }
         Err(Memory) => Err(Memory),

@@ -11,7 +11,7 @@ ghost use Rattle.hippo_commands.specs.Commands.{command_of, input_command};
 ghost use Rattle.hippo_replay.specs.Standing.{StandsFor};
 ghost use Rattle.hippo_replay.specs.Recording.{IsBacked};
 ghost use Rattle.hippo_world.specs.Holding.{world_of};
-ghost use Rattle.hippo_world.specs.Worlds.{opening};
+ghost use Rattle.hippo_sessions.specs.Worlds.{opening};
 ghost use Rattle.hippo_engine.specs.Carrying.{Holds, AtWork};
 ghost use Rattle.hippo_words.specs.declared.calls.Setting.{Setting};
 ghost use Rattle.hippo_serve.specs.declared.endings.Ending.TheVariants.{Served, Refused, ReadFault, WriteFault, NoMemory};
@@ -348,11 +348,11 @@ pub fn serve<S: Source, K: Sink, P: Keeper, L: Ledger>(
     ensures unfailed_write { result ≢ WriteFault → K.faults sink.new ≡ K.faults sink.old }
 {
     let Ok(mut reader) = LineReader::new(alloc) else {
-        drop(state);
+        state.close();
         return Ending::NoMemory;
     };
     let Ok(mut made) = MadeText::with_room(alloc) else {
-        drop(state);
+        state.close();
         return Ending::NoMemory;
     };
     match open(alloc, setting, state) {
@@ -368,7 +368,7 @@ pub fn serve<S: Source, K: Sink, P: Keeper, L: Ledger>(
                 sink,
                 steps,
             );
-            drop(engine);
+            engine.close();
             ending
         }
         Err(Memory) => Ending::NoMemory,

@@ -47,7 +47,7 @@ fn count_of(state: State) -> u64
     ensures { result ≡ state.count }
 {
     let count = state.count;
-    drop(state);
+    state.close();
     count
 }
 

@@ -11,7 +11,7 @@ use std::alloc::Global;
 use std::collections::BTreeSet;
 
 /// Which virtual tuple some combinations of rows have.
-#[derive(Debug, Drop)]
+#[derive(Drop)]
 pub enum Mark {
     /// There are no combinations.
     Unmarked,

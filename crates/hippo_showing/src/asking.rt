@@ -3,7 +3,7 @@ use hippo_report::Format;
 use hippo_values::{Name, Txt};
 
 /// How entries are shown.
-#[derive(Clone, Copy, Debug, PartialEq, Eq)]
+#[derive(Clone, Copy, PartialEq, Eq)]
 pub enum Form {
     /// A line each, in a format: the number, the moment and the statement.
     Listing(Format),
@@ -12,7 +12,7 @@ pub enum Form {
 }
 
 /// What is shown, by the table that it speaks of.
-#[derive(Debug, Drop)]
+#[derive(Drop)]
 pub enum Scope {
     Whole,
     /// What speaks of one table.
@@ -20,7 +20,7 @@ pub enum Scope {
 }
 
 /// Which entries are shown, by what they do.
-#[derive(Clone, Copy, Debug, PartialEq, Eq)]
+#[derive(Clone, Copy, PartialEq, Eq)]
 pub enum Acts {
     All,
     /// Those that create a table.
@@ -28,7 +28,7 @@ pub enum Acts {
 }
 
 /// Some entries of a history, and how they are shown.
-#[derive(Debug, Drop)]
+#[derive(Drop)]
 pub struct Excerpt {
     /// The numbers of the first and of the last entry.
     pub first: u64,
@@ -39,7 +39,7 @@ pub struct Excerpt {
 }
 
 /// As of which entry something is shown of a history, of which tables, and how.
-#[derive(Debug, Drop)]
+#[derive(Drop)]
 pub struct Page {
     /// The number of the last entry that counts.
     pub last: u64,
@@ -48,7 +48,7 @@ pub struct Page {
 }
 
 /// What is shown of a history.
-#[derive(Debug, Drop)]
+#[derive(Drop)]
 pub enum View {
     Entries(Excerpt),
     /// The rules in force.
@@ -56,7 +56,7 @@ pub enum View {
 }
 
 /// The name of a store, and what is shown of its history.
-#[derive(Debug, Drop)]
+#[derive(Drop)]
 pub struct Call {
     pub store: Txt,
     pub view: View,

@@ -6,7 +6,7 @@ ghost use Rattle.hippo_showing.specs.Endings.{showing_status, ending_of};
 use hippo_keeper::KeeperFault;
 
 /// How a call of the program ends, with its exit status.
-#[derive(Clone, Copy, Debug, PartialEq, Eq)]
+#[derive(Clone, Copy, PartialEq, Eq)]
 pub enum Ending {
     /// All that was asked for is shown.
     Shown = 0,

@@ -115,7 +115,7 @@ fn show_loaded<K: Sink, P: Keeper, L: Ledger>(
         (K.faults sink.old) (K.faults sink.new) steps.old steps.new }
 {
     let ending = show_view(alloc, view, &state, sink, keeper, steps);
-    drop(state);
+    state.close();
     ending
 }
 

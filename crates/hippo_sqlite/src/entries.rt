@@ -17,7 +17,7 @@ use std::alloc::Global;
 use std::str;
 
 /// Why rows give no entries.
-#[derive(Clone, Copy, Debug)]
+#[derive(Clone, Copy)]
 pub(crate) enum RowFault {
     /// The text of a row is not UTF-8.
     NotText,

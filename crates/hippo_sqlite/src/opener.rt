@@ -37,7 +37,7 @@ pub trait Opener {
 /// Opens the file with a name, or makes it. Of a disk it is supposed that a write which a power cut
 /// breaks off leaves each byte of its range old or new, and all others as they were; so most
 /// commits sync once.
-#[derive(Debug, Drop)]
+#[derive(Drop)]
 pub struct FileOpener {
     runtime: HostRuntime,
     used: bool,

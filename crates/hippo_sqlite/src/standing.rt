@@ -6,7 +6,7 @@ use hippo_keeper::KeeperFault;
 use sqlite::{Error, ErrorCode};
 
 /// What is known of a keeper's calls so far.
-#[derive(Clone, Copy, Debug)]
+#[derive(Clone, Copy)]
 pub(crate) struct Standing {
     started: bool,
     // A start found no memory.

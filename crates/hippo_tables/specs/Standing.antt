@@ -1,6 +1,7 @@
 -- Tables that stand for a history.
-use Rattle.std.specs.Prelude.{◌≡◌, ℕ, Bool, true, false, [], ◌∷◌, ◌++◌, Option, None, Some, option_map, if◌then◌else◌, bytes_eq}
+use Rattle.std.specs.Prelude.{◌≡◌, ℕ, Bool, true, false, List, [], ◌∷◌, ◌++◌, Option, None, Some, option_map, is_some, if◌then◌else◌, bytes_eq}
 use Rattle.std.specs.HashMap.{get}
+use Rattle.std.specs.List.{list_all}
 use Rattle.hippo_values.specs.declared.names.Name.{Name}
 use Rattle.hippo_model.specs.declared.born_row.BornRow.{BornRow}
 use Rattle.hippo_model.specs.declared.entry.Entry.{Entry}
@@ -109,3 +110,13 @@ pub record Updates (old new : Tables) (table : Name) (row : Row) (number : ℕ) 
 pub record Deletes (old new : Tables) (table : Name) (key : Key) : Type 0 where
   pub tables : (other : Name) → held_table new other
       ≡ with_change table (after_delete key) (held_table old) other
+
+-- whether each of some tables is created
+abbrev pub are_created : History → List Name → Bool
+are_created history names = list_all (λ name. is_some (schema_at history name)) names
+
+-- tables with these names are kept: they are created in some history that what is kept stands for
+pub record AreKeptTables (tables : Tables) (names : List Name) : Type 0 where
+  pub history : History
+  pub stands : TablesStandFor tables history
+  pub created : are_created history names ≡ true

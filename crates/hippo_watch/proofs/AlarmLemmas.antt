@@ -22,10 +22,10 @@ use Rattle.hippo_model.specs.Rules.{choice_at}
 use Rattle.hippo_model.specs.Terms.{History}
 use Rattle.hippo_model.specs.Verdicts.{Context}
 use Rattle.hippo_tables.specs.declared.tables.Tables.{Tables}
-use Rattle.hippo_tables.specs.Standing.{TablesStandFor}
+use Rattle.hippo_tables.specs.Standing.{TablesStandFor, AreKeptTables, are_created}
 use Rattle.hippo_typing.specs.Meanings.{meaning}
 use Rattle.hippo_rewrite.specs.RewritingLaws.{rules_at}
-use Rattle.hippo_answering.specs.States.{AreKeptTables, are_created, schemas_at, context_of}
+use Rattle.hippo_answering.specs.States.{schemas_at, context_of}
 use Rattle.hippo_answering.proofs.AnswerLemmas.{are_created-AreKeptTables, schemas_are}
 use Rattle.hippo_shared.specs.Sharing.{HaveSameRows}
 use Rattle.hippo_shared.specs.HistoryLaws.{sets_at}
@@ -34,7 +34,7 @@ use Rattle.hippo_examining.specs.Seen.{AreCommonColumns}
 use Rattle.hippo_examining.proofs.RowLemmas.{same_rows}
 use Rattle.hippo_audit_job.specs.declared.past.Past.{Past}
 use Rattle.hippo_audit_job.specs.Examining.{IsAuditOf}
-use Rattle.hippo_combine.proofs.PastLemmas.{created_by_meaning, are_common}
+use Rattle.hippo_examining.proofs.PastLemmas.{created_by_meaning, are_common}
 use Rattle.hippo_watch.specs.declared.alarms.AskedNow.{AskedNow}
 use Rattle.hippo_watch.specs.Alarms.{AreOfSome, IsPresentOf, asked_next, IsAskedNext, ServesNow, SharesNext}
 

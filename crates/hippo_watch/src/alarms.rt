@@ -2,7 +2,8 @@
 ghost use Rattle.std.specs.Prelude.{◌≡◌, bytes_eq, IfOk};
 ghost use Rattle.std.specs.List.{IsDistinct};
 ghost use Rattle.hippo_model.specs.Audits.{is_candidate};
-ghost use Rattle.hippo_answering.specs.States.{AreKeptTables, context_of};
+ghost use Rattle.hippo_answering.specs.States.{context_of};
+ghost use Rattle.hippo_tables.specs.Standing.{AreKeptTables};
 ghost use Rattle.hippo_watch.specs.Alarms.{AreOfSome, ServesNow, SharesNext};
 
 use crate::present::are_at_hand;

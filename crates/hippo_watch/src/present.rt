@@ -2,8 +2,7 @@
 ghost use Rattle.std.specs.Prelude.{◌≡◌, ◌&&◌, is_some};
 ghost use Rattle.hippo_model.specs.Terms.{History};
 ghost use Rattle.hippo_model.specs.Histories.{schema_at};
-ghost use Rattle.hippo_tables.specs.Standing.{TablesStandFor};
-ghost use Rattle.hippo_answering.specs.States.{are_created};
+ghost use Rattle.hippo_tables.specs.Standing.{TablesStandFor, are_created};
 
 use hippo_model::{Audit, Query};
 use hippo_tables::Tables;

@@ -3,14 +3,14 @@ use hippo_report::Format;
 use hippo_values::{Moment, Name, Txt};
 
 /// What a run begins with: how many entries the history may have, and how flags are printed.
-#[derive(Clone, Copy, Debug, PartialEq, Eq)]
+#[derive(Clone, Copy, PartialEq, Eq)]
 pub struct Setting {
     pub limit: u32,
     pub format: Format,
 }
 
 /// A job, with what it uses of the command line.
-#[derive(Debug, Drop)]
+#[derive(Drop)]
 pub enum Job {
     /// Reads lines and replies to each.
     Run(Setting),
@@ -31,7 +31,7 @@ pub enum Job {
 
 /// A job, and the name of the store that it is done over: the empty name is that of a store in
 /// memory.
-#[derive(Debug, Drop)]
+#[derive(Drop)]
 pub struct Call {
     pub store: Txt,
     pub job: Job,

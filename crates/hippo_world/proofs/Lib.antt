@@ -1,5 +1,2 @@
-mod WorldsExamples
-pub mod NumberLemmas
-pub mod HeldLemmas
 pub mod AuditLemmas
 pub mod SlotLemmas

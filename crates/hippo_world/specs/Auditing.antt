@@ -1,5 +1,5 @@
 -- The audit jobs and watches that a run holds, and what they have to do with a history.
-use Rattle.std.specs.Prelude.{◌≡◌, ℕ, Bool, List, [], ◌∷◌, ◌++◌, map, Option, IfSome, option_map}
+use Rattle.std.specs.Prelude.{◌≡◌, ℕ, List, [], ◌∷◌, ◌++◌, map, Option, IfSome, option_map}
 use Rattle.std.specs.List.{All, AllByRecursion}
 use Rattle.hippo_model.specs.declared.audit.Audit.{Audit}
 use Rattle.hippo_model.specs.declared.entry.Act.{Act}
@@ -11,6 +11,7 @@ use Rattle.hippo_watch.specs.Watches.{IsWatchOf, WasWatchOf, ComesNext}
 use Rattle.hippo_audit_job.specs.declared.jobs.Job.{Job}
 use Rattle.hippo_audit_job.specs.Examining.{IsAuditOf, IsNew}
 use Rattle.hippo_audit_job.specs.Jobs.{IsSoundJob, JobFits, new_job}
+use Rattle.hippo_sessions.specs.Tallies.{JobTally}
 use Rattle.hippo_combine.specs.declared.combine.Combine.{Combine}
 use Rattle.hippo_combine.specs.Combining.{combine_terms}
 use Rattle.hippo_combine.specs.Held.{all_taken}
@@ -73,12 +74,7 @@ EachGoesBack tables act old new =
     → All (λ held. IfSome held (WasWatchOf history entry)) old
     → All (λ held. IfSome held (IsWatchOf history)) new
 
--- what is tallied of a job: how many versions it was handed, and whether each of its steps ended
--- well
-pub record JobTally : Type 0 where
-  pub taken : ℕ
-  pub unbroken : Bool
-
+-- what is tallied of a job
 abbrev pub job_tally : HeldJob → JobTally
 job_tally job = record { taken = taken_by_job job; unbroken = job.unbroken }
 

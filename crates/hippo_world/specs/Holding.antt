@@ -7,8 +7,9 @@ use Rattle.hippo_tables.specs.declared.tables.Tables.{Tables}
 use Rattle.hippo_watch.specs.Watches.{ComesNext}
 use Rattle.hippo_audit_job.specs.Jobs.{open_audit}
 use Rattle.hippo_world.specs.declared.worlds.World.{World as HeldWorld}
-use Rattle.hippo_world.specs.Auditing.{AreLooking, watched, AreWatching, AreAudits, JobTally, job_tallies}
-use Rattle.hippo_world.specs.Worlds.{World}
+use Rattle.hippo_sessions.specs.Tallies.{JobTally}
+use Rattle.hippo_world.specs.Auditing.{AreLooking, watched, AreWatching, AreAudits, job_tallies}
+use Rattle.hippo_sessions.specs.Worlds.{World}
 
 abbrev pub world_of : HeldWorld → World
 world_of held = record {

@@ -1,3 +1,2 @@
-pub mod Worlds
 pub mod Auditing
 pub mod Holding

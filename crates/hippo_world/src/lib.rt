@@ -1,15 +1,9 @@
-//! What a run holds beside the history.
+//! What a run holds beside the history: sessions, audit jobs, watches and the clock.
 #![tactic(auto)]
 
 mod audit_jobs;
-mod cursors;
-mod numbered;
-mod sessions;
 mod watches;
 mod worlds;
 
 pub use audit_jobs::AuditJob;
-pub use cursors::Cursor;
-pub use numbered::Numbered;
-pub use sessions::Session;
 pub use worlds::World;

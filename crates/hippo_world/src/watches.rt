@@ -2,8 +2,8 @@
 ghost use Rattle.std.specs.Prelude.{◌≡◌, map, option_map};
 ghost use Rattle.hippo_world.specs.Auditing.{watched, OneFollows, OneGoesBack, EachFollows, EachGoesBack};
 
-use crate::numbered::Numbered;
 use hippo_model::Act;
+use hippo_sessions::Numbered;
 use hippo_tables::Tables;
 use hippo_watch::Watch;
 
@@ -43,22 +43,20 @@ fn take_back_each(watches: &mut [Option<Watch>], tables: &Tables, act: &Act)
     }
 }
 
-impl Numbered<Watch> {
-    /// Changes the counts of each watch as the act of the next entry changes them, over the tables
-    /// as they are before it. Takes no memory.
-    pub(crate) fn take_in(&mut self, tables: &Tables, act: &Act)
-        ensures audits { map (option_map watched) self.new ≡ map (option_map watched) self.old }
-        ensures follow { EachFollows tables.now act.now self.old self.new }
-    {
-        take_in_each(&mut self.places, tables, act);
-    }
+/// Changes the counts of each watch as the act of the next entry changes them, over the tables as
+/// they are before it. Takes no memory.
+pub(crate) fn take_in(watches: &mut Numbered<Watch>, tables: &Tables, act: &Act)
+    ensures audits { map (option_map watched) watches.new ≡ map (option_map watched) watches.old }
+    ensures follow { EachFollows tables.now act.now watches.old watches.new }
+{
+    take_in_each(&mut watches.places, tables, act);
+}
 
-    /// Changes them back where the act that was taken in last does not come, over the same tables.
-    /// Takes no memory.
-    pub(crate) fn take_back(&mut self, tables: &Tables, act: &Act)
-        ensures audits { map (option_map watched) self.new ≡ map (option_map watched) self.old }
-        ensures go_back { EachGoesBack tables.now act.now self.old self.new }
-    {
-        take_back_each(&mut self.places, tables, act);
-    }
+/// Changes them back where the act that was taken in last does not come, over the same tables.
+/// Takes no memory.
+pub(crate) fn take_back(watches: &mut Numbered<Watch>, tables: &Tables, act: &Act)
+    ensures audits { map (option_map watched) watches.new ≡ map (option_map watched) watches.old }
+    ensures go_back { EachGoesBack tables.now act.now watches.old watches.new }
+{
+    take_back_each(&mut watches.places, tables, act);
 }

@@ -1,16 +1,15 @@
 //! What a run holds beside the history.
-ghost use Rattle.std.specs.Prelude.{◌≡◌, Some, None, option_copied, IfOk, OnOk, OnErr};
-ghost use Rattle.hippo_world.specs.declared.cursors.Cursor.{Cursor as KeptCursor};
-ghost use Rattle.hippo_world.specs.declared.sessions.Session.{Session as KeptSession};
-ghost use Rattle.hippo_world.specs.Worlds.{at_number, session_at, with_session, with_cursor, new_session, new_cursor, moved_on, opening};
+ghost use Rattle.std.specs.Prelude.{◌≡◌, Some, None, IfOk, OnOk, OnErr};
+ghost use Rattle.hippo_sessions.specs.declared.cursors.Cursor.{Cursor as KeptCursor};
+ghost use Rattle.hippo_sessions.specs.declared.sessions.Session.{Session as KeptSession};
+ghost use Rattle.hippo_sessions.specs.Worlds.{at_number, session_at, with_session, with_cursor, new_session, new_cursor, moved_on, opening};
 ghost use Rattle.hippo_world.specs.Holding.{world_of, KeepsAudits, WatchesFollow, WatchesGoBack};
 
 use crate::audit_jobs::AuditJob;
-use crate::cursors::Cursor;
-use crate::numbered::Numbered;
-use crate::sessions::Session;
+use crate::watches::{take_back, take_in};
 use hippo_model::{Act, Answer, Pair};
 use hippo_report::Format;
+use hippo_sessions::{Cursor, Numbered, Session, WorldView};
 use hippo_tables::Tables;
 use hippo_values::{JOB_LIMIT, Memory, Moment, Name, SESSION_LIMIT, WATCH_LIMIT};
 use hippo_watch::Watch;
@@ -46,13 +45,6 @@ impl World {
         })
     }
 
-    /// The open session with a number.
-    pub fn session(&self, number: u8) -> Option<&Session>
-        ensures { option_copied result ≡ session_at (world_of self.now) number }
-    {
-        self.sessions.at(usize::from(number))
-    }
-
     /// Opens the session with a number anew, without cursors; or want of memory, and nothing
     /// changes.
     pub fn log_in(
@@ -81,7 +73,7 @@ impl World {
     }
 
     // Lets a cursor's number of an open session hold this, or nothing.
-    #[tactic(auto, using(crate::proofs::NumberLemmas::put_back, crate::proofs::NumberLemmas::put_again))]
+    #[tactic(auto, using(hippo_sessions::proofs::NumberLemmas::put_back, hippo_sessions::proofs::NumberLemmas::put_again))]
     fn put_cursor(&mut self, number: u8, cursor: u8, held: Option<Cursor>)
         ensures open { (session : KeptSession)
             → session_at (world_of self.old) number ≡ Some session
@@ -123,7 +115,7 @@ impl World {
     }
 
     /// Notes that at most so many further rows of a session's cursor were handed out.
-    #[tactic(auto, using(crate::proofs::NumberLemmas::put_back, crate::proofs::NumberLemmas::put_again))]
+    #[tactic(auto, using(hippo_sessions::proofs::NumberLemmas::put_back, hippo_sessions::proofs::NumberLemmas::put_again))]
     pub fn move_on(&mut self, number: u8, cursor: u8, count: u32)
         ensures held { (session : KeptSession) (held : KeptCursor)
             → session_at (world_of self.old) number ≡ Some session
@@ -150,7 +142,7 @@ impl World {
         ensures jobs { self.new.jobs ≡ self.old.jobs }
         ensures follow { WatchesFollow tables.now act.now self.old self.new }
     {
-        self.watches.take_in(tables, act);
+        take_in(&mut self.watches, tables, act);
     }
 
     /// Changes them back where the act that was taken in last does not come, over the same tables.
@@ -160,6 +152,44 @@ impl World {
         ensures jobs { self.new.jobs ≡ self.old.jobs }
         ensures go_back { WatchesGoBack tables.now act.now self.old self.new }
     {
-        self.watches.take_back(tables, act);
+        take_back(&mut self.watches, tables, act);
+    }
+
+    /// Lets go of all that it holds. Who is given a world ends with this: that its parts are let go
+    /// is then proved here alone.
+    pub fn close(self) {}
+}
+
+impl WorldView for World {
+    ghost use Rattle.hippo_world.specs.Holding.{world_of};
+
+    ghost seen = { world_of };
+
+    fn clock(&self) -> Moment {
+        self.clock
+    }
+
+    fn limit(&self) -> u32 {
+        self.limit
+    }
+
+    fn session(&self, number: u8) -> Option<&Session> {
+        self.sessions.at(usize::from(number))
+    }
+
+    fn has_job(&self, number: u8) -> bool {
+        self.jobs.at(usize::from(number)).is_some()
+    }
+
+    fn free_job(&self) -> Option<usize> {
+        self.jobs.free()
+    }
+
+    fn has_watch(&self, number: u8) -> bool {
+        self.watches.at(usize::from(number)).is_some()
+    }
+
+    fn free_watch(&self) -> Option<usize> {
+        self.watches.free()
     }
 }

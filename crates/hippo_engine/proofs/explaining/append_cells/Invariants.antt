@@ -1,7 +1,7 @@
 -- What is left to print gives the whole.
 use Rattle.std.proofs.Common.{◌≡◌, ◌++◌, drop}
 use Rattle.std.specs.List.{flat_map}
-use Rattle.hippo_engine.specs.Effects.{denial_line}
+use Rattle.hippo_effects.specs.Effects.{denial_line}
 use Rattle.hippo_engine.proofs.explaining.append_cells.Given as goal
 
 abbrev pub invariant-loop-cell : goal.invariant-loop-cell

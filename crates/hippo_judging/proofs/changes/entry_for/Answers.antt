@@ -3,7 +3,6 @@ use Rattle.std.proofs.Common.{subst}
 use Rattle.hippo_catalog.specs.Catalogs.{KnownNames, known_at}
 use Rattle.hippo_catalog.specs.ChangesRefused.{change_refused}
 use Rattle.hippo_catalog.specs.ChangesWanted.{wanted_by}
-use Rattle.hippo_world.specs.Holding.{world_of}
 use Rattle.hippo_judging.specs.Changes.{wanted_in}
 use Rattle.hippo_judging.specs.Checks.{Refuses, unless_refused}
 use Rattle.hippo_judging.specs.Judging.{judged_wanted}
@@ -11,7 +10,7 @@ use Rattle.hippo_judging.proofs.ChangeLemmas.{names_refused}
 use Rattle.hippo_judging.proofs.changes.entry_for.Goals as goal
 
 pub returns-in-Err-clause-found : goal.returns-in-Err-clause-found
-returns-in-Err-clause-found c = λ history stands.
+returns-in-Err-clause-found g c = λ history stands.
     names_refused (unless_refused (change_refused (known_at history) c.args.statement.now) (wanted_by (known_at history) c.args.statement.now))
-    (λ wanted. judged_wanted history (world_of c.args.world.now) wanted) c.in-Err.refusal
+    (λ wanted. judged_wanted history (g.W.WorldView.seen c.args.world.now) wanted) c.in-Err.refusal
     (subst (λ (known : KnownNames). Refuses (wanted_in known c.args.statement.now) c.in-Err.refusal) stands.names c.in-Err.ensures)

@@ -7,4 +7,4 @@ pub returns-in-SetClock-clause-judges : goal.returns-in-SetClock-clause-judges
 returns-in-SetClock-clause-judges g c =
     rw c.in-SetClock.is
     (judges_found (commands.set_clock c.in-SetClock.moment) c.judge_clock.result c.unread.result
-    c.args.state.now c.args.world.now (g.P.Keeper.state c.args.keeper.now) (g.P.Keeper.state c.args.keeper.now) c.args.steps.now c.args.steps.now c.unread.ensures (c.judge_clock.ensures c.args.state.now))
+    c.args.state.now (g.W.WorldView.seen c.args.world.now) (g.P.Keeper.state c.args.keeper.now) (g.P.Keeper.state c.args.keeper.now) c.args.steps.now c.args.steps.now c.unread.ensures (c.judge_clock.ensures c.args.state.now))

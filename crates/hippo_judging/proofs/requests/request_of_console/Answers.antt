@@ -7,13 +7,13 @@ use Rattle.hippo_judging.proofs.LengthLemmas.{sessions_only_fits}
 use Rattle.hippo_judging.proofs.requests.request_of_console.Goals as goal
 
 pub returns-in-Login : goal.returns-in-Login
-returns-in-Login c = rw c.in-Login.is (refused_so _ SessionsOnly c.args.state.now c.args.world.now (λ history stands. refl) (sessions_only_fits Console tt))
+returns-in-Login g c = rw c.in-Login.is (refused_so _ SessionsOnly c.args.state.now (g.W.WorldView.seen c.args.world.now) (λ history stands. refl) (sessions_only_fits Console tt))
 
 pub returns-in-Logout : goal.returns-in-Logout
-returns-in-Logout c = rw c.in-Logout.is (refused_so _ SessionsOnly c.args.state.now c.args.world.now (λ history stands. refl) (sessions_only_fits Console tt))
+returns-in-Logout g c = rw c.in-Logout.is (refused_so _ SessionsOnly c.args.state.now (g.W.WorldView.seen c.args.world.now) (λ history stands. refl) (sessions_only_fits Console tt))
 
 pub returns-in-Fetch : goal.returns-in-Fetch
-returns-in-Fetch c = rw c.in-Fetch.is (refused_so _ SessionsOnly c.args.state.now c.args.world.now (λ history stands. refl) (sessions_only_fits Console tt))
+returns-in-Fetch g c = rw c.in-Fetch.is (refused_so _ SessionsOnly c.args.state.now (g.W.WorldView.seen c.args.world.now) (λ history stands. refl) (sessions_only_fits Console tt))
 
 pub returns-in-Close : goal.returns-in-Close
-returns-in-Close c = rw c.in-Close.is (refused_so _ SessionsOnly c.args.state.now c.args.world.now (λ history stands. refl) (sessions_only_fits Console tt))
+returns-in-Close g c = rw c.in-Close.is (refused_so _ SessionsOnly c.args.state.now (g.W.WorldView.seen c.args.world.now) (λ history stands. refl) (sessions_only_fits Console tt))

@@ -7,21 +7,21 @@ use Rattle.hippo_judging.proofs.LengthLemmas.{console_only_fits}
 use Rattle.hippo_judging.proofs.requests.request_of_session.Goals as goal
 
 pub returns-in-Step : goal.returns-in-Step
-returns-in-Step c =
+returns-in-Step g c =
     rw c.in-Step.is
-    (refused_so _ ConsoleOnly c.args.state.now c.args.world.now (λ history stands. refl) (console_only_fits (Session c.args.session) (omega (arith, c.ranges.session.fits))))
+    (refused_so _ ConsoleOnly c.args.state.now (g.W.WorldView.seen c.args.world.now) (λ history stands. refl) (console_only_fits (Session c.args.session) (omega (arith, c.ranges.session.fits))))
 
 pub returns-in-Drop : goal.returns-in-Drop
-returns-in-Drop c =
+returns-in-Drop g c =
     rw c.in-Drop.is
-    (refused_so _ ConsoleOnly c.args.state.now c.args.world.now (λ history stands. refl) (console_only_fits (Session c.args.session) (omega (arith, c.ranges.session.fits))))
+    (refused_so _ ConsoleOnly c.args.state.now (g.W.WorldView.seen c.args.world.now) (λ history stands. refl) (console_only_fits (Session c.args.session) (omega (arith, c.ranges.session.fits))))
 
 pub returns-in-Unwatch : goal.returns-in-Unwatch
-returns-in-Unwatch c =
+returns-in-Unwatch g c =
     rw c.in-Unwatch.is
-    (refused_so _ ConsoleOnly c.args.state.now c.args.world.now (λ history stands. refl) (console_only_fits (Session c.args.session) (omega (arith, c.ranges.session.fits))))
+    (refused_so _ ConsoleOnly c.args.state.now (g.W.WorldView.seen c.args.world.now) (λ history stands. refl) (console_only_fits (Session c.args.session) (omega (arith, c.ranges.session.fits))))
 
 pub returns-in-Load : goal.returns-in-Load
-returns-in-Load c =
+returns-in-Load g c =
     rw c.in-Load.is
-    (refused_so _ ConsoleOnly c.args.state.now c.args.world.now (λ history stands. refl) (console_only_fits (Session c.args.session) (omega (arith, c.ranges.session.fits))))
+    (refused_so _ ConsoleOnly c.args.state.now (g.W.WorldView.seen c.args.world.now) (λ history stands. refl) (console_only_fits (Session c.args.session) (omega (arith, c.ranges.session.fits))))

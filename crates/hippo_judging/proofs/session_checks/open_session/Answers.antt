@@ -4,4 +4,4 @@ use Rattle.hippo_judging.proofs.LengthLemmas.{no_session_fits}
 use Rattle.hippo_judging.proofs.session_checks.open_session.Goals as goal
 
 pub returns-in-None-clause-fits : goal.returns-in-None-clause-fits
-returns-in-None-clause-fits c = no_session_fits (Session c.args.number) (omega (arith, c.ranges.number.fits))
+returns-in-None-clause-fits g c = no_session_fits (Session c.args.number) (omega (arith, c.ranges.number.fits))

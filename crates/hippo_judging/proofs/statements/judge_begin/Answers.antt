@@ -4,8 +4,7 @@ use Rattle.hippo_values.specs.Results.{◌>>=◌}
 use Rattle.hippo_model.specs.declared.statement.Stmt.TheVariants as stmt
 use Rattle.hippo_commands.specs.Commands as commands
 use Rattle.hippo_report.specs.declared.refusal.Refusal.TheVariants.{JobLimit}
-use Rattle.hippo_world.specs.Holding.{world_of}
-use Rattle.hippo_world.specs.Worlds.{free_number}
+use Rattle.hippo_sessions.specs.Worlds.{free_number}
 use Rattle.hippo_judging.specs.Checks.{Checked}
 use Rattle.hippo_report.specs.declared.speaker.Speaker.TheVariants.{Console}
 use Rattle.hippo_judging.specs.Deeds as deeds
@@ -16,15 +15,15 @@ use Rattle.hippo_judging.proofs.FindingLemmas.{may_begin, refused_audit}
 use Rattle.hippo_judging.proofs.statements.judge_begin.Goals as goal
 
 pub returns-in-Ok : goal.returns-in-Ok
-returns-in-Ok c = λ text.
+returns-in-Ok g c = λ text.
     let command = commands.make_statement Console (stmt.BeginAudit c.args.written.now) text in
-    let finds = may_begin c.args.state.now c.args.world.now c.args.written.now text c.in-Ok.audit
-    (record { fits = c.in-Ok.ensures.audit; differ = c.in-Ok.ensures.differ }) c.in-Ok.ensures.found (free_number c.args.world.now.jobs) refl in
-    subst (λ (found : Checked Deed). FindsDeed command found c.args.state.now c.args.world.now)
-    (sym (c.begun_with.ensures ∙ ap (with_free_number BeginAudit JobLimit c.in-Ok.audit) c.free.ensures)) finds
+    let finds = may_begin c.args.state.now (g.W.WorldView.seen c.args.world.now) c.args.written.now text c.in-Ok.audit
+    (record { fits = c.in-Ok.ensures.audit; differ = c.in-Ok.ensures.differ }) c.in-Ok.ensures.found (free_number (g.W.WorldView.seen c.args.world.now).jobs) refl in
+    subst (λ (found : Checked Deed). FindsDeed command found c.args.state.now (g.W.WorldView.seen c.args.world.now))
+    (sym (c.begun_with.ensures ∙ ap (with_free_number BeginAudit JobLimit c.in-Ok.audit) c.free_job.ensures)) finds
 
 pub returns-in-Err : goal.returns-in-Err
-returns-in-Err c = λ text.
-    refused_audit c.args.state.now c.args.world.now c.args.written.now (commands.make_statement Console (stmt.BeginAudit c.args.written.now) text)
-    (λ audit. ok_or (free_number (world_of c.args.world.now).jobs) JobLimit >>= λ number. Ok (deeds.begin_audit number audit)) c.in-Err.refusal
+returns-in-Err g c = λ text.
+    refused_audit c.args.state.now (g.W.WorldView.seen c.args.world.now) c.args.written.now (commands.make_statement Console (stmt.BeginAudit c.args.written.now) text)
+    (λ audit. ok_or (free_number (g.W.WorldView.seen c.args.world.now).jobs) JobLimit >>= λ number. Ok (deeds.begin_audit number audit)) c.in-Err.refusal
     refl (λ history. refl) c.in-Err.ensures.found

@@ -1,7 +1,7 @@
 -- The engine begins where the history ends.
 use Rattle.std.proofs.Common.{◌∙◌, ap}
 use Rattle.hippo_values.specs.declared.moments.Moment.{Moment}
-use Rattle.hippo_world.specs.Worlds.{opening}
+use Rattle.hippo_sessions.specs.Worlds.{opening}
 use Rattle.hippo_engine.proofs.CarryingLemmas.{Holds-opening}
 use Rattle.hippo_serve.proofs.TurnLemmas.{AtWork-begun}
 use Rattle.hippo_serve.proofs.serving.serve.Goals as goal

@@ -1,8 +1,7 @@
 -- Whether the tables that are left are there.
 use Rattle.std.proofs.Common.{◌≡◌, drop}
 use Rattle.hippo_model.specs.Terms.{History}
-use Rattle.hippo_tables.specs.Standing.{TablesStandFor}
-use Rattle.hippo_answering.specs.States.{are_created}
+use Rattle.hippo_tables.specs.Standing.{TablesStandFor, are_created}
 use Rattle.hippo_watch.proofs.present.are_kept.Given as goal
 
 abbrev pub invariant-loop-name : goal.invariant-loop-name

@@ -1,8 +1,8 @@
 -- A question is kept and answered.
 use Rattle.std.proofs.Common.{sym, subst}
-use Rattle.hippo_world.specs.declared.sessions.Session.{Session}
+use Rattle.hippo_sessions.specs.declared.sessions.Session.{Session}
 use Rattle.hippo_world.specs.Holding.{world_of}
-use Rattle.hippo_world.specs.Worlds.{session_at}
+use Rattle.hippo_sessions.specs.Worlds.{session_at}
 use Rattle.hippo_judging.specs.declared.asking.Asking.{Asking}
 use Rattle.hippo_judging.specs.Asking.{question_entry}
 use Rattle.hippo_judging.specs.Findings.{question_by}

@@ -3,10 +3,10 @@ use Rattle.std.proofs.Common.{◌≡◌, refl, sym, subst, ℕ, Some, None}
 use Rattle.hippo_lines.specs.Forms.{steps}
 use Rattle.hippo_report.specs.declared.speaker.Speaker.TheVariants.{Console}
 use Rattle.hippo_commands.specs.Commands.{make_request}
-use Rattle.hippo_world.specs.Worlds.{with_at}
+use Rattle.hippo_sessions.specs.Worlds.{with_at}
 use Rattle.hippo_engine.specs.declared.engine.Engine.{Engine}
 use Rattle.hippo_engine.specs.Carrying.{Carries}
-use Rattle.hippo_engine.proofs.JobLemmas.{Carries-job_step_effect, held_there}
+use Rattle.hippo_engine.proofs.JobLemmas.{Carries-job_step_effect, job_held, held_there}
 use Rattle.hippo_engine.proofs.engine.Engine.step_job.Goals as goal
 
 pub returns-clause-carries : goal.returns-clause-carries
@@ -35,4 +35,7 @@ returns-clause-carries g c =
     put_there = rw c.in-Some.ensures.left at c.put.ensures
 
 pub unreachable-requires : goal.unreachable-requires
-unreachable-requires g c = let none = rw c.from-at.ensures at c.in-None.ensures.taken in absurd (held_there c.args.self.now.world.jobs c.args.number c.requires.there.0 c.requires.there.1 none)
+unreachable-requires g c =
+    let none = rw c.from-at.ensures at c.in-None.ensures.taken in
+    let there = job_held c.args.self.now.world c.args.number c.requires.there in
+    absurd (held_there c.args.self.now.world.jobs c.args.number there.0 there.1 none)

@@ -11,4 +11,4 @@ returns-clause-world c = ap (λ (audits : List (Option Audit)). record (world_of
 
 pub returns-clause-go_back : goal.returns-clause-go_back
 returns-clause-go_back c =
-    WatchesGoBack-each c.args.tables.now c.args.act.now c.args.self.now (record c.args.self.now { watches = c.take_back.new.self }) c.take_back.ensures.go_back
+    WatchesGoBack-each c.args.tables.now c.args.act.now c.args.self.now (record c.args.self.now { watches = c.take_back.new.watches }) c.take_back.ensures.go_back

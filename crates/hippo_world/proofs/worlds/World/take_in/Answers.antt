@@ -11,4 +11,4 @@ returns-clause-world c = ap (λ (audits : List (Option Audit)). record (world_of
 
 pub returns-clause-follow : goal.returns-clause-follow
 returns-clause-follow c =
-    WatchesFollow-each c.args.tables.now c.args.act.now c.args.self.now (record c.args.self.now { watches = c.take_in.new.self }) c.take_in.ensures.follow
+    WatchesFollow-each c.args.tables.now c.args.act.now c.args.self.now (record c.args.self.now { watches = c.take_in.new.watches }) c.take_in.ensures.follow

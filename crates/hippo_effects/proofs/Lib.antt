@@ -1,0 +1,7 @@
+pub mod ExampleLines
+mod RunExamples
+mod LedgerExamples
+pub mod EffectTheorem
+pub mod ShortLemmas
+pub mod ClockLemmas
+pub mod LedgerLemmas

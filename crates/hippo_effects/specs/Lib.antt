@@ -1,0 +1,4 @@
+pub mod Effects
+pub mod EffectLaws
+pub mod Ledgers
+pub mod Runs
