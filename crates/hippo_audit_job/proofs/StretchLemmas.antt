@@ -7,6 +7,7 @@ use Rattle.std.proofs.lemmas.List.{take-append-le, take-append-drop}
 use Rattle.hippo_values.specs.Texts.{Txt}
 use Rattle.hippo_values.specs.declared.moments.Moment.{Moment}
 use Rattle.hippo_values.specs.declared.names.Name.{Name}
+use Rattle.hippo_values.proofs.OptionLemmas.{some_there}
 use Rattle.hippo_model.specs.declared.audit.Audit.{Audit}
 use Rattle.hippo_model.specs.declared.audit.Flag.{Flag}
 use Rattle.hippo_model.specs.declared.audit.SharedRow.{SharedRow}
@@ -24,24 +25,10 @@ use Rattle.hippo_model.specs.Columns.{names_all}
 use Rattle.hippo_model.specs.Audits.{in_period, is_exempt, shared_by, shared_in, flag_by, flag_of, flags_between}
 use Rattle.hippo_laws.specs.Audits.{StandsIn}
 use Rattle.hippo_laws.proofs.ValidFronts.{before-append, entry_has_its_number, front_is_valid}
-use Rattle.hippo_catalog.specs.Catalogs.{known_at}
 use Rattle.hippo_typing.specs.Meanings.{meaning}
-use Rattle.hippo_typing.proofs.LastingNames.{extends_later, select_lasts}
-use Rattle.hippo_typing.proofs.MeaningTheorem.{Means-found, found-Means}
+use Rattle.hippo_typing.proofs.LastingMeanings.{meaning_lasts}
 use Rattle.hippo_backlog.proofs.VersionsTheorem.{may_there}
 use Rattle.hippo_audit_job.specs.Looking.{is_question_in_period}
-
--- a text keeps its meaning
-pub meaning_lasts : (front later : History) (text : Txt) (query : Query) → meaning front text ≡ Some query → meaning (front ++ later) text ≡ Some query
-meaning_lasts front later text query is =
-    let means = Means-found (known_at front) text query is in
-    let lasts = select_lasts (known_at front) (known_at (front ++ later)) (extends_later front later) means.select means.right in
-    found-Means (known_at (front ++ later)) text query (record {
-      select = means.select;
-      read = means.read;
-      right = lasts.0;
-      meant = means.meant ∙ sym lasts.1;
-    })
 
 -- the entries before one, it, and those behind it
 pub parted_at : (history : History) (place : ℕ) (entry : Entry) → slice_get history place ≡ Some entry → history ≡ take place history ++ entry ∷ drop (suc place) history
@@ -50,10 +37,6 @@ parted_at (first ∷ rest) zero entry is =
     let same : first ≡ entry = cc in
     ap (λ (e : Entry). e ∷ rest) same
 parted_at (first ∷ rest) (suc place) entry is = ap (λ (h : History). first ∷ h) (parted_at rest place entry is)
-
-some_there : {A : Type 0} (found : Option A) → is_some found ≡ true → ((x : A) × (found ≡ Some x))
-some_there None is = absurd (false≢true is)
-some_there (Some x) is = (x, refl)
 
 before_is : (meaning : Meaning) (history : History) (entry : Entry) (stands : StandsIn meaning history entry) → before_entry entry history ≡ take stands.place history
 before_is meaning history entry stands =

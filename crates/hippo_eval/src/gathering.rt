@@ -65,7 +65,8 @@ impl<'a, C: ChoiceView, G: Gatherer> Visitor for Finder<'a, C, G> {
 
     ghost Keeps = { λ finder combinations rows. IsGathered (G.Holds finder.gatherer.now)
         (G.answer finder.gatherer.now)
-        finder.limit (masked_rows (C.choices finder.choices.now) finder.query.now combinations) rows };
+        finder.limit (masked_rows (C.choices finder.choices.now) finder.query.now combinations)
+        rows };
 
     fn visit(
         &self,

@@ -4,6 +4,7 @@ use Rattle.std.specs.Prelude.{is_some, ok_or}
 use Rattle.std.proofs.lemmas.Bool.{false≢true}
 use Rattle.hippo_values.specs.Texts.{Txt}
 use Rattle.hippo_values.specs.Results.{◌>>=◌}
+use Rattle.hippo_values.proofs.OptionLemmas.{none_there, some_there}
 use Rattle.hippo_model.specs.declared.audit.Audit.{Audit}
 use Rattle.hippo_model.specs.declared.entry.Entry.{Entry}
 use Rattle.hippo_model.specs.declared.statement.RawAudit.{RawAudit}
@@ -129,14 +130,6 @@ refused_close world state number at refusal is fits =
     (λ history stands. refused_first (open_session world number) (λ session. ok_or (at_number session.cursors at) (NoCursor at)) (λ session cursor. deeds.close_cursor number session at) refusal is) fits
 
 -- ---- jobs
-none_there : {A : Type 0} (found : Option A) → is_some found ≡ false → found ≡ None
-none_there None is = refl
-none_there (Some one) is = absurd cc
-
-some_there : {A : Type 0} (found : Option A) → is_some found ≡ true → (one : A) × (found ≡ Some one)
-some_there None is = absurd cc
-some_there (Some one) is = (one, refl)
-
 -- a job stands at a number, or it is not found there
 pub job_there : (world : World) (number : ℕ) → is_some (at_number world.jobs number) ≡ true → StandsJob world number
 job_there world number is = some_there (at_number world.jobs number) is

@@ -263,7 +263,8 @@ pub(crate) fn judge_question<'t, W: WorldView>(
     requires sound { IsSound state.now }
     requires timely { IsTimely state.now (W.seen world.now).clock }
     requires of_line { IsOfLine (written_command session written.now text.now) }
-    ensures { FindsDeed (written_command session written.now text.now) result state.now (W.seen world.now) }
+    ensures { FindsDeed (written_command session written.now text.now) result state.now
+        (W.seen world.now) }
 {
     let part = cut(text, written.start, written.end)?;
     match question(alloc, state, world, session, written, part) {

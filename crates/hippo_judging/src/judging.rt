@@ -45,7 +45,8 @@ pub fn judge<'t, P: Keeper, L: Ledger, W: WorldView>(
     requires timely { IsTimely state.now (W.seen world.now).clock }
     requires ready { IsReady true (P.state keeper.old) }
     requires of_line { IsOfLine (command found) }
-    ensures judges { Judges (command found.entry) result state.now (W.seen world.now) (P.state keeper.old)
+    ensures judges { Judges (command found.entry) result state.now (W.seen world.now)
+        (P.state keeper.old)
         (P.state keeper.new)
         steps.old steps.new }
     ensures still { is_still result ≡ true → keeper.new ≡ keeper.old }

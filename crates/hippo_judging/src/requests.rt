@@ -29,7 +29,8 @@ fn is_earlier(moment: &Moment, clock: &Moment) -> bool
 
 /// The clock does not go back.
 pub(crate) fn judge_clock<W: WorldView>(world: &W, moment: Moment) -> Result<Deed<'static>, Refusal>
-    ensures { (state : HeldState) → FindsDeed (commands.set_clock moment) result state (W.seen world.now) }
+    ensures { (state : HeldState) → FindsDeed (commands.set_clock moment) result state
+        (W.seen world.now) }
 {
     let clock = world.clock();
     if is_earlier(&moment, &clock) {
@@ -150,7 +151,8 @@ fn judge_step<W: WorldView>(world: &W, job: u8, count: u32) -> Result<Deed<'stat
 
 fn judge_drop<W: WorldView>(world: &W, job: u8) -> Result<Deed<'static>, Refusal>
     ensures { (state : HeldState)
-        → FindsDeed (commands.make_request Console (requests.drops job)) result state (W.seen world.now) }
+        → FindsDeed (commands.make_request Console (requests.drops job)) result state
+        (W.seen world.now) }
 {
     match check_job(world, job) {
         Ok(()) => Ok(Deed::DropJob { job }),
@@ -266,7 +268,8 @@ pub(crate) fn judge_request<W: WorldView>(
     asked: &RequestForm<'_>,
 ) -> Result<Deed<'static>, Refusal>
     requires timely { IsTimely state.now (W.seen world.now).clock }
-    ensures { FindsDeed (commands.make_request who (request asked.now)) result state.now (W.seen world.now) }
+    ensures { FindsDeed (commands.make_request who (request asked.now)) result state.now
+        (W.seen world.now) }
 {
     match who {
         Speaker::Session(session) => request_of_session(alloc, state, world, session, asked),

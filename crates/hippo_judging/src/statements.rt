@@ -183,7 +183,8 @@ fn statement_of_console<P: Keeper, L: Ledger, W: WorldView>(
     requires ready { IsReady true (P.state keeper.old) }
     requires written { is_written statement.now ≡ true }
     ensures judges { (text : Text)
-        → Judges (commands.make_statement Console statement.now text) result state.now (W.seen world.now)
+        → Judges (commands.make_statement Console statement.now text) result state.now
+        (W.seen world.now)
         (P.state keeper.old) (P.state keeper.new) steps.old steps.new }
     ensures still { is_still result ≡ true → keeper.new ≡ keeper.old }
     ensures idle { is_still result ≡ true → steps.new ≡ steps.old }

@@ -13,6 +13,7 @@ use Rattle.hippo_values.specs.declared.keywords.Keyword.{Keyword}
 use Rattle.hippo_values.specs.declared.keywords.Reserved.{Reserved}
 use Rattle.hippo_values.specs.declared.keywords.Reserved.TheVariants as reserved
 use Rattle.hippo_values.specs.Words.{said_by, word_of}
+use Rattle.hippo_values.proofs.OptionLemmas.{none_there, some_there}
 use Rattle.hippo_lexer.specs.declared.kinds.TokenKind.TheVariants as kinds
 use Rattle.hippo_lexer.specs.Cutting.{kind_of_word, word_kind}
 
@@ -52,12 +53,8 @@ apart = refl
 keyword_not_refused : (word : List ℕ) → is_among grammar_words word ≡ true → is_among unsupported_words word ≡ false
 keyword_not_refused word among = not-true (is_among unsupported_words word) (among_one grammar_words (λ known. not (list_any (λ other. bytes_eq other known) unsupported_words)) word apart among)
 
-none_from : {X : Type 0} (o : Option X) → is_some o ≡ false → o ≡ None
-none_from None h = refl
-none_from (Some x) h = absurd (both_ways _ h refl)
-
 no_keyword : (word : List ℕ) → is_among grammar_words word ≡ false → keyword_of word ≡ None
-no_keyword word h = none_from (keyword_of word) (keyword-among word ∙ h)
+no_keyword word h = none_there (keyword_of word) (keyword-among word ∙ h)
 
 pub or_false : (a b : Bool) → (a || b) ≡ false → (a ≡ false) × (b ≡ false)
 or_false true b h = absurd (both_ways _ h refl)
@@ -89,7 +86,7 @@ kind-refused word among = elim (cases_Bool (is_among grammar_words word)) [
 pub kind-name : (word : List ℕ) → is_name word ≡ true → word_kind word ≡ Some (kinds.Word (lower_case word))
 kind-name word h =
     let parts = and_parts (is_word word && nat_le (length word) 63) (not (is_reserved word)) h in
-    let free : reserved_of word ≡ None = none_from (reserved_of word) (not-true (is_reserved word) parts.1) in
+    let free : reserved_of word ≡ None = none_there (reserved_of word) (not-true (is_reserved word) parts.1) in
     kind_by word None free ∙ rw h refl
 
 pub kind-long : (word : List ℕ) → 63 < length word → word_kind word ≡ None
@@ -98,14 +95,10 @@ kind-long word long =
     let no_name : is_name word ≡ false = and_left _ _ (and_right (is_word word) (nat_le (length word) 63) (lt-leb (length word) 63 long)) in
     kind_by word None free ∙ rw no_name refl
 
-some_from : {X : Type 0} (o : Option X) → is_some o ≡ true → (x : X) × (o ≡ Some x)
-some_from None h = absurd (both_ways _ refl h)
-some_from (Some x) h = (x, refl)
-
 -- a word is a keyword, a refused word, a name, or too long
 pub word_cases : (word : List ℕ) → is_word word ≡ true → ((keyword : Keyword) × (keyword_of word ≡ Some keyword)) ⊎ ((is_among unsupported_words word ≡ true) ⊎ ((is_name word ≡ true) ⊎ (63 < length word)))
 word_cases word form = elim (cases_Bool (is_among grammar_words word)) [
-  | inl keyword ↦ inl (some_from (keyword_of word) (keyword-among word ∙ keyword))
+  | inl keyword ↦ inl (some_there (keyword_of word) (keyword-among word ∙ keyword))
   | inr other ↦ inr (elim (cases_Bool (is_among unsupported_words word)) [
     | inl refused ↦ inl refused
     | inr free ↦ inr (elim (cases_Bool (nat_le (length word) 63)) [

@@ -123,7 +123,7 @@ placed_reads text skipped tokens select _ _ cut words closed (placed {first = fi
     subst (λ (t : Token). HasPart text select t.start last.end) same (part_reads text skipped one part rest cut_there last select words_there closed last_is reading_there)
 
 -- a statement of the console asks nothing
-console-none : (tokens : Kinds) (s : Stmt) (rest : Kinds) → IsConsole tokens s rest → select_place s ≡ None
+pub console-none : (tokens : Kinds) (s : Stmt) (rest : Kinds) → IsConsole tokens s rest → select_place s ≡ None
 console-none _ _ rest (create_table _ _ _) = refl
 console-none _ _ rest create_purpose = refl
 console-none _ _ rest create_recipient = refl

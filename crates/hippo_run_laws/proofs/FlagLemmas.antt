@@ -11,16 +11,7 @@ use Rattle.hippo_model.specs.Histories.{before_entry}
 use Rattle.hippo_model.specs.Validity.{is_valid}
 use Rattle.hippo_model.specs.Audits.{shared_tuple, shared_in, flag_by, flag_of, flags_between}
 use Rattle.hippo_laws.proofs.ValidFronts.{before-append}
-
--- the first of the entries from a place on stands at that place
-first_there : (place : ℕ) (history : History) (entry : Entry) (rest : History) → drop place history ≡ entry ∷ rest → (slice_get history place ≡ Some entry) × (drop (suc place) history ≡ rest)
-first_there zero [] entry rest is = absurd cc
-first_there zero (first ∷ others) entry rest is =
-    let same : first ≡ entry = cc in
-    let behind : others ≡ rest = cc in
-    (ap Some same, behind)
-first_there (suc place) [] entry rest is = absurd cc
-first_there (suc place) (first ∷ others) entry rest is = first_there place others entry rest is
+use Rattle.hippo_audit_job.proofs.StretchLemmas.{first_there}
 
 module _ (meaning : Meaning) (audit : Audit) (start later : History) (valid : is_valid meaning start ≡ true) where
   entry_lasts : (place : ℕ) (entry : Entry) → slice_get start place ≡ Some entry → flag_of meaning (start ++ later) audit entry ≡ flag_of meaning start audit entry

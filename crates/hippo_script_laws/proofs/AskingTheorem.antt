@@ -9,6 +9,7 @@ use Rattle.std.proofs.lemmas.Bool.{and_parts, not-true, or_parts}
 use Rattle.std.proofs.lemmas.List.{append-nil}
 use Rattle.hippo_values.specs.Texts.{Txt}
 use Rattle.hippo_values.specs.declared.names.Name.{Name}
+use Rattle.hippo_values.proofs.OptionLemmas.{some_there}
 use Rattle.hippo_io.specs.Lines.{LineText, text_line}
 use Rattle.hippo_lexer.specs.Spelling.{begins_with, is_blank}
 use Rattle.hippo_model.specs.declared.audit.Pair.{Pair}
@@ -67,10 +68,6 @@ authorized-so : (said : Authorization) → is_authorized said ≡ true → said 
 authorized-so Yes is = refl
 authorized-so (No number) is = absurd cc
 
-some_in : {A : Type 0} (found : Option A) → is_some found ≡ true → (what : A) × (found ≡ Some what)
-some_in None is = absurd cc
-some_in (Some what) is = (what, refl)
-
 whole-text : (text : Txt) → text_between text 0 (length text) ≡ text
 whole-text text = rw (sub-zero (length text)) (take-length text)
 
@@ -89,7 +86,7 @@ question-makes before world user purpose recipient text free kept fit bare room 
     let fits = and_parts (is_authorized (authorized_at before user purpose recipient))
     (is_some (meaning before text)) fit in
     let may = authorized-so (authorized_at before user purpose recipient) fits.0 in
-    let found = some_in (meaning before text) fits.1 in
+    let found = some_there (meaning before text) fits.1 in
     let means : Means (known_at before) text found.0 =
     Means-found (known_at before) text found.0 found.1 in
     let is = bare-parts text bare in

@@ -21,10 +21,11 @@ use Rattle.hippo_lexer.proofs.EdgeLemmas.{BeginsPlain, token_begins}
 use Rattle.hippo_lexer.proofs.RunLemmas.{cut-is}
 use Rattle.hippo_model.specs.declared.statement.RawSelect.{RawSelect}
 use Rattle.hippo_model.specs.declared.statement.Stmt.{Stmt}
-use Rattle.hippo_spj_reader.specs.Front.{Kinds, kinds}
+use Rattle.hippo_spj_reader.specs.Front.{kinds}
 use Rattle.hippo_stmt_reader.specs.StatementGrammar as statements
-use Rattle.hippo_stmt_reader.specs.StatementGrammar.{IsConsole, create_table, create_purpose, create_recipient, create_opt_in, create_opt_out, authorize, deauthorize, allow, revoke, choice_yes, choice_no, insert, update, delete, console_explain, console_audit, console_begin_audit, console_watch, IsPlacedSelect, placed, IsStatement, console, open_select, extract_select}
+use Rattle.hippo_stmt_reader.specs.StatementGrammar.{IsPlacedSelect, placed, IsStatement, console, open_select, extract_select}
 use Rattle.hippo_reading_laws.specs.QuestionLaws.{select_place}
+use Rattle.hippo_reading_laws.proofs.QuestionTheorem.{console-none}
 use Rattle.hippo_reading_laws.proofs.TextParts.{end_from, end_of, front_of}
 use Rattle.hippo_script_laws.specs.ScriptLaws.{QuestionsAreBare, ends_with, is_bare, is_lost, is_unfed}
 use Rattle.hippo_script_laws.proofs.QuestionLemmas.{Outcome, first_is, last-at, last-ends, last_or-append, last_token, later_tokens, looked-up}
@@ -222,28 +223,6 @@ module _ (text : Txt) (unfed : list_all is_unfed text ≡ true) where
   placed-is-bare skipped tokens select _ _ cut (placed {first = first} {last = last} part rest is_whole reading is_end first_at last_at) =
       part-is-bare skipped part rest first last
       (subst (λ (t : List Token). IsOutcome text (Ok (skipped ++ t))) is_whole cut) first_at last_at
-
--- a statement of the console asks nothing
-console-none : (tokens : Kinds) (s : Stmt) (rest : Kinds) → IsConsole tokens s rest
-    → select_place s ≡ None
-console-none _ _ rest (create_table _ _ _) = refl
-console-none _ _ rest create_purpose = refl
-console-none _ _ rest create_recipient = refl
-console-none _ _ rest create_opt_in = refl
-console-none _ _ rest create_opt_out = refl
-console-none _ _ rest authorize = refl
-console-none _ _ rest deauthorize = refl
-console-none _ _ rest (allow _ _ _) = refl
-console-none _ _ rest (revoke _) = refl
-console-none _ _ rest choice_yes = refl
-console-none _ _ rest choice_no = refl
-console-none _ _ rest (insert _) = refl
-console-none _ s rest (update _ _ is) = rw is refl
-console-none _ s rest (delete _ is) = rw is refl
-console-none _ _ rest console_explain = refl
-console-none _ _ rest (console_audit _) = refl
-console-none _ _ rest (console_begin_audit _) = refl
-console-none _ _ rest (console_watch _) = refl
 
 module _ (text : Txt) (unfed : list_all is_unfed text ≡ true) where
   abbrev Asked : Type 0

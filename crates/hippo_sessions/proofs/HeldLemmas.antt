@@ -1,6 +1,6 @@
 -- What is held at numbers, seen through a function; and what stands before and behind a number.
-use Rattle.std.proofs.Common.{◌≡◌, ◌∙◌, ℕ, zero, suc, ◌+◌, List, [], ◌∷◌, ◌++◌, map, Option, Some, None, slice_get, slice_set, unwrap_or, get_or, cond, true, refl, ap, subst, arith}
-use Rattle.std.specs.Prelude.{option_map, is_none, nat_lt, position}
+use Rattle.std.proofs.Common.{◌≡◌, ◌∙◌, ℕ, zero, suc, ◌+◌, List, [], ◌∷◌, ◌++◌, map, Option, Some, None, slice_get, slice_set, unwrap_or, get_or, cond, true, refl, sym, ap, subst, arith}
+use Rattle.std.specs.Prelude.{option_map, is_none, is_some, nat_lt, position}
 use Rattle.std.specs.List.{position_or_len}
 use Rattle.std.proofs.lemmas.List.{length-map}
 use Rattle.std.proofs.lemmas.List.Quantifiers.{position-Some}
@@ -23,6 +23,15 @@ module _ {A B : Type 0} (f : A → B) where
   pub seen-at : (places : List (Option A)) (number : ℕ) → at_number (map (option_map f) places) number ≡ option_map f (at_number places number)
   seen-at places zero = refl
   seen-at places (suc place) = seen-get places place
+
+  pub some_seen : (held : Option A) → is_some (option_map f held) ≡ is_some held
+  some_seen None = refl
+  some_seen (Some one) = refl
+
+  -- whether something is held at a number is whether something is seen there
+  pub seen-some : (places : List (Option A)) (number : ℕ) (found : Option A) → found ≡ at_number places number
+      → is_some found ≡ is_some (at_number (map (option_map f) places) number)
+  seen-some places number found is = ap is_some is ∙ sym (ap is_some (seen-at places number) ∙ some_seen (at_number places number))
 
   -- and once something else is put there
   pub seen-with : (places : List (Option A)) (number : ℕ) (held : Option A) → map (option_map f) (with_at places number held) ≡ with_at (map (option_map f) places) number (option_map f held)

@@ -8,6 +8,7 @@ use Rattle.std.proofs.lemmas.List.{take_at}
 use Rattle.hippo_values.specs.Texts.{Txt}
 use Rattle.hippo_values.specs.declared.moments.Moment.{Moment}
 use Rattle.hippo_values.specs.declared.names.Name.{Name}
+use Rattle.hippo_values.proofs.OptionLemmas.{some_there}
 use Rattle.hippo_model.specs.declared.entry.Act.{Act}
 use Rattle.hippo_model.specs.declared.entry.Act.TheVariants.{Insert, Update, Delete, Allow, Revoke, Asked}
 use Rattle.hippo_model.specs.declared.entry.Entry.{Entry}
@@ -23,8 +24,8 @@ use Rattle.hippo_laws.proofs.ValidFronts.{front_is_valid, is_valid-append, next_
 use Rattle.hippo_catalog.specs.Catalogs.{known_at, table_of}
 use Rattle.hippo_typing.specs.Meanings.{meaning_in, meaning}
 use Rattle.hippo_typing.proofs.CatalogTheorem.{valid_names}
-use Rattle.hippo_typing.proofs.LastingNames.{extends_later, select_lasts}
-use Rattle.hippo_typing.proofs.MeaningTheorem.{Means-found, found-Means}
+use Rattle.hippo_typing.proofs.LastingMeanings.{meaning_lasts}
+use Rattle.hippo_typing.proofs.LastingNames.{extends_later}
 use Rattle.hippo_telling.specs.Telling.{table_named, schema_before}
 use Rattle.hippo_showing.specs.declared.asking.Excerpt.{Excerpt}
 use Rattle.hippo_showing.specs.declared.asking.Form.{Form}
@@ -38,22 +39,6 @@ use Rattle.hippo_showing.specs.Showing.{is_in_scope, is_of, is_in_excerpt, act_l
 found_there : {A : Type 0} (test : A → Bool) (found : Option A) → option_map_or test found false ≡ true → ((x : A) × (found ≡ Some x))
 found_there test None passes = absurd (false≢true passes)
 found_there test (Some x) passes = (x, refl)
-
-pub some_there : {A : Type 0} (found : Option A) → is_some found ≡ true → ((x : A) × (found ≡ Some x))
-some_there None is = absurd (false≢true is)
-some_there (Some x) is = (x, refl)
-
--- a text keeps its meaning
-meaning_lasts : (front later : History) (text : Txt) (query : Query) → meaning front text ≡ Some query → meaning (front ++ later) text ≡ Some query
-meaning_lasts front later text query is =
-    let means = Means-found (known_at front) text query is in
-    let lasts = select_lasts (known_at front) (known_at (front ++ later)) (extends_later front later) means.select means.right in
-    found-Means (known_at (front ++ later)) text query (record {
-      select = means.select;
-      read = means.read;
-      right = lasts.0;
-      meant = means.meant ∙ sym lasts.1;
-    })
 
 -- an entry finds what the whole history has
 record FindsSame (history : History) (excerpt : Excerpt) (entry : Entry) : Type 0 where

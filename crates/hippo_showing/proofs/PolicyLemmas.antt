@@ -11,6 +11,7 @@ use Rattle.std.proofs.lemmas.Slice.Eq.{bytes_eq-Decides}
 use Rattle.hippo_values.specs.Limits.{table_limit}
 use Rattle.hippo_values.specs.Texts.{Txt}
 use Rattle.hippo_values.specs.declared.names.Name.{Name}
+use Rattle.hippo_values.proofs.OptionLemmas.{some_there}
 use Rattle.hippo_model.specs.declared.entry.Act.{Act}
 use Rattle.hippo_model.specs.declared.entry.Act.TheVariants.{Create, Purpose, Recipient, Allow, Revoke}
 use Rattle.hippo_model.specs.declared.entry.Entry.{Entry}
@@ -26,7 +27,7 @@ use Rattle.hippo_typing.proofs.CatalogTheorem.{names_grow, valid_names}
 use Rattle.hippo_typing.proofs.LastingNames.{extends_later}
 use Rattle.hippo_report.specs.declared.format.Format.{Format}
 use Rattle.hippo_showing.specs.declared.asking.Scope.{Scope}
-use Rattle.hippo_showing.proofs.NameLemmas.{acceptable, some_there}
+use Rattle.hippo_showing.proofs.NameLemmas.{acceptable}
 use Rattle.hippo_showing.specs.Ruling.{column_rule, is_ruled, columns_shown, has_table, table_shown, tables_shown, rules_by_names, rules_shown}
 
 -- what a history says last is said by one of its entries

@@ -1,9 +1,10 @@
 -- What a history with one entry more says of the tables.
-use Rattle.std.proofs.Common.{◌≡◌, set, true, false, if◌then◌else◌, List, [], ◌∷◌, ◌++◌, map, Option, Some, None, is_some, unwrap_or, sym, ap, ◌∙◌, refl, subst}
+use Rattle.std.proofs.Common.{◌≡◌, set, true, false, if◌then◌else◌, List, [], ◌∷◌, ◌++◌, map, Option, Some, None, unwrap_or, sym, ap, ◌∙◌, refl, subst}
 use Rattle.std.specs.Bool.{then_some}
 use Rattle.std.specs.Option.{option_or, option_map_or}
 use Rattle.std.specs.List.{insert, remove}
 use Rattle.hippo_values.specs.Order.{same_cells}
+use Rattle.hippo_values.proofs.OptionLemmas.{none_there, some_there}
 use Rattle.hippo_model.specs.declared.born_row.BornRow.{BornRow}
 use Rattle.hippo_model.specs.declared.schema.Schema.{Schema}
 use Rattle.hippo_model.specs.declared.entry.Entry.{Entry}
@@ -20,14 +21,6 @@ use Rattle.hippo_tables.proofs.RowPlaces.{same_itself, same_turned, put_missing,
 map-same : {A B : Type 0} (f g : A → B) → ((x : A) → f x ≡ g x) → (xs : List A) → map f xs ≡ map g xs
 map-same f g same [] = refl
 map-same f g same (x ∷ xs) = rw (same x, map-same f g same xs)
-
-pub none_from : {A : Type 0} (found : Option A) → is_some found ≡ false → found ≡ None
-none_from None no_one = refl
-none_from (Some x) some = absurd cc
-
-pub some_from : {A : Type 0} (found : Option A) → is_some found ≡ true → (x : A) × (found ≡ Some x)
-some_from None no_one = absurd cc
-some_from (Some x) some = (x, refl)
 
 module _ (schema : Schema) (history : History) (entry : Entry) where
   last_at-append : (key : Key) → last_at schema (history ++ entry ∷ []) key ≡ (if names_key schema key entry.act then Some entry.seq else last_at schema history key)
@@ -60,7 +53,7 @@ module _ (schema : Schema) (history : History) (entry : Entry) where
     -- a row with a new key
     pub table_at-grown_table : (kept : BornRow) → key_in schema.key kept ≡ key → table_rows schema (history ++ entry ∷ []) ≡ put_row schema.key kept (table_rows schema history) → is_live schema history key ≡ false → table_at (history ++ entry ∷ []) schema ≡ after_insert kept entry.seq (table_at history schema)
     table_at-grown_table kept has_key rows gone =
-        let missing : find_row schema.key (key_in schema.key kept) (table_rows schema history) ≡ None = ap (λ key. find_row schema.key key (table_rows schema history)) has_key ∙ none_from (find_row schema.key key (table_rows schema history)) (is_live-found schema history key ∙ gone) in
+        let missing : find_row schema.key (key_in schema.key kept) (table_rows schema history) ≡ None = ap (λ key. find_row schema.key key (table_rows schema history)) has_key ∙ none_there (find_row schema.key key (table_rows schema history)) (is_live-found schema history key ∙ gone) in
         let at = put_missing schema.key kept (table_rows schema history) missing in
         ap (λ rows. record { schema = schema; rows = record { key = schema.key; rows = rows }; numbers = map (change_number schema (history ++ entry ∷ [])) rows }) rows
         ∙ ap (λ numbers. record { schema = schema; rows = record { key = schema.key; rows = put_row schema.key kept (table_rows schema history) }; numbers = numbers })
@@ -71,7 +64,7 @@ module _ (schema : Schema) (history : History) (entry : Entry) where
     -- a row in the place of another
     pub table_at-after_update : (kept : BornRow) → key_in schema.key kept ≡ key → table_rows schema (history ++ entry ∷ []) ≡ put_row schema.key kept (table_rows schema history) → is_live schema history key ≡ true → table_at (history ++ entry ∷ []) schema ≡ after_update kept entry.seq (table_at history schema)
     table_at-after_update kept has_key rows lives =
-        let there = some_from (find_row schema.key key (table_rows schema history)) (is_live-found schema history key ∙ lives) in
+        let there = some_there (find_row schema.key key (table_rows schema history)) (is_live-found schema history key ∙ lives) in
         let found : find_row schema.key (key_in schema.key kept) (table_rows schema history) ≡ Some there.0 = ap (λ key. find_row schema.key key (table_rows schema history)) has_key ∙ there.1 in
         let over = put_found schema.key kept (table_rows schema history) there.0 (IsAscending-table_rows schema history) found in
         ap (λ rows. record { schema = schema; rows = record { key = schema.key; rows = rows }; numbers = map (change_number schema (history ++ entry ∷ [])) rows }) rows
@@ -82,7 +75,7 @@ module _ (schema : Schema) (history : History) (entry : Entry) where
     -- a row less
     pub table_at-after_delete : table_rows schema (history ++ entry ∷ []) ≡ take_row schema.key key (table_rows schema history) → is_live schema history key ≡ true → table_at (history ++ entry ∷ []) schema ≡ after_delete key (table_at history schema)
     table_at-after_delete rows lives =
-        let there = some_from (find_row schema.key key (table_rows schema history)) (is_live-found schema history key ∙ lives) in
+        let there = some_there (find_row schema.key key (table_rows schema history)) (is_live-found schema history key ∙ lives) in
         ap (λ rows. record { schema = schema; rows = record { key = schema.key; rows = rows }; numbers = map (change_number schema (history ++ entry ∷ [])) rows }) rows
         ∙ ap (λ numbers. record { schema = schema; rows = record { key = schema.key; rows = take_row schema.key key (table_rows schema history) }; numbers = numbers })
         (map_taken schema.key key (change_number schema history) (change_number schema (history ++ entry ∷ [])) number_there (table_rows schema history) there.0 (IsAscending-table_rows schema history) there.1)

@@ -4,6 +4,7 @@ use Rattle.std.specs.Prelude.{option_and_then}
 use Rattle.std.proofs.lemmas.List.{get_or-map}
 use Rattle.std.proofs.lemmas.Option.{slice_get_within, get_or_from_slice_get}
 use Rattle.hippo_values.specs.declared.names.Name.{Name}
+use Rattle.hippo_values.proofs.OptionLemmas.{none_there}
 use Rattle.hippo_model.specs.declared.born_row.BornRow.{BornRow}
 use Rattle.hippo_model.specs.declared.schema.Schema.{Schema}
 use Rattle.hippo_model.specs.Terms.{History, Row, Key}
@@ -16,7 +17,6 @@ use Rattle.hippo_keyed_rows.proofs.ChangesOfRows.{is_live-found}
 use Rattle.hippo_tables.specs.KeptTables.{KeptTable, change_number, table_at}
 use Rattle.hippo_tables.specs.Standing.{kept_table}
 use Rattle.hippo_tables.specs.Finished.{live_row, live_number}
-use Rattle.hippo_tables.proofs.HistoryLemmas.{none_from}
 use Rattle.hippo_tables.proofs.StandingLemmas.{row_found, old_row}
 
 row_alone : (found : Option Row) (born : Row → BornRow) → ((row : Row) → (born row).row ≡ row) → option_map (λ (kept : BornRow). kept.row) (option_map born found) ≡ found
@@ -37,7 +37,7 @@ module _ (history : History) (table : Name) (key : Key) where
       let rows : List BornRow = table_rows schema history in
       let live = is_live-found schema history key in
       elim (find_row schema.key key rows) as (λ found. find_row schema.key key rows ≡ found → option_map (λ place. get_or (map (change_number schema history) rows) place 0) found ≡ option_map (λ (row : Row). unwrap_or (last_at schema history key) 0) (row_at schema history key)) [
-        | None ↦ λ e. sym (ap (option_map (λ (row : Row). unwrap_or (last_at schema history key) 0)) (none_from (row_at schema history key) (sym live ∙ ap is_some e)))
+        | None ↦ λ e. sym (ap (option_map (λ (row : Row). unwrap_or (last_at schema history key) 0)) (none_there (row_at schema history key) (sym live ∙ ap is_some e)))
         | Some place ↦ λ e.
             let old = old_row schema history key (sym live ∙ ap is_some e) in
             let at : slice_get rows place ≡ Some old.0 = row_found schema history key place e ∙ old.1 in

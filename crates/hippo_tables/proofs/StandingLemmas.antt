@@ -19,6 +19,7 @@ use Rattle.hippo_keyed_rows.specs.RowSets.{find_row}
 use Rattle.hippo_model.specs.Versions.{row_fits, key_fits, is_live, version_fits}
 use Rattle.hippo_model.specs.Validity.{create_fits, creates_table, is_well_formed}
 use Rattle.hippo_values.specs.Limits.{table_limit}
+use Rattle.hippo_values.proofs.OptionLemmas.{none_there, some_there}
 use Rattle.hippo_model.proofs.LastWords.{last_word-append}
 use Rattle.hippo_keyed_rows.proofs.RowsAfter.{table_rows-Insert, table_rows-Update, table_rows-Delete, row_with-table_rows, IsAscending-table_rows, key_in-born_row_at}
 use Rattle.hippo_keyed_rows.proofs.ChangesOfRows.{is_live-found}
@@ -31,7 +32,7 @@ use Rattle.hippo_tables.specs.KeptTables.{KeptTable, change_number, table_at, em
 use Rattle.hippo_tables.specs.Before.{before_of, renewed_table}
 use Rattle.hippo_tables.specs.Standing.{kept_table, held_table, TablesStandFor, table_before, RemembersTables, IsNextAct, leaves_tables, with_change, Makes, InsertsIntoTable, Updates, Deletes}
 use Rattle.hippo_tables.proofs.KeptLemmas.{after_delete-grown_table, after_update-after_update}
-use Rattle.hippo_tables.proofs.HistoryLemmas.{none_from, some_from, table_at-other, table_at-grown_table, table_at-after_update, table_at-after_delete}
+use Rattle.hippo_tables.proofs.HistoryLemmas.{table_at-other, table_at-grown_table, table_at-after_update, table_at-after_delete}
 
 pub same_name : (a b : Name) → bytes_eq a b ≡ true → a ≡ b
 same_name a b same = (bytes_eq-Decides a b).0 same
@@ -139,7 +140,7 @@ row_found schema history key place found =
 
 pub old_row : (schema : Schema) (history : History) (key : Key) → is_live schema history key ≡ true → (kept : BornRow) × (born_row_at schema history key ≡ Some kept) × (kept.born ≡ born_at schema history key)
 old_row schema history key lives =
-    let live = some_from (row_at schema history key) lives in
+    let live = some_there (row_at schema history key) lives in
     (record { row = live.0; born = born_at schema history key }, ap (option_map (λ row. record { row = row; born = born_at schema history key })) live.1, refl)
 
 module _ (history : History) (entry : Entry) (old new : Tables) where
@@ -154,7 +155,7 @@ module _ (history : History) (entry : Entry) (old new : Tables) where
       let gone = not_true (is_live schema history key) parts.1 in
       let names : key_named schema entry.act ≡ Some key = ap (key_named schema) is ∙ rw same in
       let becomes = table_at-grown_table schema history entry key names kept refl (table_rows-Insert schema history entry table row is same) gone in
-      let missing : find_row schema.key key (table_rows schema history) ≡ None = none_from (find_row schema.key key (table_rows schema history)) (is_live-found schema history key ∙ gone) in
+      let missing : find_row schema.key key (table_rows schema history) ≡ None = none_there (find_row schema.key key (table_rows schema history)) (is_live-found schema history key ∙ gone) in
       let new_is : after_insert kept entry.seq (table_at history schema) ≡ grown_table kept entry.seq (table_at history schema) = ap (λ found. option_map_or (λ place. table_at history schema) found (grown_table kept entry.seq (table_at history schema))) missing in
       let again : after_delete key (after_insert kept entry.seq (table_at history schema)) ≡ table_at history schema = ap (after_delete key) new_is ∙ after_delete-grown_table (table_at history schema) kept missing entry.seq (length-map (table_rows schema history) (change_number schema history)) in
       let plain : (name : Name) → schema_created name entry.act ≡ None = λ name. ap (schema_created name) is in
@@ -175,7 +176,7 @@ module _ (history : History) (entry : Entry) (old new : Tables) where
       let kept : BornRow = record { row = row; born = born_at schema history key } in
       let kept_table : KeptTable = table_at history schema in
       let names : key_named schema entry.act ≡ Some key = ap (key_named schema) is ∙ rw same in
-      let found = some_from (find_row schema.key key (table_rows schema history)) (is_live-found schema history key ∙ lives) in
+      let found = some_there (find_row schema.key key (table_rows schema history)) (is_live-found schema history key ∙ lives) in
       let live = old_row schema history key lives in
       let at_place : slice_get (table_rows schema history) found.0 ≡ Some live.0 = row_found schema history key found.0 found.1 ∙ live.1 in
       let before : Before = record { row = live.0.row; born = live.0.born; number = get_or kept_table.numbers found.0 0 } in

@@ -3,4 +3,5 @@ pub mod FoundTheorem
 pub mod PairLemmas
 pub mod AuditTheorem
 pub mod LastingNames
+pub mod LastingMeanings
 pub mod CatalogTheorem

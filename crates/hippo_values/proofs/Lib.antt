@@ -1,3 +1,4 @@
 pub mod AsciiLemmas
+pub mod OptionLemmas
 pub mod KeywordLemmas
 mod NamesLemmas

@@ -6,6 +6,10 @@ use Rattle.std.specs.Prelude.{ℕ}
 abbrev pub text_limit : ℕ
 text_limit = 4096
 
+-- a text in a cell that takes no memory
+abbrev pub short_text_limit : ℕ
+short_text_limit = 22
+
 -- a name
 abbrev pub name_limit : ℕ
 name_limit = 63

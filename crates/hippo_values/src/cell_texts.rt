@@ -7,6 +7,7 @@ ghost use Rattle.std.specs.Cmp.Rules.{hashing};
 ghost use Rattle.std.specs.Hash as fed;
 ghost use Rattle.std.proofs.Common.{rules};
 ghost use Rattle.hippo_values.specs.CellTexts.{held_text};
+ghost use Rattle.hippo_values.specs.Limits.{short_text_limit};
 
 use crate::memory::{Duplicate, Memory};
 use std::alloc::Global;
@@ -113,7 +114,7 @@ impl CellText {
     /// A text with the same bytes. One of up to 22 bytes takes no memory.
     pub fn from_str(alloc: Global, text: &str) -> Result<CellText, Memory>
         ensures made { IfOk result (λ made. made ≡ text.now) }
-        ensures short { length text.now ≤ 22 → IsOk result }
+        ensures short { length text.now ≤ short_text_limit → IsOk result }
     {
         let held = make_held(alloc, text)?;
         Ok(CellText { held })

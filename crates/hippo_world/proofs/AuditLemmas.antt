@@ -1,6 +1,6 @@
 -- Jobs and watches that are held of a history: when an entry is added, where nothing is held, and when one is put there.
 use Rattle.std.proofs.Common.{◌≡◌, ◌∙◌, ◌<◌, sym, ap, subst, refl, arith, ℕ, zero, suc, List, [], ◌∷◌, ◌++◌, map, length, get_or, Option, None, Some, true, false}
-use Rattle.std.specs.Prelude.{IfSome, is_some, option_map, slice_set}
+use Rattle.std.specs.Prelude.{IfSome, option_map, slice_set}
 use Rattle.std.specs.List.{All, AllByRecursion}
 use Rattle.hippo_values.specs.Limits.{job_limit, watch_limit}
 use Rattle.hippo_values.specs.declared.moments.Moment.{Moment}
@@ -23,16 +23,8 @@ use Rattle.hippo_watch.proofs.WatchLemmas.{IsWatchOf-no_version}
 use Rattle.hippo_world.specs.declared.worlds.World.{World as HeldWorld}
 use Rattle.hippo_world.specs.Auditing.{HeldJob, taken_by_job, HasBegun, IsLooking, AreLooking, watched, AreWatching, AreAudits, EachFollows, EachGoesBack, job_tally, job_tallies}
 use Rattle.hippo_world.specs.Holding.{world_of, KeepsAudits, JobsFit, WatchesFit, WatchesFollow, WatchesGoBack, tallies_of}
-use Rattle.hippo_sessions.specs.Worlds.{World, at_number, with_at, none_held, opening}
-use Rattle.hippo_sessions.proofs.HeldLemmas.{StandsAt, seen-at, seen-none}
-
-pub some_seen : {A B : Type 0} (f : A → B) (held : Option A) → is_some (option_map f held) ≡ is_some held
-some_seen f None = refl
-some_seen f (Some one) = refl
-
--- whether something is held at a number is whether something is seen there
-pub seen-some : {A B : Type 0} (f : A → B) (places : List (Option A)) (number : ℕ) (found : Option A) → found ≡ at_number places number → is_some found ≡ is_some (at_number (map (option_map f) places) number)
-seen-some f places number found is = ap is_some is ∙ sym (ap is_some (seen-at f places number) ∙ some_seen f (at_number places number))
+use Rattle.hippo_sessions.specs.Worlds.{World, with_at, none_held, opening}
+use Rattle.hippo_sessions.proofs.HeldLemmas.{StandsAt, seen-none}
 
 module _ {A : Type 0} (P Q : A → Type 0) where
   -- what each that is held has, so it has what follows from that

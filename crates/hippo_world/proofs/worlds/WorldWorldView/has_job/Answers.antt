@@ -1,7 +1,7 @@
 -- What is held there is seen there.
 use Rattle.std.proofs.Common.{◌∙◌, sym}
 use Rattle.hippo_audit_job.specs.Jobs.{open_audit}
-use Rattle.hippo_world.proofs.AuditLemmas.{some_seen, seen-some}
+use Rattle.hippo_sessions.proofs.HeldLemmas.{some_seen, seen-some}
 use Rattle.hippo_world.proofs.worlds.WorldWorldView.has_job.Goals as goal
 
 pub returns : goal.returns
