@@ -4,14 +4,14 @@
 
 ghost use Rattle.std.specs.Prelude.{◌≡◌, ◌<◌, false};
 ghost use Rattle.hippo_keeper.specs.Keeping.{IsReady};
-ghost use Rattle.hippo_serve.specs.Endings.{statuses};
+ghost use Rattle.hippo_running.specs.Endings.{statuses};
 ghost use Rattle.hippo_start.specs.Statuses.{AnswersAmong, TellsFault};
 ghost use Rattle.hippo_words.specs.CommandLine.{call_of};
 
+use hippo_files::FileKeeper;
 use hippo_io::{Sink, Source};
 use hippo_keeper::{Keeper, Steps};
 use hippo_serve::hippo_top;
-use hippo_sqlite::{FileOpener, SqliteKeeper};
 use hippo_start::{Ended, Program, start};
 use hippo_values::Txt;
 use std::alloc::Global;
@@ -62,8 +62,11 @@ impl Program for Hippo {
         ensures read_fault { TellsFault 4 result (S.faults source.old) (S.faults source.new) }
         ensures write_fault { TellsFault 5 result (K.faults sink.old) (K.faults sink.new) }
     {
-        let mut keeper = SqliteKeeper::new(FileOpener::new(self.runtime));
-        serve::<_, _, _, Brand>(alloc, words, source, sink, &mut keeper, Blank::new(1))
+        let mut keeper = FileKeeper::new(self.runtime);
+        let blank = Blank::new(1);
+        let status = serve::<_, _, _, Brand>(alloc, words, source, sink, &mut keeper, blank);
+        keeper.close();
+        status
     }
 }
 

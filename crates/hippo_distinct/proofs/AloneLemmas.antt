@@ -32,7 +32,8 @@ use Rattle.hippo_shared.specs.declared.marks.Mark.TheVariants.{Unmarked}
 use Rattle.hippo_shared.specs.Marks.{row_places, mark_of, is_one}
 use Rattle.hippo_shared.specs.Candidates.{AreCandidates}
 use Rattle.hippo_shared.specs.Needs.{needs_by, first_needed}
-use Rattle.hippo_shared.specs.Sharing.{common_tables, place_in, rows_named, HaveSameRows, has_tuple_in, query_has, audit_has, virtual_tuples_in}
+use Rattle.hippo_commons.specs.Commons.{common_tables, place_in}
+use Rattle.hippo_shared.specs.Sharing.{rows_named, HaveSameRows, has_tuple_in, query_has, audit_has, virtual_tuples_in}
 use Rattle.hippo_shared.specs.Tuples.{tuple_at}
 use Rattle.hippo_shared.proofs.CandidateLemmas.{marked-alone}
 use Rattle.hippo_distinct.specs.AloneRows.{Marks, mark_at, makes_row, row_mark, AreMarked}

@@ -14,11 +14,12 @@ ghost use Rattle.hippo_shared.specs.Marks.{mark_of, is_one};
 ghost use Rattle.hippo_shared.specs.Needs.{first_needed};
 ghost use Rattle.hippo_distinct.specs.AloneRows.{AreMarked, mark_at};
 
+use hippo_commons::common_places;
 use hippo_eval::{Onward, Visitor, passes, project};
 use hippo_join::walk_joined;
 use hippo_model::{Cell, CellRow, ChoiceView, Combo, Exprs, Masked, Places, SharedTuple};
 use hippo_rows::Sets;
-use hippo_shared::{Audited, Mark, audit_has_any, common_places, first_of, know_order, row_places};
+use hippo_shared::{Audited, Mark, audit_has_any, first_of, know_order, row_places};
 use hippo_values::{Memory, Sequence};
 use std::alloc::Global;
 use std::collections::{BTreeMap, BTreeSet};

@@ -40,8 +40,8 @@ use Rattle.hippo_world.specs.declared.worlds.World.{World as HeldWorld}
 use Rattle.hippo_sessions.specs.Worlds.{World}
 use Rattle.hippo_world.specs.Holding.{world_of, JobsFit, WatchesFit, tallies_of}
 use Rattle.hippo_engine.specs.declared.engine.Engine.{Engine}
-use Rattle.hippo_engine.specs.declared.faults.EngineFault.{EngineFault}
-use Rattle.hippo_engine.specs.declared.faults.EngineFault.TheVariants as engine
+use Rattle.hippo_questions.specs.declared.faults.EngineFault.{EngineFault}
+use Rattle.hippo_questions.specs.declared.faults.EngineFault.TheVariants as engine
 use Rattle.hippo_engine.specs.Auditing.{FindsFlags, reading_end, told_flags, TellsFlags}
 use Rattle.hippo_engine.specs.Carrying.{AtWork, line_as_call, is_carried, Carries}
 use Rattle.hippo_judging.specs.Findings.{IsJudged, Does, may_do_nothing}

@@ -12,6 +12,7 @@ use Rattle.hippo_keeper.specs.Keeping.{KeeperState}
 use Rattle.hippo_typing.specs.Meanings.{meaning}
 use Rattle.hippo_lines.specs.Forms as requests
 use Rattle.hippo_commands.specs.Commands.{Command, make_request}
+use Rattle.hippo_following.proofs.RefusalLemmas.{mapped}
 use Rattle.hippo_backlog.specs.Calls as reads
 use Rattle.hippo_backlog.specs.declared.faults.ReadFault.{ReadFault}
 use Rattle.hippo_backlog.specs.declared.faults.ReadFault.TheVariants as faults
@@ -39,7 +40,7 @@ use Rattle.hippo_sessions.proofs.NumberLemmas.{put_back}
 use Rattle.hippo_sessions.proofs.HeldLemmas.{seen-at, seen-with, seen-free, StandsAt, held_stands}
 use Rattle.hippo_world.proofs.AuditLemmas.{all_with, one_has, IsLooking-begun, IsLooking-written, tally-begun}
 use Rattle.hippo_engine.specs.declared.engine.Engine.{Engine}
-use Rattle.hippo_engine.specs.declared.faults.EngineFault.{EngineFault}
+use Rattle.hippo_questions.specs.declared.faults.EngineFault.{EngineFault}
 use Rattle.hippo_engine.specs.Auditing.{reading_end}
 use Rattle.hippo_judging.specs.Checks.{Checked, StandsJob}
 use Rattle.hippo_engine.specs.Carrying.{AtWork, line_as_call, is_carried, shown_effect, AddsNothing, Carries}
@@ -308,12 +309,10 @@ module _ (number count : ℕ) (past : Past) (looked : Result (Unit {0}) ReadFaul
       }))
 
 -- a job that is seen at a number is held there
-held_of : {A B : Type 0} (f : A → B) (found : Option A) (one : B) → option_map f found ≡ Some one → (held : A) × (found ≡ Some held)
-held_of f None one is = absurd cc
-held_of f (Some held) one is = (held, refl)
-
 pub job_held : (held : HeldWorld) (number : ℕ) → StandsJob (world_of held) number → (job : HeldJob) × (at_number held.jobs number ≡ Some job)
-job_held held number there = held_of open_audit (at_number held.jobs number) there.0 (sym (seen-at open_audit held.jobs number) ∙ there.1)
+job_held held number there =
+    let seen = mapped open_audit (at_number held.jobs number) there.0 (sym (seen-at open_audit held.jobs number) ∙ there.1) in
+    (seen.from, seen.is)
 
 -- a job that stands at a number is there
 pub held_there : (jobs : List (Option HeldJob)) (number : ℕ) (job : HeldJob) → at_number jobs number ≡ Some job → ◌≡◌ {A = Option HeldJob} None (at_number jobs number) → ⊥

@@ -1,13 +1,12 @@
 -- What holds of the command of each line.
-use Rattle.std.proofs.Common.{◌≡◌, ◌<◌, refl, ℕ, zero, suc, arith, codes, Option, Some, None, Result, Ok, Err}
+use Rattle.std.proofs.Common.{◌≡◌, refl, ℕ, zero, suc, arith, codes, Option, Some, None, Result, Ok, Err}
 use Rattle.std.specs.Prelude.{IsUtf8}
 use Rattle.hippo_values.specs.Texts.{Txt}
 use Rattle.hippo_values.specs.declared.moments.Moment.{Moment}
 use Rattle.hippo_io.specs.Lines.{LineText, text_line, too_long_line, not_utf8_line}
 use Rattle.hippo_model.specs.declared.statement.Stmt.{Stmt}
 use Rattle.hippo_report.specs.declared.refusal.Refusal.{Refusal}
-use Rattle.hippo_report.specs.declared.speaker.Speaker.{Speaker}
-use Rattle.hippo_report.specs.declared.speaker.Speaker.TheVariants.{Nobody, Console, Session}
+use Rattle.hippo_report.specs.declared.speaker.Speaker.TheVariants.{Nobody}
 use Rattle.hippo_report.specs.Speakers.{speaker_at}
 use Rattle.hippo_lines.specs.Forms.{Form, says_nothing, sets_clock, makes_request, makes_statement, line_form}
 use Rattle.hippo_commands.specs.Commands.{wrong, clock_command, state_command, statement_in, command_by, command_of, input_command}
@@ -15,7 +14,7 @@ use Rattle.hippo_commands.specs.Moments.{moment_in}
 use Rattle.hippo_following.proofs.CommandTheorem.{commands_are_written}
 use Rattle.hippo_engine.specs.Carrying.{IsText}
 use Rattle.hippo_judging.specs.Findings.{IsOfLine}
-use Rattle.hippo_judging.proofs.LengthLemmas.{IsSpeaker, plain_fits}
+use Rattle.hippo_judging.proofs.LengthLemmas.{plain_fits}
 
 clock : (moment : Option Moment) → IsOfLine (clock_command moment)
 clock (Some moment) = tt
@@ -47,9 +46,3 @@ IsOfLine-line not_utf8_line utf8 = plain_fits Nobody (codes "10 BadLine") tt (om
 pub IsOfLine-input_command : (line : Option LineText) → IsText line → IsOfLine (input_command line)
 IsOfLine-input_command None utf8 = tt
 IsOfLine-input_command (Some line) utf8 = IsOfLine-line line utf8
-
--- a speaker is one where the number of its session is a byte
-pub IsSpeaker-byte : (who : Speaker) → ((number : ℕ) → who ≡ Session number → number < 256) → IsSpeaker who
-IsSpeaker-byte Nobody byte = tt
-IsSpeaker-byte Console byte = tt
-IsSpeaker-byte (Session number) byte = byte number refl

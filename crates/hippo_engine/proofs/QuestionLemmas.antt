@@ -16,7 +16,6 @@ use Rattle.hippo_eval.specs.declared.answers.EvalFault.{EvalFault}
 use Rattle.hippo_eval.specs.Answering.{IsAnswered}
 use Rattle.hippo_replay.specs.declared.state.State.{State}
 use Rattle.hippo_replay.specs.Standing.{StandsFor, IsSound, IsTimely}
-use Rattle.hippo_replay.specs.Recording.{KeepsEntry}
 use Rattle.hippo_replay.proofs.StateLemmas.{latest_moment-append}
 use Rattle.hippo_keeper.proofs.CallLemmas.{IsAfterCall-as}
 use Rattle.hippo_keeper.proofs.Results.{ok_of, err_of, well}
@@ -28,8 +27,8 @@ use Rattle.hippo_values.specs.declared.memory.Memory.{Memory as NoMemory}
 use Rattle.hippo_world.proofs.AuditLemmas.{JobsFit-more, JobsFit-same, tallies_of-same, WatchesFit-more, WatchesFit-same}
 use Rattle.hippo_commands.specs.Commands.{Command, who_commands}
 use Rattle.hippo_engine.specs.declared.engine.Engine.{Engine}
-use Rattle.hippo_engine.specs.declared.faults.EngineFault.{EngineFault}
-use Rattle.hippo_engine.specs.declared.faults.EngineFault.TheVariants.{Keeper}
+use Rattle.hippo_questions.specs.declared.faults.EngineFault.{EngineFault}
+use Rattle.hippo_questions.specs.declared.faults.EngineFault.TheVariants.{Keeper}
 use Rattle.hippo_judging.specs.declared.asking.Asking.{Asking}
 use Rattle.hippo_judging.specs.declared.asking.Delivery.{Delivery}
 use Rattle.hippo_judging.specs.declared.asking.Delivery.TheVariants as delivered
@@ -45,19 +44,9 @@ use Rattle.hippo_engine.specs.Carrying.{Carries}
 use Rattle.hippo_engine.proofs.CarryingLemmas.{Holds-same, Holds-more, IsTimely-same}
 use Rattle.hippo_effects.proofs.ClockLemmas.{int_le-refl, either_clock}
 use Rattle.hippo_judging.specs.Asking.{question_of, deed_asked, question_entry}
-use Rattle.hippo_engine.specs.Questions.{KeptAnswer, Asks, answer_said, world_left, HandsOutAnswer, Replies}
+use Rattle.hippo_questions.specs.Questions.{KeptAnswer, Asks, answer_said, world_left, HandsOutAnswer, Replies}
 use Rattle.hippo_engine.specs.Watching.{alarms_now}
 use Rattle.hippo_effects.proofs.ShortLemmas.{takes_some, short, done_for}
-
--- what is kept does not hang on what is answered
-pub KeepsEntry-ok : {A B : Type 0} (one : A) (other : B) (entry : Entry) (held : State) (before after : KeeperState) → KeepsEntry entry (ok_of KeeperFault one) held before after → KeepsEntry entry (ok_of KeeperFault other) held before after
-KeepsEntry-ok one other entry held before after keeps = record {
-  call = IsAfterCall-as true false (ok_of KeeperFault one) (ok_of KeeperFault other) before after refl keeps.call;
-  follows = keeps.follows;
-  kept = keeps.kept;
-  failed = keeps.failed;
-  same = keeps.same;
-}
 
 -- the entry of a question is the next one
 next_is : (history : History) (held : State) (world : HeldWorld) (question : Question) → StandsFor held history

@@ -20,8 +20,8 @@ use Rattle.hippo_report.specs.declared.format.Format.{Format}
 use Rattle.hippo_report.specs.declared.refusal.Refusal.TheVariants as refusals
 use Rattle.hippo_flags.specs.Flags.{flag_line}
 use Rattle.hippo_report.specs.Refusals.{refusal_line}
-use Rattle.hippo_engine.specs.declared.faults.EngineFault.{EngineFault}
-use Rattle.hippo_engine.specs.declared.faults.EngineFault.TheVariants as engine
+use Rattle.hippo_questions.specs.declared.faults.EngineFault.{EngineFault}
+use Rattle.hippo_questions.specs.declared.faults.EngineFault.TheVariants as engine
 use Rattle.hippo_effects.specs.Effects.{lines_and_count}
 
 -- the flags of an audit over a history, or memory was short, or the keeper failed; with at most one

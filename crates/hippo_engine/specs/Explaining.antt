@@ -18,8 +18,8 @@ use Rattle.hippo_replay.specs.Standing.{StandsFor}
 use Rattle.hippo_report.specs.declared.speaker.Speaker.TheVariants.{Console}
 use Rattle.hippo_report.specs.declared.refusal.Refusal.TheVariants as refusals
 use Rattle.hippo_report.specs.Refusals.{refusal_line}
-use Rattle.hippo_engine.specs.declared.faults.EngineFault.{EngineFault}
-use Rattle.hippo_engine.specs.declared.faults.EngineFault.TheVariants as engine
+use Rattle.hippo_questions.specs.declared.faults.EngineFault.{EngineFault}
+use Rattle.hippo_questions.specs.declared.faults.EngineFault.TheVariants as engine
 use Rattle.hippo_judging.specs.Checks.{question_at}
 use Rattle.hippo_effects.specs.Effects.{row_limit, denial_line, lines_and_count}
 

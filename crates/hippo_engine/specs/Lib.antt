@@ -1,6 +1,5 @@
 pub mod Carrying
 pub mod Changing
-pub mod Questions
 pub mod Watching
 pub mod Explaining
 pub mod Auditing

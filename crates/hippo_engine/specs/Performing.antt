@@ -22,7 +22,7 @@ use Rattle.hippo_judging.specs.Checks.{reply_room}
 use Rattle.hippo_world.specs.Holding.{world_of}
 use Rattle.hippo_judging.specs.Findings.{Does}
 use Rattle.hippo_engine.specs.declared.engine.Engine.{Engine}
-use Rattle.hippo_engine.specs.declared.faults.EngineFault.{EngineFault}
+use Rattle.hippo_questions.specs.declared.faults.EngineFault.{EngineFault}
 use Rattle.hippo_engine.specs.Carrying.{Carries}
 use Rattle.hippo_effects.specs.Effects.{row_limit}
 use Rattle.hippo_engine.specs.Explaining.{told_of, told_cells, explaining_end}

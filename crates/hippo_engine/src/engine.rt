@@ -7,29 +7,22 @@ ghost use Rattle.hippo_sessions.specs.Worlds.{opening};
 ghost use Rattle.hippo_world.specs.Holding.{world_of};
 ghost use Rattle.hippo_commands.specs.Commands.{input_command};
 ghost use Rattle.hippo_commands.specs.Lent.{command};
-ghost use Rattle.hippo_engine.specs.declared.faults.EngineFault.TheVariants.{Write as WriteFailed};
+ghost use Rattle.hippo_questions.specs.declared.faults.EngineFault.TheVariants.{Write as WriteFailed};
 ghost use Rattle.hippo_judging.specs.Findings.{IsOfLine};
 ghost use Rattle.hippo_engine.specs.Carrying.{IsText, AtWork, is_carried, Carries};
 ghost use Rattle.hippo_engine.specs.Performing.{Needs, Performs};
 
-use crate::faults::EngineFault;
 use hippo_commands::{Command, command_of};
 use hippo_io::{Line, Sink};
 use hippo_judging::{Deed, judge, who_commands};
 use hippo_keeper::{Keeper, Steps};
+use hippo_questions::{EngineFault, Reply};
 use hippo_replay::State;
 use hippo_report::Format;
-use hippo_values::{Memory, Moment, RoomyTxt};
+use hippo_values::{Memory, Moment};
 use hippo_world::World;
 use std::alloc::Global;
 use std::sync::ledger::Ledger;
-
-/// How many bytes of a reply there is always room for: each reply that must not want memory is
-/// shorter.
-pub const REPLY_ROOM: usize = 64;
-
-/// What a line is replied, in memory that has room for the replies that must not want memory.
-pub type Reply = RoomyTxt<REPLY_ROOM>;
 
 /// The state of a history, what a run holds beside it, and the reply to the last line.
 #[derive(Drop)]

@@ -5,7 +5,7 @@ ghost use Rattle.hippo_report.specs.Notices.{number_line};
 ghost use Rattle.hippo_sessions.specs.Worlds.{rows_next, moved_on};
 ghost use Rattle.hippo_effects.specs.Effects.{handed_line};
 
-use crate::engine::Reply;
+use hippo_questions::Reply;
 use hippo_report::{answer_lines, number_line};
 use hippo_sessions::Cursor;
 use hippo_values::Memory;

@@ -5,14 +5,11 @@ mod auditing;
 mod changes;
 mod engine;
 mod explaining;
-mod faults;
 mod fetching;
 mod jobs;
 mod plain;
 mod questions;
-mod replies;
 mod sessions;
 mod watches;
 
-pub use engine::{Engine, Reply};
-pub use faults::EngineFault;
+pub use engine::Engine;

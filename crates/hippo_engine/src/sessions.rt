@@ -10,8 +10,8 @@ ghost use Rattle.hippo_engine.specs.Performing.{MayDo};
 
 use crate::engine::Engine;
 use crate::fetching::print_next;
-use crate::replies::{refuse_for_memory, say_done};
 use hippo_model::Pair;
+use hippo_questions::{refuse_for_memory, say_done};
 use hippo_report::Speaker;
 use hippo_sessions::{Cursor, WorldView};
 use hippo_values::{Memory, Moment, Name};
@@ -33,7 +33,8 @@ fn cursor_at(world: &World, session: u8, cursor: u8) -> Option<&Cursor>
 impl Engine {
     /// A line that says nothing has no reply.
     pub(crate) fn do_nothing(&mut self)
-        ensures { (command : Command) → Does command deeds.DoNothing self.old.state (world_of self.old.world)
+        ensures { (command : Command) → Does command deeds.DoNothing self.old.state
+            (world_of self.old.world)
             → IsQuiet command self.old self.new }
     {
         self.reply.clear();
@@ -76,7 +77,8 @@ impl Engine {
     pub(crate) fn hand_out(&mut self, session: u8, cursor: u8, count: u32)
         requires { MayDo (deeds.HandOut session cursor count) self.old }
         ensures { (command : Command)
-            → Does command (deeds.HandOut session cursor count) self.old.state (world_of self.old.world)
+            → Does command (deeds.HandOut session cursor count) self.old.state
+            (world_of self.old.world)
             → IsQuiet command self.old self.new }
     {
         match cursor_at(&self.world, session, cursor) {

@@ -17,11 +17,11 @@ ghost use Rattle.hippo_judging.specs.Deeds.{Question as AskedQuestion};
 ghost use Rattle.hippo_engine.specs.Carrying.{AddsNothing};
 ghost use Rattle.hippo_engine.specs.Watching.{AddsAlarm, AddsAlarms, alarms_now};
 
-use crate::engine::{Engine, Reply};
-use crate::replies::{refuse_for_memory, say_done, say_number};
+use crate::engine::Engine;
 use hippo_audit_job::Past;
 use hippo_judging::Asking;
 use hippo_model::{Audit, Pair, Query, SharedTuple};
+use hippo_questions::{Reply, refuse_for_memory, say_done, say_number};
 use hippo_replay::State;
 use hippo_report::Speaker;
 use hippo_typing::read_meaning;

@@ -1,4 +1,1 @@
-pub mod PartLoops
-pub mod TextLemmas
-pub mod Fields
-pub mod EntryAgain
+mod FormLemmas

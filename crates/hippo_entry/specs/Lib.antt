@@ -1,3 +1,1 @@
-pub mod Readings
-pub mod Names
 pub mod Forms

@@ -4,10 +4,7 @@ ghost use Rattle.std.specs.Bool.{then_some};
 ghost use Rattle.std.specs.Result.{result_map_both};
 ghost use Rattle.hippo_entry.specs.Forms.{HasForm, IsEntryOf};
 
-use crate::acts::read_entry;
-use crate::encoding::encode;
-use crate::fault::Fault;
-use crate::keeping::Keepable;
+use hippo_entry_forms::{Fault, Keepable, encode, read_entry};
 use hippo_model::{Entry, StoredEntry};
 use hippo_values::Memory;
 use std::alloc::Global;

@@ -1,15 +1,7 @@
-//! How an entry of the history is kept: its stored form, and back.
+//! How an entry of the history is kept: its stored form, and the entry that has one.
 #![tactic(auto)]
 
-mod acts;
 mod decoding;
-mod encoding;
-mod fault;
-mod keeping;
-mod names;
-mod parts;
-mod reading;
 
 pub use decoding::decode;
-pub use encoding::encode;
-pub use keeping::Keepable;
+pub use hippo_entry_forms::encode;

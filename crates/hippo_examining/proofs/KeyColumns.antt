@@ -18,7 +18,8 @@ use Rattle.hippo_model.specs.Answers.{cell_in}
 use Rattle.hippo_model.specs.Audits.{key_at as key_at_history}
 use Rattle.hippo_model.specs.Masking.{raw_value}
 use Rattle.hippo_lookups.specs.Places.{blank}
-use Rattle.hippo_shared.specs.Sharing.{place_in, shared_key_in}
+use Rattle.hippo_commons.specs.Commons.{place_in}
+use Rattle.hippo_shared.specs.Sharing.{shared_key_in}
 use Rattle.hippo_shared.specs.HistoryLaws.{sets_at}
 use Rattle.hippo_shared.proofs.HistoryLemmas.{rows_by, set_is}
 

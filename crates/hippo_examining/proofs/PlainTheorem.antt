@@ -23,7 +23,8 @@ use Rattle.hippo_rewrite.specs.RewritingLaws.{rules_at}
 use Rattle.hippo_eval.specs.Answering.{masked_rows}
 use Rattle.hippo_eval.specs.Walks.{rows_of}
 use Rattle.hippo_join.specs.Existence.{are_shown}
-use Rattle.hippo_shared.specs.Sharing.{common_tables, virtual_tuples_in, has_tuple_in, query_has, audit_has, first_shared}
+use Rattle.hippo_commons.specs.Commons.{common_tables}
+use Rattle.hippo_shared.specs.Sharing.{virtual_tuples_in, has_tuple_in, query_has, audit_has, first_shared}
 use Rattle.hippo_shared.specs.Needs.{needs_by, first_needed}
 use Rattle.hippo_shared.specs.HistoryLaws.{sets_at}
 use Rattle.hippo_examining.specs.Seen.{to_be_seen}

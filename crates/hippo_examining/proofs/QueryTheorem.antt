@@ -34,7 +34,8 @@ use Rattle.hippo_rewrite.specs.RewritingLaws.{rules_at, tables_at, HasTables, Re
 use Rattle.hippo_rewrite.proofs.RulesInForce.{table_by_table}
 use Rattle.hippo_eval.specs.Answering.{masked_rows}
 use Rattle.hippo_eval.specs.Walks.{rows_of}
-use Rattle.hippo_shared.specs.Sharing.{place_in, shared_key_in, has_tuple_in}
+use Rattle.hippo_commons.specs.Commons.{place_in}
+use Rattle.hippo_shared.specs.Sharing.{shared_key_in, has_tuple_in}
 use Rattle.hippo_shared.specs.Needs.{needs_by}
 use Rattle.hippo_shared.specs.HistoryLaws.{sets_at}
 use Rattle.hippo_shared.proofs.CommonLemmas.{place-found}

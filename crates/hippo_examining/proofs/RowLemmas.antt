@@ -6,7 +6,8 @@ use Rattle.std.proofs.lemmas.List.{get_or-map}
 use Rattle.std.proofs.lemmas.List.Elements.{All-from_recursion}
 use Rattle.hippo_values.specs.declared.names.Name.{Name}
 use Rattle.hippo_keyed_rows.specs.RowSets.{KeyedRows}
-use Rattle.hippo_shared.specs.Sharing.{HaveSameRows, common_tables, place_in, rows_named}
+use Rattle.hippo_commons.specs.Commons.{common_tables, place_in}
+use Rattle.hippo_shared.specs.Sharing.{HaveSameRows, rows_named}
 use Rattle.hippo_shared.proofs.CommonLemmas.{place-found, common-in-query, common-in-audit}
 
 module _ (rows : Name → KeyedRows) where

@@ -34,7 +34,8 @@ use Rattle.hippo_rewrite.proofs.FittingRows.{schema_named}
 use Rattle.hippo_lookups.specs.Places.{blank, row_at_place, chosen_rows, in_range}
 use Rattle.hippo_lookups.proofs.SlotLemmas.{row-at, length-in_range}
 use Rattle.hippo_lookups.proofs.PruneLemmas.{below-rows}
-use Rattle.hippo_shared.specs.Sharing.{common_tables, place_in, shared_key_in, has_tuple_in}
+use Rattle.hippo_commons.specs.Commons.{common_tables, place_in}
+use Rattle.hippo_shared.specs.Sharing.{shared_key_in, has_tuple_in}
 use Rattle.hippo_shared.specs.HistoryLaws.{sets_at}
 use Rattle.hippo_shared.proofs.CommonLemmas.{same_name, same_as_itself, place-found}
 use Rattle.hippo_shared.proofs.KeyLemmas.{below_at}

@@ -27,7 +27,8 @@ use Rattle.hippo_rewrite.specs.RewritingLaws.{rules_at, ColumnsShowVerdicts}
 use Rattle.hippo_eval.specs.Walks.{rows_of}
 use Rattle.hippo_lookups.specs.Places.{chosen_rows, in_range}
 use Rattle.hippo_join.specs.Existence.{are_shown}
-use Rattle.hippo_shared.specs.Sharing.{common_tables, place_in, has_tuple_in, query_has, audit_has}
+use Rattle.hippo_commons.specs.Commons.{common_tables, place_in}
+use Rattle.hippo_shared.specs.Sharing.{has_tuple_in, query_has, audit_has}
 use Rattle.hippo_shared.specs.Needs.{needs_by}
 use Rattle.hippo_shared.specs.HistoryLaws.{sets_at, TuplesAreThoseOfHistory, AuditNeedsWhatItHas}
 use Rattle.hippo_shared.proofs.CommonLemmas.{same_as_itself, common-in-query, common-in-audit}

@@ -11,7 +11,7 @@ use Rattle.hippo_model.specs.declared.query.Ref.{Ref}
 use Rattle.hippo_model.specs.Terms.{History}
 use Rattle.hippo_model.specs.Histories.{schema_at}
 use Rattle.hippo_rewrite.specs.Rewriting.{masked_column}
-use Rattle.hippo_shared.specs.Sharing.{place_in}
+use Rattle.hippo_commons.specs.Commons.{place_in}
 
 -- an audited column by its table's place in the query; of no table, it has none
 abbrev pub column_in_query : List Name → List Name → Ref → Ref

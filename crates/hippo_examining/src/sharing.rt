@@ -6,6 +6,7 @@ ghost use Rattle.hippo_examining.specs.Seen.{column_in_query, to_be_seen};
 ghost use Rattle.hippo_examining.specs.Examining.{ServesFirst};
 
 use crate::laws::needed_serves_first;
+use hippo_commons::place_in;
 use hippo_distinct::first_alone;
 use hippo_groups::first_changing;
 use hippo_model::{
@@ -13,7 +14,7 @@ use hippo_model::{
 };
 use hippo_rewrite::{mask_columns, rewrite};
 use hippo_rows::Sets;
-use hippo_shared::{Audited, first_shared, place_in};
+use hippo_shared::{Audited, first_shared};
 use hippo_values::{Memory, Name, Sequence};
 use std::alloc::Global;
 

@@ -21,7 +21,8 @@ use Rattle.hippo_distinct.proofs.BagLemmas.{bag-from_same}
 use Rattle.hippo_shared.specs.Candidates.{AreCandidates}
 use Rattle.hippo_shared.specs.Marks.{row_places, same_places}
 use Rattle.hippo_shared.specs.Needs.{needs_by}
-use Rattle.hippo_shared.specs.Sharing.{common_tables, place_in, rows_named, HaveSameRows, has_tuple_in}
+use Rattle.hippo_commons.specs.Commons.{common_tables, place_in}
+use Rattle.hippo_shared.specs.Sharing.{rows_named, HaveSameRows, has_tuple_in}
 use Rattle.hippo_shared.specs.Tuples.{tuple_at}
 use Rattle.hippo_shared.proofs.CandidateLemmas.{all_told}
 use Rattle.hippo_shared.proofs.MarkLemmas.{same-exact}

@@ -5,8 +5,9 @@ ghost use Rattle.hippo_shared.specs.Audited.{HasRowsFor};
 ghost use Rattle.hippo_shared.specs.Needs.{first_needed};
 
 use crate::marking::marked_groups;
+use hippo_commons::common_places;
 use hippo_model::{ChoiceView, Exprs, Masked, Shape, SharedTuple};
-use hippo_shared::{Audited, audit_has_any, common_places, first_of, know_order};
+use hippo_shared::{Audited, audit_has_any, first_of, know_order};
 use hippo_values::Memory;
 use std::alloc::Global;
 

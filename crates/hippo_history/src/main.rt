@@ -8,10 +8,10 @@ ghost use Rattle.hippo_showing.specs.CommandLine.{asked_of};
 ghost use Rattle.hippo_showing.specs.Endings.{showing_statuses};
 ghost use Rattle.hippo_start.specs.Statuses.{AnswersAmong, TellsFault};
 
+use hippo_files::FileKeeper;
 use hippo_io::{Sink, Source};
 use hippo_keeper::{Keeper, Steps};
 use hippo_showing::history_top;
-use hippo_sqlite::{FileOpener, SqliteKeeper};
 use hippo_start::{Ended, Program, start};
 use hippo_values::Txt;
 use std::alloc::Global;
@@ -59,8 +59,11 @@ impl Program for History {
         ensures answers { AnswersAmong showing_statuses (asked_of words.now) result }
         ensures write_fault { TellsFault 5 result (K.faults sink.old) (K.faults sink.new) }
     {
-        let mut keeper = SqliteKeeper::new(FileOpener::new(self.runtime));
-        show::<_, _, Brand>(alloc, words, sink, &mut keeper, Blank::new(1))
+        let mut keeper = FileKeeper::new(self.runtime);
+        let blank = Blank::new(1);
+        let status = show::<_, _, Brand>(alloc, words, sink, &mut keeper, blank);
+        keeper.close();
+        status
     }
 }
 

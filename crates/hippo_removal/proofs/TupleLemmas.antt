@@ -20,7 +20,8 @@ use Rattle.hippo_eval.specs.Walks.{rows_of}
 use Rattle.hippo_eval.proofs.WalkLemmas.{drop_at}
 use Rattle.hippo_sides.proofs.ProductLemmas.{map-map, map-flat_map}
 use Rattle.hippo_shared.specs.Needs.{needs_by, first_needed}
-use Rattle.hippo_shared.specs.Sharing.{common_tables, place_in, rows_named, virtual_tuples_in, query_has}
+use Rattle.hippo_commons.specs.Commons.{common_tables, place_in}
+use Rattle.hippo_shared.specs.Sharing.{rows_named, virtual_tuples_in, query_has}
 use Rattle.hippo_shared.proofs.CommonLemmas.{common-in-audit}
 use Rattle.hippo_shared.proofs.TupleLemmas.{AllStandIn, set_at}
 use Rattle.hippo_removal.specs.Removing.{tuple_of, unmasked_query, is_shared}

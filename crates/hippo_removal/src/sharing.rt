@@ -2,7 +2,7 @@
 ghost use Rattle.std.specs.Prelude.{◌≡◌, map, IfOk, bytes_eq, filter_map, slice_get, option_copied, length};
 ghost use Rattle.std.specs.List.{list_any};
 ghost use Rattle.hippo_model.specs.declared.query.Expr.TheVariants.{Keep};
-ghost use Rattle.hippo_shared.specs.Sharing.{common_tables, place_in};
+ghost use Rattle.hippo_commons.specs.Commons.{common_tables, place_in};
 ghost use Rattle.hippo_shared.specs.Needs.{first_needed};
 ghost use Rattle.hippo_examining.specs.Examining.{ServesFirst};
 ghost use Rattle.hippo_removal.specs.Removing.{tuple_of, unmasked_query};
@@ -10,6 +10,7 @@ ghost use Rattle.hippo_removal.specs.Removing.{tuple_of, unmasked_query};
 use crate::needing::needs;
 use crate::seeing::has_seen;
 use crate::tuples::key_of;
+use hippo_commons::place_in;
 use hippo_eval::{Onward, Visitor, unmasked_condition, walk};
 use hippo_examining::laws::needed_serves_first;
 use hippo_examining::to_be_seen;
@@ -19,7 +20,7 @@ use hippo_model::{
 };
 use hippo_rewrite::rewrite;
 use hippo_rows::{RowSet, Sets};
-use hippo_shared::{Audited, place_in};
+use hippo_shared::Audited;
 use hippo_values::{Duplicate, Memory, Name, Sequence};
 use std::alloc::Global;
 
@@ -134,8 +135,10 @@ struct Sides<'a, C> {
 }
 
 impl<'a, C: ChoiceView> Sides<'a, C> {
-    ghost use Rattle.std.specs.Prelude.{◌≡◌, IfOk};
-    ghost use Rattle.hippo_removal.specs.Removing.{is_shared};
+    ghost use Rattle.std.specs.Prelude.{◌≡◌, IfOk, find, map};
+    ghost use Rattle.hippo_model.specs.Answers.{product};
+    ghost use Rattle.hippo_eval.specs.Walks.{rows_of};
+    ghost use Rattle.hippo_removal.specs.Removing.{is_shared, tuple_of};
 
     // Whether both need a tuple, and what is to be seen was shown.
     fn is_shared(&self, alloc: Global, tuple: &SharedTuple) -> Result<bool, Memory>
@@ -172,6 +175,20 @@ impl<'a, C: ChoiceView> Sides<'a, C> {
             tuple,
             self.choices,
         )
+    }
+
+    // The first tuple of the common tables that both need.
+    fn first_shared(&self, alloc: Global) -> Result<Option<SharedTuple>, Memory>
+        ensures { IfOk result (λ shared. shared
+            ≡ find (is_shared (C.choices self.now.choices.now) self.now.query.now
+            self.now.form.now self.now.audit.now self.now.seen.now self.now.query_sets.now
+            self.now.audit_sets.now)
+            (map (tuple_of self.now.common.now self.now.common_sets.now)
+            (product (rows_of self.now.common_sets.now)))) }
+    {
+        let mut found = None;
+        walk(alloc, self.common_sets, self, &mut found)?;
+        Ok(found)
     }
 }
 
@@ -232,9 +249,7 @@ fn first_needed<C: ChoiceView>(
         common_sets: &common_sets,
         choices: &*audited.choices,
     };
-    let mut found = None;
-    walk(alloc, &common_sets, &sides, &mut found)?;
-    Ok(found)
+    sides.first_shared(alloc)
 }
 
 /// The first virtual tuple (a row of each table in both FROM lists, by its key; in the audit's

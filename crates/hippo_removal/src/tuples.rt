@@ -7,9 +7,9 @@ ghost use Rattle.hippo_eval.specs.LentCells.{or_null};
 ghost use Rattle.hippo_lookups.specs.Places.{blank};
 ghost use Rattle.hippo_shared.specs.Sharing.{shared_key_in, has_tuple_in};
 
+use hippo_commons::place_in;
 use hippo_model::{Cells, Combo, Names, SharedRow, SharedTuple};
 use hippo_rows::Sets;
-use hippo_shared::place_in;
 use hippo_values::{Duplicate, Memory, Sequence, Value};
 use std::alloc::Global;
 

@@ -11,14 +11,14 @@ use Rattle.hippo_programs.specs.Starting.{IsIdle}
 use Rattle.hippo_words.specs.declared.calls.Call.{Call}
 use Rattle.hippo_words.specs.declared.calls.Job.{Job}
 use Rattle.hippo_words.specs.declared.calls.Job.TheVariants.{Drill}
-use Rattle.hippo_serve.specs.declared.endings.Ending.{Ending}
-use Rattle.hippo_serve.specs.declared.endings.Ending.TheVariants.{Served, WriteFault, NoMemory}
-use Rattle.hippo_serve.specs.Drilling.{summary}
-use Rattle.hippo_serve.specs.Endings.{status_of}
+use Rattle.hippo_running.specs.declared.endings.Ending.{Ending}
+use Rattle.hippo_running.specs.declared.endings.Ending.TheVariants.{Served, WriteFault, NoMemory}
+use Rattle.hippo_running.specs.Drilling.{summary}
+use Rattle.hippo_running.specs.Endings.{status_of}
 use Rattle.hippo_serve.specs.Asking.{store_of, job_of}
-use Rattle.hippo_serve.specs.Outcomes.{CheckEnds}
-use Rattle.hippo_serve.specs.Outside.{Outside}
-use Rattle.hippo_serve.proofs.StatusLemmas.{ByStatus, check-by-status}
+use Rattle.hippo_running.specs.Outcomes.{CheckEnds}
+use Rattle.hippo_running.specs.Outside.{Outside}
+use Rattle.hippo_running.proofs.StatusLemmas.{ByStatus, check-by-status}
 
 module _ (words : List Txt) (call : Call) (asked : call_of words ≡ Some call) (store : Txt) (named : store ≡ call.store) where
   store_is : store ≡ store_of words

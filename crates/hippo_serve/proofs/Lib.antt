@@ -1,10 +1,1 @@
-mod StatusLemmas
-mod KeptLemmas
-mod AskedLemmas
-mod RunLemmas
-mod TurnLemmas
-mod FirstLemmas
-mod TakenLemmas
-mod OutcomeLemmas
 mod AskingLemmas
-mod DrillLemmas

@@ -1,9 +1,1 @@
-pub mod Endings
 pub mod Asking
-pub mod Loads
-pub mod Saying
-pub mod Keeping
-pub mod Outside
-pub mod Runs
-pub mod Outcomes
-pub mod Drilling

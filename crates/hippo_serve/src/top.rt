@@ -1,121 +1,28 @@
 //! The top call: what the words ask for is done over a keeper, and the call has its exit status.
-ghost use Rattle.std.specs.Prelude.{◌≡◌, ◌≢◌, ◌⊎◌, ℕ, List, Option, Some, None, true, false, Any};
+ghost use Rattle.std.specs.Prelude.{◌≡◌, ◌≢◌, ◌⊎◌, ℕ, List, Some, None, true, false, Any};
 ghost use Rattle.hippo_io.specs.Faults.{HasRisen};
 ghost use Rattle.hippo_io.specs.Told.{Appends, AppendsFront};
-ghost use Rattle.hippo_keeper.specs.Keeping.{IsReady, IsAfterCall};
-ghost use Rattle.hippo_programs.specs.Starting.{IsIdle, SaysDamaged, BeginsDamaged, Stops};
+ghost use Rattle.hippo_keeper.specs.Keeping.{IsReady};
+ghost use Rattle.hippo_programs.specs.Starting.{IsIdle, SaysDamaged, BeginsDamaged};
 ghost use Rattle.hippo_words.specs.CommandLine.{call_of};
 ghost use Rattle.hippo_words.specs.declared.calls.Setting.{Setting};
 ghost use Rattle.hippo_words.specs.declared.calls.Job.{Job};
 ghost use Rattle.hippo_words.specs.declared.calls.Job.TheVariants.{Check, Drill};
-ghost use Rattle.hippo_serve.specs.declared.endings.Ending.TheVariants.{Served, Refused, ReadFault, WriteFault, Damaged, NoMemory, TooMuch};
-ghost use Rattle.hippo_serve.specs.Drilling.{summary};
-ghost use Rattle.hippo_serve.specs.Endings.{status_of, statuses, ending_as_call, stop_ending};
+ghost use Rattle.hippo_running.specs.Drilling.{summary};
+ghost use Rattle.hippo_running.specs.Endings.{statuses};
+ghost use Rattle.hippo_running.specs.Outcomes.{FromFound, IsCounted, BeginsCount};
+ghost use Rattle.hippo_running.specs.Outside.{Outside, outside};
+ghost use Rattle.hippo_running.specs.Runs.{HasTakenBytes, IsServed, IsBrokenOff, IsReadCut, IsUnwritten, HasTooMuch};
+ghost use Rattle.hippo_running.specs.Saying.{usage};
 ghost use Rattle.hippo_serve.specs.Asking.{job_of, store_of, AskToServe};
-ghost use Rattle.hippo_serve.specs.Outcomes.{FromFound, IsCounted, BeginsCount, RunEnds, CheckEnds};
-ghost use Rattle.hippo_serve.specs.Outside.{Outside, outside};
-ghost use Rattle.hippo_serve.specs.Runs.{HasTakenBytes, IsServed, IsBrokenOff, IsReadCut, IsUnwritten, HasTooMuch};
-ghost use Rattle.hippo_serve.specs.Saying.{usage};
 
-use crate::drilling::drill;
-use crate::endings::Ending;
-use crate::printing::{refuse, say_damaged, say_entries};
-use crate::serving::serve;
 use hippo_io::{Sink, Source};
 use hippo_keeper::{Keeper, Steps};
-use hippo_replay::{LoadFault, State, load};
+use hippo_running::{Ending, check, drill, refuse, run};
 use hippo_values::Txt;
-use hippo_words::{Job, Setting, call_of};
+use hippo_words::{Job, call_of};
 use std::alloc::Global;
 use std::sync::ledger::Ledger;
-
-// How the program ends where what is kept was not loaded.
-fn stop<K: Sink>(fault: LoadFault, sink: &mut K) -> Ending
-    ensures status { (result ≢ Served) × (result ≢ TooMuch) }
-    ensures stops { Stops stop_ending WriteFault fault result (sink.new ≡ sink.old)
-        (K.written sink.old) (K.written sink.new) (K.faults sink.old) (K.faults sink.new) }
-{
-    match fault {
-        LoadFault::Keeper => Ending::KeeperFault,
-        LoadFault::Damaged(place) => say_damaged(sink, place),
-        LoadFault::Memory => Ending::NoMemory,
-    }
-}
-
-// Lets a state go, and answers how many entries it has.
-fn count_of(state: State) -> u64
-    ensures { result ≡ state.count }
-{
-    let count = state.count;
-    state.close();
-    count
-}
-
-// Loads what a store keeps, and serves all lines that a job asks for.
-fn run<S: Source, K: Sink, P: Keeper, L: Ledger>(
-    alloc: Global,
-    store: &str,
-    setting: Setting,
-    job: &Job,
-    source: &mut S,
-    sink: &mut K,
-    keeper: &mut P,
-    steps: &mut Steps<L>,
-) -> Ending
-    requires ready { IsReady false (P.state keeper.old) }
-    ensures status { result ≢ Refused }
-    ensures call { IsAfterCall (P.state keeper.new).started (P.state keeper.new).closed
-        (ending_as_call result)
-        (P.state keeper.old) (P.state keeper.new) }
-    ensures ends { (P.state keeper.new).tells →
-        RunEnds result (source.new ≡ source.old) (sink.new ≡ sink.old) setting job.now store.now
-        (outside (S.left source.old) (K.written sink.old) (P.state keeper.old) steps.old)
-        (outside (S.left source.new) (K.written sink.new) (P.state keeper.new) steps.new) }
-    ensures damaged { result ≡ Damaged → (P.state keeper.new).tells → source.new ≡ source.old }
-    ensures unread { result ≡ NoMemory → source.new ≡ source.old }
-    ensures unwritten { result ≡ NoMemory → sink.new ≡ sink.old }
-    ensures read { (input : List ℕ) → S.left source.old ≡ Some input →
-        HasTakenBytes (status_of result) input (S.left source.new) }
-    ensures read_fault { result ≡ ReadFault → HasRisen (S.faults source.old) (S.faults source.new) }
-    ensures write_fault { result ≡ WriteFault → HasRisen (K.faults sink.old) (K.faults sink.new) }
-    ensures unfailed_read { result ≢ ReadFault → S.faults source.new ≡ S.faults source.old }
-    ensures unfailed_write { result ≢ WriteFault → K.faults sink.new ≡ K.faults sink.old }
-{
-    match load(keeper, alloc, store, steps) {
-        Ok(state) => serve(alloc, setting, job, state, source, keeper, sink, steps),
-        Err(fault) => stop(fault, sink),
-    }
-}
-
-// Loads what a store keeps, and says how many entries there are. The source is not handed over, and
-// stays as it is.
-fn check<K: Sink, P: Keeper, L: Ledger>(
-    alloc: Global,
-    store: &str,
-    sink: &mut K,
-    keeper: &mut P,
-    steps: &mut Steps<L>,
-) -> Ending
-    requires ready { IsReady false (P.state keeper.old) }
-    ensures status { (result ≢ Refused) × (result ≢ ReadFault) × (result ≢ TooMuch) }
-    ensures call { IsAfterCall (P.state keeper.new).started (P.state keeper.new).closed
-        (ending_as_call result)
-        (P.state keeper.old) (P.state keeper.new) }
-    ensures ends { (P.state keeper.new).tells → (left : Option (List ℕ)) →
-        CheckEnds result (sink.new ≡ sink.old) store.now
-        (outside left (K.written sink.old) (P.state keeper.old) steps.old)
-        (outside left (K.written sink.new) (P.state keeper.new) steps.new) }
-    ensures idle { (P.state keeper.new).tells
-        → IsIdle store.now (P.state keeper.old) (P.state keeper.new) }
-    ensures unwritten { result ≡ NoMemory → sink.new ≡ sink.old }
-    ensures write_fault { result ≡ WriteFault → HasRisen (K.faults sink.old) (K.faults sink.new) }
-    ensures unfailed_write { result ≢ WriteFault → K.faults sink.new ≡ K.faults sink.old }
-{
-    match load(keeper, alloc, store, steps) {
-        Ok(state) => say_entries(sink, count_of(state)),
-        Err(fault) => stop(fault, sink),
-    }
-}
 
 /// Runs the program: `words` are those behind its name, `source` is its input, `sink` its output,
 /// and `keeper`, which must be neither started nor spent nor closed, keeps its history in the store

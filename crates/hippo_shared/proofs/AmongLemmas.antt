@@ -14,7 +14,7 @@ use Rattle.hippo_keyed_rows.specs.RowSets.{KeyedRows}
 use Rattle.hippo_sides.specs.Finding.{has_places, IsRising}
 use Rattle.hippo_join.specs.Existence.{Decides}
 use Rattle.hippo_lookups.specs.Places.{in_range, places_of}
-use Rattle.hippo_sides.proofs.FoundLemmas.{same_rising, same_places as equal_places}
+use Rattle.hippo_sides.proofs.FoundLemmas.{has-filter, same_rising}
 use Rattle.hippo_sides.proofs.ProductLemmas.{has-places_of, rising-places_of}
 use Rattle.hippo_shared.specs.FirstPlaces.{IsFirstAmong}
 
@@ -36,25 +36,6 @@ and_grouped true b c = refl
 and_grouped false b c = refl
 
 -- ---- a list in ascending order
-kept_here : (first test rest p : Bool) → (first ≡ true → test ≡ p) → cond test (first || (rest && p)) (rest && p) ≡ ((first || rest) && p)
-kept_here true true rest true e = refl
-kept_here true true rest false e = absurd (false≢true (sym (e refl)))
-kept_here true false rest true e = absurd (false≢true (e refl))
-kept_here true false true false e = refl
-kept_here true false false false e = refl
-kept_here false true rest p e = refl
-kept_here false false rest p e = refl
-
-has_either : (c first : List Place) (test : Bool) (rest : List (List Place)) → has_places c (cond test (first ∷ rest) rest) ≡ cond test (is_eq (slice_cmp nat_cmp c first) || has_places c rest) (has_places c rest)
-has_either c first true rest = refl
-has_either c first false rest = refl
-
-has-filter : (p : List Place → Bool) (c : List Place) (some : List (List Place)) → has_places c (filter p some) ≡ (has_places c some && p c)
-has-filter p c [] = refl
-has-filter p c (first ∷ some) =
-    has_either c first (p first) (filter p some)
-    ∙ rw (has-filter p c some) (kept_here (is_eq (slice_cmp nat_cmp c first)) (p first) (has_places c some) (p c) (λ e. ap p (sym (equal_places c first e))))
-
 -- ascending places that are exactly those of a product that pass a test
 pub those-of : (sets : List KeyedRows) (test : List Place → Bool) (candidates : List (List Place)) → IsRising candidates → ((places : List Place) → has_places places candidates ≡ (in_range sets places && test places))
     → candidates ≡ filter test (places_of sets)

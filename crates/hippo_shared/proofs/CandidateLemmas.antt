@@ -20,7 +20,8 @@ use Rattle.hippo_lookups.specs.Places.{chosen_rows, in_range, places_of}
 use Rattle.hippo_lookups.proofs.PruneLemmas.{below-rows}
 use Rattle.hippo_sides.proofs.ProductLemmas.{product-rows, has-places_of}
 use Rattle.hippo_lookups.proofs.SlotLemmas.{row-at, length-in_range}
-use Rattle.hippo_shared.specs.Sharing.{common_tables, place_in, rows_named, HaveSameRows, has_tuple_in}
+use Rattle.hippo_commons.specs.Commons.{common_tables, place_in}
+use Rattle.hippo_shared.specs.Sharing.{rows_named, HaveSameRows, has_tuple_in}
 use Rattle.hippo_shared.specs.Tuples.{tuple_at}
 use Rattle.hippo_shared.specs.Marks.{place_like, row_place, row_places, same_places, mark_of, is_one}
 use Rattle.hippo_shared.proofs.CommonLemmas.{place-found, common-in-query, common-in-audit}

@@ -6,7 +6,7 @@ use Rattle.std.proofs.lemmas.Bool.{false≢true}
 use Rattle.std.proofs.lemmas.Slice.Eq.{bytes_eq-Decides}
 use Rattle.hippo_values.specs.declared.names.Name.{Name}
 use Rattle.hippo_model.specs.Terms.{Place}
-use Rattle.hippo_shared.specs.Sharing.{common_tables, place_in}
+use Rattle.hippo_commons.specs.Commons.{common_tables, place_in}
 use Rattle.hippo_shared.specs.FirstPlaces.{AreOpen}
 
 pub same_name : (a b : Name) → bytes_eq a b ≡ true → a ≡ b

@@ -13,7 +13,7 @@ use Rattle.hippo_model.specs.Masking.{Choices}
 use Rattle.hippo_shared.specs.declared.sides.Sides.{Sides}
 use Rattle.hippo_shared.specs.FirstPlaces.{AgreeAt, AreFirst, IsFirst, IsFirstAmong}
 use Rattle.hippo_shared.specs.Searching.{AreFewOf, AreFewShared, HasOneOf, HaveCommon}
-use Rattle.hippo_shared.proofs.LoopLemmas.{map-push}
+use Rattle.hippo_commons.proofs.LoopLemmas.{map-push}
 use Rattle.hippo_shared.proofs.SideLemmas.{share-both, one-agrees}
 
 abbrev pub alone : Place → List Place

@@ -25,7 +25,8 @@ use Rattle.hippo_eval.specs.Unmasked.{all_shown}
 use Rattle.hippo_eval.specs.Walks.{rows_of}
 use Rattle.hippo_lookups.specs.Places.{blank}
 use Rattle.hippo_sides.proofs.ProductLemmas.{map-map, map-flat_map}
-use Rattle.hippo_shared.specs.Sharing.{common_tables, place_in, rows_named, shared_rows_in, virtual_tuples_in, shared_key_in, has_tuple_in, audit_has}
+use Rattle.hippo_commons.specs.Commons.{common_tables, place_in}
+use Rattle.hippo_shared.specs.Sharing.{rows_named, shared_rows_in, virtual_tuples_in, shared_key_in, has_tuple_in, audit_has}
 use Rattle.hippo_shared.specs.HistoryLaws.{sets_at}
 use Rattle.hippo_shared.proofs.CommonLemmas.{place-found, common-in-audit}
 use Rattle.hippo_shared.proofs.TupleLemmas.{no_rows}

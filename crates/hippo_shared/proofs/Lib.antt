@@ -1,7 +1,6 @@
 pub mod FirstLemmas
 pub mod KeyLemmas
 pub mod CommonLemmas
-pub mod LoopLemmas
 pub mod TupleLemmas
 pub mod SideLemmas
 pub mod MarkLemmas

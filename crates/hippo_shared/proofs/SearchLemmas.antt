@@ -20,7 +20,7 @@ use Rattle.hippo_lookups.proofs.PlaceSteps.{below_or_at, get_or_default}
 use Rattle.hippo_join.proofs.ExistenceLemmas.{Fits-unset}
 use Rattle.hippo_lookups.proofs.SlotLemmas.{Fits-at}
 use Rattle.hippo_sides.specs.declared.stages.Stage.{Stage}
-use Rattle.hippo_shared.specs.declared.commons.CommonStages.{CommonStages}
+use Rattle.hippo_commons.specs.declared.commons.CommonStages.{CommonStages}
 use Rattle.hippo_shared.specs.declared.searching.Search.{Search}
 use Rattle.hippo_shared.specs.FirstPlaces.{AreOpen, AreWhole, AreFirst, IsFirst, with_rows}
 use Rattle.hippo_shared.specs.Searching.{Slots, query_tables, audit_tables, FindsFirst, HasOneOf, IsSearchReady, IsStageOf, ReachesOf, Shared}

@@ -23,7 +23,8 @@ use Rattle.hippo_shared.specs.declared.audited.Audited.{Audited}
 use Rattle.hippo_shared.specs.declared.sharing.AuditSide.{AuditSide}
 use Rattle.hippo_shared.specs.declared.sides.Sides.{Sides}
 use Rattle.hippo_shared.specs.Audited.{HasRowsFor}
-use Rattle.hippo_shared.specs.Sharing.{common_tables, place_in, rows_named, HaveSameRows, virtual_tuples_in, has_tuple_in, query_has, audit_has, first_shared}
+use Rattle.hippo_commons.specs.Commons.{common_tables, place_in}
+use Rattle.hippo_shared.specs.Sharing.{rows_named, HaveSameRows, virtual_tuples_in, has_tuple_in, query_has, audit_has, first_shared}
 use Rattle.hippo_shared.specs.Tuples.{tuple_at}
 use Rattle.hippo_shared.specs.FirstPlaces.{AreCommon, ShareAt, IsFirst, IsFirstAmong, with_rows}
 use Rattle.hippo_shared.specs.Candidates.{AreCandidates, first_passing}

@@ -20,7 +20,8 @@ use Rattle.hippo_sides.proofs.ProductLemmas.{each_row, map-map, map-flat_map}
 use Rattle.hippo_lookups.proofs.SlotLemmas.{row-at, length-in_range}
 use Rattle.hippo_lookups.proofs.PruneLemmas.{below-rows}
 use Rattle.hippo_shared.specs.FirstPlaces.{AgreeAt}
-use Rattle.hippo_shared.specs.Sharing.{place_in, rows_named, shared_rows_in, virtual_tuples_in, shared_key_in, has_tuple_in}
+use Rattle.hippo_commons.specs.Commons.{place_in}
+use Rattle.hippo_shared.specs.Sharing.{rows_named, shared_rows_in, virtual_tuples_in, shared_key_in, has_tuple_in}
 use Rattle.hippo_shared.specs.Tuples.{row_shared, tuple_at}
 use Rattle.hippo_shared.proofs.CommonLemmas.{place-found}
 use Rattle.hippo_shared.proofs.KeyLemmas.{one-place}

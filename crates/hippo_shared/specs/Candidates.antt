@@ -10,7 +10,8 @@ use Rattle.hippo_model.specs.Masking.{Choices}
 use Rattle.hippo_keyed_rows.specs.RowSets.{KeyedRows}
 use Rattle.hippo_sides.specs.Finding.{has_places}
 use Rattle.hippo_lookups.specs.Places.{in_range}
-use Rattle.hippo_shared.specs.Sharing.{common_tables, place_in, rows_named, virtual_tuples_in, query_has, audit_has}
+use Rattle.hippo_commons.specs.Commons.{common_tables, place_in}
+use Rattle.hippo_shared.specs.Sharing.{rows_named, virtual_tuples_in, query_has, audit_has}
 use Rattle.hippo_shared.specs.Tuples.{tuple_at}
 
 -- the places of the rows of the virtual tuples that pass a test are these

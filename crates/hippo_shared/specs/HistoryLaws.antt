@@ -10,7 +10,8 @@ use Rattle.hippo_model.specs.Terms.{History}
 use Rattle.hippo_model.specs.Histories.{schema_at}
 use Rattle.hippo_keyed_rows.specs.RowSets.{KeyedRows, kept_at}
 use Rattle.hippo_model.specs.Audits.{common, virtual_tuples as tuples_at, audit_needs}
-use Rattle.hippo_shared.specs.Sharing.{common_tables, virtual_tuples_in, audit_has}
+use Rattle.hippo_commons.specs.Commons.{common_tables}
+use Rattle.hippo_shared.specs.Sharing.{virtual_tuples_in, audit_has}
 
 -- the rows of tables after some entries; none of a table that is not created
 abbrev pub sets_at : History → List Name → List KeyedRows

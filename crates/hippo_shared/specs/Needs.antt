@@ -14,7 +14,8 @@ use Rattle.hippo_model.specs.Masking.{Choices}
 use Rattle.hippo_keyed_rows.specs.RowSets.{KeyedRows}
 use Rattle.hippo_eval.specs.Answering.{masked_rows}
 use Rattle.hippo_eval.specs.Walks.{rows_of}
-use Rattle.hippo_shared.specs.Sharing.{common_tables, virtual_tuples_in, has_tuple_in, query_has, audit_has}
+use Rattle.hippo_commons.specs.Commons.{common_tables}
+use Rattle.hippo_shared.specs.Sharing.{virtual_tuples_in, has_tuple_in, query_has, audit_has}
 
 -- whether a query's answer is another bag when the combinations that have the tuple are taken out
 abbrev pub needs_by : Choices → Masked → Form → List KeyedRows → List SharedRow → Bool

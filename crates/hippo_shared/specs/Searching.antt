@@ -12,7 +12,7 @@ use Rattle.hippo_sides.specs.declared.stages.Stage.{Stage}
 use Rattle.hippo_join.specs.Existence.{HasOne}
 use Rattle.hippo_lookups.specs.Places.{stands}
 use Rattle.hippo_sides.specs.Stages.{IsStage, Reaches, ReachesFrom}
-use Rattle.hippo_shared.specs.declared.commons.CommonStages.{CommonStages}
+use Rattle.hippo_commons.specs.declared.commons.CommonStages.{CommonStages}
 use Rattle.hippo_shared.specs.declared.searching.Search.{Search}
 use Rattle.hippo_shared.specs.declared.sides.Sides.{Sides}
 use Rattle.hippo_shared.specs.FirstPlaces.{AgreeAt, AreCommon, AreOpen, AreWhole, ShareAt, IsFirst}

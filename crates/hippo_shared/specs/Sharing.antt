@@ -1,8 +1,8 @@
 -- The first rows that a query and an audit share, over the rows of their tables (after the
 -- indispensable tuples of Agrawal and others, Auditing Compliance with a Hippocratic Database, VLDB
 -- 2004).
-use Rattle.std.specs.Prelude.{◌≡◌, Bool, ◌&&◌, List, [], map, filter, find, Option, slice_index_or, bytes_eq}
-use Rattle.std.specs.List.{All, list_any, list_all, position_or_len}
+use Rattle.std.specs.Prelude.{◌≡◌, Bool, ◌&&◌, List, [], map, find, Option, slice_index_or}
+use Rattle.std.specs.List.{All, list_any, list_all}
 use Rattle.hippo_values.specs.declared.names.Name.{Name}
 use Rattle.hippo_values.specs.Order.{same_cells}
 use Rattle.hippo_model.specs.declared.audit.Audit.{Audit}
@@ -17,13 +17,7 @@ use Rattle.hippo_eval.specs.Unmasked.{all_shown}
 use Rattle.hippo_eval.specs.Walks.{rows_of}
 use Rattle.hippo_join.specs.Existence.{are_shown}
 use Rattle.hippo_lookups.specs.Places.{blank}
-
--- the tables in both FROM lists, in the audit's order
-abbrev pub common_tables : List Name → List Name → List Name
-common_tables query audit = filter (λ table. list_any (bytes_eq table) query) audit
-
-abbrev pub place_in : List Name → Name → Place
-place_in tables table = position_or_len (bytes_eq table) tables
+use Rattle.hippo_commons.specs.Commons.{common_tables, place_in}
 
 -- the rows of one of some tables, by its name
 abbrev pub rows_named : List Name → List KeyedRows → Name → KeyedRows

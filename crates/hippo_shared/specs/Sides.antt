@@ -10,7 +10,7 @@ use Rattle.hippo_lookups.specs.Places.{blank}
 use Rattle.hippo_shared.specs.declared.audited.Audited.{Audited}
 use Rattle.hippo_shared.specs.declared.sharing.AuditSide.{AuditSide}
 use Rattle.hippo_shared.specs.declared.sides.Sides.{Sides}
-use Rattle.hippo_shared.specs.Sharing.{common_tables, place_in}
+use Rattle.hippo_commons.specs.Commons.{common_tables, place_in}
 
 -- an audit's condition as that of a query without guards
 abbrev pub condition_alone : Audit → Masked

@@ -4,15 +4,16 @@ ghost use Rattle.hippo_model.specs.declared.audit.SharedRow as shared_row;
 ghost use Rattle.hippo_join.specs.Existence.{HasOne, Decides};
 ghost use Rattle.hippo_sides.specs.Finding.{IsRising};
 ghost use Rattle.hippo_shared.specs.Audited.{HasRowsFor};
-ghost use Rattle.hippo_shared.specs.Sharing.{common_tables, audit_has};
+ghost use Rattle.hippo_commons.specs.Commons.{common_tables};
+ghost use Rattle.hippo_shared.specs.Sharing.{audit_has};
 ghost use Rattle.hippo_shared.specs.Sides.{StandsForAudit};
 ghost use Rattle.hippo_shared.specs.Candidates.{AreCandidates, first_passing};
 
 use crate::audited::Audited;
-use crate::commons::order_from;
 use crate::sharing::{AuditSide, audit_side, know_order, sides_of, unmasked_query};
 use crate::told::first_candidate;
 use crate::tuples::tuple_at;
+use hippo_commons::order_from;
 use hippo_join::{blank_row, has};
 use hippo_model::{ChoiceView, Exprs, Masked, Places, SharedTuple};
 use hippo_rows::Sets;

@@ -3,7 +3,6 @@
 
 mod audited;
 mod candidates;
-mod commons;
 pub mod laws;
 mod marks;
 mod searching;
@@ -14,6 +13,5 @@ mod tuples;
 
 pub use audited::Audited;
 pub use candidates::{audit_has_any, first_of};
-pub use commons::{CommonPlaces, common_places, place_in};
 pub use marks::{Mark, row_places};
 pub use sharing::{first_shared, know_order};

@@ -6,8 +6,8 @@ ghost use Rattle.hippo_join.specs.Existence.{Decides};
 ghost use Rattle.hippo_shared.specs.FirstPlaces.{AreCommon, IsFirst, IsFirstAmong, with_rows};
 ghost use Rattle.hippo_shared.specs.Searching.{AreWholeOf, FindsFirst, HasOneOf, HaveCommon, IsSearchReady, IsStageOf, ReachesOf, Shared, SharedBy, SharedPlaces};
 
-use crate::commons::{CommonPlaces, CommonStages, common_stages, order_from};
 use crate::sides::Sides;
+use hippo_commons::{CommonPlaces, CommonStages, common_stages, order_from};
 use hippo_join::has;
 use hippo_model::{ChoiceView, Expr, Places};
 use hippo_sides::{Side, Stage, open_slots};

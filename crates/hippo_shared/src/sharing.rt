@@ -8,10 +8,10 @@ ghost use Rattle.hippo_shared.specs.Sharing.{first_shared};
 ghost use Rattle.hippo_shared.specs.Sides.{AreSidesOf, StandsForAudit, condition_alone};
 
 use crate::audited::Audited;
-use crate::commons::{CommonPlaces, common_places};
 use crate::sides::Sides;
 use crate::told::first_places;
 use crate::tuples::tuple_at;
+use hippo_commons::{CommonPlaces, common_places};
 use hippo_eval::unmasked_condition;
 use hippo_join::blank_row;
 use hippo_model::{Audit, BornRow, ChoiceView, Exprs, Masked, SharedTuple};

@@ -1,5 +1,5 @@
 //! The two sides of a search for rows that a query and an audit share.
-use crate::commons::CommonPlaces;
+use hippo_commons::CommonPlaces;
 use hippo_model::Expr;
 use hippo_sides::Side;
 

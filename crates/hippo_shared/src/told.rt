@@ -7,9 +7,9 @@ ghost use Rattle.hippo_shared.specs.FirstPlaces.{AreChosen, IsFirst, IsFirstAmon
 ghost use Rattle.hippo_lookups.specs.Places.{slot_at};
 ghost use Rattle.hippo_shared.specs.Searching.{AreFewOf, AreFewShared, AreTold, HasOneOf, HaveCommon, IsOnlyShared, SharedBy};
 
-use crate::commons::order_from;
 use crate::searching::{first_staged, first_walked, in_order, slots_with};
 use crate::sides::Sides;
+use hippo_commons::order_from;
 use hippo_join::{has_joined, settled};
 use hippo_model::{ChoiceView, Expr, Places};
 use hippo_sides::Side;

@@ -1,10 +1,3 @@
 mod ContentsLemmas
-mod EditLemmas
 mod KeeperLemmas
-mod ListLemmas
-mod OrderLemmas
-mod ReadLemmas
-mod SelectLemmas
 mod StateLemmas
-mod TestLemmas
-mod TextLemmas

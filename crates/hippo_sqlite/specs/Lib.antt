@@ -2,6 +2,4 @@ pub mod Contents
 pub mod Links
 pub mod Openings
 pub mod Outcomes
-pub mod Queries
 pub mod Standings
-pub mod Tables

@@ -8,13 +8,12 @@ ghost use Rattle.hippo_keeper.specs.Selecting.{handed_over, is_any, is_stored_ve
 ghost use Rattle.hippo_sqlite.specs.Contents.{AppendsTo, HasRead};
 ghost use Rattle.hippo_sqlite.specs.Links.{linked_contents, link_contents};
 ghost use Rattle.hippo_sqlite.specs.Outcomes.{HasExecuted, HasLooked, IsLinked};
-ghost use Rattle.hippo_sqlite.specs.Queries.{insert_sql, read_sql, params_of, test_of};
+ghost use Rattle.hippo_history_table.specs.Queries.{insert_sql, read_sql, params_of, test_of};
 ghost use Rattle.hippo_sqlite.specs.Standings.{IsStarted};
-ghost use Rattle.hippo_sqlite.specs.Tables.{HistoryRow, row_of, values_of, stored_row, entries_in, AreInOrder, history_schema, is_foreign};
+ghost use Rattle.hippo_history_table.specs.Tables.{HistoryRow, row_of, values_of, stored_row, entries_in, AreInOrder, history_schema, is_foreign};
 
-use crate::entries::entries_of;
 use crate::standing::fault_of;
-use crate::statements::{Question, create_history, insert, select};
+use hippo_history_table::{Question, create_history, entries_of, insert, select};
 use hippo_keeper::{Keeper, KeeperFails, KeeperFault, MemoryKeeper, Steps, count_versions};
 use hippo_model::{StoredEntry, StoredList};
 use hippo_values::{Moment, Name};

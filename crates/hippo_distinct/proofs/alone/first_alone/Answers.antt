@@ -5,7 +5,7 @@ use Rattle.hippo_model.specs.declared.audit.SharedRow.{SharedRow}
 use Rattle.hippo_model.specs.declared.query.Form.TheVariants.{Distinct}
 use Rattle.hippo_shared.specs.Candidates.{AreCandidates, first_passing}
 use Rattle.hippo_shared.specs.Needs.{needs_by}
-use Rattle.hippo_shared.specs.Sharing.{common_tables, place_in}
+use Rattle.hippo_commons.specs.Commons.{common_tables, place_in}
 use Rattle.hippo_distinct.proofs.AloneLemmas.{needed-are, none-needed, ok-by}
 use Rattle.hippo_distinct.proofs.alone.first_alone.Goals as goal
 

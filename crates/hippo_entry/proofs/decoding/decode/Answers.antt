@@ -1,4 +1,4 @@
-use Rattle.hippo_entry.proofs.EntryAgain.{no_entry, is_entry_of}
+use Rattle.hippo_entry.proofs.FormLemmas.{no_entry, is_entry_of}
 use Rattle.hippo_entry.proofs.decoding.decode.Goals as goal
 
 pub returns-in-Ok : goal.returns-in-Ok

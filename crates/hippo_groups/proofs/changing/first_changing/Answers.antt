@@ -8,7 +8,7 @@ use Rattle.hippo_model.specs.Terms.{Place}
 use Rattle.hippo_eval.specs.Walks.{rows_of}
 use Rattle.hippo_distinct.proofs.AloneLemmas.{none-needed}
 use Rattle.hippo_shared.specs.Needs.{needs_by}
-use Rattle.hippo_shared.specs.Sharing.{common_tables, place_in}
+use Rattle.hippo_commons.specs.Commons.{common_tables, place_in}
 use Rattle.hippo_groups.specs.GroupMarks.{placed_rows}
 use Rattle.hippo_groups.specs.KeptGroups.{AreMarkedGroups}
 use Rattle.hippo_groups.proofs.ChangingTheorem.{changing_are}

@@ -4,7 +4,7 @@ use Rattle.std.specs.Prelude.{IfOk}
 use Rattle.std.proofs.lemmas.List.{length-replicate}
 use Rattle.hippo_model.specs.Terms.{Place}
 use Rattle.hippo_sides.specs.Stages.{IsStage}
-use Rattle.hippo_shared.specs.declared.commons.CommonStages.{CommonStages}
+use Rattle.hippo_commons.specs.declared.commons.CommonStages.{CommonStages}
 use Rattle.hippo_shared.specs.FirstPlaces.{ShareAt, IsFirst}
 use Rattle.hippo_shared.specs.Searching.{HasOneOf, query_tables, audit_tables}
 use Rattle.hippo_shared.proofs.SearchLemmas.{whole-stages, common-are-stages, common-tables-are, four, open-by}

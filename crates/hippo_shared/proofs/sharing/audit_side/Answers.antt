@@ -1,6 +1,6 @@
 -- The places are those of the common tables, by the names in FROM.
 use Rattle.std.proofs.Common.{map, ◌∙◌}
-use Rattle.hippo_shared.specs.Sharing.{common_tables, place_in}
+use Rattle.hippo_commons.specs.Commons.{common_tables, place_in}
 use Rattle.hippo_shared.proofs.sharing.audit_side.Goals as goal
 
 pub returns : goal.returns

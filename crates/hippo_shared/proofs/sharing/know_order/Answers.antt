@@ -1,7 +1,7 @@
 -- One table more, and all.
 use Rattle.std.proofs.Common.{map, arith}
 use Rattle.hippo_keyed_rows.specs.RowSets.{KeyedRows, IsAscending, key_in}
-use Rattle.hippo_shared.proofs.LoopLemmas.{all-one-more, all-of-them}
+use Rattle.hippo_commons.proofs.LoopLemmas.{all-one-more, all-of-them}
 use Rattle.hippo_shared.proofs.sharing.know_order.Goals as goal
 
 pub loop-table-preserved : goal.loop-table-preserved

@@ -1,7 +1,7 @@
 -- The rows that the query shows are the entries that are asked for.
 use Rattle.std.proofs.Common.{◌∙◌}
 use Rattle.sqlite.specs.Held.{state}
-use Rattle.hippo_sqlite.proofs.ReadLemmas.{told_by}
+use Rattle.hippo_history_table.proofs.ReadLemmas.{told_by}
 use Rattle.hippo_sqlite.proofs.link.find.Goals as goal
 
 pub returns-in-Ok-entries_of-clause-told : goal.returns-in-Ok-entries_of-clause-told

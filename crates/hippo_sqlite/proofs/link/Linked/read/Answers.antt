@@ -3,10 +3,10 @@ use Rattle.std.proofs.Common.{◌∙◌, sym, ap, subst₂, arith, rules}
 use Rattle.hippo_keeper.specs.Selecting.{handed_over}
 use Rattle.hippo_sqlite.specs.Contents.{LooksAtStore, connection_contents}
 use Rattle.hippo_sqlite.specs.Links.{linked_contents}
-use Rattle.hippo_sqlite.specs.Queries.{read_sql, params_of, test_of}
+use Rattle.hippo_history_table.specs.Queries.{read_sql, params_of, test_of}
 use Rattle.hippo_sqlite.proofs.ContentsLemmas.{look_linked, look_away, told_history, ok_weaker}
-use Rattle.hippo_sqlite.proofs.OrderLemmas.{none_handed}
-use Rattle.hippo_sqlite.proofs.TextLemmas.{read_plain}
+use Rattle.hippo_history_table.proofs.OrderLemmas.{none_handed}
+use Rattle.hippo_history_table.proofs.TextLemmas.{read_plain}
 use Rattle.hippo_sqlite.proofs.link.Linked.read.Goals as goal
 
 pub returns-then-after-ge-NUMBERS : goal.returns-then-after-ge-NUMBERS

@@ -1,0 +1,4 @@
+pub mod PartLoops
+pub mod TextLemmas
+pub mod Fields
+pub mod EntryAgain

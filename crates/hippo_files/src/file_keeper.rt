@@ -1,0 +1,76 @@
+//! A keeper over files.
+ghost use Rattle.std.specs.Prelude.{false};
+ghost use Rattle.hippo_keeper.specs.Keeping.{IsReady};
+
+use hippo_keeper::{Keeper, KeeperFault, Steps};
+use hippo_model::{StoredEntry, StoredList};
+use hippo_sqlite::{FileOpener, SqliteKeeper};
+use hippo_values::{Moment, Name};
+use std::alloc::Global;
+use std::rt::HostRuntime;
+use std::sync::ledger::Ledger;
+
+/// A keeper over the SQLite file with the name of its start, which is made where there is none; or
+/// over a store in memory, where that name is empty.
+#[derive(Drop)]
+pub struct FileKeeper {
+    keeper: SqliteKeeper<FileOpener>,
+}
+
+impl FileKeeper {
+    /// A keeper that is not started.
+    pub fn new(runtime: HostRuntime) -> FileKeeper
+        ensures ready { IsReady false (⟦<FileKeeper as Keeper>⟧.state result) }
+    {
+        FileKeeper {
+            keeper: SqliteKeeper::new(FileOpener::new(runtime)),
+        }
+    }
+
+    /// Lets go of its files.
+    pub fn close(self) {}
+}
+
+impl Keeper for FileKeeper {
+    ghost state = { λ keeper. ⟦<SqliteKeeper<FileOpener> as Keeper>⟧.state keeper.keeper };
+
+    fn start(&mut self, alloc: Global, name: &str) -> Result<(), KeeperFault> {
+        self.keeper.start(alloc, name)
+    }
+
+    fn append(&mut self, alloc: Global, entry: &StoredEntry) -> Result<(), KeeperFault> {
+        self.keeper.append(alloc, entry)
+    }
+
+    fn read_all<L: Ledger>(
+        &mut self,
+        alloc: Global,
+        after: u64,
+        max: u64,
+        steps: &mut Steps<L>,
+    ) -> Result<StoredList, KeeperFault> {
+        self.keeper.read_all(alloc, after, max, steps)
+    }
+
+    fn read_backlog<L: Ledger>(
+        &mut self,
+        alloc: Global,
+        table: &Name,
+        after: u64,
+        max: u64,
+        steps: &mut Steps<L>,
+    ) -> Result<StoredList, KeeperFault> {
+        self.keeper.read_backlog(alloc, table, after, max, steps)
+    }
+
+    fn read_asked(
+        &mut self,
+        alloc: Global,
+        from: Moment,
+        to: Moment,
+        after: u64,
+        max: u64,
+    ) -> Result<StoredList, KeeperFault> {
+        self.keeper.read_asked(alloc, from, to, after, max)
+    }
+}

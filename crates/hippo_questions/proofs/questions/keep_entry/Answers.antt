@@ -1,0 +1,33 @@
+-- The entry is kept, and the answer is that of before.
+use Rattle.std.proofs.Common.{◌∙◌, refl}
+use Rattle.hippo_questions.proofs.KeptLemmas.{KeepsEntry-ok}
+use Rattle.hippo_questions.proofs.questions.keep_entry.Goals as goal
+
+pub keep-requires : goal.keep-requires
+keep-requires g c = record {
+  may = record { backed = c.requires.backed; follows = c.requires.follows; number = c.requires.number };
+}
+
+pub answered-answer-requires : goal.answered-answer-requires
+answered-answer-requires g c =
+    let kept = c.requires.answerable.tables in
+    let same = c.order_for.ensures.tables in
+    record {
+      tables = record {
+        history = kept.history;
+        stands = record { kept = λ name. same.kept name ∙ kept.stands.kept name };
+        created = kept.created;
+      };
+    }
+
+pub returns-in-Ok : goal.returns-in-Ok
+returns-in-Ok g c =
+    let keeps = c.in-Ok.ensures.keeps in
+    record {
+      asks = λ session. record {
+        keeps = KeepsEntry-ok c.in-Ok.field-0 c.answered-answer.result c.args.entry.now c.args.state.now (g.P.Keeper.state c.args.keeper.now) (g.P.Keeper.state c.keep.new.keeper) keeps;
+        added = λ history stands. c.take_in.ensures history (c.order_for.ensures.stands history stands) (keeps.follows refl history stands);
+        same = tt;
+        rows = λ history stands. c.answered-answer.ensures session history (c.order_for.ensures.stands history stands);
+      };
+    }

@@ -1,0 +1,11 @@
+use Rattle.hippo_io.specs.Lines.{text_line}
+use Rattle.hippo_keeper.specs.MemoryKeeping.{memory_keeper_state}
+use Rattle.hippo_commands.specs.Commands.{command_of}
+use Rattle.hippo_running.proofs.DrillLemmas.{accepted}
+use Rattle.hippo_running.proofs.drilling.answer.Goals as goal
+
+pub returns-in-Ok-clause-done : goal.returns-in-Ok-clause-done
+returns-in-Ok-clause-done g c =
+    accepted c.accept.result c.reply.result.now (command_of (text_line c.args.line.now)) c.args.engine.now c.answer.new.self
+    (memory_keeper_state c.args.keeper.now) (memory_keeper_state c.answer.new.keeper) c.args.steps.now c.answer.new.steps
+    c.accept.ensures c.reply.ensures c.in-Ok.ensures.carries tt
