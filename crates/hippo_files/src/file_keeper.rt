@@ -1,11 +1,15 @@
 //! A keeper over files.
-ghost use Rattle.std.specs.Prelude.{false};
-ghost use Rattle.hippo_keeper.specs.Keeping.{IsReady};
+ghost use Rattle.std.specs.Prelude.{ℕ, ◌↔◌, List, false};
+ghost use Rattle.sqlite_wal.specs.Files.{image_at};
+ghost use Rattle.hippo_keeper.specs.Keeping.{Store, IsReady};
+ghost use Rattle.hippo_sqlite.specs.Openings.{IsFoundIn};
+ghost use Rattle.hippo_sqlite.specs.Standings.{finds_by};
 
 use hippo_keeper::{Keeper, KeeperFault, Steps};
 use hippo_model::{StoredEntry, StoredList};
 use hippo_sqlite::{FileOpener, SqliteKeeper};
 use hippo_values::{Moment, Name};
+use sqlite::{Start, Unknown};
 use std::alloc::Global;
 use std::rt::HostRuntime;
 use std::sync::ledger::Ledger;
@@ -18,9 +22,14 @@ pub struct FileKeeper {
 }
 
 impl FileKeeper {
-    /// A keeper that is not started.
+    /// A keeper that is not started. Its start finds what the file with that name and its log
+    /// recover to.
     pub fn new(runtime: HostRuntime) -> FileKeeper
         ensures ready { IsReady false (⟦<FileKeeper as Keeper>⟧.state result) }
+        ensures finds { (name : List ℕ) (entries : Store)
+            → (⟦<FileKeeper as Keeper>⟧.state result).finds name entries
+            ↔ finds_by (λ file trees. IsFoundIn (image_at ⟦<Unknown as Start>⟧) trees) name
+            entries }
     {
         FileKeeper {
             keeper: SqliteKeeper::new(FileOpener::new(runtime)),

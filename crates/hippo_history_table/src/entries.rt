@@ -6,6 +6,7 @@ ghost use Rattle.sqlite_value.specs.declared.value.Value.TheVariants.{Int, Text,
 ghost use Rattle.sqlite_value.specs.Order.{column};
 ghost use Rattle.sqlite_trees.specs.Objects.{number_in};
 ghost use Rattle.hippo_keeper.specs.Keeping.{RisesAbove};
+ghost use Rattle.hippo_history_table.specs.declared.entries.RowFault.TheVariants as faults;
 ghost use Rattle.hippo_history_table.specs.Tables.{HistoryRow, shown_row, stored_row, entry_in, kind_in, AreAbove};
 
 use hippo_keeper::KeeperFault;
@@ -31,8 +32,11 @@ impl From<Memory> for RowFault {
 }
 
 impl RowFault {
-    /// What a keeper answers for it.
-    pub fn fault(self) -> KeeperFault {
+    /// What a keeper answers for it: a failure, or want of memory.
+    pub fn fault(self) -> KeeperFault
+        ensures text { self ≡ faults.NotText → result ≡ KeeperFault.Failed }
+        ensures memory { self ≡ faults.Memory → result ≡ KeeperFault.Memory }
+    {
         match self {
             RowFault::NotText => KeeperFault::Failed,
             RowFault::Memory => KeeperFault::Memory,
