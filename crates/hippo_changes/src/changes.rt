@@ -13,9 +13,9 @@ use crate::keys::{check_delete, check_update};
 use crate::names::{check_item, check_new, known_table};
 use crate::rules::{check_allow, check_revoke};
 use crate::tables::check_create_table;
-use crate::values::{check_new_row, key_of};
+use crate::values::check_new_row;
 use hippo_catalog::{Catalog, check_pair};
-use hippo_model::{Act, Cells, ItemKind, NameFault, Stmt, Wanted};
+use hippo_model::{Act, Cells, ItemKind, NameFault, Stmt, Wanted, copied_key};
 use hippo_values::{Duplicate, Name};
 use std::alloc::Global;
 
@@ -94,7 +94,7 @@ fn check_insert(
     let schema = known_table(alloc, catalog, table)?.schema();
     check_new_row(alloc, schema, values.as_slice())?;
     let table = table.copy(alloc)?;
-    let key = key_of(alloc, schema.key.as_slice(), values.as_slice())?;
+    let key = copied_key(alloc, schema.key.as_slice(), values.as_slice())?;
     let row = values.copy(alloc)?;
     Ok(Wanted::Add { table, row, key })
 }

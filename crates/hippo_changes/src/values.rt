@@ -1,7 +1,6 @@
 //! The values in a change, each with its column.
-ghost use Rattle.std.specs.Prelude.{◌≡◌, ◌++◌, IfOk};
+ghost use Rattle.std.specs.Prelude.{◌≡◌, ◌++◌};
 ghost use Rattle.std.specs.List.{zip};
-ghost use Rattle.hippo_model.specs.Rows.{key_of};
 ghost use Rattle.hippo_model.specs.Conditions.{is_null};
 ghost use Rattle.hippo_catalog.specs.Kinds.{may_have_kind};
 ghost use Rattle.hippo_catalog.specs.Refusals.{Resolves};
@@ -10,8 +9,8 @@ ghost use Rattle.hippo_catalog.specs.ChangesRefused.{count_refused, insert_refus
 
 use crate::columns::column_named;
 use hippo_catalog::{IndexedTable, column_faults, is_bad_text};
-use hippo_model::{Cells, Column, ColumnKind, NameFault, Schema};
-use hippo_values::{Duplicate, Memory, Name, Sequence, Value};
+use hippo_model::{Column, ColumnKind, NameFault, Schema};
+use hippo_values::{Name, Value};
 use std::alloc::Global;
 
 fn may_have_kind(kind: ColumnKind, value: &Value) -> bool
@@ -193,16 +192,4 @@ pub fn check_assignments(
     check_both::<KindCheck>(alloc, table, one, other)?;
     check_both::<NullCheck>(alloc, table, one, other)?;
     check_both::<TextCheck>(alloc, table, one, other)
-}
-
-/// The values in a row's key columns, in the key's order.
-pub fn key_of(alloc: Global, places: &[usize], row: &[Value]) -> Result<Cells, Memory>
-    ensures { IfOk result (λ key. key ≡ key_of places.now row.now) }
-{
-    let mut key = Sequence::new(alloc);
-    for place in places {
-        let value = row.get(*place).unwrap_or(&Value::Null);
-        key.push(value.copy(alloc)?)?;
-    }
-    Ok(key)
 }

@@ -2,17 +2,16 @@
 ghost use Rattle.std.specs.Prelude.{◌≡◌, ◌≤◌, ◌++◌, length, take, Some, IfOk, OnOk};
 ghost use Rattle.hippo_model.specs.Terms.{History};
 ghost use Rattle.hippo_model.specs.Denials.{denial_by};
-ghost use Rattle.hippo_model.specs.Rows.{cell_at, key_of};
 ghost use Rattle.hippo_model.specs.Verdicts.{verdict};
 ghost use Rattle.hippo_policy.specs.Books.{BookStandsFor};
 ghost use Rattle.hippo_denials.specs.Listing.{rules_context, denial_columns, listed_denials, ListsRows};
 
 use crate::columns::{Listed, listed_columns};
 use crate::faults::ListFault;
-use hippo_model::{Cells, Query, Schema, Verdict};
+use hippo_model::{Cells, Query, Schema, Verdict, copied_key};
 use hippo_policy::PolicyBook;
 use hippo_rows::RowSet;
-use hippo_values::{Duplicate, Memory, Moment, Name, Sequence, Value};
+use hippo_values::{Memory, Moment, Name, Sequence};
 use std::alloc::Global;
 use std::marker::Model;
 
@@ -72,22 +71,6 @@ fn verdict(
         born,
         column,
     )
-}
-
-fn copied_cell(alloc: Global, row: &[Value], place: usize) -> Result<Value, Memory>
-    ensures { IfOk result (λ value. value ≡ cell_at row.now place) }
-{
-    row.get(place).unwrap_or(&Value::Null).copy(alloc)
-}
-
-fn copied_key(alloc: Global, places: &[usize], row: &[Value]) -> Result<Cells, Memory>
-    ensures { IfOk result (λ key. key ≡ key_of places.now row.now) }
-{
-    let mut key = Sequence::new(alloc);
-    for place in places {
-        key.push(copied_cell(alloc, row, *place)?)?;
-    }
-    Ok(key)
 }
 
 // The cell of a row, where the verdict denies it.

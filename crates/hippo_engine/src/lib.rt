@@ -13,3 +13,4 @@ mod sessions;
 mod watches;
 
 pub use engine::Engine;
+pub use hippo_questions::{EngineFault, Reply};

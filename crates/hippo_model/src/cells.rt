@@ -1,6 +1,7 @@
 //! Rows, and the cells of an answer.
 ghost use Rattle.std.specs.Prelude.{◌≡◌, IfOk};
 ghost use Rattle.hippo_model.specs.declared.cells.Cell.TheVariants.{Shown};
+ghost use Rattle.hippo_model.specs.Rows.{cell_at, key_of};
 
 use hippo_values::{Duplicate, Memory, Sequence, Value};
 use std::alloc::Global;
@@ -34,4 +35,22 @@ fn copied_value(alloc: Global, value: &Value) -> Result<Cell, Memory>
     ensures { IfOk result (λ made. made ≡ Shown value.now) }
 {
     Ok(Cell::Shown(value.copy(alloc)?))
+}
+
+// The value in a row's column.
+fn copied_cell(alloc: Global, row: &[Value], place: usize) -> Result<Value, Memory>
+    ensures { IfOk result (λ value. value ≡ cell_at row.now place) }
+{
+    row.get(place).unwrap_or(&Value::Null).copy(alloc)
+}
+
+/// The values in a row's key columns, in the key's order.
+pub fn copied_key(alloc: Global, places: &[usize], row: &[Value]) -> Result<Cells, Memory>
+    ensures { IfOk result (λ key. key ≡ key_of places.now row.now) }
+{
+    let mut key = Sequence::new(alloc);
+    for place in places {
+        key.push(copied_cell(alloc, row, *place)?)?;
+    }
+    Ok(key)
 }

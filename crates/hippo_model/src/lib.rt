@@ -18,7 +18,7 @@ mod table_fault;
 
 pub use audit::{Audit, Flag, Flags, Pair, Pairs, SharedRow, SharedTuple};
 pub use born_row::BornRow;
-pub use cells::{Answer, Cell, CellRow, Cells};
+pub use cells::{Answer, Cell, CellRow, Cells, copied_key};
 pub use combo::{ChoiceView, Combo, Plan, Sizes};
 pub use entry::{Act, Entry, History, ItemKind};
 pub use lent::{Lent, LentSchemas};

@@ -9,7 +9,7 @@ use Rattle.hippo_model.specs.declared.audit.Audit.{Audit}
 use Rattle.hippo_model.specs.declared.audit.SharedRow.{SharedRow}
 use Rattle.hippo_model.specs.declared.query.Expr.{Expr}
 use Rattle.hippo_model.specs.declared.query.Masked.{Masked}
-use Rattle.hippo_model.specs.Terms.{Combination, Key, Place}
+use Rattle.hippo_model.specs.Terms.{Combination, Key}
 use Rattle.hippo_model.specs.Answers.{product, passes}
 use Rattle.hippo_model.specs.Masking.{Choices, is_guarded, masked_passes}
 use Rattle.hippo_keyed_rows.specs.RowSets.{KeyedRows, key_in}

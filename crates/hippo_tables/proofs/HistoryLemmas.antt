@@ -1,5 +1,5 @@
 -- What a history with one entry more says of the tables.
-use Rattle.std.proofs.Common.{◌≡◌, set, true, false, if◌then◌else◌, List, [], ◌∷◌, ◌++◌, map, Option, Some, None, unwrap_or, sym, ap, ◌∙◌, refl, subst}
+use Rattle.std.proofs.Common.{◌≡◌, set, true, false, if◌then◌else◌, List, [], ◌∷◌, ◌++◌, map, Some, None, unwrap_or, sym, ap, ◌∙◌, refl, subst}
 use Rattle.std.specs.Bool.{then_some}
 use Rattle.std.specs.Option.{option_or, option_map_or}
 use Rattle.std.specs.List.{insert, remove}

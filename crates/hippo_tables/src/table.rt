@@ -1,32 +1,16 @@
 //! One table: its schema and rows, and which entry named each row's key last.
 ghost use Rattle.std.specs.Prelude.{◌≡◌, option_copied, option_map, option_and_then, slice_get, slice_index_or, OnOk, OnErr, IfOk, None};
-ghost use Rattle.hippo_model.specs.Rows.{cell_at, key_of};
+ghost use Rattle.hippo_model.specs.Rows.{key_of};
 ghost use Rattle.hippo_keyed_rows.specs.RowSets.{find_row};
 ghost use Rattle.hippo_tables.specs.Before.{before_of, renewed_table};
 ghost use Rattle.hippo_tables.specs.KeptTables.{KeptTable, empty_table, after_insert, after_update, after_delete};
 
 use hippo_keyed_rows::Pieces;
-use hippo_model::{Cells, Schema};
+use hippo_model::{Cells, Schema, copied_key};
 use hippo_rows::RowSet;
-use hippo_values::{Duplicate, Memory, Moment, Sequence, Value};
+use hippo_values::{Duplicate, Memory, Moment};
 use std::alloc::Global;
 use std::marker::Model;
-
-fn copied_cell(alloc: Global, row: &[Value], place: usize) -> Result<Value, Memory>
-    ensures { IfOk result (λ value. value ≡ cell_at row.now place) }
-{
-    row.get(place).unwrap_or(&Value::Null).copy(alloc)
-}
-
-fn copied_key(alloc: Global, places: &[usize], row: &[Value]) -> Result<Cells, Memory>
-    ensures { IfOk result (λ key. key ≡ key_of places.now row.now) }
-{
-    let mut key = Sequence::new(alloc);
-    for place in places {
-        key.push(copied_cell(alloc, row, *place)?)?;
-    }
-    Ok(key)
-}
 
 /// A row as it was, with the number of the last entry that named its key.
 #[derive(Drop)]
