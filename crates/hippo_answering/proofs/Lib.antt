@@ -1,2 +1,3 @@
 mod StateExamples
 pub mod AnswerLemmas
+mod LineLemmas

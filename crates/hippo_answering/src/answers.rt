@@ -1,6 +1,6 @@
 //! The answer of a query over the state of a history.
-ghost use Rattle.std.specs.Prelude.{◌≡◌, take, length, IfOk};
-ghost use Rattle.hippo_model.specs.Terms.{History, Meaning};
+ghost use Rattle.std.specs.Prelude.{◌≡◌, List, take, length, IfOk};
+ghost use Rattle.hippo_model.specs.Terms.{History, Meaning, ShownRow};
 ghost use Rattle.hippo_model.specs.Forms.{rows_by_form};
 ghost use Rattle.hippo_model.specs.Answers.{answer};
 ghost use Rattle.hippo_model.specs.Masking.{masked_answer};
@@ -11,13 +11,15 @@ ghost use Rattle.hippo_eval.specs.Answering.{IsAnswered};
 ghost use Rattle.hippo_rewrite.specs.Rewriting.{rewritten_query};
 ghost use Rattle.hippo_rewrite.specs.RewritingLaws.{rules_at};
 ghost use Rattle.hippo_answering.specs.States.{AreStateOf, context_of, schemas_at};
+ghost use Rattle.hippo_answering.specs.Lines.{IsSaid};
 
 use crate::asked::{schemas_of, sets_of, sizes_of};
+use crate::lines::{Lines, lines_of, walked_lines};
 use hippo_distinct::distinct;
 use hippo_eval::{ANSWER_LIMIT, EvalFault};
 use hippo_groups::grouped;
 use hippo_join::{plan, run};
-use hippo_model::{Answer, ChoiceView, Form, Masked, Names, Pair, Query, RulesInForce};
+use hippo_model::{Answer, ChoiceView, Form, Masked, Names, Pair, Plan, Query, RulesInForce};
 use hippo_policy::PolicyBook;
 use hippo_rewrite::rewrite;
 use hippo_rows::Sets;
@@ -102,6 +104,65 @@ fn formed<C: ChoiceView>(
     }
 }
 
+// Whether a plan joins the tables in the order of FROM.
+fn is_in_order(plan: &Plan) -> bool {
+    plan.order
+        .as_slice()
+        .iter()
+        .enumerate()
+        .all(|(place, table)| *table == place)
+}
+
+// The lines that say an answer.
+fn said(alloc: Global, session: u8, answer: Result<Answer, EvalFault>) -> Result<Lines, EvalFault>
+    ensures { (rows : List ShownRow) → IsAnswered ANSWER_LIMIT rows answer
+        → IsSaid ANSWER_LIMIT session rows result }
+{
+    let rows = answer?;
+    Ok(lines_of(alloc, session, rows.as_slice())?)
+}
+
+// The lines of all rows of an answer, by joins: printed as they are found where the plan has the
+// order of the answer.
+fn joined_lines<C: ChoiceView>(
+    alloc: Global,
+    session: u8,
+    query: &Masked,
+    sets: &Sets<'_>,
+    choices: &C,
+) -> Result<Lines, EvalFault>
+    requires { length sets.now ≡ length query.now.tables }
+    ensures { IsSaid ANSWER_LIMIT session (masked_answer (C.choices choices.now) query.now
+        (rows_of sets.now)) result }
+{
+    let sizes = sizes_of(alloc, sets)?;
+    let plan = plan(alloc, query, &sizes)?;
+    if is_in_order(&plan) {
+        walked_lines(alloc, session, query, sets, choices)
+    } else {
+        said(alloc, session, run(alloc, &plan, query, sets, choices))
+    }
+}
+
+// The lines of the rows of an answer, by its form.
+fn formed_lines<C: ChoiceView>(
+    alloc: Global,
+    session: u8,
+    form: &Form,
+    query: &Masked,
+    sets: &Sets<'_>,
+    choices: &C,
+) -> Result<Lines, EvalFault>
+    requires { length sets.now ≡ length query.now.tables }
+    ensures { let rows = masked_answer (C.choices choices.now) query.now (rows_of sets.now) in
+        IsSaid ANSWER_LIMIT session (rows_by_form form.now rows) result }
+{
+    match form {
+        Form::Plain => joined_lines(alloc, session, query, sets, choices),
+        _ => said(alloc, session, formed(alloc, form, query, sets, choices)),
+    }
+}
+
 /// The answer of a query for a purpose and recipient at a moment: what it answers over the views of
 /// its tables, after the `n` entries that the book and the tables stand for. The rules in force are
 /// written into the query (LeFevre and others, Limiting Disclosure in Hippocratic Databases, VLDB
@@ -136,4 +197,30 @@ pub fn answer(
     let answer = formed(alloc, &query.form, &masked, &sets, &choices);
     drop(masked);
     answer
+}
+
+/// The answer of a query as the lines that say its rows to a session, as `answer_line` prints each.
+/// Where the rows are found in the order of the answer, each is printed as it is found, and no cell
+/// is copied. Wants and answers what `answer` does.
+pub fn answer_as_lines(
+    alloc: Global,
+    book: &PolicyBook,
+    tables: &Tables,
+    n: u64,
+    moment: Moment,
+    pair: &Pair,
+    query: &Query,
+    session: u8,
+) -> Result<Lines, EvalFault>
+    requires { AreKeptTables tables.now query.now.tables }
+    ensures { (meaning : Meaning) (history : History)
+        → AreStateOf meaning book.now tables.now n history → IsSaid ANSWER_LIMIT session
+        (answer history (context_of pair.now moment) query.now) result }
+{
+    let sets = sets_of(alloc, tables, &query.tables)?;
+    let masked = masked_query(alloc, book, tables, n, moment, pair, query)?;
+    let choices = book.choices_at(n);
+    let lines = formed_lines(alloc, session, &query.form, &masked, &sets, &choices);
+    drop(masked);
+    lines
 }

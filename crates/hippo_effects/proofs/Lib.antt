@@ -5,3 +5,4 @@ pub mod EffectTheorem
 pub mod ShortLemmas
 pub mod ClockLemmas
 pub mod LedgerLemmas
+mod SpeakerLemmas

@@ -27,8 +27,8 @@ use Rattle.hippo_world.proofs.AuditLemmas.{JobsFit-opening, WatchesFit-opening, 
 use Rattle.hippo_commands.specs.Commands.{Command, nothing, wrong, make_request, make_statement, who_commands, may_want, IsCommand}
 use Rattle.hippo_commands.specs.Commands as commands
 use Rattle.hippo_engine.specs.declared.engine.Engine.{Engine}
-use Rattle.hippo_questions.specs.declared.faults.EngineFault.{EngineFault}
-use Rattle.hippo_questions.specs.declared.faults.EngineFault.TheVariants.{Keeper, Write, Damaged}
+use Rattle.hippo_effects.specs.declared.faults.EngineFault.{EngineFault}
+use Rattle.hippo_effects.specs.declared.faults.EngineFault.TheVariants.{Keeper, Write, Damaged}
 use Rattle.hippo_effects.specs.Effects.{Effect, only_reply, IsEffect}
 use Rattle.hippo_judging.proofs.LengthLemmas.{plain_fits}
 use Rattle.hippo_judging.specs.Findings.{IsOfLine, may_do_nothing}

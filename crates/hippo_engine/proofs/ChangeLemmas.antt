@@ -32,8 +32,8 @@ use Rattle.hippo_world.specs.Holding.{world_of, WatchesFollow, WatchesGoBack}
 use Rattle.hippo_world.proofs.AuditLemmas.{JobsFit-more, AreAudits-of}
 use Rattle.hippo_commands.specs.Commands.{Command, who_commands}
 use Rattle.hippo_engine.specs.declared.engine.Engine.{Engine}
-use Rattle.hippo_questions.specs.declared.faults.EngineFault.{EngineFault}
-use Rattle.hippo_questions.specs.declared.faults.EngineFault.TheVariants.{Keeper}
+use Rattle.hippo_effects.specs.declared.faults.EngineFault.{EngineFault}
+use Rattle.hippo_effects.specs.declared.faults.EngineFault.TheVariants.{Keeper}
 use Rattle.hippo_engine.specs.Carrying.{AtWork, IsQuiet, Carries}
 use Rattle.hippo_judging.specs.Changes.{IsChange}
 use Rattle.hippo_engine.specs.Changing.{Changes, change_effect}

@@ -30,8 +30,8 @@ use Rattle.hippo_sessions.specs.Worlds.{World}
 use Rattle.hippo_world.specs.Holding.{world_of, JobsFit, WatchesFit, tallies_of}
 use Rattle.hippo_commands.specs.Commands.{Command, make_statement}
 use Rattle.hippo_engine.specs.declared.engine.Engine.{Engine}
-use Rattle.hippo_questions.specs.declared.faults.EngineFault.{EngineFault}
-use Rattle.hippo_questions.specs.declared.faults.EngineFault.TheVariants as engine
+use Rattle.hippo_effects.specs.declared.faults.EngineFault.{EngineFault}
+use Rattle.hippo_effects.specs.declared.faults.EngineFault.TheVariants as engine
 use Rattle.hippo_judging.specs.Checks.{Checked, question_at}
 use Rattle.hippo_judging.specs.Deeds.{Deed}
 use Rattle.hippo_judging.specs.Deeds as deeds
@@ -41,9 +41,9 @@ use Rattle.hippo_judging.specs.Judging.{judged}
 use Rattle.hippo_effects.specs.Ledgers.{at_once}
 use Rattle.hippo_engine.specs.Carrying.{AtWork, line_as_call, is_carried, Carries}
 use Rattle.hippo_judging.proofs.EntryLemmas.{err_of}
-use Rattle.hippo_engine.specs.Explaining.{Explanation, AreDenied, IsFound, Explains, explained_line, told_of, told_cells, explaining_end, TellsCells}
+use Rattle.hippo_findings.specs.Explaining.{Explanation, AreDenied, IsFound, Explains, explained_line, told_of, told_cells, explaining_end, TellsCells}
 use Rattle.hippo_engine.specs.Performing.{Explained}
-use Rattle.hippo_engine.specs.Explaining as explaining
+use Rattle.hippo_findings.specs.Explaining as explaining
 use Rattle.hippo_engine.proofs.LookingLemmas.{Carries-looked}
 use Rattle.hippo_effects.proofs.ShortLemmas.{short, refused, done_for}
 

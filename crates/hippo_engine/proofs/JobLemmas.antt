@@ -40,14 +40,15 @@ use Rattle.hippo_sessions.proofs.NumberLemmas.{put_back}
 use Rattle.hippo_sessions.proofs.HeldLemmas.{seen-at, seen-with, seen-free, StandsAt, held_stands}
 use Rattle.hippo_world.proofs.AuditLemmas.{all_with, one_has, IsLooking-begun, IsLooking-written, tally-begun}
 use Rattle.hippo_engine.specs.declared.engine.Engine.{Engine}
-use Rattle.hippo_questions.specs.declared.faults.EngineFault.{EngineFault}
-use Rattle.hippo_engine.specs.Auditing.{reading_end}
+use Rattle.hippo_effects.specs.declared.faults.EngineFault.{EngineFault}
+use Rattle.hippo_findings.specs.Auditing.{reading_end}
 use Rattle.hippo_judging.specs.Checks.{Checked, StandsJob}
 use Rattle.hippo_engine.specs.Carrying.{AtWork, line_as_call, is_carried, shown_effect, AddsNothing, Carries}
 use Rattle.hippo_judging.specs.Deeds.{Deed}
 use Rattle.hippo_judging.specs.Deeds as deeds
 use Rattle.hippo_effects.specs.Effects.{Effect, only_reply, effect_of, job_step_effect as stepped, step_flags, step_line, job_up_to, with_job, new_open_audit, IsShort, IsShortStep, IsEffect}
-use Rattle.hippo_engine.specs.Jobs.{BeginsAt, progress_line, step_text, TellsStep}
+use Rattle.hippo_engine.specs.Jobs.{BeginsAt}
+use Rattle.hippo_findings.specs.Stepping.{progress_line, step_text, TellsStep}
 use Rattle.hippo_judging.specs.Judging.{judged}
 use Rattle.hippo_effects.specs.Ledgers.{begins_job, job_begun, job_stepped, job_dropped}
 use Rattle.hippo_judging.specs.Findings.{IsJudged, Does}

@@ -20,7 +20,7 @@ use Rattle.hippo_judging.specs.declared.deeds.Unjudged.TheVariants.{Refused, NoQ
 use Rattle.hippo_judging.specs.Deeds as deeds
 use Rattle.hippo_judging.specs.Findings.{IsJudged, Judges, is_still, may_do_nothing}
 use Rattle.hippo_engine.specs.declared.engine.Engine.{Engine}
-use Rattle.hippo_questions.specs.declared.faults.EngineFault.{EngineFault}
+use Rattle.hippo_effects.specs.declared.faults.EngineFault.{EngineFault}
 use Rattle.hippo_engine.specs.Carrying.{AtWork, shown_effect, IsQuiet, Carries}
 use Rattle.hippo_effects.specs.Effects.{Effect, only_reply, deed_effect, IsEffect}
 use Rattle.hippo_engine.specs.Performing.{Needs, Performs, SaysUnjudged}

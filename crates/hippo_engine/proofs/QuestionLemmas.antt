@@ -13,7 +13,6 @@ use Rattle.hippo_keeper.specs.declared.faults.KeeperFault.{KeeperFault}
 use Rattle.hippo_keeper.specs.declared.faults.KeeperFault.TheVariants.{Failed, Memory as KeeperMemory}
 use Rattle.hippo_keeper.specs.Keeping.{KeeperState}
 use Rattle.hippo_eval.specs.declared.answers.EvalFault.{EvalFault}
-use Rattle.hippo_eval.specs.Answering.{IsAnswered}
 use Rattle.hippo_replay.specs.declared.state.State.{State}
 use Rattle.hippo_replay.specs.Standing.{StandsFor, IsSound, IsTimely}
 use Rattle.hippo_replay.proofs.StateLemmas.{latest_moment-append}
@@ -27,8 +26,9 @@ use Rattle.hippo_values.specs.declared.memory.Memory.{Memory as NoMemory}
 use Rattle.hippo_world.proofs.AuditLemmas.{JobsFit-more, JobsFit-same, tallies_of-same, WatchesFit-more, WatchesFit-same}
 use Rattle.hippo_commands.specs.Commands.{Command, who_commands}
 use Rattle.hippo_engine.specs.declared.engine.Engine.{Engine}
-use Rattle.hippo_questions.specs.declared.faults.EngineFault.{EngineFault}
-use Rattle.hippo_questions.specs.declared.faults.EngineFault.TheVariants.{Keeper}
+use Rattle.hippo_questions.specs.declared.answered.Answered.{Answered}
+use Rattle.hippo_effects.specs.declared.faults.EngineFault.{EngineFault}
+use Rattle.hippo_effects.specs.declared.faults.EngineFault.TheVariants.{Keeper}
 use Rattle.hippo_judging.specs.declared.asking.Asking.{Asking}
 use Rattle.hippo_judging.specs.declared.asking.Delivery.{Delivery}
 use Rattle.hippo_judging.specs.declared.asking.Delivery.TheVariants as delivered
@@ -44,8 +44,8 @@ use Rattle.hippo_engine.specs.Carrying.{Carries}
 use Rattle.hippo_engine.proofs.CarryingLemmas.{Holds-same, Holds-more, IsTimely-same}
 use Rattle.hippo_effects.proofs.ClockLemmas.{int_le-refl, either_clock}
 use Rattle.hippo_judging.specs.Asking.{question_of, deed_asked, question_entry}
-use Rattle.hippo_questions.specs.Questions.{KeptAnswer, Asks, answer_said, world_left, HandsOutAnswer, Replies}
-use Rattle.hippo_engine.specs.Watching.{alarms_now}
+use Rattle.hippo_questions.specs.Questions.{IsAnsweredBy, KeptAnswer, Asks, answer_said, world_left, HandsOutAnswer, Replies}
+use Rattle.hippo_findings.specs.Watching.{alarms_now}
 use Rattle.hippo_effects.proofs.ShortLemmas.{takes_some, short, done_for}
 
 -- the entry of a question is the next one
@@ -99,11 +99,11 @@ module _ (command : Command) (deed : Deed) (question : Question) (said : List Sh
       inr (takes_some command takes, subst (λ (judgement : Checked Deed). IsShort history (world_of old.world) line judgement shown) (sym (judged_is history stands)) so)
 
   -- it was kept and answered
-  Carries-kept : (answer : Result (List ShownRow) EvalFault) → new.world.clock ≡ old.world.clock → Asks entry (world_of old.world) question (ok_of KeeperFault answer) old.state new.state before after
-      → ((history : History) → StandsFor old.state history → WatchesFit history old.world → (rows : List ShownRow) → IsAnswered row_limit rows answer
+  Carries-kept : (delivery : Delivery) (answer : Result Answered EvalFault) → new.world.clock ≡ old.world.clock → Asks entry (world_of old.world) question delivery (ok_of KeeperFault answer) old.state new.state before after
+      → ((history : History) → StandsFor old.state history → WatchesFit history old.world → (rows : List ShownRow) → IsAnsweredBy question.session answer delivery rows
       → SaysSo new said left (alarms_now history (world_of old.world) question) rows ⊎ SaysShort command old new)
       → Carries {A = Unit {0}} command (Ok tt) old new before after steps steps
-  Carries-kept answer clock kept says = record {
+  Carries-kept delivery answer clock kept says = record {
     call = IsAfterCall-as true false (ok_of KeeperFault answer) (well KeeperFault) before after refl kept.keeps.call;
     sound = λ fine. record { history = sound.history ++ entry ∷ []; stands = kept.added sound.history sound.stands };
     timely = λ fine.
@@ -129,10 +129,10 @@ module _ (command : Command) (deed : Deed) (question : Question) (said : List Sh
   }
 
   -- memory was short before it was kept
-  Carries-short : Asks entry (world_of old.world) question (err_of (Result (List ShownRow) EvalFault) KeeperMemory) old.state new.state before after
+  Carries-short : (delivery : Delivery) → Asks entry (world_of old.world) question delivery (err_of (Result Answered EvalFault) KeeperMemory) old.state new.state before after
       → SaysShort command old new → Carries {A = Unit {0}} command (Ok tt) old new before after steps steps
-  Carries-short kept none = record {
-    call = IsAfterCall-as true false (err_of (Result (List ShownRow) EvalFault) KeeperMemory) (well KeeperFault) before after refl kept.keeps.call;
+  Carries-short delivery kept none = record {
+    call = IsAfterCall-as true false (err_of (Result Answered EvalFault) KeeperMemory) (well KeeperFault) before after refl kept.keeps.call;
     sound = λ fine. subst IsSound (sym kept.same) sound;
     timely = λ fine. IsTimely-same old new kept.same (ap (λ (w : World). w.clock) none.same) timely;
     idle = λ none. refl;
@@ -152,10 +152,10 @@ module _ (command : Command) (deed : Deed) (question : Question) (said : List Sh
   }
 
   -- the keeper failed
-  Carries-failed : Asks entry (world_of old.world) question (err_of (Result (List ShownRow) EvalFault) Failed) old.state new.state before after
+  Carries-failed : (delivery : Delivery) → Asks entry (world_of old.world) question delivery (err_of (Result Answered EvalFault) Failed) old.state new.state before after
       → Carries command (err_of (Unit {0}) Keeper) old new before after steps steps
-  Carries-failed kept = record {
-    call = IsAfterCall-as true false (err_of (Result (List ShownRow) EvalFault) Failed) (err_of (Unit {0}) Failed) before after refl kept.keeps.call;
+  Carries-failed delivery kept = record {
+    call = IsAfterCall-as true false (err_of (Result Answered EvalFault) Failed) (err_of (Unit {0}) Failed) before after refl kept.keeps.call;
     sound = λ fine. absurd (false≢true (sym fine));
     timely = λ fine. absurd (false≢true (sym fine));
     idle = λ none. refl;
@@ -237,19 +237,19 @@ module _ (session : ℕ) (asks_it : Command) (asked_for : Asking) (who : who_com
 
   pub Carries-question : session_at (world_of old.world) session ≡ Some asked_for.asker.now
       → ((history : History) → StandsFor old.state history → judged history (world_of old.world) asks_it ≡ Ok (deed_asked session asked_for))
-      → (kept : KeptAnswer) → Asks (question_entry old.state old.world.clock question) (world_of old.world) question kept old.state new.state before after
+      → (kept : KeptAnswer) → Asks (question_entry old.state old.world.clock question) (world_of old.world) question asked_for.delivery kept old.state new.state before after
       → (alarms : Result Txt NoMemory) → AreAlarms alarms
       → (result : Result (Unit {0}) EngineFault) → Replies session asked_for.delivery alarms kept result new.reply (world_of old.world) (world_of new.world)
       → Carries asks_it result old new before after steps steps
   Carries-question there judged_is (Ok answer) asks alarms are result replies =
       subst (λ (r : Result (Unit {0}) EngineFault). Carries asks_it r old new before after steps steps) (sym replies.0)
-      (Carries-kept asks_it (deed_asked session asked_for) question is_said is_left old new before after steps takes sound timely same_audits judged_is (is_question asked_for.delivery) answer
+      (Carries-kept asks_it (deed_asked session asked_for) question is_said is_left old new before after steps takes sound timely same_audits judged_is (is_question asked_for.delivery) asked_for.delivery answer
       (clock_left there (question_rows sound.history (world_of old.world) question) alarms (replies.1 (question_rows sound.history (world_of old.world) question) (asks.rows sound.history sound.stands))) asks
       (λ history stands fit rows answered. says there rows alarms (alarms_now history (world_of old.world) question) (of_history alarms are history stands fit) (replies.1 rows answered)))
   Carries-question there judged_is (Err KeeperMemory) asks alarms are result replies =
       subst (λ (r : Result (Unit {0}) EngineFault). Carries asks_it r old new before after steps steps) (sym replies.0.0)
-      (Carries-short asks_it (deed_asked session asked_for) question is_said is_left old new before after steps takes sound timely same_audits judged_is (is_question asked_for.delivery) asks
+      (Carries-short asks_it (deed_asked session asked_for) question is_said is_left old new before after steps takes sound timely same_audits judged_is (is_question asked_for.delivery) asked_for.delivery asks
       (record { said = replies.0.1 ∙ said_to; same = replies.1 }))
   Carries-question there judged_is (Err Failed) asks alarms are result replies =
       subst (λ (r : Result (Unit {0}) EngineFault). Carries asks_it r old new before after steps steps) (sym replies.0)
-      (Carries-failed asks_it (deed_asked session asked_for) question is_said is_left old new before after steps takes sound timely same_audits judged_is (is_question asked_for.delivery) asks)
+      (Carries-failed asks_it (deed_asked session asked_for) question is_said is_left old new before after steps takes sound timely same_audits judged_is (is_question asked_for.delivery) asked_for.delivery asks)

@@ -1,13 +1,9 @@
 -- What performing does that was found of a command.
-use Rattle.std.specs.Prelude.{◌≡◌, ◌⊎◌, ◌≤◌, ℕ, List, length, Some, Result, Ok, Err, OnOk}
+use Rattle.std.specs.Prelude.{◌≡◌, ◌⊎◌, ◌≤◌, ℕ, length, Some, Result, Ok, Err, OnOk}
 use Rattle.hippo_values.specs.Texts.{Txt}
 use Rattle.hippo_model.specs.declared.entry.Entry.{Entry}
-use Rattle.hippo_model.specs.Denials.{Denial}
 use Rattle.hippo_keeper.specs.Keeping.{KeeperState}
-use Rattle.hippo_denials.specs.declared.faults.DenialsFault.{DenialsFault}
 use Rattle.hippo_denials.specs.declared.faults.DenialsFault.TheVariants.{Read}
-use Rattle.hippo_denials.specs.Denying.{Denies}
-use Rattle.hippo_replay.specs.declared.state.State.{State}
 use Rattle.hippo_report.specs.declared.speaker.Speaker.{Speaker}
 use Rattle.hippo_report.specs.declared.speaker.Speaker.TheVariants.{Console}
 use Rattle.hippo_report.specs.declared.refusal.Refusal.{Refusal}
@@ -22,10 +18,9 @@ use Rattle.hippo_judging.specs.Checks.{reply_room}
 use Rattle.hippo_world.specs.Holding.{world_of}
 use Rattle.hippo_judging.specs.Findings.{Does}
 use Rattle.hippo_engine.specs.declared.engine.Engine.{Engine}
-use Rattle.hippo_questions.specs.declared.faults.EngineFault.{EngineFault}
+use Rattle.hippo_effects.specs.declared.faults.EngineFault.{EngineFault}
 use Rattle.hippo_engine.specs.Carrying.{Carries}
-use Rattle.hippo_effects.specs.Effects.{row_limit}
-use Rattle.hippo_engine.specs.Explaining.{told_of, told_cells, explaining_end}
+use Rattle.hippo_findings.specs.Explaining.{explaining_end, TellsEntry}
 
 -- there is a command for which this is to be done
 abbrev pub MayDo : Deed → Engine → Type 0
@@ -36,17 +31,7 @@ abbrev pub Needs : Deed → Engine → Type 0
 Needs (kinds.Explain entry) engine = Unit {0}
 Needs deed engine = MayDo deed engine
 
--- the denied cells of an entry are found and told, or memory was short
-pub record TellsEntry (entry : Entry) (state : State) (result : Result (Unit {0}) EngineFault)
-    (reply : Txt)
-    (before after : KeeperState) (steps steps' : ℕ) : Type 0 where
-  pub found : Result (List Denial) DenialsFault
-  pub denies : Denies row_limit entry state.catalog.names state.book found before after steps steps'
-  pub ended_so : result ≡ explaining_end (told_of found)
-  pub said : OnOk result ((reply ≡ told_cells found)
-      ⊎ (reply ≡ refusal_line Console refusals.Memory))
-
--- and nothing else changes
+-- the denied cells of an entry are told, and nothing else changes
 pub record Explained (entry : Entry) (result : Result (Unit {0}) EngineFault) (old new : Engine)
     (before after : KeeperState) (steps steps' : ℕ) : Type 0 where
   pub state : new.state ≡ old.state

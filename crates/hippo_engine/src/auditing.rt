@@ -1,141 +1,21 @@
 //! DURING: an audit of all that was asked so far.
-ghost use Rattle.std.specs.Prelude.{◌≡◌, ◌≢◌, ◌⊎◌, ◌++◌, true, flat_map, bytes_eq, OnOk};
+ghost use Rattle.std.specs.Prelude.{◌≢◌, bytes_eq};
 ghost use Rattle.std.specs.Prelude.{Err as Bad};
 ghost use Rattle.std.specs.List.{IsDistinct};
-ghost use Rattle.std.specs.Result.{result_map_both};
-ghost use Rattle.hippo_keeper.specs.Keeping.{IsReady};
-ghost use Rattle.hippo_report.specs.declared.refusal.Refusal.TheVariants as refusals;
-ghost use Rattle.hippo_flags.specs.Flags.{flag_line};
-ghost use Rattle.hippo_report.specs.declared.speaker.Speaker.TheVariants.{Console};
-ghost use Rattle.hippo_report.specs.Refusals.{refusal_line};
 ghost use Rattle.hippo_commands.specs.Commands.{Command};
 ghost use Rattle.hippo_world.specs.Holding.{world_of};
 ghost use Rattle.hippo_judging.specs.declared.deeds.Deed.TheVariants as deeds;
 ghost use Rattle.hippo_judging.specs.Findings.{Does};
-ghost use Rattle.hippo_questions.specs.declared.faults.EngineFault.TheVariants.{Write as WriteFailed};
-ghost use Rattle.hippo_engine.specs.Auditing.{FindsFlags, reading_end, told_flags, TellsFlags};
+ghost use Rattle.hippo_effects.specs.declared.faults.EngineFault.TheVariants.{Write as WriteFailed};
 ghost use Rattle.hippo_engine.specs.Carrying.{AtWork, Carries};
-ghost use Rattle.hippo_effects.specs.Effects.{lines_and_count};
 
 use crate::engine::Engine;
-use hippo_audit_job::{Job, Past};
-use hippo_backlog::ReadFault;
-use hippo_combine::Combine;
-use hippo_flags::flag_line;
+use hippo_effects::EngineFault;
+use hippo_findings::tell_flags;
 use hippo_keeper::{Keeper, Steps};
-use hippo_model::{Audit, Flag};
-use hippo_questions::{EngineFault, Reply, refuse_for_memory};
-use hippo_replay::State;
-use hippo_report::{Format, Speaker, number_line};
-use hippo_values::Memory;
+use hippo_model::Audit;
 use std::alloc::Global;
 use std::sync::ledger::Ledger;
-
-// A job that has looked at all that was asked so far.
-fn looked_over<P: Keeper, L: Ledger>(
-    alloc: Global,
-    keeper: &mut P,
-    state: &State,
-    audit: Audit,
-    steps: &mut Steps<L>,
-) -> Result<Job<Combine>, ReadFault>
-    requires ready { IsReady true (P.state keeper.old) }
-    requires differ { IsDistinct bytes_eq audit.tables }
-    ensures finds { FindsFlags audit state.now
-        (result_map_both (λ job. job.waiting) (λ fault. fault) result)
-        (P.state keeper.old) (P.state keeper.new) steps.old steps.new }
-{
-    let past = Past {
-        catalog: &state.catalog,
-        book: &state.book,
-        count: state.count,
-    };
-    let mut job = Job::begin(alloc, audit, state.count, Combine::new(alloc));
-    match job.step(keeper, alloc, state.count, &past, steps) {
-        Ok(()) => Ok(job),
-        Err(fault) => {
-            drop(job);
-            Err(fault)
-        }
-    }
-}
-
-/// A line for each flag, behind what is there.
-pub(crate) fn append_flags(
-    alloc: Global,
-    format: Format,
-    flags: &[Flag],
-    reply: &mut Reply,
-) -> Result<(), Memory>
-    ensures { OnOk result (reply.new ≡ reply.old ++ flat_map (flag_line format) flags.now) }
-{
-    for flag in flags {
-        flag_line(alloc, format, flag, reply)?;
-    }
-    Ok(())
-}
-
-// Makes the reply that lists flags.
-fn print_flags(
-    alloc: Global,
-    format: Format,
-    flags: &[Flag],
-    reply: &mut Reply,
-) -> Result<(), Memory>
-    ensures { OnOk result (reply.new ≡ lines_and_count 0 (flag_line format) flags.now) }
-{
-    reply.clear();
-    append_flags(alloc, format, flags, reply)?;
-    number_line(0, "end", flags.len() as u64, reply)
-}
-
-// Tells the flags that were found, or that memory was short.
-fn say_flags(
-    alloc: Global,
-    format: Format,
-    found: Result<Job<Combine>, ReadFault>,
-    reply: &mut Reply,
-) -> Result<(), EngineFault>
-    ensures ended { result ≡ reading_end found }
-    ensures said { OnOk result ((reply.new
-        ≡ told_flags format (result_map_both (λ job. job.waiting) (λ fault. fault) found))
-        ⊎ (reply.new ≡ refusal_line Console refusals.Memory)) }
-{
-    match found {
-        Ok(job) => {
-            if print_flags(alloc, format, job.waiting().as_slice(), reply).is_err() {
-                refuse_for_memory(Speaker::Console, reply);
-            }
-            drop(job);
-            Ok(())
-        }
-        Err(ReadFault::Memory) => {
-            refuse_for_memory(Speaker::Console, reply);
-            Ok(())
-        }
-        Err(ReadFault::Keeper) => Err(EngineFault::Keeper),
-        Err(ReadFault::Damaged(number)) => Err(EngineFault::Damaged(number)),
-    }
-}
-
-// Finds the flags of an audit, and tells them.
-fn tell_flags<P: Keeper, L: Ledger>(
-    alloc: Global,
-    keeper: &mut P,
-    state: &State,
-    format: Format,
-    audit: Audit,
-    reply: &mut Reply,
-    steps: &mut Steps<L>,
-) -> Result<(), EngineFault>
-    requires ready { IsReady true (P.state keeper.old) }
-    requires differ { IsDistinct bytes_eq audit.tables }
-    ensures tells { TellsFlags format audit state.now result reply.new
-        (P.state keeper.old) (P.state keeper.new) steps.old steps.new }
-{
-    let found = looked_over(alloc, keeper, state, audit, steps);
-    say_flags(alloc, format, found, reply)
-}
 
 impl Engine {
     /// Lists the questions of all that was asked so far that an audit flags. Answers `Keeper` only

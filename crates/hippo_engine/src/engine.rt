@@ -7,16 +7,16 @@ ghost use Rattle.hippo_sessions.specs.Worlds.{opening};
 ghost use Rattle.hippo_world.specs.Holding.{world_of};
 ghost use Rattle.hippo_commands.specs.Commands.{input_command};
 ghost use Rattle.hippo_commands.specs.Lent.{command};
-ghost use Rattle.hippo_questions.specs.declared.faults.EngineFault.TheVariants.{Write as WriteFailed};
+ghost use Rattle.hippo_effects.specs.declared.faults.EngineFault.TheVariants.{Write as WriteFailed};
 ghost use Rattle.hippo_judging.specs.Findings.{IsOfLine};
 ghost use Rattle.hippo_engine.specs.Carrying.{IsText, AtWork, is_carried, Carries};
 ghost use Rattle.hippo_engine.specs.Performing.{Needs, Performs};
 
 use hippo_commands::{Command, command_of};
+use hippo_effects::{EngineFault, Reply};
 use hippo_io::{Line, Sink};
 use hippo_judging::{Deed, judge, who_commands};
 use hippo_keeper::{Keeper, Steps};
-use hippo_questions::{EngineFault, Reply};
 use hippo_replay::State;
 use hippo_report::Format;
 use hippo_values::{Memory, Moment};

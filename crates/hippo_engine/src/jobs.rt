@@ -1,89 +1,25 @@
 //! Audit jobs at the console: one begins, looks on, or is dropped.
-ghost use Rattle.std.specs.Prelude.{◌≡◌, ◌≢◌, ◌++◌, bytes_eq, OnOk, Err as Bad};
+ghost use Rattle.std.specs.Prelude.{◌≢◌, bytes_eq, Err as Bad};
 ghost use Rattle.std.specs.List.{IsDistinct};
 ghost use Rattle.hippo_lines.specs.Forms as requests;
 ghost use Rattle.hippo_report.specs.declared.speaker.Speaker.TheVariants.{Console};
 ghost use Rattle.hippo_commands.specs.Commands.{make_request};
-ghost use Rattle.hippo_questions.specs.declared.faults.EngineFault.TheVariants.{Write as WriteFailed};
+ghost use Rattle.hippo_effects.specs.declared.faults.EngineFault.TheVariants.{Write as WriteFailed};
 ghost use Rattle.hippo_world.specs.Holding.{world_of};
 ghost use Rattle.hippo_judging.specs.Checks.{StandsJob};
-ghost use Rattle.hippo_engine.specs.Auditing.{reading_end};
 ghost use Rattle.hippo_engine.specs.Carrying.{AtWork, AddsNothing, Carries};
-ghost use Rattle.hippo_engine.specs.Jobs.{BeginsAt, progress_line, step_text, SaysStep, TellsStep};
+ghost use Rattle.hippo_engine.specs.Jobs.{BeginsAt};
 
-use crate::auditing::append_flags;
 use crate::engine::Engine;
-use crate::fetching::{append_end, append_part};
 use hippo_audit_job::Past;
-use hippo_backlog::ReadFault;
+use hippo_effects::{EngineFault, say_done, say_number};
+use hippo_findings::tell_step;
 use hippo_keeper::{Keeper, Steps};
 use hippo_model::Audit;
-use hippo_questions::{EngineFault, Reply, refuse_for_memory, say_done, say_number};
-use hippo_report::{Format, Speaker};
-use hippo_values::Memory;
+use hippo_report::Speaker;
 use hippo_world::AuditJob;
 use std::alloc::Global;
 use std::sync::ledger::Ledger;
-
-// How far a job is, while numbers are left; else how many flags it found.
-fn append_progress(job: &AuditJob, reply: &mut Reply) -> Result<(), Memory>
-    ensures { OnOk result (reply.new ≡ reply.old ++ progress_line job.now) }
-{
-    if job.at_end() {
-        append_end(0, job.flag_count(), reply)
-    } else {
-        append_part(0, job.place(), reply)
-    }
-}
-
-// Makes the reply to a step: the flags that wait, and how far the job is.
-fn print_step(
-    alloc: Global,
-    format: Format,
-    job: &AuditJob,
-    reply: &mut Reply,
-) -> Result<(), Memory>
-    ensures { OnOk result (reply.new ≡ step_text format job.now) }
-{
-    reply.clear();
-    append_flags(alloc, format, job.waiting().as_slice(), reply)?;
-    append_progress(job, reply)
-}
-
-// Says what a job found, so that no flag waits any more; or that memory was short, and they wait.
-fn say_step(alloc: Global, format: Format, job: &mut AuditJob, reply: &mut Reply)
-    ensures { SaysStep format job.old job.new reply.new }
-{
-    match print_step(alloc, format, job, reply) {
-        Ok(()) => job.written(),
-        Err(Memory) => refuse_for_memory(Speaker::Console, reply),
-    }
-}
-
-// Tells how a step ended.
-fn tell_step(
-    alloc: Global,
-    format: Format,
-    looked: Result<(), ReadFault>,
-    job: &mut AuditJob,
-    reply: &mut Reply,
-) -> Result<(), EngineFault>
-    ensures ended { result ≡ reading_end looked }
-    ensures told { TellsStep looked format job.old job.new reply.new }
-{
-    match looked {
-        Ok(()) => {
-            say_step(alloc, format, job, reply);
-            Ok(())
-        }
-        Err(ReadFault::Memory) => {
-            refuse_for_memory(Speaker::Console, reply);
-            Ok(())
-        }
-        Err(ReadFault::Keeper) => Err(EngineFault::Keeper),
-        Err(ReadFault::Damaged(number)) => Err(EngineFault::Damaged(number)),
-    }
-}
 
 impl Engine {
     /// A job begins at a number that is free, over all that was asked so far. Takes no memory.

@@ -5,7 +5,6 @@ mod auditing;
 mod changes;
 mod engine;
 mod explaining;
-mod fetching;
 mod jobs;
 mod plain;
 mod questions;
@@ -13,4 +12,4 @@ mod sessions;
 mod watches;
 
 pub use engine::Engine;
-pub use hippo_questions::{EngineFault, Reply};
+pub use hippo_effects::{EngineFault, Reply};

@@ -2,15 +2,15 @@
 ghost use Rattle.std.specs.Prelude.{◌≡◌, ◌≢◌, true, Err, OnOk};
 ghost use Rattle.hippo_io.specs.Faults.{HasRisen};
 ghost use Rattle.hippo_io.specs.Told.{Appends, AppendsFront};
-ghost use Rattle.hippo_questions.specs.declared.faults.EngineFault.TheVariants.{Write as WriteFailed};
+ghost use Rattle.hippo_effects.specs.declared.faults.EngineFault.TheVariants.{Write as WriteFailed};
 ghost use Rattle.hippo_engine.specs.Carrying.{is_carried};
 ghost use Rattle.hippo_engine.specs.Performing.{SaysUnjudged};
 
 use crate::engine::Engine;
 use hippo_backlog::ReadFault;
+use hippo_effects::{EngineFault, refuse, refuse_for_memory};
 use hippo_io::{Sink, write_whole};
 use hippo_judging::Unjudged;
-use hippo_questions::{EngineFault, refuse, refuse_for_memory};
 use hippo_report::{Refusal, Speaker};
 
 impl Engine {

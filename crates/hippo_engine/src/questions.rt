@@ -2,15 +2,16 @@
 ghost use Rattle.std.specs.Prelude.{◌≢◌, ℕ, Err as Bad};
 ghost use Rattle.hippo_world.specs.Holding.{world_of};
 ghost use Rattle.hippo_commands.specs.Commands.{Command};
-ghost use Rattle.hippo_questions.specs.declared.faults.EngineFault.TheVariants.{Write as WriteFailed};
+ghost use Rattle.hippo_effects.specs.declared.faults.EngineFault.TheVariants.{Write as WriteFailed};
 ghost use Rattle.hippo_judging.specs.Findings.{MayBeAsked};
 ghost use Rattle.hippo_engine.specs.Carrying.{AtWork, Carries};
 
 use crate::engine::Engine;
-use crate::watches::alarms_of;
+use hippo_effects::EngineFault;
+use hippo_findings::alarms_of;
 use hippo_judging::{Asking, Delivery, Question};
 use hippo_keeper::Keeper;
-use hippo_questions::{EngineFault, keep_and_answer, reply_to};
+use hippo_questions::{keep_and_answer, reply_to};
 use hippo_sessions::WorldView;
 use std::alloc::Global;
 
@@ -44,12 +45,18 @@ impl Engine {
                     delivery,
                 };
                 let alarms = alarms_of(alloc, &self.state, &self.world, &asking);
-                let kept = keep_and_answer(alloc, keeper, &mut self.state, &self.world, &asking);
+                let kept = keep_and_answer(
+                    alloc,
+                    keeper,
+                    &mut self.state,
+                    &self.world,
+                    session,
+                    &asking,
+                );
                 drop(asking);
                 reply_to(
                     alloc,
                     session,
-                    delivery,
                     alarms,
                     kept,
                     &mut self.world,

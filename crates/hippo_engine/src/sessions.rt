@@ -9,9 +9,9 @@ ghost use Rattle.hippo_engine.specs.Carrying.{IsQuiet};
 ghost use Rattle.hippo_engine.specs.Performing.{MayDo};
 
 use crate::engine::Engine;
-use crate::fetching::print_next;
+use hippo_effects::{refuse_for_memory, say_done};
+use hippo_findings::print_next;
 use hippo_model::Pair;
-use hippo_questions::{refuse_for_memory, say_done};
 use hippo_report::Speaker;
 use hippo_sessions::{Cursor, WorldView};
 use hippo_values::{Memory, Moment, Name};

@@ -1,2 +1,1 @@
 mod KeptLemmas
-mod SpeakerLemmas

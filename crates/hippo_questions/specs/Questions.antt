@@ -15,6 +15,7 @@ use Rattle.hippo_keeper.specs.declared.faults.KeeperFault.TheVariants.{Failed, M
 use Rattle.hippo_keeper.specs.Keeping.{KeeperState}
 use Rattle.hippo_eval.specs.declared.answers.EvalFault.{EvalFault}
 use Rattle.hippo_eval.specs.Answering.{IsAnswered}
+use Rattle.hippo_answering.specs.Lines.{IsSaid}
 use Rattle.hippo_replay.specs.declared.state.State.{State}
 use Rattle.hippo_replay.specs.Standing.{StandsFor}
 use Rattle.hippo_replay.specs.Recording.{KeepsEntry}
@@ -22,26 +23,38 @@ use Rattle.hippo_sessions.specs.declared.sessions.Session.{Session}
 use Rattle.hippo_sessions.specs.Worlds.{World, session_at, with_session, with_cursor, new_cursor}
 use Rattle.hippo_judging.specs.declared.asking.Delivery.{Delivery}
 use Rattle.hippo_judging.specs.declared.asking.Delivery.TheVariants as delivered
-use Rattle.hippo_questions.specs.declared.faults.EngineFault.{EngineFault}
-use Rattle.hippo_questions.specs.declared.faults.EngineFault.TheVariants.{Keeper}
+use Rattle.hippo_questions.specs.declared.answered.Answered.{Answered}
+use Rattle.hippo_questions.specs.declared.answered.Answered.TheVariants.{Lines, Records, Held}
+use Rattle.hippo_effects.specs.declared.faults.EngineFault.{EngineFault}
+use Rattle.hippo_effects.specs.declared.faults.EngineFault.TheVariants.{Keeper}
 use Rattle.hippo_judging.specs.Deeds.{Question}
 use Rattle.hippo_effects.specs.Effects.{row_limit, question_rows, within_limit, lines_and_count}
 
--- what keeping a question and answering it comes to: its rows, that they are too many, or want of
--- memory
+-- what is answered with these rows: the lines that say them, or they themselves for what hands them
+-- out; or that they are too many, or want of memory
+abbrev pub IsAnsweredBy : ℕ → Result Answered EvalFault → Delivery → List ShownRow → Type 0
+IsAnsweredBy number (Ok (Lines lines)) delivery rows =
+    (delivery ≡ delivered.Rows) × IsSaid row_limit number rows (Ok lines)
+IsAnsweredBy number (Ok (Records answer)) delivery rows =
+    (delivery ≡ delivered.Records) × IsAnswered row_limit rows (Ok answer)
+IsAnsweredBy number (Ok (Held cursor answer)) delivery rows =
+    (delivery ≡ delivered.Cursor cursor) × IsAnswered row_limit rows (Ok answer)
+IsAnsweredBy number (Err fault) delivery rows = IsAnswered row_limit rows (Err fault)
+
+-- what keeping a question and answering it comes to
 abbrev pub KeptAnswer : Type 0
-KeptAnswer = Result (Result (List ShownRow) EvalFault) KeeperFault
+KeptAnswer = Result (Result Answered EvalFault) KeeperFault
 
 -- a question's entry is kept, and the state stands for the history with it behind; the answer is
 -- that of before. Or it is not kept, and the state is the same
-pub record Asks (entry : Entry) (world : World) (question : Question) (result : KeptAnswer)
-    (old new : State) (before after : KeeperState) : Type 0 where
+pub record Asks (entry : Entry) (world : World) (question : Question) (delivery : Delivery)
+    (result : KeptAnswer) (old new : State) (before after : KeeperState) : Type 0 where
   pub keeps : KeepsEntry entry result old before after
   pub added : OnOk result ((history : History) → StandsFor old history
       → StandsFor new (history ++ entry ∷ []))
   pub same : OnErr result (new ≡ old)
   pub rows : IfOk result (λ answer. (history : History) → StandsFor old history
-      → IsAnswered row_limit (question_rows history world question) answer)
+      → IsAnsweredBy question.session answer delivery (question_rows history world question))
 
 -- that memory was short, to a session
 abbrev pub short_line : ℕ → Txt
@@ -93,7 +106,7 @@ abbrev pub Replies :
     ℕ → Delivery → Result Txt Memory → KeptAnswer → Result (Unit {0}) EngineFault → Txt → World
     → World → Type 0
 Replies number delivery alarms (Ok answer) result reply old new =
-    (result ≡ Ok tt) × ((rows : List ShownRow) → IsAnswered row_limit rows answer
+    (result ≡ Ok tt) × ((rows : List ShownRow) → IsAnsweredBy number answer delivery rows
     → HandsOutAnswer number delivery rows alarms reply old new)
 Replies number delivery alarms (Err fault) result reply old new =
     IsUnkept fault number result reply × (new ≡ old)

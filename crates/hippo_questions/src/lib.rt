@@ -1,11 +1,8 @@
-//! Questions: each is kept before it is answered, and has its reply; and the replies for which
-//! there is always room.
+//! Questions: each is kept before it is answered, and has its reply.
 #![tactic(auto)]
 
-mod faults;
+mod answered;
 mod questions;
-mod replies;
 
-pub use faults::EngineFault;
+pub use answered::Answered;
 pub use questions::{keep_and_answer, reply_to};
-pub use replies::{REPLY_ROOM, Reply, refuse, refuse_for_memory, say_done, say_number};

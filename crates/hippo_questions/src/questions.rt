@@ -1,6 +1,6 @@
 //! Questions: each is kept before it is answered.
 ghost use Rattle.std.specs.Prelude.{◌≡◌, ◌≢◌, ◌⊎◌, ℕ, ◌+◌, ◌<◌, ◌≤◌, ◌^◌, List, [], ◌∷◌, ◌++◌};
-ghost use Rattle.std.specs.Prelude.{length, true, Some, Err as Bad, IfOk, OnOk};
+ghost use Rattle.std.specs.Prelude.{true, Some, Ok as Good, Err as Bad, IfOk, OnOk};
 ghost use Rattle.hippo_model.specs.declared.entry.Act.TheVariants.{Asked};
 ghost use Rattle.hippo_model.specs.Terms.{History, ShownRow};
 ghost use Rattle.hippo_model.specs.Validity.{may_follow};
@@ -9,29 +9,30 @@ ghost use Rattle.hippo_report.specs.declared.refusal.Refusal.TheVariants.{TooMan
 ghost use Rattle.hippo_report.specs.Cells.{answer_line};
 ghost use Rattle.hippo_report.specs.declared.speaker.Speaker.TheVariants as speaker;
 ghost use Rattle.hippo_report.specs.Refusals.{refusal_line};
-ghost use Rattle.hippo_eval.specs.Answering.{IsAnswered};
 ghost use Rattle.hippo_typing.specs.Meanings.{meaning};
 ghost use Rattle.hippo_replay.specs.Standing.{StandsFor, MayFollow, IsNext, takes_no_memory};
 ghost use Rattle.hippo_replay.specs.Recording.{IsBacked};
 ghost use Rattle.hippo_sessions.specs.declared.sessions.Session.{Session as KeptSession};
 ghost use Rattle.hippo_sessions.specs.Worlds.{session_at};
 ghost use Rattle.hippo_world.specs.Holding.{world_of, KeepsAudits};
-ghost use Rattle.hippo_questions.specs.declared.faults.EngineFault.TheVariants.{Write as WriteFailed};
-ghost use Rattle.hippo_effects.specs.Effects.{row_limit, question_rows, lines_and_count};
+ghost use Rattle.hippo_effects.specs.declared.faults.EngineFault.TheVariants.{Write as WriteFailed};
+ghost use Rattle.hippo_effects.specs.Effects.{lines_and_count};
 ghost use Rattle.hippo_judging.specs.Asking.{question_of, question_entry, IsAnswerable};
-ghost use Rattle.hippo_questions.specs.Questions.{Asks, short_line, answer_said, world_left};
+ghost use Rattle.hippo_answering.specs.Lines.{AreLinesOf};
+ghost use Rattle.hippo_judging.specs.declared.asking.Delivery.{Delivery};
+ghost use Rattle.hippo_questions.specs.Questions.{IsAnsweredBy, Asks, short_line, answer_said, world_left};
 ghost use Rattle.hippo_questions.specs.Questions.{IsUnkept, IsHandedOut, IsShortReply, HandsOutAnswer, Replies};
 
-use crate::faults::EngineFault;
-use crate::replies::{Reply, refuse_for_memory};
-use hippo_answering::answer;
+use crate::answered::{Answered, answer_of};
+use hippo_answering::Lines;
 use hippo_csv::extract_lines;
+use hippo_effects::{EngineFault, Reply, refuse_for_memory};
 use hippo_eval::EvalFault;
-use hippo_judging::{Asking, Delivery};
+use hippo_judging::Asking;
 use hippo_keeper::{Keeper, KeeperFault};
-use hippo_model::{Act, Answer, CellRow, Entry};
+use hippo_model::{Act, CellRow, Entry};
 use hippo_replay::State;
-use hippo_report::{Refusal, Speaker, answer_lines, number_line, refusal_line};
+use hippo_report::{Refusal, Speaker, number_line, refusal_line};
 use hippo_sessions::Session;
 use hippo_values::{Duplicate, Memory, Moment, Txt};
 use hippo_world::World;
@@ -72,29 +73,6 @@ fn entry_of(
     })
 }
 
-// What a question answers as of now.
-fn answered(
-    alloc: Global,
-    state: &State,
-    world: &World,
-    asking: &Asking<'_>,
-) -> Result<Answer, EvalFault>
-    requires { IsAnswerable state.now asking.now.query }
-    ensures { (session : ℕ) (history : History) → StandsFor state.now history
-        → IsAnswered row_limit (question_rows history (world_of world.now)
-        (question_of session asking.now)) result }
-{
-    answer(
-        alloc,
-        &state.book,
-        &state.tables,
-        state.count,
-        world.clock,
-        &asking.asker.pair,
-        &asking.query,
-    )
-}
-
 // Takes in the next entry, which takes no memory.
 fn take_in(alloc: Global, state: &mut State, entry: &Entry)
     requires next { IsNext state.old entry.now }
@@ -112,22 +90,23 @@ fn keep_entry<P: Keeper>(
     keeper: &mut P,
     state: &mut State,
     world: &World,
+    session: u8,
     asking: &Asking<'_>,
     entry: &Entry,
-) -> Result<Result<Answer, EvalFault>, KeeperFault>
+) -> Result<Result<Answered, EvalFault>, KeeperFault>
     requires backed { IsBacked state.old (P.state keeper.old) }
     requires number { entry.now.seq < 2 ^ 63 }
     requires follows { MayFollow state.old entry.now }
     requires room { takes_no_memory entry.now.act ≡ true }
     requires answerable { IsAnswerable state.old asking.now.query }
-    ensures asks { (session : ℕ) → Asks entry.now (world_of world.now)
-        (question_of session asking.now) result
+    ensures asks { Asks entry.now (world_of world.now) (question_of session asking.now)
+        asking.now.delivery result
         state.old state.new (P.state keeper.old) (P.state keeper.new) }
 {
     match state.keep(alloc, keeper, entry) {
         Ok(()) => {
             state.order_for(alloc, &asking.query);
-            let answer = answered(alloc, state, world, asking);
+            let answer = answer_of(alloc, state, world, session, asking);
             take_in(alloc, state, entry);
             Ok(answer)
         }
@@ -135,27 +114,28 @@ fn keep_entry<P: Keeper>(
     }
 }
 
-/// Keeps a question behind the other entries, and answers it as of before.
+/// Keeps a question of a session behind the other entries, and answers it as of before.
 pub fn keep_and_answer<P: Keeper>(
     alloc: Global,
     keeper: &mut P,
     state: &mut State,
     world: &World,
+    session: u8,
     asking: &Asking<'_>,
-) -> Result<Result<Answer, EvalFault>, KeeperFault>
+) -> Result<Result<Answered, EvalFault>, KeeperFault>
     requires backed { IsBacked state.old (P.state keeper.old) }
     requires number { state.old.count + 1 < 2 ^ 63 }
     requires follows { MayFollow state.old
         (question_entry state.old world.now.clock (question_of 0 asking.now)) }
     requires answerable { IsAnswerable state.old asking.now.query }
-    ensures asks { (session : ℕ) → Asks (question_entry state.old world.now.clock
-        (question_of session asking.now))
-        (world_of world.now) (question_of session asking.now) result
+    ensures asks { let question = question_of session asking.now in
+        Asks (question_entry state.old world.now.clock question) (world_of world.now) question
+        asking.now.delivery result
         state.old state.new (P.state keeper.old) (P.state keeper.new) }
 {
     match entry_of(alloc, state, &world.clock, asking) {
         Ok(entry) => {
-            let answer = keep_entry(alloc, keeper, state, world, asking, &entry);
+            let answer = keep_entry(alloc, keeper, state, world, session, asking, &entry);
             drop(entry);
             answer
         }
@@ -163,14 +143,17 @@ pub fn keep_and_answer<P: Keeper>(
     }
 }
 
-fn append_rows(session: u8, rows: &[CellRow], reply: &mut Reply) -> Result<(), Memory>
-    ensures { OnOk result (reply.new ≡ reply.old
-        ++ lines_and_count session (answer_line session) rows.now) }
+// Adds lines, and how many these are.
+fn append_lines(session: u8, lines: &Lines, reply: &mut Reply) -> Result<(), Memory>
+    ensures { (rows : List ShownRow) → AreLinesOf session rows lines.now
+        → OnOk result (reply.new ≡ reply.old
+        ++ lines_and_count session (answer_line session) rows) }
 {
-    answer_lines(session, rows, reply)?;
-    number_line(session, "end", rows.len() as u64, reply)
+    reply.append(lines.text.as_str())?;
+    number_line(session, "end", lines.count as u64, reply)
 }
 
+// Adds rows as records, and how many these are.
 fn append_records(
     alloc: Global,
     session: u8,
@@ -189,16 +172,17 @@ fn append_records(
 fn append_answer(
     alloc: Global,
     session: u8,
-    delivery: Delivery,
-    rows: &[CellRow],
+    answer: &Answered,
     reply: &mut Reply,
 ) -> Result<(), Memory>
-    ensures { OnOk result (reply.new ≡ reply.old ++ answer_said session delivery rows.now) }
+    ensures { (delivery : Delivery) (rows : List ShownRow)
+        → IsAnsweredBy session (Good answer.now) delivery rows
+        → OnOk result (reply.new ≡ reply.old ++ answer_said session delivery rows) }
 {
-    match delivery {
-        Delivery::Rows => append_rows(session, rows, reply),
-        Delivery::Records => append_records(alloc, session, rows, reply),
-        Delivery::Cursor(cursor) => number_line(session, "cursor", u64::from(cursor), reply),
+    match answer {
+        Answered::Lines(lines) => append_lines(session, lines, reply),
+        Answered::Records(rows) => append_records(alloc, session, rows.as_slice(), reply),
+        Answered::Held(cursor, _) => number_line(session, "cursor", u64::from(*cursor), reply),
     }
 }
 
@@ -206,15 +190,16 @@ fn append_answer(
 fn print_answer(
     alloc: Global,
     session: u8,
-    delivery: Delivery,
-    rows: &[CellRow],
+    answer: &Answered,
     alarms: &str,
     reply: &mut Reply,
 ) -> Result<(), Memory>
-    ensures { OnOk result (reply.new ≡ answer_said session delivery rows.now ++ alarms.now) }
+    ensures { (delivery : Delivery) (rows : List ShownRow)
+        → IsAnsweredBy session (Good answer.now) delivery rows
+        → OnOk result (reply.new ≡ answer_said session delivery rows ++ alarms.now) }
 {
     reply.clear();
-    append_answer(alloc, session, delivery, rows, reply)?;
+    append_answer(alloc, session, answer, reply)?;
     reply.append(alarms)
 }
 
@@ -243,16 +228,17 @@ fn say_unkept(session: u8, fault: KeeperFault, reply: &mut Reply) -> Result<(), 
 }
 
 // Lets the cursor that is to hold an answer hold it; takes no memory.
-fn keep_answer(session: u8, delivery: Delivery, rows: Answer, world: &mut World)
-    ensures left { length rows ≤ row_limit → (asker : KeptSession)
+fn keep_answer(session: u8, answer: Answered, world: &mut World)
+    ensures left { (delivery : Delivery) (rows : List ShownRow)
+        → IsAnsweredBy session (Good answer) delivery rows → (asker : KeptSession)
         → session_at (world_of world.old) session ≡ Some asker
         → world_of world.new ≡ world_left (world_of world.old) session asker delivery rows }
     ensures audits { KeepsAudits world.old world.new }
 {
-    match delivery {
-        Delivery::Rows => drop(rows),
-        Delivery::Records => drop(rows),
-        Delivery::Cursor(cursor) => world.open_cursor(session, cursor, rows),
+    match answer {
+        Answered::Lines(lines) => drop(lines),
+        Answered::Records(rows) => drop(rows),
+        Answered::Held(cursor, rows) => world.open_cursor(session, cursor, rows),
     }
 }
 
@@ -260,22 +246,22 @@ fn keep_answer(session: u8, delivery: Delivery, rows: Answer, world: &mut World)
 fn hand_out_rows(
     alloc: Global,
     session: u8,
-    delivery: Delivery,
-    rows: Answer,
+    answer: Answered,
     alarms: &str,
     world: &mut World,
     reply: &mut Reply,
 )
-    ensures said { length rows ≤ row_limit
+    ensures said { (delivery : Delivery) (rows : List ShownRow)
+        → IsAnsweredBy session (Good answer) delivery rows
         → IsHandedOut session delivery rows alarms.now reply.new (world_of world.old)
         (world_of world.new)
         ⊎ IsShortReply session reply.new (world_of world.old) (world_of world.new) }
     ensures audits { KeepsAudits world.old world.new }
 {
-    match print_answer(alloc, session, delivery, rows.as_slice(), alarms, reply) {
-        Ok(()) => keep_answer(session, delivery, rows, world),
+    match print_answer(alloc, session, &answer, alarms, reply) {
+        Ok(()) => keep_answer(session, answer, world),
         Err(Memory) => {
-            drop(rows);
+            drop(answer);
             refuse_for_memory(Speaker::Session(session), reply);
         }
     }
@@ -296,20 +282,20 @@ fn say_too_many(session: u8, alarms: &str, reply: &mut Reply)
 fn hand_out_answer(
     alloc: Global,
     session: u8,
-    delivery: Delivery,
-    answer: Result<Answer, EvalFault>,
+    answer: Result<Answered, EvalFault>,
     alarms: &str,
     world: &mut World,
     reply: &mut Reply,
 )
-    ensures said { (rows : List ShownRow) → IsAnswered row_limit rows answer
+    ensures said { (delivery : Delivery) (rows : List ShownRow)
+        → IsAnsweredBy session answer delivery rows
         → IsHandedOut session delivery rows alarms.now reply.new (world_of world.old)
         (world_of world.new)
         ⊎ IsShortReply session reply.new (world_of world.old) (world_of world.new) }
     ensures audits { KeepsAudits world.old world.new }
 {
     match answer {
-        Ok(rows) => hand_out_rows(alloc, session, delivery, rows, alarms, world, reply),
+        Ok(answer) => hand_out_rows(alloc, session, answer, alarms, world, reply),
         Err(EvalFault::TooManyRows) => say_too_many(session, alarms, reply),
         Err(EvalFault::Memory) => refuse_for_memory(Speaker::Session(session), reply),
     }
@@ -319,28 +305,20 @@ fn hand_out_answer(
 fn hand_out(
     alloc: Global,
     session: u8,
-    delivery: Delivery,
-    answer: Result<Answer, EvalFault>,
+    answer: Result<Answered, EvalFault>,
     alarms: Result<Reply, Memory>,
     world: &mut World,
     reply: &mut Reply,
 )
-    ensures said { (rows : List ShownRow) → IsAnswered row_limit rows answer
+    ensures said { (delivery : Delivery) (rows : List ShownRow)
+        → IsAnsweredBy session answer delivery rows
         → HandsOutAnswer session delivery rows alarms reply.new (world_of world.old)
         (world_of world.new) }
     ensures audits { KeepsAudits world.old world.new }
 {
     match alarms {
         Ok(alarms) => {
-            hand_out_answer(
-                alloc,
-                session,
-                delivery,
-                answer,
-                alarms.as_str(),
-                world,
-                reply,
-            );
+            hand_out_answer(alloc, session, answer, alarms.as_str(), world, reply);
             drop(alarms);
         }
         Err(Memory) => {
@@ -356,20 +334,19 @@ fn hand_out(
 pub fn reply_to(
     alloc: Global,
     session: u8,
-    delivery: Delivery,
     alarms: Result<Reply, Memory>,
-    kept: Result<Result<Answer, EvalFault>, KeeperFault>,
+    kept: Result<Result<Answered, EvalFault>, KeeperFault>,
     world: &mut World,
     reply: &mut Reply,
 ) -> Result<(), EngineFault>
-    ensures said { Replies session delivery alarms kept result reply.new (world_of world.old)
-        (world_of world.new) }
+    ensures said { (delivery : Delivery) → Replies session delivery alarms kept result reply.new
+        (world_of world.old) (world_of world.new) }
     ensures audits { KeepsAudits world.old world.new }
     ensures unwritten { result ≢ Bad WriteFailed }
 {
     match kept {
         Ok(answer) => {
-            hand_out(alloc, session, delivery, answer, alarms, world, reply);
+            hand_out(alloc, session, answer, alarms, world, reply);
             Ok(())
         }
         Err(fault) => {

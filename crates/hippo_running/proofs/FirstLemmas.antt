@@ -18,7 +18,7 @@ use Rattle.hippo_report.specs.declared.refusal.Refusal.TheVariants.{MomentBack}
 use Rattle.hippo_sessions.specs.Worlds.{World}
 use Rattle.hippo_commands.specs.Commands.{Command, clock_command, command_by, command_of}
 use Rattle.hippo_engine.specs.declared.engine.Engine.{Engine}
-use Rattle.hippo_questions.specs.declared.faults.EngineFault.TheVariants.{Write}
+use Rattle.hippo_effects.specs.declared.faults.EngineFault.TheVariants.{Write}
 use Rattle.hippo_engine.specs.Carrying.{AtWork, BreaksOff}
 use Rattle.hippo_judging.specs.Checks.{refused_if}
 use Rattle.hippo_judging.specs.Deeds as deeds

@@ -20,8 +20,8 @@ use Rattle.hippo_world.specs.Holding.{world_of, tallies_of}
 use Rattle.hippo_world.proofs.AuditLemmas.{tallies_of-opening}
 use Rattle.hippo_commands.specs.Commands.{Command, command_of}
 use Rattle.hippo_engine.specs.declared.engine.Engine.{Engine}
-use Rattle.hippo_questions.specs.declared.faults.EngineFault.{EngineFault}
-use Rattle.hippo_questions.specs.declared.faults.EngineFault.TheVariants.{Keeper, Write, Damaged}
+use Rattle.hippo_effects.specs.declared.faults.EngineFault.{EngineFault}
+use Rattle.hippo_effects.specs.declared.faults.EngineFault.TheVariants.{Keeper, Write, Damaged}
 use Rattle.hippo_engine.specs.Carrying.{Holds, is_carried, Carries, HasEffect, BreaksOff}
 use Rattle.hippo_effects.specs.Effects.{Effect, IsEffect, effect_of}
 use Rattle.hippo_effects.specs.Ledgers.{audits_of, RunSum}

@@ -20,8 +20,8 @@ use Rattle.hippo_world.specs.Holding.{world_of}
 use Rattle.hippo_sessions.specs.Worlds.{opening}
 use Rattle.hippo_commands.specs.Commands.{Command, command_of, input_command}
 use Rattle.hippo_engine.specs.declared.engine.Engine.{Engine}
-use Rattle.hippo_questions.specs.declared.faults.EngineFault.{EngineFault}
-use Rattle.hippo_questions.specs.declared.faults.EngineFault.TheVariants.{Keeper, Write, Damaged as DamagedAt}
+use Rattle.hippo_effects.specs.declared.faults.EngineFault.{EngineFault}
+use Rattle.hippo_effects.specs.declared.faults.EngineFault.TheVariants.{Keeper, Write, Damaged as DamagedAt}
 use Rattle.hippo_engine.specs.Carrying.{AtWork, Carries}
 use Rattle.hippo_engine.proofs.CarryingLemmas.{IsTimely-begun, Holds-opening}
 use Rattle.hippo_words.specs.declared.calls.Job.{Job}

@@ -16,7 +16,7 @@ use Rattle.hippo_sessions.specs.Worlds.{World, opening}
 use Rattle.hippo_world.specs.Holding.{world_of, tallies_of}
 use Rattle.hippo_commands.specs.Commands.{Command, command_of}
 use Rattle.hippo_engine.specs.declared.engine.Engine.{Engine}
-use Rattle.hippo_questions.specs.declared.faults.EngineFault.TheVariants.{Keeper, Write, Damaged as DamagedAt}
+use Rattle.hippo_effects.specs.declared.faults.EngineFault.TheVariants.{Keeper, Write, Damaged as DamagedAt}
 use Rattle.hippo_engine.specs.Carrying.{Holds, Carries}
 use Rattle.hippo_effects.specs.Effects.{Effect, effect_of}
 use Rattle.hippo_effects.specs.Ledgers.{reads_kept, RunSum}

@@ -24,10 +24,10 @@ ghost use Rattle.hippo_running.specs.Runs.{opening_after, HasTakenBytes, IsHandi
 use crate::endings::Ending;
 use crate::loads::{MadeText, make_clock, make_load};
 use crate::printing::say_damaged;
+use hippo_effects::EngineFault;
 use hippo_engine::Engine;
 use hippo_io::{Line, LineFault, LineReader, Sink, Source};
 use hippo_keeper::{Keeper, Steps};
-use hippo_questions::EngineFault;
 use hippo_replay::State;
 use hippo_values::{LINE_LIMIT, Memory, Name};
 use hippo_words::{Job, Setting};

@@ -32,8 +32,8 @@ use std::sync::ledger::Ledger;
 ///   the line that sets the clock, and then for each line of the input the one that loads its text
 ///   as a record; for `check` the line `entries N` is written, with N the number of kept entries;
 ///   for `drill` five lines say what the replies to its script come to.
-/// - 2: exactly where the words are not those of a call (see [`call_of`]); the usage line is
-///   written, and nothing is read.
+/// - 2: the words are not those of a call (see [`call_of`]); the usage line is written, and nothing
+///   is read. Such words end with 2, or with 5 or 7 where that line could not be written.
 /// - 3: the keeper failed; the lines before have their replies, and the next one's entry is kept or
 ///   not.
 /// - 4: the source failed; just the lines that were read whole have their replies, and in a load

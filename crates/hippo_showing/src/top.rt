@@ -152,7 +152,8 @@ fn show<K: Sink, P: Keeper, L: Ledger>(
 /// Answers the exit status.
 ///
 /// - 0: just what is asked for of the history that is kept is written (`shown`).
-/// - 2: exactly where the words ask for nothing (see [`asked_of`]); the usage line is written.
+/// - 2: the words ask for nothing (see [`asked_of`]); the usage line is written. Such words end with
+///   2, or with 5 or 7 where that line could not be written.
 /// - 3: the keeper failed; what is written is a front of what is asked for.
 /// - 5: the sink failed; what was written is a front of what was to be written.
 /// - 6: the kept entries are those of no valid history; the line `damaged PLACE` is written, with

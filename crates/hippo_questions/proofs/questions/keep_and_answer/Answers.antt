@@ -13,7 +13,7 @@ keep_entry-answer-requires-clause-follows g c =
 
 pub returns-in-Ok : goal.returns-in-Ok
 returns-in-Ok g c = record {
-  asks = λ session.
-      subst (λ (entry : Entry). Asks entry (world_of c.args.world.now) (question_of session c.args.asking.now) c.keep_entry-answer.result c.args.state.now c.keep_entry-answer.new.state (g.P.Keeper.state c.args.keeper.now) (g.P.Keeper.state c.keep_entry-answer.new.keeper))
-      c.in-Ok.ensures (c.keep_entry-answer.ensures.asks session);
+  asks =
+      subst (λ (entry : Entry). Asks entry (world_of c.args.world.now) (question_of c.args.session c.args.asking.now) c.args.asking.now.delivery c.keep_entry-answer.result c.args.state.now c.keep_entry-answer.new.state (g.P.Keeper.state c.args.keeper.now) (g.P.Keeper.state c.keep_entry-answer.new.keeper))
+      c.in-Ok.ensures c.keep_entry-answer.ensures.asks;
 }

@@ -8,8 +8,8 @@ keep-requires g c = record {
   may = record { backed = c.requires.backed; follows = c.requires.follows; number = c.requires.number };
 }
 
-pub answered-answer-requires : goal.answered-answer-requires
-answered-answer-requires g c =
+pub answer_of-answer-requires : goal.answer_of-answer-requires
+answer_of-answer-requires g c =
     let kept = c.requires.answerable.tables in
     let same = c.order_for.ensures.tables in
     record {
@@ -24,10 +24,10 @@ pub returns-in-Ok : goal.returns-in-Ok
 returns-in-Ok g c =
     let keeps = c.in-Ok.ensures.keeps in
     record {
-      asks = λ session. record {
-        keeps = KeepsEntry-ok c.in-Ok.field-0 c.answered-answer.result c.args.entry.now c.args.state.now (g.P.Keeper.state c.args.keeper.now) (g.P.Keeper.state c.keep.new.keeper) keeps;
+      asks = record {
+        keeps = KeepsEntry-ok c.in-Ok.field-0 c.answer_of-answer.result c.args.entry.now c.args.state.now (g.P.Keeper.state c.args.keeper.now) (g.P.Keeper.state c.keep.new.keeper) keeps;
         added = λ history stands. c.take_in.ensures history (c.order_for.ensures.stands history stands) (keeps.follows refl history stands);
         same = tt;
-        rows = λ history stands. c.answered-answer.ensures session history (c.order_for.ensures.stands history stands);
+        rows = λ history stands. c.answer_of-answer.ensures history (c.order_for.ensures.stands history stands);
       };
     }

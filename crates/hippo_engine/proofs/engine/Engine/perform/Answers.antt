@@ -4,7 +4,7 @@ use Rattle.hippo_lines.specs.Forms as requests
 use Rattle.hippo_report.specs.declared.speaker.Speaker.TheVariants.{Console}
 use Rattle.hippo_commands.specs.Commands.{Command, make_request}
 use Rattle.hippo_keeper.proofs.Results.{well}
-use Rattle.hippo_questions.specs.declared.faults.EngineFault.{EngineFault}
+use Rattle.hippo_effects.specs.declared.faults.EngineFault.{EngineFault}
 use Rattle.hippo_engine.specs.Carrying.{Carries}
 use Rattle.hippo_engine.proofs.CarryingLemmas.{Carries-nothing, Carries-quiet}
 use Rattle.hippo_engine.proofs.ChangeLemmas.{changes_by}

@@ -35,5 +35,5 @@ returns-clause-carries g c = λ command steps asks.
     (g.P.Keeper.state c.args.keeper.now) (g.P.Keeper.state c.keep_and_answer-kept.new.keeper) steps c.requires.at_work.sound c.requires.at_work.timely c.reply_to.ensures.audits
     (sym c.in-Some.ensures)
     (judged_by command c.args.self.now c.args.question c.args.delivery asker asks.asker (asker_same there asker asks.asker c.in-Some.ensures asks.there) asks.does)
-    c.keep_and_answer-kept.result (c.keep_and_answer-kept.ensures.asks c.args.question.session)
-    c.alarms_of-alarms.result c.alarms_of-alarms.ensures c.reply_to.result c.reply_to.ensures.said
+    c.keep_and_answer-kept.result c.keep_and_answer-kept.ensures.asks
+    c.alarms_of-alarms.result c.alarms_of-alarms.ensures c.reply_to.result (c.reply_to.ensures.said c.args.delivery)

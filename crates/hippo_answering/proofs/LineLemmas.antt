@@ -1,0 +1,59 @@
+-- Lines of an answer, a row more, and of all rows.
+use Rattle.std.proofs.Common.{◌≡◌, ℕ, ◌+◌, ◌<◌, ◌≤◌, List, [], ◌∷◌, ◌++◌, map, length, decimal, codes, append_assoc, refl, sym, ap, subst, ◌∙◌, arith, Result, Ok, Err, OnOk}
+use Rattle.std.proofs.lemmas.List.{append-nil, length-append}
+use Rattle.std.proofs.lemmas.List.Folds.{flat_map-map}
+use Rattle.std.proofs.lemmas.Grind.{flat_map-append}
+use Rattle.hippo_values.specs.Texts.{Txt}
+use Rattle.hippo_model.specs.declared.query.Masked.{Masked}
+use Rattle.hippo_model.specs.Terms.{Combination, ShownRow}
+use Rattle.hippo_model.specs.Masking.{Choices, masked_cell, masked_items}
+use Rattle.hippo_report.specs.Cells.{answer_line, cell_text, comma, separated_text}
+use Rattle.hippo_eval.specs.Gathering.{IsGathered}
+use Rattle.hippo_answering.specs.declared.lines.Lines.{Lines}
+use Rattle.hippo_answering.specs.Lines.{AreLinesOf}
+
+-- what members are made of is printed as they are
+pub separated_text_map : {A B : Type 0} (text : B → Txt) (separator : Txt) (made : A → B) (members : List A)
+    → separated_text text separator (map made members) ≡ separated_text (λ member. text (made member)) separator members
+separated_text_map text separator made [] = refl
+separated_text_map text separator made (first ∷ rest) = ap (λ (later : Txt). text (made first) ++ later) (flat_map-map (λ member. separator ++ text member) made rest)
+
+pub on_ok : {A E : Type 0} (result : Result A E) (One Other : Type 0) → (One → Other) → OnOk result One → OnOk result Other
+on_ok (Ok value) One Other follows is = follows is
+on_ok (Err fault) One Other follows is = tt
+
+-- the pieces of a row's line, one behind the other
+pub row_printed : (session : ℕ) (choices : Choices) (query : Masked) (rows : Combination) (out number one two three four : Txt) → number ≡ decimal session → one ≡ out ++ number → two ≡ one ++ codes " row "
+    → three ≡ two ++ separated_text (λ item. cell_text (masked_cell choices rows item)) comma query.items → four ≡ three ++ codes "\n"
+    → four ≡ out ++ answer_line session (masked_items choices query rows)
+row_printed session choices query rows out number one two three four number_is one_is two_is three_is four_is =
+    let items : Txt = separated_text cell_text comma (masked_items choices query rows) in
+    let same : separated_text (λ item. cell_text (masked_cell choices rows item)) comma query.items ≡ items = sym (separated_text_map cell_text comma (masked_cell choices rows) query.items) in
+    four_is
+    ∙ ap (λ (text : Txt). text ++ codes "\n") (three_is ∙ (λ i. two_is i ++ same i) ∙ (λ i. ((one_is i) ++ codes " row ") ++ items) ∙ (λ i. ((out ++ number_is i) ++ codes " row ") ++ items))
+    ∙ append_assoc ((out ++ decimal session) ++ codes " row ") items (codes "\n")
+    ∙ append_assoc (out ++ decimal session) (codes " row ") (items ++ codes "\n")
+    ∙ append_assoc out (decimal session) (codes " row " ++ (items ++ codes "\n"))
+
+-- the line of a row more
+pub one_line_more : (session : ℕ) (rows : List ShownRow) (row : ShownRow) (old new : Lines) → AreLinesOf session rows old
+    → new.text ≡ old.text ++ answer_line session row → new.count ≡ old.count + 1 → AreLinesOf session (rows ++ row ∷ []) new
+one_line_more session rows row old new are text count = record {
+  text = text ∙ (λ i. are.text i ++ sym (append-nil (answer_line session row)) i) ∙ sym (flat_map-append (answer_line session) rows (row ∷ []));
+  count = count ∙ ap (λ (n : ℕ). n + 1) are.count ∙ sym (length-append rows (row ∷ []));
+}
+
+module _ (session limit : ℕ) (rows : List ShownRow) (lines : Lines) (are : IsGathered (AreLinesOf session) (λ found. found) limit rows lines) where
+  -- lines within the limit are those of all rows
+  pub lines_whole : lines.count ≤ limit → AreLinesOf session rows lines × (length rows ≤ limit)
+  lines_whole few =
+      let within : length are.front ≤ limit = subst (λ (n : ℕ). n ≤ limit) are.holds.count few in
+      let all : rows ≡ are.front = are.is ∙ ap (λ (later : List ShownRow). are.front ++ later) (are.whole within) ∙ append-nil are.front in
+      (subst (λ (some : List ShownRow). AreLinesOf session some lines) (sym all) are.holds, subst (λ (some : List ShownRow). length some ≤ limit) (sym all) within)
+
+  -- beyond it there are more rows than it allows
+  pub lines_beyond : limit < lines.count → limit < length rows
+  lines_beyond many =
+      let front : limit < length are.front = subst (λ (n : ℕ). limit < n) are.holds.count many in
+      let long : length rows ≡ length are.front + length are.later = ap length are.is ∙ length-append are.front are.later in
+      omega (arith, front, long)

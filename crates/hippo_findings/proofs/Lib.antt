@@ -1,0 +1,2 @@
+mod AuditingLemmas
+mod AlarmLemmas

@@ -1,0 +1,12 @@
+-- Nothing stands before what is said.
+use Rattle.std.proofs.Common.{◌∙◌, ◌++◌, ap}
+use Rattle.hippo_values.specs.Texts.{Txt}
+use Rattle.hippo_world.specs.Holding.{world_of}
+use Rattle.hippo_judging.specs.Asking.{question_of}
+use Rattle.hippo_findings.specs.Watching.{alarms_now}
+use Rattle.hippo_findings.proofs.alarms.alarms_of.Goals as goal
+
+pub returns : goal.returns
+returns c = λ session history stands fit.
+    c.in_ok-tell_alarms.ensures session history stands fit
+    ∙ ap (λ (text : Txt). text ++ alarms_now history (world_of c.args.world.now) (question_of session c.args.asking.now)) c.in_ok-said.ensures

@@ -1,0 +1,4 @@
+pub mod Watching
+pub mod Explaining
+pub mod Auditing
+pub mod Stepping
