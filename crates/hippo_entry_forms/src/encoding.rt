@@ -10,7 +10,7 @@ ghost use Rattle.hippo_entry_forms.specs.Names.{names_bytes};
 use crate::names::three_names;
 use crate::parts::{Part, one_byte, write_byte, write_number, write_signed, write_text};
 use hippo_model::{Act, Cells, Entry, ItemKind, Places, Schema, StoredEntry};
-use hippo_values::{Bytes, Duplicate, Memory, Name, Txt};
+use hippo_values::{Bytes, Memory, Name, Txt};
 use std::alloc::Global;
 
 fn act_format(act: &Act) -> u8

@@ -14,7 +14,7 @@ use Rattle.hippo_model.specs.Rows.{cell_at}
 use Rattle.hippo_model.specs.Forms.{value_in}
 use Rattle.hippo_model.specs.Answers.{operand_value}
 use Rattle.hippo_model.specs.Masking.{Choices}
-use Rattle.hippo_eval.specs.MaskedTruth.{masked_value}
+use Rattle.hippo_model.specs.MaskedTruth.{masked_value}
 use Rattle.hippo_eval.specs.Unmasked.{unmasked_operand, all_shown}
 
 abbrev shown_row : Row → ShownRow

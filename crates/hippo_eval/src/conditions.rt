@@ -6,7 +6,7 @@ ghost use Rattle.hippo_values.specs.Truths.{truth_and, truth_of, comparison};
 ghost use Rattle.hippo_model.specs.Conditions.{least, greatest, is_null};
 ghost use Rattle.hippo_model.specs.Forms.{value_in};
 ghost use Rattle.hippo_eval.specs.LentCells.{lent_cell};
-ghost use Rattle.hippo_eval.specs.MaskedTruth.{masked_value, masked_truth};
+ghost use Rattle.hippo_model.specs.MaskedTruth.{masked_value, masked_truth};
 
 use crate::cells::{LentCell, cell};
 use hippo_model::{ChoiceView, Combo, CondOf, Expr, Exprs};

@@ -16,7 +16,7 @@ use Rattle.hippo_keyed_rows.specs.RowSets.{KeyedRows}
 use Rattle.hippo_model.specs.Conditions.{greatest, is_true, is_null}
 use Rattle.hippo_model.specs.Masking.{Choices}
 use Rattle.hippo_model.proofs.Truths.{truth-Among}
-use Rattle.hippo_eval.specs.MaskedTruth.{masked_value}
+use Rattle.hippo_model.specs.MaskedTruth.{masked_value}
 use Rattle.hippo_lookups.specs.Lists.{is_literal, IsListedBy}
 use Rattle.hippo_lookups.specs.Lookups.{value_at_place}
 use Rattle.hippo_lookups.specs.Ties.{shown_column, holds}

@@ -21,7 +21,7 @@ use Rattle.hippo_model.specs.Conditions.{is_true, is_null}
 use Rattle.hippo_model.specs.Masking.{Choices, raw_value, shown_if}
 use Rattle.hippo_model.specs.Forms.{value_in}
 use Rattle.hippo_model.proofs.Truths.{truth-Compare}
-use Rattle.hippo_eval.specs.MaskedTruth.{masked_value}
+use Rattle.hippo_model.specs.MaskedTruth.{masked_value}
 use Rattle.hippo_lookups.specs.Ties.{shown_column, holds, AreEqual}
 
 -- values that are found equal are the same, and not null

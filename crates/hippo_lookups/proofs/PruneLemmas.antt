@@ -14,7 +14,7 @@ use Rattle.hippo_keyed_rows.specs.RowSets.{KeyedRows}
 use Rattle.hippo_model.specs.Conditions.{is_true, outer_parts, is_null}
 use Rattle.hippo_model.specs.Masking.{Choices, masked_cell, is_shown_cell, is_guarded, masked_passes}
 use Rattle.hippo_model.specs.Forms.{value_in}
-use Rattle.hippo_eval.specs.MaskedTruth.{masked_value}
+use Rattle.hippo_model.specs.MaskedTruth.{masked_value}
 use Rattle.hippo_lookups.specs.Places.{rows_at, chosen_rows, Fits, slot_at, in_range, stays, stands}
 use Rattle.hippo_lookups.specs.Known.{knows, knows_expr}
 use Rattle.hippo_lookups.specs.Lookups.{value_at_place}

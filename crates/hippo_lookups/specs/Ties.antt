@@ -8,7 +8,7 @@ use Rattle.hippo_model.specs.declared.query.Ref.{Ref}
 use Rattle.hippo_model.specs.Terms.{Combination, Place}
 use Rattle.hippo_model.specs.Conditions.{is_true, is_null}
 use Rattle.hippo_model.specs.Masking.{Choices, raw_value}
-use Rattle.hippo_eval.specs.MaskedTruth.{masked_truth}
+use Rattle.hippo_model.specs.MaskedTruth.{masked_truth}
 use Rattle.hippo_lookups.specs.declared.ties.Tie.{Tie}
 
 -- the column whose value an expression shows, where it shows one

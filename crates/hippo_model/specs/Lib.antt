@@ -15,6 +15,7 @@ pub mod Audits
 pub mod Hits
 pub mod Denials
 pub mod Masking
+pub mod MaskedTruth
 pub mod StoredForms
 pub mod Keepable
 pub mod Validity

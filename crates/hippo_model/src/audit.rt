@@ -14,7 +14,7 @@ pub struct Pair {
 pub type Pairs = Sequence<Pair>;
 
 /// An audit expression: which columns, of which rows, in which period.
-#[derive(Debug, Drop)]
+#[derive(Drop)]
 pub struct Audit {
     pub from: Moment,
     pub to: Moment,

@@ -8,7 +8,7 @@ use hippo_values::{Boxed, CompareOp, Duplicate, Memory, Name, Sequence, Value};
 use std::alloc::Global;
 
 /// A column of a statement's tables.
-#[derive(Clone, Copy, Debug, PartialEq, Eq)]
+#[derive(Clone, Copy, PartialEq, Eq)]
 pub struct Ref {
     /// The table's place in FROM, from 0.
     pub table: usize,
@@ -19,7 +19,7 @@ pub struct Ref {
 pub type Refs = Sequence<Ref>;
 
 /// What a condition compares: a column's value in a row, or a literal.
-#[derive(Debug, Drop)]
+#[derive(Drop)]
 pub enum Operand {
     Column(Ref),
     Literal(Value),
@@ -41,7 +41,7 @@ pub enum CondOf<O> {
 }
 
 /// What a group's row shows: each number is a place in the query's items.
-#[derive(Clone, Copy, Debug, PartialEq, Eq)]
+#[derive(Clone, Copy, PartialEq, Eq)]
 pub enum Out {
     Column(usize),
     Min(usize),
@@ -52,7 +52,7 @@ pub type Outs = Sequence<Out>;
 
 /// How a grouped query's rows are made: its first `keys` items are the GROUP BY columns, the others
 /// the arguments of MIN and MAX.
-#[derive(Debug, Drop)]
+#[derive(Drop)]
 pub struct Shape {
     pub keys: usize,
     /// The row's cells, in their order.
@@ -60,7 +60,7 @@ pub struct Shape {
 }
 
 /// Which rows a query answers.
-#[derive(Debug, Drop)]
+#[derive(Drop)]
 pub enum Form {
     /// One for each combination of rows.
     Plain,
@@ -71,7 +71,7 @@ pub enum Form {
 }
 
 /// A select, each of whose columns is found in one table of its FROM list.
-#[derive(Debug, Drop)]
+#[derive(Drop)]
 pub struct Query {
     pub items: Refs,
     pub tables: Names,

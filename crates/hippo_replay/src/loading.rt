@@ -75,9 +75,9 @@ fn read_all<P: Keeper, L: Ledger>(
 /// Ok gives the state of a valid history, which is the kept one where the keeper tells what it
 /// keeps, and the keeper is then started. `Damaged` gives the place, counted from 1, of the first
 /// entry up to which the kept entries are those of no valid history. `Keeper` comes only where the
-/// keeper's count of faults rose; it is then spent. Whatever the answer, the kept entries stay as
-/// they were found. A load that answers Ok takes as many steps as there are versions in the
-/// history.
+/// keeper's count of faults rose; it is then spent. Once the keeper has started, the kept entries
+/// stay as they were found, whatever the answer. A load that answers Ok takes as many steps as
+/// there are versions in the history.
 ///
 /// ```text
 /// nothing is kept                                          Ok: the state of the empty history

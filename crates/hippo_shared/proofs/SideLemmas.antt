@@ -22,7 +22,7 @@ use Rattle.hippo_model.specs.Conditions.{is_true, truth}
 use Rattle.hippo_model.specs.Answers.{product, passes}
 use Rattle.hippo_model.specs.Masking.{Choices, is_guarded, masked_passes}
 use Rattle.hippo_laws.proofs.TruthWithChange.{agrees}
-use Rattle.hippo_eval.specs.MaskedTruth.{masked_value}
+use Rattle.hippo_model.specs.MaskedTruth.{masked_value}
 use Rattle.hippo_eval.specs.Unmasked.{unmasked_operand, unmasked_condition, all_shown}
 use Rattle.hippo_eval.specs.Walks.{rows_of}
 use Rattle.hippo_eval.proofs.UnmaskedLemmas.{value_is}

@@ -160,7 +160,7 @@ fn show<K: Sink, P: Keeper, L: Ledger>(
 ///   the place, counted from 1, of the first entry up to which they are not.
 /// - 7: memory was short; what is written is a front of what is asked for.
 ///
-/// The kept entries stay as they were found. They are read in pieces: first to load the history, so
+/// Once the keeper has started, the kept entries stay as they were found. They are read in pieces: first to load the history, so
 /// that damage is told before anything else is written, and once more where entries are asked for,
 /// to show them. The rules in force are made in memory from what was loaded, and then written.
 pub fn history_top<K: Sink, P: Keeper, L: Ledger>(

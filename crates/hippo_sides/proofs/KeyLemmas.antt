@@ -23,7 +23,7 @@ use Rattle.hippo_model.specs.Masking.{Choices, raw_value}
 use Rattle.hippo_keyed_rows.proofs.Orders.{cells_total}
 use Rattle.hippo_keyed_rows.proofs.KeptRows.{find_row-found}
 use Rattle.hippo_model.proofs.Truths.{truth-Compare}
-use Rattle.hippo_eval.specs.MaskedTruth.{masked_value}
+use Rattle.hippo_model.specs.MaskedTruth.{masked_value}
 use Rattle.hippo_sides.specs.declared.keys.Span.{Span}
 use Rattle.hippo_lookups.specs.Places.{blank, row_at_place, slot_at, chosen_rows, Fits, stands}
 use Rattle.hippo_lookups.specs.Lookups.{value_at_place}

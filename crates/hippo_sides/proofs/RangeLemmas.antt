@@ -27,7 +27,7 @@ use Rattle.hippo_keyed_rows.specs.RowSets.{KeyedRows}
 use Rattle.hippo_model.specs.Conditions.{is_true, is_null, outer_parts}
 use Rattle.hippo_model.specs.Masking.{Choices, raw_value}
 use Rattle.hippo_model.proofs.Truths.{truth-Compare, truth-Between}
-use Rattle.hippo_eval.specs.MaskedTruth.{masked_value}
+use Rattle.hippo_model.specs.MaskedTruth.{masked_value}
 use Rattle.hippo_sides.specs.declared.keys.Span.{Span}
 use Rattle.hippo_lookups.specs.Places.{chosen_rows, Fits, stands}
 use Rattle.hippo_lookups.specs.Lookups.{value_at_place}

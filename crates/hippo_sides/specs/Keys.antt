@@ -10,7 +10,7 @@ use Rattle.hippo_model.specs.Terms.{Key, Place}
 use Rattle.hippo_keyed_rows.specs.RowSets.{KeyedRows}
 use Rattle.hippo_model.specs.Conditions.{is_null}
 use Rattle.hippo_model.specs.Masking.{Choices, raw_value}
-use Rattle.hippo_eval.specs.MaskedTruth.{masked_value}
+use Rattle.hippo_model.specs.MaskedTruth.{masked_value}
 use Rattle.hippo_sides.specs.declared.keys.Span.{Span}
 use Rattle.hippo_lookups.specs.Places.{chosen_rows, Fits, stands}
 use Rattle.hippo_lookups.specs.Ties.{holds}

@@ -2,7 +2,7 @@
 use Rattle.std.proofs.Common.{◌≡◌, map, drop}
 use Rattle.hippo_values.specs.Truths.{truth_and, truth_or}
 use Rattle.hippo_model.specs.Conditions.{least, greatest}
-use Rattle.hippo_eval.specs.MaskedTruth.{masked_truth}
+use Rattle.hippo_model.specs.MaskedTruth.{masked_truth}
 use Rattle.hippo_eval.proofs.conditions.+truth.Given as goal
 
 abbrev pub invariant-least-loop-part : goal.invariant-least-loop-part

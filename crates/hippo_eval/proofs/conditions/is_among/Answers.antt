@@ -5,7 +5,7 @@ use Rattle.hippo_values.specs.Truths.{comparison}
 use Rattle.hippo_model.specs.declared.query.Expr.{Expr}
 use Rattle.hippo_model.specs.Forms.{value_in}
 use Rattle.hippo_eval.specs.LentCells.{lent_cell}
-use Rattle.hippo_eval.specs.MaskedTruth.{masked_value}
+use Rattle.hippo_model.specs.MaskedTruth.{masked_value}
 use Rattle.hippo_eval.proofs.TruthLemmas.{greatest_more}
 use Rattle.hippo_eval.proofs.conditions.is_among.Goals as goal
 

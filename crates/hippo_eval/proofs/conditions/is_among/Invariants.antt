@@ -5,7 +5,7 @@ use Rattle.hippo_values.specs.Truths.{truth_or, comparison}
 use Rattle.hippo_model.specs.Conditions.{greatest}
 use Rattle.hippo_model.specs.Forms.{value_in}
 use Rattle.hippo_eval.specs.LentCells.{lent_cell}
-use Rattle.hippo_eval.specs.MaskedTruth.{masked_value}
+use Rattle.hippo_model.specs.MaskedTruth.{masked_value}
 use Rattle.hippo_eval.proofs.conditions.is_among.Given as goal
 
 abbrev pub invariant-loop-member : goal.invariant-loop-member
