@@ -68,9 +68,9 @@ fn say_cells(
     }
 }
 
-/// Tells the console which cells were denied to a question, and by which rules, or that they are too
-/// many, or that memory was short. Answers `Keeper` only where the keeper failed, `Damaged` only
-/// where it does not tell what it keeps.
+/// Tells the console which cells were denied to a question, and by which rules, or that they are
+/// too many, or that memory was short. Answers `Keeper` only where the keeper failed, `Damaged`
+/// only where it does not tell what it keeps.
 pub fn tell_cells<P: Keeper, L: Ledger>(
     alloc: Global,
     keeper: &mut P,

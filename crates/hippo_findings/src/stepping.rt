@@ -49,9 +49,9 @@ fn say_step(alloc: Global, format: Format, job: &mut AuditJob, reply: &mut Reply
     }
 }
 
-/// Tells how a step of an audit job ended: the flags that wait, which do so no more, and how far the
-/// job is; or that memory was short, and they wait. Answers `Keeper` and `Damaged` where the step
-/// did.
+/// Tells how a step of an audit job ended: the flags that wait, which do so no more, and how far
+/// the job is; or that memory was short, and they wait. Answers `Keeper` and `Damaged` where the
+/// step did.
 pub fn tell_step(
     alloc: Global,
     format: Format,

@@ -152,17 +152,18 @@ fn show<K: Sink, P: Keeper, L: Ledger>(
 /// Answers the exit status.
 ///
 /// - 0: just what is asked for of the history that is kept is written (`shown`).
-/// - 2: the words ask for nothing (see [`asked_of`]); the usage line is written. Such words end with
-///   2, or with 5 or 7 where that line could not be written.
+/// - 2: the words ask for nothing (see [`asked_of`]); the usage line is written. Such words end
+///   with 2, or with 5 or 7 where that line could not be written.
 /// - 3: the keeper failed; what is written is a front of what is asked for.
 /// - 5: the sink failed; what was written is a front of what was to be written.
 /// - 6: the kept entries are those of no valid history; the line `damaged PLACE` is written, with
 ///   the place, counted from 1, of the first entry up to which they are not.
 /// - 7: memory was short; what is written is a front of what is asked for.
 ///
-/// Once the keeper has started, the kept entries stay as they were found. They are read in pieces: first to load the history, so
-/// that damage is told before anything else is written, and once more where entries are asked for,
-/// to show them. The rules in force are made in memory from what was loaded, and then written.
+/// Once the keeper has started, the kept entries stay as they were found. They are read in pieces:
+/// first to load the history, so that damage is told before anything else is written, and once more
+/// where entries are asked for, to show them. The rules in force are made in memory from what was
+/// loaded, and then written.
 pub fn history_top<K: Sink, P: Keeper, L: Ledger>(
     alloc: Global,
     words: &[Txt],
