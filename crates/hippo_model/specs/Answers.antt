@@ -62,5 +62,3 @@ abbrev pub unmasked_combinations : History → Audit → List (List ShownRow)
 unmasked_combinations history audit = product (map (unmasked_at history) audit.tables)
 
 -- an audit expression's answer, over unmasked rows
-abbrev pub plain_answer : History → Audit → List ShownRow
-plain_answer history audit = audit_answer audit (unmasked_combinations history audit)
