@@ -9,6 +9,7 @@ use Rattle.hippo_values.specs.declared.moments.Moment.{Moment}
 use Rattle.hippo_values.specs.declared.names.Name.{Name}
 use Rattle.hippo_values.specs.declared.values.Value.{Value}
 use Rattle.hippo_values.specs.declared.values.Value.TheVariants.{Int}
+use Rattle.hippo_model.specs.declared.audit.Pair.{Pair}
 use Rattle.hippo_model.specs.declared.born_row.BornRow.{BornRow}
 use Rattle.hippo_model.specs.declared.schema.Schema.{Schema}
 use Rattle.hippo_model.specs.declared.entry.ItemKind.{ItemKind}
@@ -25,6 +26,11 @@ pub record Context : Type 0 where
   pub purpose : Name
   pub recipient : Name
   pub moment : Moment
+
+-- the context of a pair at a moment
+abbrev pub context_of : Pair → Moment → Context
+context_of pair moment =
+    record { purpose = pair.purpose; recipient = pair.recipient; moment = moment }
 
 abbrev pub number_in : Value → Option ℤ
 number_in (Int number) = Some number
