@@ -168,10 +168,6 @@ pub on_err : {A B P : Type 0} (result : Result A B) → P → OnErr result P
 on_err (Ok value) holds = tt
 on_err (Err fault) holds = holds
 
-pub on_ok : {A B P Q : Type 0} (result : Result A B) → (P → Q) → OnOk result P → OnOk result Q
-on_ok (Ok value) then holds = then holds
-on_ok (Err fault) then holds = tt
-
 -- a book whose words on one kind are equal to those before
 module _ (old : PolicyBook) where
   pub as_before-choices : (choices : LastWords ChoiceKey Bool) → ((other : ChoiceKey) → kept_words same_choice choices other ≡ kept_words same_choice old.choices other) → BookIsAsBefore old (record { rules = old.rules; choices = choices; users = old.users; items = old.items; last = old.last })

@@ -1,6 +1,7 @@
 -- The acts that say something of what a book keeps, and those that say nothing.
 use Rattle.std.proofs.Common.{refl}
-use Rattle.hippo_policy.proofs.BookLemmas.{leaves_book-rest, BookAdds-authorize, BookAdds-deauthorize, BookAdds-allow, BookAdds-revoke, on_ok}
+use Rattle.std.proofs.lemmas.Result.{on_ok_weaker}
+use Rattle.hippo_policy.proofs.BookLemmas.{leaves_book-rest, BookAdds-authorize, BookAdds-deauthorize, BookAdds-allow, BookAdds-revoke}
 use Rattle.hippo_policy.proofs.book.PolicyBook.add.Goals as goal
 
 pub returns-in_default : goal.returns-in_default
@@ -15,19 +16,19 @@ returns-in_default c =
 pub returns-in-Authorize-clause-ok : goal.returns-in-Authorize-clause-ok
 returns-in-Authorize-clause-ok c =
     let added = BookAdds-authorize c.args.self.now c.args.entry.now.seq c.add_user.new.self c.in-Authorize.user c.in-Authorize.purpose c.in-Authorize.recipient in
-    rw c.in-Authorize.is (on_ok c.add_user.result added c.add_user.ensures.ok)
+    rw c.in-Authorize.is (on_ok_weaker c.add_user.result added c.add_user.ensures.ok)
 
 pub returns-in-Deauthorize-clause-ok : goal.returns-in-Deauthorize-clause-ok
 returns-in-Deauthorize-clause-ok c =
     let added = BookAdds-deauthorize c.args.self.now c.args.entry.now.seq c.add_user-in-Deauthorize.new.self c.in-Deauthorize.user c.in-Deauthorize.purpose c.in-Deauthorize.recipient in
-    rw c.in-Deauthorize.is (on_ok c.add_user-in-Deauthorize.result added c.add_user-in-Deauthorize.ensures.ok)
+    rw c.in-Deauthorize.is (on_ok_weaker c.add_user-in-Deauthorize.result added c.add_user-in-Deauthorize.ensures.ok)
 
 pub returns-in-Allow-clause-ok : goal.returns-in-Allow-clause-ok
 returns-in-Allow-clause-ok c =
     let added = BookAdds-allow c.args.self.now c.args.entry.now.seq c.add_rule.new.self c.in-Allow.purpose c.in-Allow.recipient c.in-Allow.table c.in-Allow.columns c.in-Allow.item c.in-Allow.days in
-    rw c.in-Allow.is (on_ok c.add_rule.result added (rw c.in-Allow.is at c.add_rule.ensures.ok))
+    rw c.in-Allow.is (on_ok_weaker c.add_rule.result added (rw c.in-Allow.is at c.add_rule.ensures.ok))
 
 pub returns-in-Revoke-clause-ok : goal.returns-in-Revoke-clause-ok
 returns-in-Revoke-clause-ok c =
     let added = BookAdds-revoke c.args.self.now c.args.entry.now.seq c.add_rule-in-Revoke.new.self c.in-Revoke.purpose c.in-Revoke.recipient c.in-Revoke.table c.in-Revoke.columns in
-    rw c.in-Revoke.is (on_ok c.add_rule-in-Revoke.result added (rw c.in-Revoke.is at c.add_rule-in-Revoke.ensures.ok))
+    rw c.in-Revoke.is (on_ok_weaker c.add_rule-in-Revoke.result added (rw c.in-Revoke.is at c.add_rule-in-Revoke.ensures.ok))
