@@ -88,11 +88,12 @@ pub record HasOneMore (entry : StoredEntry) (before after : KeeperState) : Type 
   pub stop : OnlySurvives after
 
 -- the old list is kept or the longer one, and no list survives a stop that did not before, but for
--- the longer one
+-- the longer one; one of these does
 pub record MayHaveOneMore (entry : StoredEntry) (before after : KeeperState) : Type 0 where
   pub either : (after.kept ≡ before.kept) ⊎ (after.kept ≡ before.kept ++ entry ∷ [])
   pub stop : (store : Store) → after.survives store → before.survives store
       ⊎ (store ≡ before.kept ++ entry ∷ [])
+  pub some : ∥ ((store : Store) × after.survives store) ∥₁
 
 -- the same list is kept, and no other list survives a stop than before, but one does
 pub record Stays (before after : KeeperState) : Type 0 where
