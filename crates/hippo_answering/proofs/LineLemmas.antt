@@ -1,5 +1,5 @@
 -- Lines of an answer, a row more, and of all rows.
-use Rattle.std.proofs.Common.{◌≡◌, ℕ, ◌+◌, ◌<◌, ◌≤◌, List, [], ◌∷◌, ◌++◌, map, length, decimal, codes, append_assoc, refl, sym, ap, subst, ◌∙◌, arith, Result, Ok, Err, OnOk}
+use Rattle.std.proofs.Common.{◌≡◌, ℕ, ◌+◌, ◌<◌, ◌≤◌, List, [], ◌∷◌, ◌++◌, map, length, decimal, codes, append_assoc, refl, sym, ap, subst, ◌∙◌, arith}
 use Rattle.std.proofs.lemmas.List.{append-nil, length-append}
 use Rattle.std.proofs.lemmas.List.Folds.{flat_map-map}
 use Rattle.std.proofs.lemmas.Grind.{flat_map-append}
@@ -17,10 +17,6 @@ pub separated_text_map : {A B : Type 0} (text : B → Txt) (separator : Txt) (ma
     → separated_text text separator (map made members) ≡ separated_text (λ member. text (made member)) separator members
 separated_text_map text separator made [] = refl
 separated_text_map text separator made (first ∷ rest) = ap (λ (later : Txt). text (made first) ++ later) (flat_map-map (λ member. separator ++ text member) made rest)
-
-pub on_ok : {A E : Type 0} (result : Result A E) (One Other : Type 0) → (One → Other) → OnOk result One → OnOk result Other
-on_ok (Ok value) One Other follows is = follows is
-on_ok (Err fault) One Other follows is = tt
 
 -- the pieces of a row's line, one behind the other
 pub row_printed : (session : ℕ) (choices : Choices) (query : Masked) (rows : Combination) (out number one two three four : Txt) → number ≡ decimal session → one ≡ out ++ number → two ≡ one ++ codes " row "

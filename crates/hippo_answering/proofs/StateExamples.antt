@@ -4,8 +4,7 @@ use Rattle.hippo_model.specs.declared.entry.Entry.{Entry}
 use Rattle.hippo_model.specs.declared.entry.Act.TheVariants.{Create}
 use Rattle.hippo_model.specs.declared.schema.Schema.{Schema}
 use Rattle.hippo_model.specs.Terms.{History}
-use Rattle.hippo_answering.specs.States.{schemas_at}
-use Rattle.hippo_tables.specs.Standing.{are_created}
+use Rattle.hippo_tables.specs.Standing.{schemas_at, are_created}
 
 abbrev empty_schema : List ℕ → Schema
 empty_schema name = record { name = name; columns = []; key = []; subject = None }

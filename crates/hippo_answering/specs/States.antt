@@ -13,15 +13,6 @@ use Rattle.hippo_policy.specs.Books as books
 use Rattle.hippo_tables.specs.declared.tables.Tables.{Tables}
 use Rattle.hippo_tables.specs.Standing as standing
 
--- the context of a pair at a moment
-abbrev pub context_of : Pair → Moment → Context
-context_of pair moment =
-    record { purpose = pair.purpose; recipient = pair.recipient; moment = moment }
-
--- the schemas of tables that are created, in the order of their names
-abbrev pub schemas_at : History → List Name → List Schema
-schemas_at history names = filter_map (schema_at history) names
-
 -- a book and tables stand for a valid history of so many entries
 pub record AreStateOf
     (meaning : Meaning) (policy : PolicyBook) (kept : Tables) (count : ℕ) (history : History)

@@ -5,25 +5,26 @@ ghost use Rattle.hippo_model.specs.Forms.{rows_by_form};
 ghost use Rattle.hippo_model.specs.Answers.{answer};
 ghost use Rattle.hippo_model.specs.Masking.{masked_answer};
 ghost use Rattle.hippo_policy.specs.Books.{BookStandsFor};
-ghost use Rattle.hippo_tables.specs.Standing.{TablesStandFor, AreKeptTables};
+ghost use Rattle.hippo_tables.specs.Standing.{TablesStandFor, AreKeptTables, schemas_at};
 ghost use Rattle.hippo_eval.specs.Walks.{rows_of};
 ghost use Rattle.hippo_eval.specs.Answering.{IsAnswered};
 ghost use Rattle.hippo_rewrite.specs.Rewriting.{rewritten_query};
 ghost use Rattle.hippo_rewrite.specs.RewritingLaws.{rules_at};
-ghost use Rattle.hippo_answering.specs.States.{AreStateOf, context_of, schemas_at};
+ghost use Rattle.hippo_model.specs.Verdicts.{context_of};
+ghost use Rattle.hippo_answering.specs.States.{AreStateOf};
 ghost use Rattle.hippo_answering.specs.Lines.{IsSaid};
 
-use crate::asked::{schemas_of, sets_of, sizes_of};
 use crate::lines::{Lines, lines_of, walked_lines};
+use crate::sizes::sizes_of;
 use hippo_distinct::distinct;
 use hippo_eval::{ANSWER_LIMIT, EvalFault};
 use hippo_groups::grouped;
-use hippo_join::{plan, run};
-use hippo_model::{Answer, ChoiceView, Form, Masked, Names, Pair, Plan, Query, RulesInForce};
+use hippo_join::{is_in_order, plan, run};
+use hippo_model::{Answer, ChoiceView, Form, Masked, Names, Pair, Query, RulesInForce};
 use hippo_policy::PolicyBook;
 use hippo_rewrite::rewrite;
 use hippo_rows::Sets;
-use hippo_tables::Tables;
+use hippo_tables::{Tables, schemas_of, sets_of};
 use hippo_values::{Memory, Moment};
 use std::alloc::Global;
 
@@ -102,15 +103,6 @@ fn formed<C: ChoiceView>(
         Form::Distinct => distinct(alloc, query, sets, choices),
         Form::Grouped(shape) => grouped(alloc, query, shape, sets, choices),
     }
-}
-
-// Whether a plan joins the tables in the order of FROM.
-fn is_in_order(plan: &Plan) -> bool {
-    plan.order
-        .as_slice()
-        .iter()
-        .enumerate()
-        .all(|(place, table)| *table == place)
 }
 
 // The lines that say an answer.

@@ -2,9 +2,8 @@
 #![tactic(auto)]
 
 mod answers;
-mod asked;
 mod lines;
+mod sizes;
 
 pub use answers::{answer, answer_as_lines};
-pub use asked::{schemas_of, sets_of};
 pub use lines::{LINES_ROOM, Lines};

@@ -5,6 +5,7 @@ use Rattle.std.specs.List.{list_any}
 use Rattle.std.specs.Option.{option_map_or}
 use Rattle.std.proofs.lemmas.Bool.{false≢true}
 use Rattle.std.proofs.lemmas.List.{take_all}
+use Rattle.std.proofs.lemmas.Result.{on_ok_weaker}
 use Rattle.hippo_values.specs.Texts.{Txt}
 use Rattle.hippo_values.specs.declared.memory.Memory.{Memory as NoMemory}
 use Rattle.hippo_model.specs.declared.audit.Audit.{Audit}
@@ -35,10 +36,6 @@ use Rattle.hippo_findings.specs.Watching.{AddsAlarm, AddsAlarms, alarms_now}
 abbrev Said : Type 0
 Said = Result (Unit {0}) NoMemory
 
-pub on_ok : (result : Said) (One Other : Type 0) → (One → Other) → OnOk result One → OnOk result Other
-on_ok (Ok all) One Other follows is = follows is
-on_ok (Err fault) One Other follows is = tt
-
 module _ (asked : AskedNow) where
   -- what it shares with the question is said
   alarm_added : (number : ℕ) (watch : AuditHits) (old new : Txt) (found : Option (List SharedRow)) → SharesWatched asked watch found
@@ -50,8 +47,7 @@ module _ (asked : AskedNow) where
   pub alarm_printed : (number : ℕ) (watch : AuditHits) (old new : Txt) (found : Option (List SharedRow)) (result : Said) → SharesWatched asked watch found
       → OnOk result (new ≡ old ++ option_map_or (alarm_text number (asked.past.count + 1)) found []) → OnOk result (AddsAlarm asked number (Some watch) old new)
   alarm_printed number watch old new found result shares printed =
-      on_ok result (new ≡ old ++ option_map_or (alarm_text number (asked.past.count + 1)) found []) (AddsAlarm asked number (Some watch) old new)
-      (alarm_added number watch old new found shares) printed
+      on_ok_weaker result (alarm_added number watch old new found shares) printed
 
   pub nobody_added : (number : ℕ) (old : Txt) → AddsAlarm asked number None old old
   nobody_added number old = λ history entry next fits. sym (append-nil old)

@@ -12,6 +12,7 @@ ghost use Rattle.hippo_join.specs.Plans.{IsPlanOf};
 
 use crate::finding::PlaceFinder;
 use crate::gathering::gather_joined;
+use crate::orders::is_in_order;
 use crate::walking::walk_all;
 use hippo_eval::{ANSWER_LIMIT, EvalFault, Every, project};
 use hippo_model::{Answer, BornRow, CellRow, ChoiceView, Masked, Places, Plan};
@@ -167,16 +168,6 @@ fn run_by_places<C: ChoiceView>(
     answer
 }
 
-// Whether tables stand in the order of FROM.
-fn are_in_order(tables: &[usize]) -> bool {
-    for (place, table) in tables.iter().enumerate() {
-        if *table != place {
-            return false;
-        }
-    }
-    true
-}
-
 /// The answer of a query with the policy written into it, by joins of its tables in a plan's order:
 /// the same as that of `evaluate`, whatever the plan. Wants a plan of the query, and the rows of
 /// each of its tables. TooManyRows exactly where the answer has more than 100,000 rows. Where the
@@ -197,7 +188,7 @@ pub fn run<C: ChoiceView>(
     ensures { IsAnswered ANSWER_LIMIT (masked_answer (C.choices choices.now) query.now
         (rows_of sets.now)) result }
 {
-    if are_in_order(plan.order.as_slice()) {
+    if is_in_order(plan) {
         gather_joined(alloc, query, sets, choices, &Every, ANSWER_LIMIT)
     } else {
         run_by_places(alloc, plan, query, sets, choices)

@@ -13,6 +13,6 @@ mod walking;
 pub use existence::has;
 pub use gathering::gather_joined;
 pub use joins::{blank_row, run};
-pub use orders::{order_behind, plan};
+pub use orders::{is_in_order, order_behind, plan};
 pub use settling::{few_places, has_joined, settled};
 pub use visiting::walk_joined;

@@ -1,5 +1,5 @@
 //! In which order the tables of a query are joined.
-ghost use Rattle.std.specs.Prelude.{◌≡◌, ◌<◌, ◌++◌, IfOk, length, take};
+ghost use Rattle.std.specs.Prelude.{◌≡◌, ◌<◌, ◌++◌, IfOk, IsTrue, length, take};
 ghost use Rattle.std.specs.List.{range_with_len};
 ghost use Rattle.std.specs.List.Sorted.{IsPermutation};
 ghost use Rattle.hippo_join.specs.Plans.{IsPlanOf};
@@ -118,4 +118,17 @@ pub fn plan(alloc: Global, query: &Masked, sizes: &Sizes) -> Result<Plan, Memory
     Ok(Plan {
         order: Sequence::from_vec(order),
     })
+}
+
+/// Whether a plan joins the tables in the order of FROM.
+pub fn is_in_order(plan: &Plan) -> bool
+    ensures { IsTrue result → plan.now.order ≡ range_with_len 0 (length plan.now.order) }
+{
+    let tables = plan.order.as_slice();
+    for place in 0..tables.len() {
+        if tables[place] != place {
+            return false;
+        }
+    }
+    true
 }

@@ -68,6 +68,7 @@ KeepsEither-after history entry before after follows keeps may =
         | inl old ↦ inl (keeps.alone store old)
         | inr more ↦ inr (longer store more)
       ];
+      some = may.some;
     }
 
 -- what was found is the stored form of a history, and alone survives a stop

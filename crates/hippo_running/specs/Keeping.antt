@@ -17,6 +17,7 @@ pub record KeepsEither (history longer : History) (keeper : KeeperState) : Type 
   pub kept : IsStoreOf meaning keeper.kept history ⊎ IsStoreOf meaning keeper.kept longer
   pub alone : (store : Store) → keeper.survives store → IsStoreOf meaning store history
       ⊎ IsStoreOf meaning store longer
+  pub some : ∥ ((store : Store) × keeper.survives store) ∥₁
 
 -- a start of the next keeper finds only what survives a stop of the last one
 abbrev pub FindsWhatSurvives : Txt → KeeperState → KeeperState → Type 0

@@ -22,7 +22,7 @@ use Rattle.hippo_sqlite.specs.Contents.{entries_of, HasHistory, StartsWell, Rest
 use Rattle.hippo_sqlite.specs.Outcomes.{append_result, HasExecuted, HasLooked, IsLinked}
 use Rattle.hippo_history_table.specs.Queries.{create_sql, insert_sql}
 use Rattle.hippo_history_table.proofs.OrderLemmas.{entries_rise}
-use Rattle.hippo_sqlite.proofs.StateLemmas.{IsLeft, IsNext, left_open, executes_left, executes_open, shown_open, shown_same, query_left, left_rests, appends, may_append, prepares, kept_is, same_entries}
+use Rattle.hippo_sqlite.proofs.StateLemmas.{IsLeft, IsNext, left_open, executes_left, executes_open, shown_open, shown_same, query_left, left_rests, appends, may_commit, may_append, prepares, kept_is, same_entries}
 
 abbrev ExecutesSome : List ℕ → Row → State → State → Result (Unit {0}) KeeperFault → Type 0
 ExecutesSome text params old new result = (outcome : Result ℕ Error) × Executes text params old new outcome × (result ≡ append_result outcome)
@@ -107,8 +107,23 @@ module _ {S : Type 0} (g : store.Ghosts S)
           only = λ t. only_kept t.1 (made t.0 t.1 t.2).0;
           kept = λ failed. absurd cc;
           stop = λ failed. absurd cc;
+          some = λ failed. absurd cc;
           memory = λ short. absurd cc;
         }
+
+    -- what a stop leaves of an append that failed has some entries
+    left_by_stop : HasCleanDisk after × IsTrue before.is_open × StartsWell (state g opened).now → (trees : Trees) → after.may_leave trees
+        → (entries : Store) × (connection_contents g new old opened).survives entries
+    left_by_stop t trees leaves =
+        let rested = rests (early t.0) t.1 t.2 in
+        elim (survives.crash t.0 trees leaves) [
+          | inl left ↦
+              let there : trees ≡ before.committed.trees = settled old.store trees t.1 left in
+              (entries_of before.committed.schema trees, (trees, leaves, (before.committed.schema, subst (IsSound before.committed.schema) (sym there) rested.sound, refl)))
+          | inr commits ↦
+              let made = may_commit before trees entry rested (next (early t.0, t.1, t.2)) commits in
+              (entries_of made.0 trees, (trees, leaves, (made.0, made.1, refl)))
+        ]
 
     appends_badly : AppendsTo entry (err_of (Unit {0}) Failed) was (connection_contents g new old opened)
     appends_badly = record {
@@ -120,6 +135,7 @@ module _ {S : Type 0} (g : store.Ghosts S)
         | inl left ↦ inl (it.0, left, it.2)
         | inr commits ↦ inr (may_append before it.0 entry entries (rests (early t.0) t.1 t.2) (next (early t.0, t.1, t.2)) commits it.2)
       ];
+      some = λ failed t. ∥∥₁_map (something new.store t.0) (λ (trees, leaves). left_by_stop t trees leaves);
       memory = λ short. absurd cc;
     }
 
@@ -134,6 +150,7 @@ module _ {S : Type 0} (g : store.Ghosts S)
           only = tt;
           kept = λ failed. absurd cc;
           stop = λ failed. absurd cc;
+          some = λ failed. absurd cc;
           memory = λ short t. same_committed (was_open t.0 t.1) t.1 (made t.0 t.1 t.2).0 (made t.0 t.1 t.2).1;
         }
 

@@ -199,11 +199,12 @@ appends old new count entry rests next ran =
       ap (λ (db : Database). entries_of db.schema db.trees) committed ∙ more.1,
     )
 
--- what the statement may commit, if it fails
-pub may_append : (old : State) (trees : Trees) (entry : StoredEntry) (entries : Store) → Rests old → IsNext entry old.committed
-    → CommitsBy insert_sql (values_of (row_of entry)) old trees → IsKeptIn trees entries → entries ≡ entries_of old.committed.schema old.committed.trees ++ entry ∷ []
+-- what the statement may commit, if it fails: a database with the entry behind those before
+pub may_commit : (old : State) (trees : Trees) (entry : StoredEntry) → Rests old → IsNext entry old.committed
+    → CommitsBy insert_sql (values_of (row_of entry)) old trees
+    → (schema : Schema) × IsSound schema trees × (entries_of schema trees ≡ entries_of old.committed.schema old.committed.trees ++ entry ∷ [])
 unfolding CommitsBy
-may_append old trees entry entries rests next commits kept =
+may_commit old trees entry rests next commits =
     let schema = ap (λ (db : Database). db.schema) rests.settled ∙ rests.history.schema in
     let known = sym commits.1.is ∙ ap (λ s. understood s insert_sql) schema in
     let bare = subst IsPlain (sym known) insert_plain in
@@ -214,9 +215,15 @@ may_append old trees entry entries rests next commits kept =
       | inr write ↦
           let does = subst (λ db. Does old.step_limit (mode_of old) (values_of (row_of entry)) db (text_of insert_sql commits.0) None insert_command (Ok (write.1, write.2))) rests.settled write.3 in
           let more = does_more old.step_limit (mode_of old) (text_of insert_sql commits.0) write.1 old.committed write.2 entry rests.history next does in
-          let sound : IsSound write.2.schema trees = subst (IsSound write.2.schema) (sym write.5) write.4 in
-          kept.2 ∙ same_entries kept.0 write.2.schema trees kept.1 sound ∙ ap (entries_of write.2.schema) write.5 ∙ more.1
+          (write.2.schema, subst (IsSound write.2.schema) (sym write.5) write.4, ap (entries_of write.2.schema) write.5 ∙ more.1)
     ]
+
+-- so the entries of what it commits are these
+pub may_append : (old : State) (trees : Trees) (entry : StoredEntry) (entries : Store) → Rests old → IsNext entry old.committed
+    → CommitsBy insert_sql (values_of (row_of entry)) old trees → IsKeptIn trees entries → entries ≡ entries_of old.committed.schema old.committed.trees ++ entry ∷ []
+may_append old trees entry entries rests next commits kept =
+    let made = may_commit old trees entry rests next commits in
+    kept.2 ∙ same_entries kept.0 made.0 trees kept.1 made.1 ∙ made.2
 
 -- ---- a start
 

@@ -86,8 +86,8 @@ pub record GoesOn {A : Type 0} (result : Result A KeeperFault) (old new : Conten
   pub told : new.tells → old.tells
   pub rests : has_failed result ≡ false → new.rests
 
--- an append puts one entry behind what is kept; where it fails, a stop may leave it or not, and
--- where memory is short it does nothing
+-- an append puts one entry behind what is kept; where it fails, a stop leaves it or not, and where
+-- memory is short it does nothing
 pub record AppendsTo {A : Type 0} (entry : StoredEntry) (result : Result A KeeperFault)
     (old new : Contents) : Type 0 where
   pub on : GoesOn result old new
@@ -96,6 +96,8 @@ pub record AppendsTo {A : Type 0} (entry : StoredEntry) (result : Result A Keepe
   pub kept : has_failed result ≡ true → new.kept ≡ old.kept
   pub stop : has_failed result ≡ true → new.tells → (entries : Store) → new.survives entries
       → old.survives entries ⊎ (entries ≡ old.kept ++ entry ∷ [])
+  pub some : has_failed result ≡ true → new.tells
+      → ∥ ((entries : Store) × new.survives entries) ∥₁
   pub memory : wants_memory result ≡ true → new.tells → IsSame old new
 
 -- a read changes nothing that is kept

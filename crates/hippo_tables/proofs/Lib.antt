@@ -6,3 +6,4 @@ pub mod AddLemmas
 pub mod LiveLemmas
 pub mod NextLemmas
 pub mod RowLemmas
+pub mod NamedLemmas

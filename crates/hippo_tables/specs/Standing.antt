@@ -1,5 +1,5 @@
 -- Tables that stand for a history.
-use Rattle.std.specs.Prelude.{◌≡◌, ℕ, Bool, true, false, List, [], ◌∷◌, ◌++◌, Option, None, Some, option_map, is_some, if◌then◌else◌, bytes_eq}
+use Rattle.std.specs.Prelude.{◌≡◌, ℕ, Bool, true, false, List, [], ◌∷◌, ◌++◌, Option, None, Some, filter_map, option_map, is_some, if◌then◌else◌, bytes_eq}
 use Rattle.std.specs.HashMap.{get}
 use Rattle.std.specs.List.{list_all}
 use Rattle.hippo_values.specs.declared.names.Name.{Name}
@@ -110,6 +110,10 @@ pub record Updates (old new : Tables) (table : Name) (row : Row) (number : ℕ) 
 pub record Deletes (old new : Tables) (table : Name) (key : Key) : Type 0 where
   pub tables : (other : Name) → held_table new other
       ≡ with_change table (after_delete key) (held_table old) other
+
+-- the schemas of tables that are created, in the order of their names
+abbrev pub schemas_at : History → List Name → List Schema
+schemas_at history names = filter_map (schema_at history) names
 
 -- whether each of some tables is created
 abbrev pub are_created : History → List Name → Bool

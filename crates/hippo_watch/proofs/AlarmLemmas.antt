@@ -20,13 +20,12 @@ use Rattle.hippo_model.specs.Masking.{Choices}
 use Rattle.hippo_keyed_rows.specs.RowSets.{KeyedRows, kept_at}
 use Rattle.hippo_model.specs.Rules.{choice_at}
 use Rattle.hippo_model.specs.Terms.{History}
-use Rattle.hippo_model.specs.Verdicts.{Context}
+use Rattle.hippo_model.specs.Verdicts.{Context, context_of}
 use Rattle.hippo_tables.specs.declared.tables.Tables.{Tables}
-use Rattle.hippo_tables.specs.Standing.{TablesStandFor, AreKeptTables, are_created}
+use Rattle.hippo_tables.specs.Standing.{TablesStandFor, AreKeptTables, are_created, schemas_at}
 use Rattle.hippo_typing.specs.Meanings.{meaning}
 use Rattle.hippo_rewrite.specs.RewritingLaws.{rules_at}
-use Rattle.hippo_answering.specs.States.{schemas_at, context_of}
-use Rattle.hippo_answering.proofs.AnswerLemmas.{are_created-AreKeptTables, schemas_are}
+use Rattle.hippo_tables.proofs.NamedLemmas.{are_created-AreKeptTables, schemas_are}
 use Rattle.hippo_shared.specs.Sharing.{HaveSameRows}
 use Rattle.hippo_shared.specs.HistoryLaws.{sets_at}
 use Rattle.hippo_examining.specs.Examining.{AreOfHistory}

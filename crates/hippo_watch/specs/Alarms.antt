@@ -14,7 +14,7 @@ use Rattle.hippo_model.specs.Audits.{shared_tuple, first_serving}
 use Rattle.hippo_tables.specs.declared.tables.Tables.{Tables}
 use Rattle.hippo_tables.specs.Standing.{TablesStandFor, are_created}
 use Rattle.hippo_typing.specs.Meanings.{meaning}
-use Rattle.hippo_answering.specs.States.{context_of}
+use Rattle.hippo_model.specs.Verdicts.{context_of}
 use Rattle.hippo_audit_job.specs.declared.past.Past.{Past}
 use Rattle.hippo_audit_job.specs.Examining.{IsPastOf, IsAuditOf}
 use Rattle.hippo_watch.specs.declared.alarms.AskedNow.{AskedNow}

@@ -2,16 +2,15 @@
 ghost use Rattle.std.specs.Prelude.{◌≡◌, bytes_eq, IfOk};
 ghost use Rattle.std.specs.List.{IsDistinct};
 ghost use Rattle.hippo_model.specs.Audits.{is_candidate};
-ghost use Rattle.hippo_answering.specs.States.{context_of};
+ghost use Rattle.hippo_model.specs.Verdicts.{context_of};
 ghost use Rattle.hippo_tables.specs.Standing.{AreKeptTables};
 ghost use Rattle.hippo_watch.specs.Alarms.{AreOfSome, ServesNow, SharesNext};
 
 use crate::present::are_at_hand;
-use hippo_answering::{schemas_of, sets_of};
 use hippo_audit_job::{Past, in_period, is_exempt, names_all};
 use hippo_examining::shared_of;
 use hippo_model::{Audit, Pair, Query, SharedTuple};
-use hippo_tables::Tables;
+use hippo_tables::{Tables, schemas_of, sets_of};
 use hippo_values::{Memory, Moment};
 use std::alloc::Global;
 

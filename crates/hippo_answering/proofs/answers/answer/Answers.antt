@@ -3,7 +3,7 @@ use Rattle.std.proofs.Common.{List, subst}
 use Rattle.hippo_model.specs.Terms.{ShownRow}
 use Rattle.hippo_eval.specs.Answering.{IsAnswered}
 use Rattle.hippo_eval.specs.declared.answers.TheConstants.{ANSWER_LIMIT}
-use Rattle.hippo_answering.specs.States.{context_of}
+use Rattle.hippo_model.specs.Verdicts.{context_of}
 use Rattle.hippo_answering.proofs.AnswerLemmas.{rows_by_form-answer}
 use Rattle.hippo_answering.proofs.answers.answer.Goals as goal
 

@@ -8,7 +8,8 @@ use Rattle.hippo_policy.specs.Books as books
 use Rattle.hippo_tables.specs.Standing as standing
 use Rattle.hippo_rewrite.specs.Rewriting.{rewritten_query}
 use Rattle.hippo_rewrite.specs.RewritingLaws.{rules_at}
-use Rattle.hippo_answering.specs.States.{context_of, schemas_at}
+use Rattle.hippo_model.specs.Verdicts.{context_of}
+use Rattle.hippo_tables.specs.Standing.{schemas_at}
 use Rattle.hippo_answering.proofs.answers.masked_query.Goals as goal
 
 pub returns-clause-rules : goal.returns-clause-rules

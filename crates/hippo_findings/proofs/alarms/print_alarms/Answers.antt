@@ -1,11 +1,12 @@
 -- What the watches say of a question is what those of the world say; a text that means nothing is flagged by none.
 use Rattle.std.proofs.Common.{refl, ◌∙◌}
-use Rattle.hippo_findings.proofs.AlarmLemmas.{on_ok, printed_now, none_now}
+use Rattle.std.proofs.lemmas.Result.{on_ok_weaker}
+use Rattle.hippo_findings.proofs.AlarmLemmas.{printed_now, none_now}
 use Rattle.hippo_findings.proofs.alarms.print_alarms.Goals as goal
 
 pub returns-in-Some : goal.returns-in-Some
 returns-in-Some c =
-    on_ok c.append_alarms-printed.result _ _
+    on_ok_weaker c.append_alarms-printed.result
     (λ says history question stands fit same means. says history question stands fit same (means ∙ c.in-Some.is))
     (printed_now _ c.args.state.now c.args.world.now c.args.out.now c.append_alarms-printed.new.out c.append_alarms-printed.result
     (λ history stands. record {

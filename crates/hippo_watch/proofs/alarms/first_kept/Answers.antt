@@ -3,7 +3,7 @@ use Rattle.std.proofs.Common.{List, Option}
 use Rattle.std.proofs.lemmas.Result.{IfOk-weaker}
 use Rattle.hippo_model.specs.declared.audit.SharedRow.{SharedRow}
 use Rattle.hippo_typing.specs.Meanings.{meaning}
-use Rattle.hippo_answering.specs.States.{context_of}
+use Rattle.hippo_model.specs.Verdicts.{context_of}
 use Rattle.hippo_examining.specs.Examining.{ServesFirst}
 use Rattle.hippo_watch.specs.Alarms.{ServesNow}
 use Rattle.hippo_watch.proofs.AlarmLemmas.{rows_same, those_of}

@@ -2,9 +2,8 @@
 use Rattle.std.proofs.Common.{◌≡◌, ◌++◌, drop, length, map}
 use Rattle.hippo_model.specs.Terms.{History}
 use Rattle.hippo_keyed_rows.specs.RowSets.{kept_at}
-use Rattle.hippo_tables.specs.Standing.{TablesStandFor}
-use Rattle.hippo_answering.specs.States.{schemas_at}
-use Rattle.hippo_answering.proofs.asked.sets_of.Given as goal
+use Rattle.hippo_tables.specs.Standing.{TablesStandFor, schemas_at}
+use Rattle.hippo_tables.proofs.named.sets_of.Given as goal
 
 abbrev pub invariant-loop-name : goal.invariant-loop-name
 invariant-loop-name l = record {

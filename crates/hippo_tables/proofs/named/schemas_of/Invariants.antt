@@ -1,9 +1,8 @@
 -- The schemas so far, and those of the tables that are left.
 use Rattle.std.proofs.Common.{◌≡◌, ◌++◌, drop}
 use Rattle.hippo_model.specs.Terms.{History}
-use Rattle.hippo_tables.specs.Standing.{TablesStandFor}
-use Rattle.hippo_answering.specs.States.{schemas_at}
-use Rattle.hippo_answering.proofs.asked.schemas_of.Given as goal
+use Rattle.hippo_tables.specs.Standing.{TablesStandFor, schemas_at}
+use Rattle.hippo_tables.proofs.named.schemas_of.Given as goal
 
 abbrev pub invariant-loop-name : goal.invariant-loop-name
 invariant-loop-name l =

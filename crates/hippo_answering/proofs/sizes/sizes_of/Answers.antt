@@ -3,7 +3,7 @@ use Rattle.std.proofs.Common.{[], ◌∷◌, ◌++◌, ◌∙◌, ap, sym, lengt
 use Rattle.std.proofs.lemmas.List.{map-append}
 use Rattle.hippo_keyed_rows.specs.RowSets.{KeyedRows}
 use Rattle.hippo_eval.proofs.WalkLemmas.{take_row}
-use Rattle.hippo_answering.proofs.asked.sizes_of.Goals as goal
+use Rattle.hippo_answering.proofs.sizes.sizes_of.Goals as goal
 
 pub loop-place-preserved : goal.loop-place-preserved
 loop-place-preserved c =

@@ -1,15 +1,14 @@
-//! The tables that a query asks, as they are.
+//! Tables that are there, by their names: their schemas and their rows.
 ghost use Rattle.std.specs.Prelude.{◌≡◌, ◌∷◌, [], IfOk, Some, length, map, option_map};
 ghost use Rattle.hippo_model.specs.Terms.{History};
 ghost use Rattle.hippo_model.specs.Histories.{schema_at};
 ghost use Rattle.hippo_keyed_rows.specs.RowSets.{kept_at};
-ghost use Rattle.hippo_tables.specs.Standing.{TablesStandFor, AreKeptTables};
-ghost use Rattle.hippo_answering.specs.States.{schemas_at};
+ghost use Rattle.hippo_tables.specs.Standing.{TablesStandFor, AreKeptTables, schemas_at};
 
-use hippo_model::{Lent, LentSchemas, Names, Schema, Sizes};
+use crate::tables::Tables;
+use hippo_model::{Lent, LentSchemas, Names, Schema};
 use hippo_rows::{RowSet, Sets};
-use hippo_tables::Tables;
-use hippo_values::{Memory, Name, Sequence};
+use hippo_values::{Memory, Name};
 use std::alloc::Global;
 
 fn schema_of<'a>(tables: &'a Tables, name: &Name) -> &'a Schema
@@ -58,15 +57,4 @@ pub fn sets_of<'a>(alloc: Global, tables: &'a Tables, names: &Names) -> Result<S
         sets.push(rows_of(tables, name))?;
     }
     Ok(sets)
-}
-
-/// How many rows each table has.
-pub fn sizes_of(alloc: Global, sets: &Sets<'_>) -> Result<Sizes, Memory>
-    ensures { IfOk result (λ sizes. sizes ≡ map (λ set. length set.rows) sets.now) }
-{
-    let mut sizes = Sequence::new(alloc);
-    for place in 0..sets.len() {
-        sizes.push(sets.get(place).len() as u64)?;
-    }
-    Ok(sizes)
 }
