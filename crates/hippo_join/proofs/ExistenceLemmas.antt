@@ -1,5 +1,5 @@
 -- Whether some combination counts that has the rows that are chosen.
-use Rattle.std.proofs.Common.{◌≡◌, zero, suc, ◌+◌, Bool, true, false, ◌||◌, List, [], ◌∷◌, ◌++◌, map, refl, sym, ap, ◌∙◌, Option, Some, None, get_or, unwrap_or}
+use Rattle.std.proofs.Common.{◌≡◌, zero, suc, Bool, true, false, ◌||◌, List, [], ◌∷◌, ◌++◌, map, refl, sym, ap, ◌∙◌, Option, Some, None, get_or, unwrap_or}
 use Rattle.std.specs.Prelude.{slice_set, Ok}
 use Rattle.std.specs.List.{list_any}
 use Rattle.std.specs.Ordering.{is_eq, nat_cmp}

@@ -1,10 +1,9 @@
 -- Numbers in a row, and their orders.
-use Rattle.std.proofs.Common.{◌≡◌, ℕ, zero, suc, ◌+◌, ◌<◌, ◌≤◌, List, [], ◌∷◌, ◌++◌, length, take, refl, sym, ap, subst, ◌∙◌, arith, add-one, get_or, Some, slice_get}
+use Rattle.std.proofs.Common.{◌≡◌, ℕ, zero, suc, ◌+◌, ◌<◌, ◌≤◌, List, [], ◌∷◌, ◌++◌, length, take, refl, sym, ap, subst, ◌∙◌, arith, add-one, get_or}
 use Rattle.std.specs.List.{range_with_len, remove}
 use Rattle.std.specs.List.Sorted.{IsPermutation}
-use Rattle.std.proofs.lemmas.List.{take-append-le, take_all}
+use Rattle.std.proofs.lemmas.List.{take-append-le, take_all, take_more}
 use Rattle.std.proofs.lemmas.List.Sorted.{IsPermutation-more}
-use Rattle.hippo_eval.proofs.WalkLemmas.{take_row}
 
 range_from : (a n : ℕ) → range_with_len a (suc n) ≡ range_with_len a n ++ (a + n) ∷ []
 range_from a zero = let e : a ≡ a + 0 = omega arith in ap (λ k. k ∷ []) e
@@ -14,9 +13,9 @@ pub range-more : (n : ℕ) → range_with_len 0 (n + 1) ≡ range_with_len 0 n +
 range-more n = let e : 0 + n ≡ n = omega arith in rw (add-one n) (range_from 0 n ∙ ap (λ k. range_with_len 0 n ++ k ∷ []) e)
 
 -- one more stands at its own place
-pub in_order_more : (tables : List ℕ) (place table : ℕ) → slice_get tables place ≡ Some table → table ≡ place → take place tables ≡ range_with_len 0 place → take (place + 1) tables ≡ range_with_len 0 (place + 1)
-in_order_more tables place table there own so_far =
-    take_row tables place table there ∙ (λ i. so_far i ++ own i ∷ []) ∙ sym (range-more place)
+pub in_order_more : (tables : List ℕ) (place : ℕ) → place < length tables → get_or tables place 0 ≡ place → take place tables ≡ range_with_len 0 place → take (place + 1) tables ≡ range_with_len 0 (place + 1)
+in_order_more tables place within own so_far =
+    take_more tables place 0 within ∙ (λ i. so_far i ++ own i ∷ []) ∙ sym (range-more place)
 
 -- one of those that are left comes next
 pub ordered-more : (xs order left more less : List ℕ) (i x : ℕ) → i < length left → x ≡ get_or left i x → IsPermutation xs (order ++ left) → more ≡ order ++ x ∷ [] → less ≡ remove left i → IsPermutation xs (more ++ less)
