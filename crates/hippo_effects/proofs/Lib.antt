@@ -5,4 +5,5 @@ pub mod EffectTheorem
 pub mod ShortLemmas
 pub mod ClockLemmas
 pub mod LedgerLemmas
+pub mod RunLemmas
 mod SpeakerLemmas

@@ -6,4 +6,3 @@ mod TurnLemmas
 mod FirstLemmas
 mod TakenLemmas
 mod OutcomeLemmas
-mod DrillLemmas

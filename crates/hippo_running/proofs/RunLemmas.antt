@@ -26,6 +26,7 @@ use Rattle.hippo_engine.specs.Carrying.{Holds, is_carried, Carries, HasEffect, B
 use Rattle.hippo_effects.specs.Effects.{Effect, IsEffect, effect_of}
 use Rattle.hippo_effects.specs.Ledgers.{audits_of, RunSum}
 use Rattle.hippo_effects.specs.Runs.{IsRun, audits_in, replies, history_after, world_after}
+use Rattle.hippo_effects.proofs.RunLemmas.{history_after-append, world_after-append, replies-append}
 use Rattle.hippo_effects.proofs.LedgerLemmas.{RunSum-start, RunSum-line, RunSum-end}
 use Rattle.hippo_words.specs.declared.calls.Job.{Job}
 use Rattle.hippo_words.specs.declared.calls.Setting.{Setting}
@@ -36,10 +37,6 @@ use Rattle.hippo_running.specs.Runs.{opening_after, IsHandingOut, ForInput, Step
 use Rattle.hippo_running.proofs.AskedLemmas.{asked-last}
 use Rattle.hippo_running.proofs.KeptLemmas.{KeepsHistory-after, KeepsHistory-same, KeepsEither-after}
 use Rattle.hippo_programs.proofs.WriteLemmas.{both_whole}
-
-flat_map-last : {A B : Type 0} (f : A → List B) (front : List A) (last : A) → flat_map f (front ++ last ∷ []) ≡ flat_map f front ++ f last
-flat_map-last f [] last = append-nil (f last)
-flat_map-last f (first ∷ front) last = ap (λ rest. f first ++ rest) (flat_map-last f front last) ∙ sym (append_assoc (f first) (flat_map f front) (f last))
 
 pub IsRun-append : (history : History) (world : World) (replied : List LineText) (effects : List Effect) (line : LineText) (effect : Effect)
     → IsRun history world replied effects → IsEffect (history_after history effects) (world_after world effects) (command_of line) effect
@@ -52,18 +49,6 @@ IsRun-append history world (text ∷ replied) (first ∷ effects) line effect ru
   IsRun-append (history ++ first.added) first.world replied effects line effect run.1
       (subst (λ (h : History). IsEffect h (world_after first.world effects) (command_of line) effect) (sym (append_assoc history first.added (flat_map (λ (e : Effect). e.added) effects))) is),
 )
-
-pub history_after-append : (history : History) (effects : List Effect) (effect : Effect) → history_after history (effects ++ effect ∷ []) ≡ history_after history effects ++ effect.added
-history_after-append history effects effect =
-    ap (λ (rest : History). history ++ rest) (flat_map-last (λ (e : Effect). e.added) effects effect)
-    ∙ sym (append_assoc history (flat_map (λ (e : Effect). e.added) effects) effect.added)
-
-pub world_after-append : (world : World) (effects : List Effect) (effect : Effect) → world_after world (effects ++ effect ∷ []) ≡ effect.world
-world_after-append world [] effect = refl
-world_after-append world (first ∷ effects) effect = world_after-append first.world effects effect
-
-pub replies-append : (effects : List Effect) (effect : Effect) → replies (effects ++ effect ∷ []) ≡ replies effects ++ effect.reply
-replies-append effects effect = flat_map-last (λ (e : Effect). e.reply) effects effect
 
 -- the audits of the lines before the last, and of that one
 audits_in-append : (replied : List LineText) (line : LineText) → audits_in (replied ++ line ∷ []) ≡ audits_in replied + audits_of (command_of line)

@@ -5,4 +5,3 @@ pub mod Keeping
 pub mod Outside
 pub mod Runs
 pub mod Outcomes
-pub mod Drilling

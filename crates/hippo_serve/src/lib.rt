@@ -1,6 +1,7 @@
 //! The database as a service of lines: the top call, which does what its words ask for.
 #![tactic(auto)]
 
+mod drills;
 mod laws;
 mod top;
 
