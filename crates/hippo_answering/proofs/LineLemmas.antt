@@ -41,15 +41,15 @@ one_line_more session rows row old new are text count = record {
 
 module _ (session limit : ℕ) (rows : List ShownRow) (lines : Lines) (are : IsGathered (AreLinesOf session) (λ found. found) limit rows lines) where
   -- lines within the limit are those of all rows
-  pub lines_whole : lines.count ≤ limit → AreLinesOf session rows lines × (length rows ≤ limit)
-  lines_whole few =
+  pub are_whole : lines.count ≤ limit → AreLinesOf session rows lines × (length rows ≤ limit)
+  are_whole few =
       let within : length are.front ≤ limit = subst (λ (n : ℕ). n ≤ limit) are.holds.count few in
       let all : rows ≡ are.front = are.is ∙ ap (λ (later : List ShownRow). are.front ++ later) (are.whole within) ∙ append-nil are.front in
       (subst (λ (some : List ShownRow). AreLinesOf session some lines) (sym all) are.holds, subst (λ (some : List ShownRow). length some ≤ limit) (sym all) within)
 
   -- beyond it there are more rows than it allows
-  pub lines_beyond : limit < lines.count → limit < length rows
-  lines_beyond many =
+  pub go_beyond : limit < lines.count → limit < length rows
+  go_beyond many =
       let front : limit < length are.front = subst (λ (n : ℕ). limit < n) are.holds.count many in
       let long : length rows ≡ length are.front + length are.later = ap length are.is ∙ length-append are.front are.later in
       omega (arith, front, long)

@@ -159,7 +159,7 @@ impl<'a, C: ChoiceView> Visitor for RowPrinter<'a, C> {
 }
 
 // These lines as what is said, unless they are more than the limit.
-#[tactic(auto, using(crate::proofs::LineLemmas::lines_whole, crate::proofs::LineLemmas::lines_beyond))]
+#[tactic(auto, using(crate::proofs::LineLemmas::are_whole, crate::proofs::LineLemmas::go_beyond))]
 fn within_limit(lines: Lines) -> Result<Lines, EvalFault>
     ensures { (session : ℕ) (rows : List ShownRow) → IsGathered (AreLinesOf session)
         (λ found. found) ANSWER_LIMIT rows lines → IsSaid ANSWER_LIMIT session rows result }
