@@ -16,6 +16,7 @@ ghost use Rattle.hippo_engine.specs.Carrying.{Holds, AtWork};
 ghost use Rattle.hippo_effects.specs.Effects.{effect_of};
 ghost use Rattle.hippo_drilling.specs.Drilling.{drill_limit, summary, HasDone, HasDrilled};
 
+use hippo_carrying::answer_line;
 use hippo_drill::{Counts, Drill};
 use hippo_engine::Engine;
 use hippo_io::Line;
@@ -92,7 +93,7 @@ fn answer<L: Ledger>(
         (command_of (text_line line.now)))
         engine.new (memory_keeper_state keeper.new)) }
 {
-    match engine.answer(alloc, Line::Text(line), keeper, steps) {
+    match answer_line(engine, alloc, Line::Text(line), keeper, steps) {
         Ok(()) => accept(engine.reply()),
         Err(_) => Err(Memory),
     }

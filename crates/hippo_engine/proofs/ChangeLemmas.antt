@@ -1,5 +1,5 @@
 -- From the checks of a statement that changes something, and from recording its entry, to what carrying it out does.
-use Rattle.std.proofs.Common.{◌≡◌, ◌⊎◌, ◌∙◌, ◌≤◌, ◌<◌, ◌^◌, inl, inr, refl, sym, ap, subst, arith, ℕ, Bool, length, true, false}
+use Rattle.std.proofs.Common.{◌≡◌, ◌⊎◌, ◌∙◌, ◌<◌, ◌^◌, inl, inr, refl, sym, ap, subst, arith, ℕ, true, false}
 use Rattle.std.specs.Prelude.{codes, int_le, [], ◌∷◌, ◌++◌}
 use Rattle.std.proofs.lemmas.Bool.{false≢true, and_from}
 use Rattle.hippo_values.specs.Texts.{Txt}
@@ -18,7 +18,6 @@ use Rattle.hippo_keeper.proofs.CallLemmas.{IsAfterCall-as}
 use Rattle.hippo_keeper.proofs.Results.{err_of, well}
 use Rattle.hippo_report.specs.declared.speaker.Speaker.{Speaker}
 use Rattle.hippo_report.specs.declared.speaker.Speaker.TheVariants.{Console}
-use Rattle.hippo_report.specs.declared.refusal.Refusal.{Refusal}
 use Rattle.hippo_report.specs.declared.refusal.Refusal.TheVariants as refusals
 use Rattle.hippo_report.specs.Notices.{number_line}
 use Rattle.hippo_report.specs.Refusals.{refusal_line}
@@ -34,12 +33,10 @@ use Rattle.hippo_commands.specs.Commands.{Command, who_commands}
 use Rattle.hippo_engine.specs.declared.engine.Engine.{Engine}
 use Rattle.hippo_effects.specs.declared.faults.EngineFault.{EngineFault}
 use Rattle.hippo_effects.specs.declared.faults.EngineFault.TheVariants.{Keeper}
-use Rattle.hippo_engine.specs.Carrying.{AtWork, IsQuiet, Carries}
+use Rattle.hippo_engine.specs.Carrying.{AtWork, Carries}
 use Rattle.hippo_judging.specs.Changes.{IsChange}
 use Rattle.hippo_engine.specs.Changing.{Changes, change_effect}
-use Rattle.hippo_engine.specs.Performing.{SaysRefusal}
-use Rattle.hippo_judging.specs.Findings.{AddsNextEntry, IsRefused, may_do_nothing}
-use Rattle.hippo_judging.specs.Checks.{Refuses, reply_room}
+use Rattle.hippo_judging.specs.Findings.{AddsNextEntry}
 use Rattle.hippo_judging.specs.Deeds.{next_entry}
 use Rattle.hippo_judging.specs.Deeds as deeds
 use Rattle.hippo_effects.specs.Effects.{Effect, only_reply, deed_effect, effect_of, judgement_effect, IsEffect}
@@ -53,40 +50,6 @@ use Rattle.hippo_effects.proofs.ShortLemmas.{short, refused}
 pub told_short : (reply : Txt) → (reply ≡ refusal_line Console refusals.Memory) ⊎ (reply ≡ refusal_line Console refusals.Memory) → reply ≡ refusal_line Console refusals.Memory
 told_short reply (inl is) = is
 told_short reply (inr is) = is
-
--- a command that is refused adds nothing
-pub quiet_refusal : (command : Command) (who : Speaker) (refusal : Refusal) (old new : Engine) → who ≡ who_commands command → IsRefused command refusal old.state (world_of old.world)
-    → new.state ≡ old.state → new.world ≡ old.world → SaysRefusal who refusal new.reply → IsQuiet command old new
-quiet_refusal command who refusal old new who_is is state_is world_is says = record {
-  same = state_is;
-  effect = λ history stands.
-      subst (λ (w : World). IsEffect history (world_of old.world) command (only_reply w new.reply)) (ap world_of (sym world_is))
-      (by_memory (may_do_nothing command) refl history stands);
-  audits = record { jobs = ap (λ (held : HeldWorld). held.jobs) world_is; watches = ap (λ (held : HeldWorld). held.watches) world_is };
-}
-  where
-    as_said : (history : History) (other : Refusal) → new.reply ≡ refusal_line who other
-        → IsEffect history (world_of old.world) command (only_reply (world_of old.world) (refusal_line (who_commands command) other))
-        → IsEffect history (world_of old.world) command (only_reply (world_of old.world) new.reply)
-    as_said history other told effect =
-        subst (λ (reply : Txt). IsEffect history (world_of old.world) command (only_reply (world_of old.world) reply))
-        (ap (λ (one : Speaker). refusal_line one other) (sym who_is) ∙ sym told) effect
-
-    replied : (history : History) → may_do_nothing command ≡ true → Refuses (judged history (world_of old.world) command) refusal
-        → (new.reply ≡ refusal_line who refusal) ⊎ (new.reply ≡ refusal_line who refusals.Memory)
-        → IsEffect history (world_of old.world) command (only_reply (world_of old.world) new.reply)
-    replied history takes (inl so) (inl told) = as_said history refusal told (refused history (world_of old.world) command refusal so)
-    replied history takes (inr memory) (inl told) =
-        as_said history refusals.Memory (told ∙ ap (refusal_line who) memory)
-        (short history (world_of old.world) command takes)
-    replied history takes why (inr told) = as_said history refusals.Memory told (short history (world_of old.world) command takes)
-
-    by_memory : (takes : Bool) → may_do_nothing command ≡ takes → (history : History) → StandsFor old.state history
-        → IsEffect history (world_of old.world) command (only_reply (world_of old.world) new.reply)
-    by_memory true takes history stands = replied history takes (is.refuses history stands) says.0
-    by_memory false none history stands =
-        as_said history refusal (says.1 (subst (λ (one : Speaker). length (refusal_line one refusal) ≤ reply_room) (sym who_is) (is.short none)))
-        (refused history (world_of old.world) command refusal (is.exact none history stands))
 
 -- what is done for a change that adds the next entry
 next_is : (history : History) (world : World) (entry : Entry) → entry ≡ next_entry history world entry.act

@@ -1,10 +1,5 @@
 pub mod CarryingLemmas
-mod LineLemmas
-mod ChangeLemmas
-mod QuestionLemmas
-mod LookingLemmas
-mod ExplainingLemmas
-mod AuditingLemmas
-mod JobLemmas
+pub mod QuietLemmas
+pub mod ChangeLemmas
+pub mod JobLemmas
 mod WatchLemmas
-mod PerformingLemmas

@@ -29,7 +29,7 @@ use Rattle.hippo_effects.specs.Ledgers.{none_taken}
 use Rattle.hippo_judging.specs.declared.deeds.Deed.TheVariants as kinds
 use Rattle.hippo_judging.specs.Findings.{IsJudged, Does, may_do_nothing}
 use Rattle.hippo_engine.proofs.CarryingLemmas.{AddsNothing-quiet}
-use Rattle.hippo_engine.proofs.PerformingLemmas.{quiet_short}
+use Rattle.hippo_engine.proofs.QuietLemmas.{quiet_short}
 use Rattle.hippo_effects.proofs.ShortLemmas.{done_for}
 
 -- the world with another watch at a number, as it is seen

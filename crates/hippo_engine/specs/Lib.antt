@@ -1,4 +1,3 @@
 pub mod Carrying
 pub mod Changing
 pub mod Jobs
-pub mod Performing

@@ -44,7 +44,7 @@ impl Engine {
     }
 
     /// Adds an entry to the history. Answers `Keeper` only where the keeper failed.
-    pub(crate) fn change<P: Keeper>(
+    pub fn change<P: Keeper>(
         &mut self,
         alloc: Global,
         keeper: &mut P,

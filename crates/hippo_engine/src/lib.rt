@@ -1,13 +1,11 @@
-//! The engine, which carries out each line of the input.
+//! The engine: what a run holds, and what changes it: the clock, sessions and cursors, changes of
+//! the history, audit jobs and watches.
 #![tactic(auto)]
 
-mod auditing;
 mod changes;
 mod engine;
-mod explaining;
 mod jobs;
 mod plain;
-mod questions;
 mod sessions;
 mod watches;
 

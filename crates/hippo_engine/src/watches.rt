@@ -17,7 +17,7 @@ use std::alloc::Global;
 
 impl Engine {
     /// Sets a watch at a number that is free; or says that memory was short for it.
-    pub(crate) fn watch(&mut self, alloc: Global, number: usize, audit: Audit)
+    pub fn watch(&mut self, alloc: Global, number: usize, audit: Audit)
         requires differ { IsDistinct bytes_eq audit.tables }
         ensures { (command : Command) → Does command (deeds.Watch number audit) self.old.state
             (world_of self.old.world)
@@ -33,7 +33,7 @@ impl Engine {
     }
 
     /// Ends a watch. Takes no memory.
-    pub(crate) fn end_watch(&mut self, number: u8)
+    pub fn end_watch(&mut self, number: u8)
         ensures { (command : Command) → Does command (deeds.EndWatch number) self.old.state
             (world_of self.old.world)
             → AddsNothing command self.old self.new }

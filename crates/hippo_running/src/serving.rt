@@ -24,6 +24,7 @@ ghost use Rattle.hippo_running.specs.Runs.{opening_after, HasTakenBytes, IsHandi
 use crate::endings::Ending;
 use crate::loads::{MadeText, make_clock, make_load};
 use crate::printing::say_damaged;
+use hippo_carrying::carry_out_line;
 use hippo_effects::EngineFault;
 use hippo_engine::Engine;
 use hippo_io::{Line, LineFault, LineReader, Sink, Source};
@@ -60,7 +61,7 @@ fn carry_out<K: Sink, P: Keeper, L: Ledger>(
     if line == Line::End {
         return Some(Ending::Served);
     }
-    match engine.line(alloc, line, keeper, sink, steps) {
+    match carry_out_line(engine, alloc, line, keeper, sink, steps) {
         Ok(()) => None,
         Err(EngineFault::Keeper) => Some(Ending::KeeperFault),
         Err(EngineFault::Write) => Some(Ending::WriteFault),

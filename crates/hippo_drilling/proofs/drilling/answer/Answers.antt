@@ -6,6 +6,6 @@ use Rattle.hippo_drilling.proofs.drilling.answer.Goals as goal
 
 pub returns-in-Ok-clause-done : goal.returns-in-Ok-clause-done
 returns-in-Ok-clause-done g c =
-    accepted c.accept.result c.reply.result.now (command_of (text_line c.args.line.now)) c.args.engine.now c.answer.new.self
-    (memory_keeper_state c.args.keeper.now) (memory_keeper_state c.answer.new.keeper) c.args.steps.now c.answer.new.steps
+    accepted c.accept.result c.reply.result.now (command_of (text_line c.args.line.now)) c.args.engine.now c.answer_line.new.engine
+    (memory_keeper_state c.args.keeper.now) (memory_keeper_state c.answer_line.new.keeper) c.args.steps.now c.answer_line.new.steps
     c.accept.ensures c.reply.ensures c.in-Ok.ensures.carries tt

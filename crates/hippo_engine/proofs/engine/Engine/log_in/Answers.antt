@@ -4,7 +4,7 @@ use Rattle.hippo_judging.specs.Deeds as deeds
 use Rattle.hippo_engine.specs.declared.engine.Engine.{Engine}
 use Rattle.hippo_effects.specs.Effects.{only_reply}
 use Rattle.hippo_report.specs.declared.speaker.Speaker.TheVariants.{Session}
-use Rattle.hippo_engine.proofs.PerformingLemmas.{quiet_done, quiet_short}
+use Rattle.hippo_engine.proofs.QuietLemmas.{quiet_done, quiet_short}
 use Rattle.hippo_engine.proofs.engine.Engine.log_in.Goals as goal
 
 pub returns-in-Ok : goal.returns-in-Ok

@@ -9,7 +9,7 @@ use Rattle.hippo_engine.specs.Carrying.{Carries}
 use Rattle.hippo_engine.proofs.CarryingLemmas.{Carries-nothing, Carries-quiet}
 use Rattle.hippo_engine.proofs.ChangeLemmas.{changes_by}
 use Rattle.hippo_engine.proofs.JobLemmas.{AddsNothing-does}
-use Rattle.hippo_engine.proofs.engine.Engine.perform.Goals as goal
+use Rattle.hippo_carrying.proofs.lines.perform.Goals as goal
 
 pub hand_out-requires : goal.hand_out-requires
 hand_out-requires g c = rw c.in-HandOut.is at c.requires.needs
@@ -41,54 +41,54 @@ watch-requires g c = let needs = rw c.in-Watch.is at c.requires.needs in record 
 pub returns-in-DoNothing-clause-performs : goal.returns-in-DoNothing-clause-performs
 returns-in-DoNothing-clause-performs g c =
     rw c.in-DoNothing.is
-    (λ command does. Carries-quiet command c.args.self.now c.do_nothing.new.self (g.P.Keeper.state c.args.keeper.now) c.args.steps.now c.requires.at_work (c.do_nothing.ensures command does))
+    (λ command does. Carries-quiet command c.args.engine.now c.do_nothing.new.self (g.P.Keeper.state c.args.keeper.now) c.args.steps.now c.requires.at_work (c.do_nothing.ensures command does))
 
 pub returns-in-SetClock-clause-performs : goal.returns-in-SetClock-clause-performs
 returns-in-SetClock-clause-performs g c =
     rw c.in-SetClock.is
-    (λ command does. Carries-quiet command c.args.self.now c.set_clock.new.self (g.P.Keeper.state c.args.keeper.now) c.args.steps.now c.requires.at_work (c.set_clock.ensures command does))
+    (λ command does. Carries-quiet command c.args.engine.now c.set_clock.new.self (g.P.Keeper.state c.args.keeper.now) c.args.steps.now c.requires.at_work (c.set_clock.ensures command does))
 
 pub returns-in-LogIn-clause-performs : goal.returns-in-LogIn-clause-performs
 returns-in-LogIn-clause-performs g c =
     rw c.in-LogIn.is
-    (λ command does. Carries-quiet command c.args.self.now c.log_in.new.self (g.P.Keeper.state c.args.keeper.now) c.args.steps.now c.requires.at_work (c.log_in.ensures command does))
+    (λ command does. Carries-quiet command c.args.engine.now c.log_in.new.self (g.P.Keeper.state c.args.keeper.now) c.args.steps.now c.requires.at_work (c.log_in.ensures command does))
 
 pub returns-in-LogOut-clause-performs : goal.returns-in-LogOut-clause-performs
 returns-in-LogOut-clause-performs g c =
     rw c.in-LogOut.is
-    (λ command does. Carries-quiet command c.args.self.now c.log_out.new.self (g.P.Keeper.state c.args.keeper.now) c.args.steps.now c.requires.at_work (c.log_out.ensures command does))
+    (λ command does. Carries-quiet command c.args.engine.now c.log_out.new.self (g.P.Keeper.state c.args.keeper.now) c.args.steps.now c.requires.at_work (c.log_out.ensures command does))
 
 pub returns-in-HandOut-clause-performs : goal.returns-in-HandOut-clause-performs
 returns-in-HandOut-clause-performs g c =
     rw c.in-HandOut.is
-    (λ command does. Carries-quiet command c.args.self.now c.hand_out.new.self (g.P.Keeper.state c.args.keeper.now) c.args.steps.now c.requires.at_work (c.hand_out.ensures command does))
+    (λ command does. Carries-quiet command c.args.engine.now c.hand_out.new.engine (g.P.Keeper.state c.args.keeper.now) c.args.steps.now c.requires.at_work (c.hand_out.ensures command does))
 
 pub returns-in-CloseCursor-clause-performs : goal.returns-in-CloseCursor-clause-performs
 returns-in-CloseCursor-clause-performs g c =
     rw c.in-CloseCursor.is
-    (λ command does. Carries-quiet command c.args.self.now c.close_cursor.new.self (g.P.Keeper.state c.args.keeper.now) c.args.steps.now c.requires.at_work (c.close_cursor.ensures command does))
+    (λ command does. Carries-quiet command c.args.engine.now c.close_cursor.new.self (g.P.Keeper.state c.args.keeper.now) c.args.steps.now c.requires.at_work (c.close_cursor.ensures command does))
 
 pub returns-in-StepJob-clause-performs : goal.returns-in-StepJob-clause-performs
 returns-in-StepJob-clause-performs g c =
     rw c.in-StepJob.is
     (λ command does.
-    subst (λ (one : Command). Carries one c.step_job.result c.args.self.now c.step_job.new.self (g.P.Keeper.state c.args.keeper.now) (g.P.Keeper.state c.step_job.new.keeper) c.args.steps.now c.step_job.new.steps) (sym does.0) c.step_job.ensures.carries)
+    subst (λ (one : Command). Carries one c.step_job.result c.args.engine.now c.step_job.new.engine (g.P.Keeper.state c.args.keeper.now) (g.P.Keeper.state c.step_job.new.keeper) c.args.steps.now c.step_job.new.steps) (sym does.0) c.step_job.ensures.carries)
 
 pub returns-in-DropJob-clause-performs : goal.returns-in-DropJob-clause-performs
 returns-in-DropJob-clause-performs g c =
     rw c.in-DropJob.is
     (λ command does.
-    subst (λ (one : Command). Carries one (well EngineFault) c.args.self.now c.drop_job.new.self (g.P.Keeper.state c.args.keeper.now) (g.P.Keeper.state c.args.keeper.now) c.args.steps.now c.args.steps.now) (sym does.0)
-    (Carries-nothing (make_request Console (requests.drops c.in-DropJob.job)) c.args.self.now c.drop_job.new.self (g.P.Keeper.state c.args.keeper.now) c.args.steps.now c.requires.at_work c.drop_job.ensures))
+    subst (λ (one : Command). Carries one (well EngineFault) c.args.engine.now c.drop_job.new.self (g.P.Keeper.state c.args.keeper.now) (g.P.Keeper.state c.args.keeper.now) c.args.steps.now c.args.steps.now) (sym does.0)
+    (Carries-nothing (make_request Console (requests.drops c.in-DropJob.job)) c.args.engine.now c.drop_job.new.self (g.P.Keeper.state c.args.keeper.now) c.args.steps.now c.requires.at_work c.drop_job.ensures))
 
 pub returns-in-EndWatch-clause-performs : goal.returns-in-EndWatch-clause-performs
 returns-in-EndWatch-clause-performs g c =
     rw c.in-EndWatch.is
-    (λ command does. Carries-nothing command c.args.self.now c.end_watch.new.self (g.P.Keeper.state c.args.keeper.now) c.args.steps.now c.requires.at_work (c.end_watch.ensures command does))
+    (λ command does. Carries-nothing command c.args.engine.now c.end_watch.new.self (g.P.Keeper.state c.args.keeper.now) c.args.steps.now c.requires.at_work (c.end_watch.ensures command does))
 
 pub returns-in-Change-clause-performs : goal.returns-in-Change-clause-performs
 returns-in-Change-clause-performs g c =
-    rw c.in-Change.is (λ command does. c.change.ensures.carries command c.args.steps.now (changes_by command c.in-Change.entry c.args.self.now does))
+    rw c.in-Change.is (λ command does. c.change.ensures.carries command c.args.steps.now (changes_by command c.in-Change.entry c.args.engine.now does))
 
 pub returns-in-Ask-clause-performs : goal.returns-in-Ask-clause-performs
 returns-in-Ask-clause-performs g c = rw c.in-Ask.is (λ command does. c.question.ensures.carries command c.args.steps.now does)
@@ -102,10 +102,10 @@ returns-in-Audit-clause-performs g c = rw c.in-Audit.is c.audit.ensures.carries
 pub returns-in-BeginAudit-clause-performs : goal.returns-in-BeginAudit-clause-performs
 returns-in-BeginAudit-clause-performs g c =
     rw c.in-BeginAudit.is
-    (λ command does. Carries-nothing command c.args.self.now c.begin_audit.new.self (g.P.Keeper.state c.args.keeper.now) c.args.steps.now c.requires.at_work
-    (AddsNothing-does command c.in-BeginAudit.job c.in-BeginAudit.audit c.args.self.now c.begin_audit.new.self does c.begin_audit.ensures))
+    (λ command does. Carries-nothing command c.args.engine.now c.begin_audit.new.self (g.P.Keeper.state c.args.keeper.now) c.args.steps.now c.requires.at_work
+    (AddsNothing-does command c.in-BeginAudit.job c.in-BeginAudit.audit c.args.engine.now c.begin_audit.new.self does c.begin_audit.ensures))
 
 pub returns-in-Watch-clause-performs : goal.returns-in-Watch-clause-performs
 returns-in-Watch-clause-performs g c =
     rw c.in-Watch.is
-    (λ command does. Carries-nothing command c.args.self.now c.watch.new.self (g.P.Keeper.state c.args.keeper.now) c.args.steps.now c.requires.at_work (c.watch.ensures command does))
+    (λ command does. Carries-nothing command c.args.engine.now c.watch.new.self (g.P.Keeper.state c.args.keeper.now) c.args.steps.now c.requires.at_work (c.watch.ensures command does))

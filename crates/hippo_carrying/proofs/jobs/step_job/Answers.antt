@@ -6,12 +6,13 @@ use Rattle.hippo_commands.specs.Commands.{make_request}
 use Rattle.hippo_sessions.specs.Worlds.{with_at}
 use Rattle.hippo_engine.specs.declared.engine.Engine.{Engine}
 use Rattle.hippo_engine.specs.Carrying.{Carries}
-use Rattle.hippo_engine.proofs.JobLemmas.{Carries-job_step_effect, job_held, held_there}
-use Rattle.hippo_engine.proofs.engine.Engine.step_job.Goals as goal
+use Rattle.hippo_carrying.proofs.StepLemmas.{Carries-job_step_effect, held_there}
+use Rattle.hippo_engine.proofs.JobLemmas.{job_held}
+use Rattle.hippo_carrying.proofs.jobs.step_job.Goals as goal
 
 pub returns-clause-carries : goal.returns-clause-carries
 returns-clause-carries g c =
-    let old : Engine = c.args.self.now in
+    let old : Engine = c.args.engine.now in
     let new : Engine = record { state = old.state; world = record (old.world) { jobs = c.put.new.self }; reply = c.tell_step-told.new.reply } in
     let before = g.P.Keeper.state c.args.keeper.now in
     let after = g.P.Keeper.state c.step-looked.new.keeper in
@@ -31,11 +32,11 @@ returns-clause-carries g c =
     c.tell_step-told.result c.tell_step-told.ensures.ended c.requires.at_work
     (λ history stands. record { valid = stands.valid; names = stands.names; book = stands.book; count = stands.count })))
   where
-    put_there : c.put.new.self ≡ with_at (with_at c.args.self.now.world.jobs c.from-at.result None) c.from-at.result (Some c.tell_step-told.new.job)
+    put_there : c.put.new.self ≡ with_at (with_at c.args.engine.now.world.jobs c.from-at.result None) c.from-at.result (Some c.tell_step-told.new.job)
     put_there = rw c.in-Some.ensures.left at c.put.ensures
 
 pub unreachable-requires : goal.unreachable-requires
 unreachable-requires g c =
     let none = rw c.from-at.ensures at c.in-None.ensures.taken in
-    let there = job_held c.args.self.now.world c.args.number c.requires.there in
-    absurd (held_there c.args.self.now.world.jobs c.args.number there.0 there.1 none)
+    let there = job_held c.args.engine.now.world c.args.number c.requires.there in
+    absurd (held_there c.args.engine.now.world.jobs c.args.number there.0 there.1 none)

@@ -42,7 +42,7 @@ use Rattle.hippo_judging.specs.Deeds as deeds
 use Rattle.hippo_effects.specs.Effects.{Effect, only_reply, effect_of, audit_effect, lines_and_count, IsEffect}
 use Rattle.hippo_judging.specs.Judging.{judged}
 use Rattle.hippo_effects.specs.Ledgers.{at_once}
-use Rattle.hippo_engine.proofs.LookingLemmas.{Carries-looked}
+use Rattle.hippo_carrying.proofs.LookingLemmas.{Carries-looked}
 use Rattle.hippo_effects.proofs.ShortLemmas.{short, done_for}
 
 -- how the line ends is how its keeper's calls did

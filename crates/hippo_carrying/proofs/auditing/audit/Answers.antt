@@ -1,11 +1,11 @@
 -- The console is told.
 use Rattle.std.proofs.Common.{refl}
-use Rattle.hippo_engine.proofs.AuditingLemmas.{Carries-does}
-use Rattle.hippo_engine.proofs.engine.Engine.audit.Goals as goal
+use Rattle.hippo_carrying.proofs.AuditingLemmas.{Carries-does}
+use Rattle.hippo_carrying.proofs.auditing.audit.Goals as goal
 
 pub returns-clause-carries : goal.returns-clause-carries
 returns-clause-carries g c = λ command does.
-    Carries-does command c.args.audit c.args.self.now
-    (record { state = c.args.self.now.state; world = c.args.self.now.world; reply = c.tell_flags.new.reply })
+    Carries-does command c.args.audit c.args.engine.now
+    (record { state = c.args.engine.now.state; world = c.args.engine.now.world; reply = c.tell_flags.new.reply })
     (g.P.Keeper.state c.args.keeper.now) (g.P.Keeper.state c.tell_flags.new.keeper) c.args.steps.now c.tell_flags.new.steps
     c.tell_flags.result c.requires.at_work does refl refl c.tell_flags.ensures.tells

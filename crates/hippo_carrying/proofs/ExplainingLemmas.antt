@@ -42,9 +42,9 @@ use Rattle.hippo_effects.specs.Ledgers.{at_once}
 use Rattle.hippo_engine.specs.Carrying.{AtWork, line_as_call, is_carried, Carries}
 use Rattle.hippo_judging.proofs.EntryLemmas.{err_of}
 use Rattle.hippo_findings.specs.Explaining.{Explanation, AreDenied, IsFound, Explains, explained_line, told_of, told_cells, explaining_end, TellsCells}
-use Rattle.hippo_engine.specs.Performing.{Explained}
+use Rattle.hippo_carrying.specs.Performing.{Explained}
 use Rattle.hippo_findings.specs.Explaining as explaining
-use Rattle.hippo_engine.proofs.LookingLemmas.{Carries-looked}
+use Rattle.hippo_carrying.proofs.LookingLemmas.{Carries-looked}
 use Rattle.hippo_effects.proofs.ShortLemmas.{short, refused, done_for}
 
 abbrev looked_up : Option Entry → Result (Option Entry) ReadFault
