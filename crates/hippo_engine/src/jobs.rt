@@ -1,4 +1,4 @@
-//! Audit jobs at the console: one begins, looks on, or is dropped.
+//! Audit jobs at the console: one begins, or is dropped.
 ghost use Rattle.std.specs.Prelude.{bytes_eq};
 ghost use Rattle.std.specs.List.{IsDistinct};
 ghost use Rattle.hippo_lines.specs.Forms as requests;
