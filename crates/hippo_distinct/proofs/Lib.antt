@@ -5,4 +5,3 @@ pub mod CellOrder
 pub mod BagLemmas
 pub mod BestValues
 pub mod NeededGroups
-pub mod AloneLemmas

@@ -1,4 +1,3 @@
 pub mod DistinctRows
 pub mod DistinctNeeds
 pub mod GroupedNeeds
-pub mod AloneRows

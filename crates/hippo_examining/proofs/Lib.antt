@@ -7,3 +7,7 @@ pub mod QueryTheorem
 pub mod RowLemmas
 pub mod SeenTheorem
 pub mod ServingTheorem
+mod AloneLemmas
+mod MarkLemmas
+mod MarksTheorem
+mod ChangingTheorem

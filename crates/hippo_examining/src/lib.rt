@@ -1,7 +1,11 @@
 //! Which first virtual tuple serves, for a query of any form.
 #![tactic(auto)]
 
+mod alone;
+mod changing;
+mod group_marks;
 pub mod laws;
+mod marking;
 mod sharing;
 
 pub use sharing::{shared_of, to_be_seen};

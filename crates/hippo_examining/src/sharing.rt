@@ -5,10 +5,10 @@ ghost use Rattle.hippo_shared.specs.Needs.{first_needed};
 ghost use Rattle.hippo_examining.specs.Seen.{column_in_query, to_be_seen};
 ghost use Rattle.hippo_examining.specs.Examining.{ServesFirst};
 
+use crate::alone::first_alone;
+use crate::changing::first_changing;
 use crate::laws::needed_serves_first;
 use hippo_commons::place_in;
-use hippo_distinct::first_alone;
-use hippo_groups::first_changing;
 use hippo_model::{
     Audit, ChoiceView, Exprs, Form, Masked, Query, Ref, Refs, RulesInForce, SharedTuple,
 };

@@ -8,8 +8,6 @@ use Rattle.hippo_model.specs.Terms.{ShownRow, Place}
 use Rattle.hippo_model.specs.Bags.{same_row}
 use Rattle.hippo_model.specs.Forms.{different_rows, group_cell}
 use Rattle.hippo_groups.specs.declared.grouping.Groups.{Groups}
-use Rattle.hippo_groups.specs.declared.marking.MarkedGroups.{MarkedGroups}
-use Rattle.hippo_groups.specs.GroupMarks.{PlacedRow, marks_of}
 
 -- those that were found whose rows begin with a key
 abbrev pub members_of : {M : Type 0} → (M → ShownRow) → Place → List M → ShownRow → List M
@@ -37,10 +35,3 @@ AreGroups shape found kept =
     AreKept (λ row. row) shape.keys
     (λ key members. map (group_cell key members) shape.outs) found
     kept.rows.items kept.keys.keys
-
--- the groups' marks are kept
-abbrev pub AreMarkedGroups : Shape → List PlacedRow → MarkedGroups → Type 0
-AreMarkedGroups shape found kept =
-    AreKept (λ member. member.row) shape.keys
-    (λ key members. marks_of shape.outs members) found
-    kept.marks.items kept.keys.keys

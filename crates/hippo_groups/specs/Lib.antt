@@ -1,3 +1,2 @@
 pub mod GroupCells
-pub mod GroupMarks
 pub mod KeptGroups

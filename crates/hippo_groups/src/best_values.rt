@@ -19,8 +19,8 @@ fn value_in(cell: &Cell) -> Option<&Value>
     }
 }
 
-// The value at a place of a row; none, for null, where the cell is denied or no cell stands there.
-pub(crate) fn value_at(row: &CellRow, place: usize) -> Option<&Value>
+/// The value at a place of a row; none, for null, where the cell is denied or no cell stands there.
+pub fn value_at(row: &CellRow, place: usize) -> Option<&Value>
     ensures { or_null (option_copied result) ≡ value_in (slice_index_or row.now place (Denied 0)) }
 {
     match row.as_slice().get(place) {
@@ -29,8 +29,8 @@ pub(crate) fn value_at(row: &CellRow, place: usize) -> Option<&Value>
     }
 }
 
-// Whether a value takes the place of the least so far, where null yields to each other value.
-pub(crate) fn is_lesser(value: &Value, least: &Value) -> bool
+/// Whether a value takes the place of the least so far, where null yields to each other value.
+pub fn is_lesser(value: &Value, least: &Value) -> bool
     ensures { lesser least.now value.now ≡ (if result then value.now else least.now) }
 {
     match (value, least) {
@@ -40,8 +40,8 @@ pub(crate) fn is_lesser(value: &Value, least: &Value) -> bool
     }
 }
 
-// Whether a value takes the place of the greatest so far.
-pub(crate) fn is_greater(value: &Value, greatest: &Value) -> bool
+/// Whether a value takes the place of the greatest so far.
+pub fn is_greater(value: &Value, greatest: &Value) -> bool
     ensures { greater greatest.now value.now ≡ (if result then value.now else greatest.now) }
 {
     greatest < value

@@ -24,16 +24,16 @@ struct Groups {
     rows: Vec<CellRow>,
 }
 
-// The first cells of a row, so many; all, where it has fewer.
-pub(crate) fn front(row: &CellRow, keys: usize) -> &[Cell]
+/// The first cells of a row, so many; all, where it has fewer.
+pub fn front(row: &CellRow, keys: usize) -> &[Cell]
     ensures { result.now ≡ take keys row.now }
 {
     let cells = row.as_slice();
     &cells[..keys.min(cells.len())]
 }
 
-// The same cells, in the row's own memory.
-pub(crate) fn into_front(row: CellRow, keys: usize) -> Vec<Cell>
+/// The first cells of a row, so many, in the row's own memory.
+pub fn into_front(row: CellRow, keys: usize) -> Vec<Cell>
     ensures { result.items ≡ take keys row }
 {
     let mut cells = row.into_vec();

@@ -2,11 +2,8 @@
 #![tactic(auto)]
 
 mod best_values;
-mod changing;
-mod group_marks;
 mod group_rows;
 mod grouping;
-mod marking;
 
-pub use changing::first_changing;
-pub use grouping::grouped;
+pub use best_values::{is_greater, is_lesser, value_at};
+pub use grouping::{front, grouped, into_front};
