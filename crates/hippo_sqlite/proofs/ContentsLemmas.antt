@@ -14,7 +14,7 @@ use Rattle.sqlite.specs.Held.{Held, state}
 use Rattle.sqlite.proofs.Callers.{IsPlain, never_commits}
 use Rattle.hippo_model.specs.declared.stored.StoredEntry.{StoredEntry}
 use Rattle.hippo_keeper.specs.Answering.{has_failed}
-use Rattle.hippo_keeper.specs.Keeping.{RisesAbove, next_number}
+use Rattle.hippo_keeper.specs.Keeping.{Store, RisesAbove, next_number}
 use Rattle.hippo_keeper.specs.declared.faults.KeeperFault.{KeeperFault}
 use Rattle.hippo_keeper.specs.declared.faults.KeeperFault.TheVariants.{Failed, Memory}
 use Rattle.hippo_history_table.specs.Tables.{values_of, row_of, stored_row, entries_in, history_schema}
