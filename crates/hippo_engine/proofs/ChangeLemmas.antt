@@ -44,7 +44,7 @@ use Rattle.hippo_judging.specs.Judging.{judged}
 use Rattle.hippo_effects.specs.Ledgers.{none_taken}
 use Rattle.hippo_engine.proofs.CarryingLemmas.{Holds-same, Holds-more}
 use Rattle.hippo_effects.proofs.ClockLemmas.{int_le-refl}
-use Rattle.hippo_effects.proofs.ShortLemmas.{short, refused}
+use Rattle.hippo_effects.proofs.ShortLemmas.{short}
 
 -- want of memory is told either way
 pub told_short : (reply : Txt) → (reply ≡ refusal_line Console refusals.Memory) ⊎ (reply ≡ refusal_line Console refusals.Memory) → reply ≡ refusal_line Console refusals.Memory

@@ -4,7 +4,6 @@ use Rattle.std.specs.Prelude.{codes, ok_or, option_map}
 use Rattle.hippo_values.specs.Results.{◌>>=◌}
 use Rattle.hippo_model.specs.declared.audit.Audit.{Audit}
 use Rattle.hippo_model.specs.Terms.{History}
-use Rattle.hippo_model.specs.Versions.{versions}
 use Rattle.hippo_lines.specs.Forms as requests
 use Rattle.hippo_commands.specs.Commands.{Command, make_request}
 use Rattle.hippo_following.proofs.RefusalLemmas.{mapped}

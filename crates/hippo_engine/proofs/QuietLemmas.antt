@@ -7,7 +7,6 @@ use Rattle.hippo_report.specs.Refusals.{refusal_line}
 use Rattle.hippo_world.specs.declared.worlds.World.{World as HeldWorld}
 use Rattle.hippo_world.specs.Holding.{world_of, KeepsAudits}
 use Rattle.hippo_commands.specs.Commands.{Command, who_commands}
-use Rattle.hippo_judging.specs.declared.deeds.Deed.{Deed}
 use Rattle.hippo_judging.specs.Deeds as deeds
 use Rattle.hippo_judging.specs.Findings.{IsJudged, may_do_nothing}
 use Rattle.hippo_engine.specs.declared.engine.Engine.{Engine}
