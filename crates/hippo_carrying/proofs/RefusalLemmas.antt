@@ -2,7 +2,6 @@
 use Rattle.std.proofs.Common.{◌≡◌, ◌⊎◌, ◌∙◌, ◌≤◌, inl, inr, refl, sym, ap, subst, Bool, length, true, false}
 use Rattle.hippo_values.specs.Texts.{Txt}
 use Rattle.hippo_model.specs.Terms.{History}
-use Rattle.hippo_keeper.specs.declared.faults.KeeperFault.TheVariants.{Memory}
 use Rattle.hippo_replay.specs.Standing.{StandsFor}
 use Rattle.hippo_report.specs.declared.speaker.Speaker.{Speaker}
 use Rattle.hippo_report.specs.declared.refusal.Refusal.{Refusal}

@@ -18,7 +18,7 @@ use std::sync::ledger::Ledger;
 
 /// Lists the questions of all that was asked so far that an audit flags. Answers `Keeper` only
 /// where the keeper failed, `Damaged` only where it does not tell what it keeps.
-pub(crate) fn audit<P: Keeper, L: Ledger>(
+pub(crate) fn audit_history<P: Keeper, L: Ledger>(
     engine: &mut Engine,
     alloc: Global,
     keeper: &mut P,

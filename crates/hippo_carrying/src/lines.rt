@@ -10,11 +10,11 @@ ghost use Rattle.hippo_judging.specs.Findings.{IsOfLine};
 ghost use Rattle.hippo_engine.specs.Carrying.{IsText, AtWork, is_carried, Carries};
 ghost use Rattle.hippo_carrying.specs.Performing.{Needs, Performs};
 
-use crate::auditing::audit;
+use crate::auditing::audit_history;
 use crate::cursors::hand_out;
 use crate::explaining::explain;
 use crate::jobs::step_job;
-use crate::questions::question;
+use crate::questions::answer_question;
 use crate::refusing::refuse_unjudged;
 use hippo_commands::{Command, command_of};
 use hippo_effects::EngineFault;
@@ -75,10 +75,10 @@ fn perform<P: Keeper, L: Ledger>(
         Deed::EndWatch { watch } => engine.end_watch(watch),
         Deed::Change { entry } => return engine.change(alloc, keeper, entry),
         Deed::Ask { question, delivery } => {
-            return question(engine, alloc, keeper, question, delivery);
+            return answer_question(engine, alloc, keeper, question, delivery);
         }
         Deed::Explain { entry } => return explain(engine, alloc, keeper, entry, steps),
-        Deed::Audit { audit } => return audit(engine, alloc, keeper, audit, steps),
+        Deed::Audit { audit } => return audit_history(engine, alloc, keeper, audit, steps),
         Deed::BeginAudit { job, audit } => engine.begin_audit(alloc, job, audit),
         Deed::Watch { watch, audit } => engine.watch(alloc, watch, audit),
     }

@@ -18,7 +18,7 @@ use std::alloc::Global;
 /// Answers a question of a session, by its rows, by its rows as records or by a cursor over
 /// them: it is kept first, and then answered over the history before it. Answers `Keeper` only
 /// where the keeper failed.
-pub(crate) fn question<P: Keeper>(
+pub(crate) fn answer_question<P: Keeper>(
     engine: &mut Engine,
     alloc: Global,
     keeper: &mut P,

@@ -26,11 +26,11 @@ change-requires-clause-number g c = let needs = rw c.in-Change.is at c.requires.
 pub change-requires-clause-follows : goal.change-requires-clause-follows
 change-requires-clause-follows g c = let needs = rw c.in-Change.is at c.requires.needs in needs.1.follows
 
-pub question-requires-clause-needs : goal.question-requires-clause-needs
-question-requires-clause-needs g c = rw c.in-Ask.is at c.requires.needs
+pub answer_question-requires-clause-needs : goal.answer_question-requires-clause-needs
+answer_question-requires-clause-needs g c = rw c.in-Ask.is at c.requires.needs
 
-pub audit-requires-clause-differ : goal.audit-requires-clause-differ
-audit-requires-clause-differ g c = let needs = rw c.in-Audit.is at c.requires.needs in needs.1.1.differ
+pub audit_history-requires-clause-differ : goal.audit_history-requires-clause-differ
+audit_history-requires-clause-differ g c = let needs = rw c.in-Audit.is at c.requires.needs in needs.1.1.differ
 
 pub begin_audit-requires : goal.begin_audit-requires
 begin_audit-requires g c = let needs = rw c.in-BeginAudit.is at c.requires.needs in record { differ = needs.1.1.differ }
@@ -91,13 +91,13 @@ returns-in-Change-clause-performs g c =
     rw c.in-Change.is (λ command does. c.change.ensures.carries command c.args.steps.now (changes_by command c.in-Change.entry c.args.engine.now does))
 
 pub returns-in-Ask-clause-performs : goal.returns-in-Ask-clause-performs
-returns-in-Ask-clause-performs g c = rw c.in-Ask.is (λ command does. c.question.ensures.carries command c.args.steps.now does)
+returns-in-Ask-clause-performs g c = rw c.in-Ask.is (λ command does. c.answer_question.ensures.carries command c.args.steps.now does)
 
 pub returns-in-Explain-clause-performs : goal.returns-in-Explain-clause-performs
 returns-in-Explain-clause-performs g c = rw c.in-Explain.is c.explain.ensures.explained
 
 pub returns-in-Audit-clause-performs : goal.returns-in-Audit-clause-performs
-returns-in-Audit-clause-performs g c = rw c.in-Audit.is c.audit.ensures.carries
+returns-in-Audit-clause-performs g c = rw c.in-Audit.is c.audit_history.ensures.carries
 
 pub returns-in-BeginAudit-clause-performs : goal.returns-in-BeginAudit-clause-performs
 returns-in-BeginAudit-clause-performs g c =

@@ -2,4 +2,4 @@
 use Rattle.hippo_drilling.proofs.drilling.drill.Given as goal
 
 abbrev pub ghosts-run_script : goal.ghosts-run_script
-ghosts-run_script g a = record { name = a.blank.name; parts = a.blank.parts }
+ghosts-run_script a = record { name = a.blank.name; parts = a.blank.parts }

@@ -9,7 +9,7 @@ use Rattle.hippo_judging.specs.Findings.{question_by}
 use Rattle.hippo_replay.specs.Standing.{MayFollow}
 use Rattle.hippo_engine.proofs.CarryingLemmas.{IsBacked-of}
 use Rattle.hippo_carrying.proofs.QuestionLemmas.{asker_same, asker_missing, judged_by, Carries-question}
-use Rattle.hippo_carrying.proofs.questions.question.Goals as goal
+use Rattle.hippo_carrying.proofs.questions.answer_question.Goals as goal
 
 pub keep_and_answer-kept-requires-clause-backed : goal.keep_and_answer-kept-requires-clause-backed
 keep_and_answer-kept-requires-clause-backed g c =

@@ -1,7 +1,7 @@
 -- The console is told.
 use Rattle.std.proofs.Common.{refl}
 use Rattle.hippo_carrying.proofs.AuditingLemmas.{Carries-does}
-use Rattle.hippo_carrying.proofs.auditing.audit.Goals as goal
+use Rattle.hippo_carrying.proofs.auditing.audit_history.Goals as goal
 
 pub returns-clause-carries : goal.returns-clause-carries
 returns-clause-carries g c = λ command does.
