@@ -47,7 +47,7 @@ impl Keeper for FileKeeper {
         self.keeper.start(alloc, name)
     }
 
-    fn append(&mut self, alloc: Global, entry: &StoredEntry) -> Result<(), KeeperFault> {
+    fn append(&mut self, alloc: Global, entry: StoredEntry) -> Result<(), KeeperFault> {
         self.keeper.append(alloc, entry)
     }
 

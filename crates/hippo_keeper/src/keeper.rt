@@ -27,11 +27,11 @@ pub trait Keeper {
 
     /// Keeps one more entry, whose number is the one after the last. Where the call fails, the
     /// entry is kept or not; where memory is short, it is not.
-    fn append(&mut self, alloc: Global, entry: &StoredEntry) -> Result<(), KeeperFault>
+    fn append(&mut self, alloc: Global, entry: StoredEntry) -> Result<(), KeeperFault>
         requires ready { IsReady true (state self.old) }
-        requires number { entry.now.seq < 2 ^ 63 }
-        requires next { (state self.old).tells → entry.now.seq ≡ next_number (state self.old).kept }
-        ensures appends { AppendsEntry entry.now result (state self.old) (state self.new) };
+        requires number { entry.seq < 2 ^ 63 }
+        requires next { (state self.old).tells → entry.seq ≡ next_number (state self.old).kept }
+        ensures appends { AppendsEntry entry result (state self.old) (state self.new) };
 
     /// The first `max` entries, from 1 to 1,000, whose numbers are above `after`. Each version
     /// among them is a step.

@@ -10,7 +10,7 @@ use crate::keeper::Keeper;
 use crate::selection::{Selection, count_versions, select};
 use crate::steps::Steps;
 use hippo_model::{StoredEntry, StoredList};
-use hippo_values::{Duplicate, Memory, Moment, Name};
+use hippo_values::{Memory, Moment, Name};
 use std::alloc::Global;
 use std::marker::Model;
 use std::sync::ledger::Ledger;
@@ -137,14 +137,12 @@ impl MemoryKeeper {
         }
     }
 
-    // Keeps a copy of an entry.
-    fn keep(&mut self, alloc: Global, entry: &StoredEntry) -> Result<(), Memory>
-        requires { entry.now.seq ≡ next_number self.old.kept }
-        ensures ok { OnOk result (self.new ≡ with_entry entry.now self.old) }
+    fn keep(&mut self, entry: StoredEntry) -> Result<(), Memory>
+        requires { entry.seq ≡ next_number self.old.kept }
+        ensures ok { OnOk result (self.new ≡ with_entry entry self.old) }
         ensures err { OnErr result (self.new ≡ self.old) }
     {
-        let copy = entry.copy(alloc)?;
-        self.kept.push(copy)?;
+        self.kept.push(entry)?;
         Ok(())
     }
 }
@@ -166,9 +164,9 @@ impl Keeper for MemoryKeeper {
         Ok(())
     }
 
-    fn append(&mut self, alloc: Global, entry: &StoredEntry) -> Result<(), KeeperFault>
-        requires next { entry.now.seq ≡ next_number self.old.kept }
-        ensures store { self.new ≡ memory_after_append result entry.now self.old }
+    fn append(&mut self, _alloc: Global, entry: StoredEntry) -> Result<(), KeeperFault>
+        requires next { entry.seq ≡ next_number self.old.kept }
+        ensures store { self.new ≡ memory_after_append result entry self.old }
         ensures fails { wants_memory result ≡ false
             → has_failed result ≡ is_some (next_failure self.old) }
         ensures faults { self.old.faults ≤ self.new.faults }
@@ -178,7 +176,7 @@ impl Keeper for MemoryKeeper {
         if failure == Some(false) {
             return Err(self.fail());
         }
-        if self.keep(alloc, entry).is_err() {
+        if self.keep(entry).is_err() {
             return Err(KeeperFault::Memory);
         }
         if failure.is_some() {

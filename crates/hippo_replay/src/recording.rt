@@ -34,11 +34,7 @@ fn append<P: Keeper>(alloc: Global, keeper: &mut P, entry: &Entry) -> Result<(),
         → KeepsEntry entry.now result state (P.state keeper.old) (P.state keeper.new) }
 {
     match encode(alloc, entry) {
-        Ok(kept) => {
-            let result = keeper.append(alloc, &kept);
-            drop(kept);
-            result
-        }
+        Ok(kept) => keeper.append(alloc, kept),
         Err(Memory) => Err(KeeperFault::Memory),
     }
 }

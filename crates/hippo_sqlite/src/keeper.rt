@@ -78,7 +78,7 @@ impl<O: Opener> Keeper for SqliteKeeper<O> {
         self.standing.settle_start(answer)
     }
 
-    fn append(&mut self, alloc: Global, entry: &StoredEntry) -> Result<(), KeeperFault> {
+    fn append(&mut self, alloc: Global, entry: StoredEntry) -> Result<(), KeeperFault> {
         let answer = self.link.append(alloc, entry);
         self.standing.settle(answer)
     }

@@ -226,18 +226,18 @@ impl<S: Alter + Drop> Link<S> {
     }
 
     /// Keeps one more entry.
-    pub(crate) fn append(&mut self, alloc: Global, entry: &StoredEntry) -> Result<(), KeeperFault>
-        requires number { entry.now.seq < 2 ^ 63 }
+    pub(crate) fn append(&mut self, alloc: Global, entry: StoredEntry) -> Result<(), KeeperFault>
+        requires number { entry.seq < 2 ^ 63 }
         requires rests { (link_contents S.Store self.old).rests }
         requires next { (link_contents S.Store self.old).tells
-            → entry.now.seq ≡ next_number (link_contents S.Store self.old).kept }
-        ensures { AppendsTo entry.now result (link_contents S.Store self.old)
+            → entry.seq ≡ next_number (link_contents S.Store self.old).kept }
+        ensures { AppendsTo entry result (link_contents S.Store self.old)
             (link_contents S.Store self.new) }
     {
         match self {
             Link::Absent => Err(KeeperFault::Failed),
             Link::InMemory(keeper) => keeper.append(alloc, entry),
-            Link::Opened(linked) => linked.append(entry),
+            Link::Opened(linked) => linked.append(&entry),
         }
     }
 
