@@ -19,7 +19,7 @@ use Rattle.hippo_report.specs.declared.refusal.Refusal.TheVariants.{TooManyRows,
 use Rattle.hippo_csv.specs.Records.{extract_line}
 use Rattle.hippo_report.specs.Cells.{answer_line, denied_line}
 use Rattle.hippo_flags.specs.Flags.{flag_line}
-use Rattle.hippo_watch.specs.AlarmLines.{alarm_text}
+use Rattle.hippo_flags.specs.AlarmLines.{alarm_text}
 use Rattle.hippo_report.specs.Notices.{done_line, number_line}
 use Rattle.hippo_report.specs.Refusals.{refusal_line}
 use Rattle.hippo_sessions.specs.declared.cursors.Cursor.{Cursor}

@@ -21,7 +21,7 @@ use Rattle.hippo_watch.specs.declared.alarms.AskedNow.{AskedNow}
 use Rattle.hippo_hits.specs.declared.counts.AuditHits.{AuditHits}
 use Rattle.hippo_watch.specs.Alarms.{IsPresentOf, asked_next, IsAskedNext}
 use Rattle.hippo_watch.specs.Watches.{SharesWatched}
-use Rattle.hippo_watch.specs.AlarmLines.{alarm_text}
+use Rattle.hippo_flags.specs.AlarmLines.{alarm_text}
 use Rattle.hippo_replay.specs.declared.state.State.{State}
 use Rattle.hippo_replay.specs.Standing.{StandsFor}
 use Rattle.hippo_world.specs.declared.worlds.World.{World as HeldWorld}

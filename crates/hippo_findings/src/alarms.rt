@@ -5,7 +5,7 @@ ghost use Rattle.std.specs.Option.{option_map_or};
 ghost use Rattle.hippo_model.specs.Terms.{History};
 ghost use Rattle.hippo_typing.specs.Meanings.{meaning};
 ghost use Rattle.hippo_watch.specs.Alarms.{AreOfSome};
-ghost use Rattle.hippo_watch.specs.AlarmLines.{alarm_text};
+ghost use Rattle.hippo_flags.specs.AlarmLines.{alarm_text};
 ghost use Rattle.hippo_replay.specs.Standing.{StandsFor, IsSound};
 ghost use Rattle.hippo_world.specs.Holding.{world_of, WatchesFit};
 ghost use Rattle.hippo_judging.specs.Asking.{question_of};
@@ -14,12 +14,13 @@ ghost use Rattle.hippo_findings.specs.Watching.{AddsAlarm, AddsAlarms, alarms_no
 
 use hippo_audit_job::Past;
 use hippo_effects::Reply;
+use hippo_flags::alarm_line;
 use hippo_judging::Asking;
 use hippo_model::{Pair, Query, SharedTuple};
 use hippo_replay::State;
 use hippo_typing::read_meaning;
 use hippo_values::Memory;
-use hippo_watch::{AskedNow, Watch, alarm_line};
+use hippo_watch::{AskedNow, Watch};
 use hippo_world::World;
 use std::alloc::Global;
 

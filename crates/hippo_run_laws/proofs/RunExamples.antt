@@ -16,7 +16,7 @@ use Rattle.hippo_report.specs.Cells.{tuple_text}
 use Rattle.hippo_report.specs.Notices.{number_line}
 use Rattle.hippo_report.specs.Refusals.{refusal_line}
 use Rattle.hippo_audit_job.specs.Jobs.{OpenAudit}
-use Rattle.hippo_watch.specs.AlarmLines.{alarm_text}
+use Rattle.hippo_flags.specs.AlarmLines.{alarm_text}
 use Rattle.hippo_sessions.specs.Worlds.{World}
 use Rattle.hippo_lines.specs.Words.{words_of}
 use Rattle.hippo_lines.specs.Forms.{steps}

@@ -11,7 +11,7 @@ use Rattle.hippo_model.specs.declared.entry.Entry.{Entry}
 use Rattle.hippo_model.specs.Terms.{History}
 use Rattle.hippo_model.specs.Audits.{shared_tuple, flag_by, flag_of}
 use Rattle.hippo_typing.specs.Meanings.{meaning}
-use Rattle.hippo_watch.specs.AlarmLines.{alarm_text}
+use Rattle.hippo_flags.specs.AlarmLines.{alarm_text}
 use Rattle.hippo_report.specs.Refusals.{refusal_line}
 use Rattle.hippo_report.specs.declared.refusal.Refusal.TheVariants.{Memory}
 use Rattle.hippo_sessions.specs.Worlds.{World, at_number, free_number}

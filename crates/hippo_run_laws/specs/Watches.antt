@@ -12,7 +12,7 @@ use Rattle.hippo_model.specs.Audits.{flags_between}
 use Rattle.hippo_typing.specs.Meanings.{meaning}
 use Rattle.hippo_report.specs.declared.refusal.Refusal.TheVariants.{Memory}
 use Rattle.hippo_report.specs.Refusals.{refusal_line}
-use Rattle.hippo_watch.specs.AlarmLines.{alarm_text}
+use Rattle.hippo_flags.specs.AlarmLines.{alarm_text}
 use Rattle.hippo_sessions.specs.Worlds.{World, at_number}
 use Rattle.hippo_commands.specs.Commands.{Command, who_commands}
 use Rattle.hippo_judging.specs.Deeds.{Deed, Question, question_act, next_entry}

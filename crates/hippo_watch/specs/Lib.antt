@@ -1,3 +1,2 @@
 pub mod Alarms
-pub mod AlarmLines
 pub mod Watches
