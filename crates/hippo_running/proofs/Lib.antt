@@ -6,3 +6,4 @@ mod TurnLemmas
 mod FirstLemmas
 mod TakenLemmas
 mod OutcomeLemmas
+mod DrillLemmas

@@ -5,3 +5,4 @@ pub mod Keeping
 pub mod Outside
 pub mod Runs
 pub mod Outcomes
+pub mod Drilling

@@ -13,7 +13,7 @@ use Rattle.hippo_words.specs.declared.calls.Job.{Job}
 use Rattle.hippo_words.specs.declared.calls.Job.TheVariants.{Drill}
 use Rattle.hippo_running.specs.declared.endings.Ending.{Ending}
 use Rattle.hippo_running.specs.declared.endings.Ending.TheVariants.{Served, WriteFault, NoMemory}
-use Rattle.hippo_drilling.specs.Drilling.{summary}
+use Rattle.hippo_running.specs.Drilling.{summary}
 use Rattle.hippo_running.specs.Endings.{status_of}
 use Rattle.hippo_serve.specs.Asking.{store_of, job_of}
 use Rattle.hippo_running.specs.Outcomes.{CheckEnds}

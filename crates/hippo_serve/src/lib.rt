@@ -1,7 +1,6 @@
 //! The database as a service of lines: the top call, which does what its words ask for.
 #![tactic(auto)]
 
-mod drills;
 mod laws;
 mod top;
 

@@ -8,7 +8,7 @@ ghost use Rattle.hippo_words.specs.CommandLine.{call_of};
 ghost use Rattle.hippo_words.specs.declared.calls.Setting.{Setting};
 ghost use Rattle.hippo_words.specs.declared.calls.Job.{Job};
 ghost use Rattle.hippo_words.specs.declared.calls.Job.TheVariants.{Check, Drill};
-ghost use Rattle.hippo_drilling.specs.Drilling.{summary};
+ghost use Rattle.hippo_running.specs.Drilling.{summary};
 ghost use Rattle.hippo_running.specs.Endings.{statuses};
 ghost use Rattle.hippo_running.specs.Outcomes.{FromFound, IsCounted, BeginsCount};
 ghost use Rattle.hippo_running.specs.Outside.{Outside, outside};
@@ -16,10 +16,9 @@ ghost use Rattle.hippo_running.specs.Runs.{HasTakenBytes, IsServed, IsBrokenOff,
 ghost use Rattle.hippo_running.specs.Saying.{usage};
 ghost use Rattle.hippo_serve.specs.Asking.{job_of, store_of, AskToServe};
 
-use crate::drills::say_drill;
 use hippo_io::{Sink, Source};
 use hippo_keeper::{Keeper, Steps};
-use hippo_running::{Ending, check, refuse, run};
+use hippo_running::{Ending, check, drill, refuse, run};
 use hippo_values::Txt;
 use hippo_words::{Job, call_of};
 use std::alloc::Global;
@@ -189,6 +188,6 @@ pub fn hippo_top<S: Source, K: Sink, P: Keeper, L: Ledger>(
             run(alloc, store, *setting, job, source, sink, keeper, steps).status()
         }
         Job::Check => check(alloc, store, sink, keeper, steps).status(),
-        Job::Drill { size, number } => say_drill(alloc, *size, *number, sink).status(),
+        Job::Drill { size, number } => drill(alloc, *size, *number, sink).status(),
     }
 }

@@ -17,7 +17,7 @@ pub returns-in-Check-clause-status : goal.returns-in-Check-clause-status
 returns-in-Check-clause-status g c = status-listed c.check.result _ c.status-in-Check.ensures
 
 pub returns-clause-status : goal.returns-clause-status
-returns-clause-status g c = status-listed c.say_drill.result _ c.status-in-Drill.ensures
+returns-clause-status g c = status-listed c.drill.result _ c.status-in-Drill.ensures
 
 pub returns-in-Check-clause-counted : goal.returns-in-Check-clause-counted
 returns-in-Check-clause-counted g c = λ job is tells. (check_as_asked c.args.words.now c.in-Some.call (sym c.in-Ok.ensures ∙ c.in-Some.is) c.as_str-store.result.now c.as_str-store.ensures
@@ -64,12 +64,12 @@ returns-in-Check-clause-nothing g c = λ is. (
 
 pub returns-clause-drilled : goal.returns-clause-drilled
 returns-clause-drilled g c = λ size number job is.
-    subst (λ (line : Txt). Appends (g.K.Sink.written c.args.sink.now) (g.K.Sink.written c.say_drill.new.sink) line)
+    subst (λ (line : Txt). Appends (g.K.Sink.written c.args.sink.now) (g.K.Sink.written c.drill.new.sink) line)
     (summary_as_asked c.args.words.now c.in-Some.call (sym c.in-Ok.ensures ∙ c.in-Some.is) size number _ _ c.in-Drill.is job)
-    (said_whole _ c.say_drill.result _ _ _ _ c.say_drill.ensures.says (sym c.status-in-Drill.ensures ∙ is))
+    (said_whole _ c.drill.result _ _ _ _ c.drill.ensures.says (sym c.status-in-Drill.ensures ∙ is))
 
 pub returns-clause-drill_cut : goal.returns-clause-drill_cut
 returns-clause-drill_cut g c = λ size number job is.
-    subst (λ (line : Txt). AppendsFront (g.K.Sink.written c.args.sink.now) (g.K.Sink.written c.say_drill.new.sink) line)
+    subst (λ (line : Txt). AppendsFront (g.K.Sink.written c.args.sink.now) (g.K.Sink.written c.drill.new.sink) line)
     (summary_as_asked c.args.words.now c.in-Some.call (sym c.in-Ok.ensures ∙ c.in-Some.is) size number _ _ c.in-Drill.is job)
-    (said_front _ c.say_drill.result _ _ _ _ c.say_drill.ensures.says (sym c.status-in-Drill.ensures ∙ is))
+    (said_front _ c.drill.result _ _ _ _ c.drill.ensures.says (sym c.status-in-Drill.ensures ∙ is))

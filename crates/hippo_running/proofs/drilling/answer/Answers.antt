@@ -1,8 +1,8 @@
 use Rattle.hippo_io.specs.Lines.{text_line}
 use Rattle.hippo_keeper.specs.MemoryKeeping.{memory_keeper_state}
 use Rattle.hippo_commands.specs.Commands.{command_of}
-use Rattle.hippo_drilling.proofs.DrillLemmas.{accepted}
-use Rattle.hippo_drilling.proofs.drilling.answer.Goals as goal
+use Rattle.hippo_running.proofs.DrillLemmas.{accepted}
+use Rattle.hippo_running.proofs.drilling.answer.Goals as goal
 
 pub returns-in-Ok-clause-done : goal.returns-in-Ok-clause-done
 returns-in-Ok-clause-done g c =

@@ -1,7 +1,7 @@
 use Rattle.std.proofs.Common.{◌≡◌, ap, ◌∙◌, ℕ}
 use Rattle.hippo_drill.specs.Script.{script}
-use Rattle.hippo_drilling.proofs.DrillLemmas.{drilled_none, at_work_none}
-use Rattle.hippo_drilling.proofs.drilling.Drilling.begin.Goals as goal
+use Rattle.hippo_running.proofs.DrillLemmas.{drilled_none, at_work_none}
+use Rattle.hippo_running.proofs.drilling.Drilling.begin.Goals as goal
 
 pub returns-clause-drilled : goal.returns-clause-drilled
 returns-clause-drilled c =

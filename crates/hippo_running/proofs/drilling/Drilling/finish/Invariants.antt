@@ -2,8 +2,8 @@
 use Rattle.std.proofs.Common.{ℕ, length}
 use Rattle.hippo_keeper.specs.MemoryKeeping.{memory_keeper_state}
 use Rattle.hippo_engine.specs.Carrying.{AtWork}
-use Rattle.hippo_drilling.specs.Drilling.{HasDrilled}
-use Rattle.hippo_drilling.proofs.drilling.Drilling.finish.Given as goal
+use Rattle.hippo_running.specs.Drilling.{HasDrilled}
+use Rattle.hippo_running.proofs.drilling.Drilling.finish.Given as goal
 
 abbrev pub invariant-loop : goal.invariant-loop
 invariant-loop g l = record {

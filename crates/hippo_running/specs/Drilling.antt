@@ -18,7 +18,7 @@ use Rattle.hippo_engine.specs.declared.engine.Engine.{Engine}
 use Rattle.hippo_engine.specs.Carrying.{Holds}
 use Rattle.hippo_effects.specs.Effects.{Effect, effect_of}
 use Rattle.hippo_effects.specs.Runs.{history_after}
-use Rattle.hippo_drilling.specs.declared.drilling.Drilling.{Drilling}
+use Rattle.hippo_running.specs.declared.drilling.Drilling.{Drilling}
 
 -- each line's effect by the rules, on the history and the world that the line before it left
 abbrev pub effects_of : History → World → List LineText → List Effect

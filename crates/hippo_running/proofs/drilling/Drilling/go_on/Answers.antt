@@ -1,8 +1,8 @@
 use Rattle.std.proofs.Common.{◌≡◌, ◌++◌, true, ap, ◌∙◌, Ok}
 use Rattle.hippo_values.specs.Texts.{Txt}
 use Rattle.hippo_drill.specs.Scripting.{HandsOutLine}
-use Rattle.hippo_drilling.proofs.DrillLemmas.{drilled_more}
-use Rattle.hippo_drilling.proofs.drilling.Drilling.go_on.Goals as goal
+use Rattle.hippo_running.proofs.DrillLemmas.{drilled_more}
+use Rattle.hippo_running.proofs.drilling.Drilling.go_on.Goals as goal
 
 pub returns-clause-drilled : goal.returns-clause-drilled
 returns-clause-drilled g c size number drilled =

@@ -14,12 +14,15 @@ ghost use Rattle.hippo_sessions.specs.Worlds.{opening};
 ghost use Rattle.hippo_commands.specs.Commands.{command_of};
 ghost use Rattle.hippo_engine.specs.Carrying.{Holds, AtWork};
 ghost use Rattle.hippo_effects.specs.Effects.{effect_of};
-ghost use Rattle.hippo_drilling.specs.Drilling.{drill_limit, summary, HasDone, HasDrilled};
+ghost use Rattle.hippo_programs.specs.Saying.{Says};
+ghost use Rattle.hippo_running.specs.declared.endings.Ending.TheVariants.{Served, WriteFault, NoMemory};
+ghost use Rattle.hippo_running.specs.Drilling.{drill_limit, summary, HasDone, HasDrilled};
 
+use crate::endings::Ending;
 use hippo_carrying::answer_line;
 use hippo_drill::{Counts, Drill};
 use hippo_engine::Engine;
-use hippo_io::Line;
+use hippo_io::{Failed, Line, Sink, write_whole};
 use hippo_keeper::{Keeper, KeeperFails, MemoryKeeper, Steps};
 use hippo_model::StoredList;
 use hippo_replay::State;
@@ -202,10 +205,18 @@ fn run_script<L: Ledger>(
 }
 
 /// Runs the script of a size and a number over a keeper in memory of its own, line by line, and
-/// answers what its replies come to: how many lines, entries, rows, flags and refusals there were.
-/// Want of memory where it was short for a line or its reply.
-pub fn drill(alloc: Global, size: u32, number: u32) -> Result<String, Memory>
-    ensures { IfOk result (λ text. string_bytes text ≡ summary size number) }
+/// writes how many lines, entries, rows, flags and refusals there were. Nothing is written where
+/// memory was short for a line or its reply.
+pub fn drill<K: Sink>(alloc: Global, size: u32, number: u32, sink: &mut K) -> Ending
+    ensures says { result ≢ NoMemory → Says Served (summary size number) WriteFault result
+        (K.written sink.old) (K.written sink.new) (K.faults sink.old) (K.faults sink.new) }
+    ensures unwritten { result ≡ NoMemory → sink.new ≡ sink.old }
 {
-    run_script::<Brand>(alloc, size, number, Blank::new(1))
+    let Ok(text) = run_script::<Brand>(alloc, size, number, Blank::new(1)) else {
+        return Ending::NoMemory;
+    };
+    match write_whole(sink, text.as_bytes()) {
+        Ok(()) => Ending::Served,
+        Err(Failed) => Ending::WriteFault,
+    }
 }

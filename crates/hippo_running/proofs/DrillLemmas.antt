@@ -26,8 +26,8 @@ use Rattle.hippo_judging.specs.Deeds.{Deed}
 use Rattle.hippo_effects.specs.Effects.{Effect, effect_of, IsEffect, IsShort}
 use Rattle.hippo_judging.specs.Judging.{judged}
 use Rattle.hippo_effects.specs.Runs.{history_after}
-use Rattle.hippo_drilling.specs.declared.drilling.Drilling.{Drilling}
-use Rattle.hippo_drilling.specs.Drilling.{drill_limit, effects_of, drill_effects, replies_of, HasDone, HasDrilled}
+use Rattle.hippo_running.specs.declared.drilling.Drilling.{Drilling}
+use Rattle.hippo_running.specs.Drilling.{drill_limit, effects_of, drill_effects, replies_of, HasDone, HasDrilled}
 use Rattle.hippo_effects.proofs.RunLemmas.{history_after-append}
 
 -- what stands in the place of what is done, where memory is short, has the reply that says so
