@@ -26,9 +26,6 @@ pub fn cell_order(row: &[Value], place: usize, other: &Value) -> Ordering
 fn key_order(places: &[usize], row: &[Value], key: &[Value]) -> Ordering
     ensures { result ≡ cells_cmp (key_of places.now row.now) key.now }
 {
-    if places.len() == 1 && key.len() == 1 {
-        return cell_order(row, places[0], &key[0]);
-    }
     for (place, value) in places.iter().zip(key) {
         let order = cell_order(row, *place, value);
         if order.is_ne() {
@@ -42,9 +39,6 @@ fn key_order(places: &[usize], row: &[Value], key: &[Value]) -> Ordering
 fn row_order(places: &[usize], row: &[Value], other: &[Value]) -> Ordering
     ensures { result ≡ cells_cmp (key_of places.now row.now) (key_of places.now other.now) }
 {
-    if places.len() == 1 {
-        return cell_order(row, places[0], other.get(places[0]).unwrap_or(&Value::Null));
-    }
     for place in places {
         let order = cell_order(row, *place, other.get(*place).unwrap_or(&Value::Null));
         if order.is_ne() {
