@@ -6,7 +6,7 @@ use Rattle.hippo_lexer.specs.declared.kinds.Token.{Token}
 use Rattle.hippo_lexer.specs.declared.kinds.TokenKind.{TokenKind}
 use Rattle.hippo_lexer.specs.declared.faults.SyntaxFault.{SyntaxFault}
 use Rattle.hippo_lexer.specs.declared.faults.SyntaxFault.TheVariants as fault
-use Rattle.hippo_spj_reader.specs.Promises.{Fails}
+use Rattle.hippo_spj_reader.specs.Promises.{Fails, with_last_part}
 use Rattle.hippo_spj_reader.specs.Front.{kinds}
 use Rattle.hippo_spj_reader.specs.ListFinder.{further_parts, leading_list, with_front_parts}
 
@@ -19,6 +19,9 @@ pushed : {X : Type 0} (front : List X) (part : X) (found : Option (List X × Lis
 pushed front part None = refl
 pushed front part (Some others) =
     ap (λ (parts : List _). Some (parts, others.1)) (sym (append_assoc front (part ∷ []) others.0))
+
+same_value : {X : Type 0} (one other : X) → Some one ≡ Some other → one ≡ other
+same_value one other same = cc
 
 module _ {X : Type 0} (leading_part : List TokenKind → Option (X × List TokenKind)) (after_part : List TokenKind → Option (List TokenKind)) where
   -- the parts so far and the list that is left make the whole list
@@ -60,6 +63,25 @@ module _ {X : Type 0} (leading_part : List TokenKind → Option (X × List Token
   goes_on front longer rest behind left part so_far next found no_longer behind_shorter pushed =
       rw pushed (goes_on_from front so_far.fuel rest left (kinds behind) part so_far.enough so_far.same (sym next) found (omega arith))
 
+  added_from : {whole : Option (List X × List TokenKind)} (front longer : List X) (rest behind left : List Token) (found : Option (X × List TokenKind)) → leading_part (kinds behind) ≡ found →
+      Continues whole front rest → Some (kinds behind) ≡ after_part (kinds rest) →
+      with_last_part front found ≡ Some (longer, kinds left) →
+      length left ≤ length behind → length behind < length rest →
+      Continues whole longer left
+  added_from front longer rest behind left None is so_far next added no_longer shorter = absurd cc
+  added_from front longer rest behind left (Some part) is so_far next added no_longer shorter =
+      let same = same_value _ _ added in
+      goes_on front longer rest behind left part.0 so_far next (is ∙ ap (λ (parts : List X × List TokenKind). Some (part.0, parts.1)) same) no_longer shorter (sym (ap (λ (parts : List X × List TokenKind). parts.0) same))
+
+  -- where the next part is added to those so far
+  pub adds : {whole : Option (List X × List TokenKind)} (front longer : List X) (rest behind left : List Token) →
+      Continues whole front rest → Some (kinds behind) ≡ after_part (kinds rest) →
+      with_last_part front (leading_part (kinds behind)) ≡ Some (longer, kinds left) →
+      length left ≤ length behind → length behind < length rest →
+      Continues whole longer left
+  adds front longer rest behind left so_far next added no_longer shorter =
+      added_from front longer rest behind left (leading_part (kinds behind)) refl so_far next added no_longer shorter
+
   breaks_from : {whole : Option (List X × List TokenKind)} (front : List X) (fuel : ℕ) (rest behind : List Token) →
       length rest ≤ fuel → length behind < length rest → with_front_parts front (further_parts leading_part after_part fuel (kinds rest)) ≡ whole →
       after_part (kinds rest) ≡ Some (kinds behind) → leading_part (kinds behind) ≡ None → whole ≡ None
@@ -74,3 +96,12 @@ module _ {X : Type 0} (leading_part : List TokenKind → Option (X × List Token
   breaks made fault.BadSyntax front rest behind so_far next shorter found =
       rw (breaks_from front so_far.fuel rest behind so_far.enough shorter so_far.same (sym next) found) refl
   breaks made fault.Memory front rest behind so_far next shorter found = tt
+
+-- what cannot be added was not found
+pub no_part : {X : Type 0} (e : SyntaxFault) (front : List X) (found : Option (X × List TokenKind)) →
+    Fails e (with_last_part front found) → Fails e found
+no_part fault.TooDeep front found fails = fails
+no_part (fault.Unsupported place) front found fails = fails
+no_part fault.BadSyntax front None fails = refl
+no_part fault.BadSyntax front (Some part) fails = absurd cc
+no_part fault.Memory front found fails = tt

@@ -8,6 +8,7 @@ use Rattle.hippo_spj_reader.specs.declared.selects.JoinedTable.{JoinedTable}
 use Rattle.hippo_spj_reader.specs.declared.selects.Sources.{Sources}
 use Rattle.hippo_spj_reader.specs.ConditionGrammar.{RawCond}
 use Rattle.hippo_spj_reader.specs.Front.{kinds, leading_name}
+use Rattle.hippo_spj_reader.proofs.ListLoops.{append-nil}
 use Rattle.hippo_spj_reader.specs.SelectFinder.{with_first_table, leading_joined, leading_all_joined, leading_sources}
 
 abbrev Found : Type 0
@@ -58,3 +59,17 @@ pub goes_on : {whole : Found} (names more_names : List (List ℕ)) (conditions m
     Joins whole more_names more_conditions left
 goes_on names more_names conditions more_conditions rest left entry so_far found shorter names_pushed conditions_pushed =
     rw (names_pushed, conditions_pushed) (goes_on_from names conditions so_far.fuel rest left entry so_far.enough so_far.same found shorter)
+
+ends_from : {whole : Found} (sources : Sources) (fuel : ℕ) (rest : List Token) →
+    length rest < fuel → with_front sources.names sources.conditions (leading_all_joined fuel (kinds rest)) ≡ whole →
+    leading_joined (kinds rest) ≡ Some None →
+    whole ≡ Some (sources, kinds rest)
+ends_from sources zero rest enough same none = absurd (omega arith)
+ends_from sources (suc fuel) rest enough same none =
+    sym same ∙ rw none (rw (append-nil sources.names, append-nil sources.conditions) refl)
+
+-- where no table follows, they are all of FROM
+pub ends : {whole : Found} (sources : Sources) (rest : List Token) →
+    Joins whole sources.names sources.conditions rest → leading_joined (kinds rest) ≡ Some None →
+    whole ≡ Some (sources, kinds rest)
+ends sources rest so_far none = ends_from sources so_far.fuel rest so_far.enough so_far.same none

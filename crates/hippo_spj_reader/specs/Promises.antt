@@ -1,5 +1,5 @@
 -- What a reader promises, against what can be found at the front of its tokens.
-use Rattle.std.specs.Prelude.{◌≡◌, ◌<◌, ◌≤◌, List, [], ◌∷◌, length, Option, Some, None, option_map, IfSome, IfOk, IfErr, Result, Ok, Err}
+use Rattle.std.specs.Prelude.{◌≡◌, ◌<◌, ◌≤◌, List, [], ◌∷◌, ◌++◌, length, Option, Some, None, option_map, IfSome, IfOk, IfErr, Result, Ok, Err}
 use Rattle.hippo_values.specs.Options.{◌>>=◌}
 use denote.Ref.{Bor}
 use Rattle.hippo_lexer.specs.declared.faults.SyntaxFault.{SyntaxFault}
@@ -39,6 +39,16 @@ GivesPart result found = Gives (λ x. (x.0, kinds x.1.now)) result found
 -- no more is left than there was
 abbrev pub LeavesNoMore : {X : Type 0} → List Token → Read X → Type 0
 LeavesNoMore tokens result = IfOk result (λ x. length x.1.now ≤ length tokens)
+
+-- a part behind those before it, and what follows it
+abbrev pub with_last_part : {X : Type 0} → List X → Option (X × Kinds) → Option (List X × Kinds)
+with_last_part before found = found >>= λ part. Some (before ++ part.0 ∷ [], part.1)
+
+-- the part that was read stands behind those before it, and what follows it is left
+abbrev pub AddsPart : {X : Type 0} → List X → List X → Result Left SyntaxFault → Option (X × Kinds)
+    → Type 0
+AddsPart before parts result found =
+    Gives (λ rest. (parts, kinds rest.now)) result (with_last_part before found)
 
 -- the part that can be found first is read, and what follows it is left
 pub record Reads {X : Type 0} (leading : Finder X) (tokens : List Token) (result : Read X)

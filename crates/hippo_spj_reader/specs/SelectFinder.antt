@@ -133,6 +133,13 @@ leading_where tokens =
     (λ behind. leading_condition behind >>= λ c. Some (Some c.0, c.1))
     (Some (None, tokens))
 
+-- the tables, and one condition of those of ON and that of WHERE
+abbrev pub whole_scope : Sources → Option RawCond → Scope
+whole_scope sources last = record {
+  tables = sources.names;
+  cond = whole_condition (sources.conditions ++ option_to_list last);
+}
+
 -- the tables and the whole condition, from FROM on
 unfoldable pub leading_scope : Finder Scope
 leading_scope tokens = do
@@ -163,6 +170,12 @@ unfoldable pub ungrouped_select : Draft → Option RawSelect
 ungrouped_select draft = do
   items ← each_of ungrouped_item draft.members
   Some (select_with items draft.scope (if draft.distinct then Distinct else Plain))
+
+-- a select whose groups are those of these columns, and what follows them
+abbrev pub select_by : Draft → List RawColumn → Kinds → Option (RawSelect × Kinds)
+select_by draft by rest = do
+  outs ← if draft.distinct then None else each_of out_of draft.members
+  Some (select_with [] draft.scope (Grouped outs by), rest)
 
 -- a select that goes on behind GROUP
 unfoldable pub leading_grouped : Draft → Finder RawSelect

@@ -1,8 +1,8 @@
 //! Conditions, operands and columns.
 
-ghost use Rattle.std.specs.Prelude.{◌≡◌, ◌≢◌, ℕ, ◌<◌, ◌≤◌, [], ◌∷◌, length, slice_range, IfSome, option_map, MatchResult};
+ghost use Rattle.std.specs.Prelude.{◌≡◌, ◌≢◌, ℕ, ◌<◌, ◌≤◌, [], ◌∷◌, length, slice_range, IfOk, IfSome, option_map, MatchResult};
 ghost use Rattle.hippo_lexer.specs.Words.{words_check};
-ghost use Rattle.hippo_spj_reader.specs.Promises.{Gives, GivesPart, LeavesNoMore, Reads, ReadsAll};
+ghost use Rattle.hippo_spj_reader.specs.Promises.{AddsPart, Gives, GivesPart, LeavesNoMore, Reads, ReadsAll};
 ghost use Rattle.hippo_spj_reader.specs.Front.{kinds, kinds_between};
 ghost use Rattle.hippo_spj_reader.specs.ConditionGrammar.{RawCond, any_of, all_of, IsCondition};
 ghost use Rattle.hippo_spj_reader.specs.ConditionFinder.{leading_column, begins_with_name, leading_operand, operator_of, leading_operator, leading_comparison, leading_between, leading_among, leading_range, leading_null, leading_test, conjunction_with, condition_with, primary_with, leading_negation, leading_condition};
@@ -10,7 +10,8 @@ ghost use Rattle.hippo_spj_reader.specs.ConditionFinder.{leading_column, begins_
 use crate::front::{
     after_keyword, after_symbol, expect_keyword, expect_symbol, literal, name, split,
 };
-use crate::lists::{Commas, Part, list, whole};
+use crate::lists::{Commas, Part, list, only, whole};
+use crate::pairs::beside;
 use hippo_lexer::{Keyword, Symbol, SyntaxFault, Token, TokenKind, Tokens};
 use hippo_model::{CondOf, RawColumn, RawCond, RawOperand};
 use hippo_values::{Boxed, CompareOp, Sequence};
@@ -142,9 +143,9 @@ fn between(
 ) -> Result<(RawCond, &[Token]), SyntaxFault>
     ensures { Reads (leading_between value) tokens.now result }
 {
-    let (low, rest) = operand(alloc, tokens)?;
-    let rest = expect_keyword(rest, Keyword::KAnd)?;
-    let (high, rest) = operand(alloc, rest)?;
+    let (value, (low, rest)) = beside(value, operand(alloc, tokens))?;
+    let (ends, rest) = beside((value, low), expect_keyword(rest, Keyword::KAnd))?;
+    let ((value, low), (high, rest)) = beside(ends, operand(alloc, rest))?;
     Ok((CondOf::Between { value, low, high }, rest))
 }
 
@@ -156,16 +157,10 @@ fn among(
 ) -> Result<(RawCond, &[Token]), SyntaxFault>
     ensures { Reads (leading_among value) tokens.now result }
 {
-    let inside = expect_symbol(tokens, Symbol::LeftParen)?;
-    let (members, rest) = list::<OperandPart, Commas>(alloc, inside)?;
-    let rest = expect_symbol(rest, Symbol::RightParen)?;
-    Ok((
-        CondOf::Among {
-            value,
-            list: members,
-        },
-        rest,
-    ))
+    let (value, inside) = beside(value, expect_symbol(tokens, Symbol::LeftParen))?;
+    let (value, (list, rest)) = beside(value, list::<OperandPart, Commas>(alloc, inside))?;
+    let ((value, list), rest) = beside((value, list), expect_symbol(rest, Symbol::RightParen))?;
+    Ok((CondOf::Among { value, list }, rest))
 }
 
 #[tactic(auto, unfolding(crate::specs::ConditionFinder::leading_range))]
@@ -192,10 +187,10 @@ fn null_test(
     ensures { Reads (leading_null value) tokens.now result }
 {
     if let Some(behind) = after_keyword(tokens, Keyword::KNot) {
-        let rest = expect_keyword(behind, Keyword::KNull)?;
+        let (value, rest) = beside(value, expect_keyword(behind, Keyword::KNull))?;
         return Ok((negated(alloc, CondOf::Missing { value })?, rest));
     }
-    let rest = expect_keyword(tokens, Keyword::KNull)?;
+    let (value, rest) = beside(value, expect_keyword(tokens, Keyword::KNull))?;
     Ok((CondOf::Missing { value }, rest))
 }
 
@@ -260,8 +255,7 @@ fn primary(alloc: Global, tokens: &[Token]) -> Result<(RawCond, &[Token]), Synta
 {
     if let Some(inside) = after_symbol(tokens, Symbol::LeftParen) {
         let (found, rest) = disjunction(alloc, inside)?;
-        let rest = expect_symbol(rest, Symbol::RightParen)?;
-        return Ok((found, rest));
+        return beside(found, expect_symbol(rest, Symbol::RightParen));
     }
     let (value, rest) = operand(alloc, tokens)?;
     test(alloc, value, rest)
@@ -281,6 +275,21 @@ fn negation(alloc: Global, tokens: &[Token]) -> Result<(RawCond, &[Token]), Synt
 }
 
 #[cycle(condition)]
+fn add_negation<'a>(
+    alloc: Global,
+    parts: &mut Sequence<RawCond>,
+    tokens: &'a [Token],
+) -> Result<&'a [Token], SyntaxFault>
+    ensures found { (n : ℕ) → length tokens.now < n → AddsPart parts.old parts.new result
+        (leading_negation n (kinds tokens.now)) }
+    ensures no_longer { IfOk result (λ rest. length rest.now ≤ length tokens.now) }
+{
+    let (part, rest) = negation(alloc, tokens)?;
+    parts.push(part)?;
+    Ok(rest)
+}
+
+#[cycle(condition)]
 fn conjunction(alloc: Global, tokens: &[Token]) -> Result<(RawCond, &[Token]), SyntaxFault>
     ensures found { (n : ℕ) → length tokens.now < n →
         GivesPart result (conjunction_with (leading_negation n) (kinds tokens.now)) }
@@ -290,14 +299,26 @@ fn conjunction(alloc: Global, tokens: &[Token]) -> Result<(RawCond, &[Token]), S
     if after_keyword(rest, Keyword::KAnd).is_none() {
         return Ok((first, rest));
     }
-    let mut parts = Sequence::with_capacity(alloc, 2)?;
-    parts.push(first)?;
+    let mut parts = only(alloc, first)?;
     while let Some(behind) = after_keyword(rest, Keyword::KAnd) {
-        let (part, left) = negation(alloc, behind)?;
-        parts.push(part)?;
-        rest = left;
+        rest = add_negation(alloc, &mut parts, behind)?;
     }
     Ok((all_of(parts), rest))
+}
+
+#[cycle(condition)]
+fn add_conjunction<'a>(
+    alloc: Global,
+    parts: &mut Sequence<RawCond>,
+    tokens: &'a [Token],
+) -> Result<&'a [Token], SyntaxFault>
+    ensures found { (n : ℕ) → length tokens.now < n → AddsPart parts.old parts.new result
+        (conjunction_with (leading_negation n) (kinds tokens.now)) }
+    ensures no_longer { IfOk result (λ rest. length rest.now ≤ length tokens.now) }
+{
+    let (part, rest) = conjunction(alloc, tokens)?;
+    parts.push(part)?;
+    Ok(rest)
 }
 
 #[cycle(condition)]
@@ -310,12 +331,9 @@ fn disjunction(alloc: Global, tokens: &[Token]) -> Result<(RawCond, &[Token]), S
     if after_keyword(rest, Keyword::KOr).is_none() {
         return Ok((first, rest));
     }
-    let mut parts = Sequence::with_capacity(alloc, 2)?;
-    parts.push(first)?;
+    let mut parts = only(alloc, first)?;
     while let Some(behind) = after_keyword(rest, Keyword::KOr) {
-        let (part, left) = conjunction(alloc, behind)?;
-        parts.push(part)?;
-        rest = left;
+        rest = add_conjunction(alloc, &mut parts, behind)?;
     }
     Ok((any_of(parts), rest))
 }

@@ -4,6 +4,7 @@
 mod conditions;
 mod front;
 mod lists;
+mod pairs;
 mod selects;
 
 pub use conditions::{ColumnPart, column, condition, read_condition};

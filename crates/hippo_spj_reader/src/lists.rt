@@ -1,12 +1,13 @@
 //! The rules of the grammar as types, lists of their parts, and texts that are one part and nothing
 //! more.
+ghost use Rattle.std.specs.Prelude.{◌≡◌, [], ◌∷◌, IfOk};
 ghost use Rattle.hippo_spj_reader.specs.Promises.{Gives, Reads, Passes, whole_of};
 ghost use Rattle.hippo_spj_reader.specs.Front.{kinds};
 ghost use Rattle.hippo_spj_reader.specs.ListFinder.{leading_list};
 
 use crate::front::{after_symbol, name};
 use hippo_lexer::{Symbol, SyntaxFault, Token};
-use hippo_values::{Name, Sequence};
+use hippo_values::{Memory, Name, Sequence};
 use std::alloc::Global;
 
 /// A rule of the grammar.
@@ -33,6 +34,15 @@ pub trait Separator {
     /// The tokens behind what leads from a part to the next, where it stands first.
     fn pass(tokens: &[Token]) -> Option<&[Token]>
         ensures { Passes after tokens.now result };
+}
+
+// The list of one part, with room for a second.
+pub fn only<T: Drop>(alloc: Global, part: T) -> Result<Sequence<T>, Memory>
+    ensures { IfOk result (λ parts. parts ≡ part ∷ []) }
+{
+    let mut parts = Sequence::with_capacity(alloc, 2)?;
+    parts.push(part)?;
+    Ok(parts)
 }
 
 /// The parts of the list that has to stand first, and the tokens behind it.

@@ -1,22 +1,25 @@
 //! Selects: their items, their sources and their condition.
 
 ghost use Rattle.std.specs.Prelude.{◌≡◌, [], ◌∷◌, ◌++◌, ◌<◌, ◌≤◌, length, IfOk, slice_range, IfSome, OnOk, option_map, option_to_list, Some, None, if◌then◌else◌};
+ghost use Rattle.hippo_model.specs.declared.statement.RawForm.TheVariants.{Plain, Distinct};
 ghost use Rattle.hippo_model.specs.declared.statement.RawSelect.{RawSelect};
 ghost use Rattle.hippo_lexer.specs.Words.{words_check};
-ghost use Rattle.hippo_spj_reader.specs.Promises.{Gives, Reads, Passes, ReadsAll};
+ghost use Rattle.hippo_spj_reader.specs.Promises.{Gives, GivesPart, LeavesNoMore, Reads, Passes, ReadsAll};
 ghost use Rattle.hippo_spj_reader.specs.Front.{kinds, kinds_between};
-ghost use Rattle.hippo_spj_reader.specs.SelectGrammar.{whole_condition, IsSelect};
+ghost use Rattle.hippo_spj_reader.specs.SelectGrammar.{whole_condition, select_with, IsSelect};
 ghost use Rattle.hippo_model.specs.Conditions.{outer_parts};
-ghost use Rattle.hippo_spj_reader.specs.SelectFinder.{leading_whole_table, leading_item, leading_argument, leading_member, leading_members, out_of, each_of, after_join, leading_joined_by_comma, leading_joined_on, leading_joined, leading_sources, leading_where, leading_scope, leading_draft_of, leading_draft, ungrouped_select, leading_grouped, leading_select};
+ghost use Rattle.hippo_spj_reader.specs.SelectFinder.{leading_whole_table, leading_item, leading_argument, leading_member, leading_members, out_of, each_of, select_by, after_join, leading_joined_by_comma, leading_joined_on, leading_joined, leading_sources, leading_where, whole_scope, leading_scope, leading_draft_of, leading_draft, ungrouped_select, leading_grouped, leading_select};
 
 use crate::conditions::{ColumnPart, column, condition};
 use crate::front::{
     after_keyword, after_symbol, expect_keyword, expect_symbol, expect_word, name, split,
 };
-use crate::lists::{Commas, Part, list, whole};
+use crate::lists::{Commas, Part, list, only, whole};
+use crate::pairs::beside;
 use hippo_lexer::{Keyword, Symbol, SyntaxFault, Token, TokenKind, Tokens};
 use hippo_model::{
-    CondOf, Names, RawColumn, RawCond, RawForm, RawItem, RawOut, RawOuts, RawSelect,
+    CondOf, Names, RawColumn, RawColumns, RawCond, RawForm, RawItem, RawItems, RawOut, RawOuts,
+    RawSelect,
 };
 use hippo_values::{Memory, Name, Sequence};
 use std::alloc::Global;
@@ -63,8 +66,7 @@ fn argument(alloc: Global, tokens: &[Token]) -> Result<(RawColumn, &[Token]), Sy
 {
     let inside = expect_symbol(tokens, Symbol::LeftParen)?;
     let (found, rest) = column(alloc, inside)?;
-    let rest = expect_symbol(rest, Symbol::RightParen)?;
-    Ok((found, rest))
+    beside(found, expect_symbol(rest, Symbol::RightParen))
 }
 
 #[tactic(auto, unfolding(crate::specs::SelectFinder::leading_member))]
@@ -96,14 +98,6 @@ impl Part for MemberPart {
     fn read(alloc: Global, tokens: &[Token]) -> Result<(Member, &[Token]), SyntaxFault> {
         list_member(alloc, tokens)
     }
-}
-
-fn only(alloc: Global, member: Member) -> Result<Members, Memory>
-    ensures { IfOk result (λ members. members ≡ member ∷ []) }
-{
-    let mut members = Sequence::new(alloc);
-    members.push(member)?;
-    Ok(members)
 }
 
 #[tactic(auto, unfolding(crate::specs::SelectFinder::leading_members))]
@@ -267,20 +261,37 @@ struct Sources {
     conditions: Conditions,
 }
 
+fn first_source(alloc: Global, table: Name) -> Result<Sources, Memory>
+    ensures names { IfOk result (λ sources. sources.names ≡ table ∷ []) }
+    ensures conditions { IfOk result (λ sources. sources.conditions ≡ []) }
+{
+    let mut names = Sequence::new(alloc);
+    names.push(table)?;
+    let conditions = Sequence::with_capacity(alloc, 2)?;
+    Ok(Sources { names, conditions })
+}
+
+fn add_source(sources: &mut Sources, joined: JoinedTable) -> Result<(), Memory>
+    ensures names { OnOk result (sources.new.names ≡ sources.old.names ++ joined.table ∷ []) }
+    ensures conditions { OnOk result (sources.new.conditions
+        ≡ sources.old.conditions ++ option_to_list joined.on) }
+{
+    let JoinedTable { table, on } = joined;
+    add_condition(&mut sources.conditions, on)?;
+    sources.names.push(table)
+}
+
 #[tactic(auto, unfolding(crate::specs::SelectFinder::leading_sources))]
 fn from_list(alloc: Global, tokens: &[Token]) -> Result<(Sources, &[Token]), SyntaxFault>
     ensures { Reads leading_sources tokens.now result }
 {
-    let mut names = Sequence::new(alloc);
-    let mut conditions = Sequence::with_capacity(alloc, 2)?;
     let (first, mut rest) = name(alloc, tokens)?;
-    names.push(first)?;
+    let mut sources = first_source(alloc, first)?;
     while let Some((entry, left)) = joined(alloc, rest)? {
-        names.push(entry.table)?;
-        add_condition(&mut conditions, entry.on)?;
+        add_source(&mut sources, entry)?;
         rest = left;
     }
-    Ok((Sources { names, conditions }, rest))
+    Ok((sources, rest))
 }
 
 /// The condition behind WHERE, where that stands first, and the tokens behind it.
@@ -305,20 +316,27 @@ struct Scope {
     cond: RawCond,
 }
 
-#[tactic(auto, unfolding(crate::specs::SelectFinder::leading_scope))]
-fn from_clause(alloc: Global, tokens: &[Token]) -> Result<(Scope, &[Token]), SyntaxFault>
-    ensures { Reads leading_scope tokens.now result }
+// The tables, and one condition of those of ON and the last one, that of WHERE.
+fn whole_scope(alloc: Global, sources: Sources, last: Option<RawCond>) -> Result<Scope, Memory>
+    ensures { IfOk result (λ scope. scope ≡ whole_scope sources last) }
 {
-    let rest = expect_keyword(tokens, Keyword::KFrom)?;
-    let (sources, rest) = from_list(alloc, rest)?;
-    let (last, rest) = after_where(alloc, rest)?;
     let Sources {
         names: tables,
         mut conditions,
     } = sources;
     add_condition(&mut conditions, last)?;
     let cond = whole_condition(alloc, conditions)?;
-    Ok((Scope { tables, cond }, rest))
+    Ok(Scope { tables, cond })
+}
+
+#[tactic(auto, unfolding(crate::specs::SelectFinder::leading_scope))]
+fn from_clause(alloc: Global, tokens: &[Token]) -> Result<(Scope, &[Token]), SyntaxFault>
+    ensures { Reads leading_scope tokens.now result }
+{
+    let rest = expect_keyword(tokens, Keyword::KFrom)?;
+    let (sources, rest) = from_list(alloc, rest)?;
+    let (sources, (last, rest)) = beside(sources, after_where(alloc, rest))?;
+    Ok((whole_scope(alloc, sources, last)?, rest))
 }
 
 // A select up to GROUP.
@@ -360,6 +378,28 @@ fn select_draft(alloc: Global, tokens: &[Token]) -> Result<(Draft, &[Token]), Sy
     }
 }
 
+fn select_with(items: RawItems, scope: Scope, form: RawForm) -> RawSelect
+    ensures { result ≡ select_with items scope form }
+{
+    let Scope { tables, cond } = scope;
+    RawSelect {
+        items,
+        tables,
+        cond,
+        form,
+    }
+}
+
+fn ungrouped_form(distinct: bool) -> RawForm
+    ensures { result ≡ if distinct then Distinct else Plain }
+{
+    if distinct {
+        RawForm::Distinct
+    } else {
+        RawForm::Plain
+    }
+}
+
 #[tactic(auto, unfolding(crate::specs::SelectFinder::ungrouped_select))]
 fn ungrouped(alloc: Global, draft: Draft) -> Result<RawSelect, SyntaxFault>
     ensures { Gives (λ x. x) result (ungrouped_select draft) }
@@ -367,20 +407,10 @@ fn ungrouped(alloc: Global, draft: Draft) -> Result<RawSelect, SyntaxFault>
     let Draft {
         distinct,
         members,
-        scope: Scope { tables, cond },
+        scope,
     } = draft;
-    let form = if distinct {
-        RawForm::Distinct
-    } else {
-        RawForm::Plain
-    };
-    let items = each(alloc, members)?;
-    Ok(RawSelect {
-        items,
-        tables,
-        cond,
-        form,
-    })
+    let (scope, items) = beside(scope, each(alloc, members))?;
+    Ok(select_with(items, scope, ungrouped_form(distinct)))
 }
 
 fn outs(alloc: Global, distinct: bool, members: Members) -> Result<RawOuts, SyntaxFault>
@@ -392,6 +422,26 @@ fn outs(alloc: Global, distinct: bool, members: Members) -> Result<RawOuts, Synt
     each(alloc, members)
 }
 
+// The select whose groups are those of the columns `by`, and the tokens behind these.
+fn grouped_by<'a>(
+    alloc: Global,
+    draft: Draft,
+    by: RawColumns,
+    rest: &'a [Token],
+) -> Result<(RawSelect, &'a [Token]), SyntaxFault>
+    ensures found { GivesPart result (select_by draft by (kinds rest.now)) }
+    ensures no_longer { LeavesNoMore rest.now result }
+{
+    let Draft {
+        distinct,
+        members,
+        scope,
+    } = draft;
+    let (scope, (by, outs)) = beside(scope, beside(by, outs(alloc, distinct, members)))?;
+    let form = RawForm::Grouped { outs, by };
+    Ok((select_with(Sequence::new(alloc), scope, form), rest))
+}
+
 // The select that goes on behind GROUP, and the tokens behind it.
 #[tactic(auto, unfolding(crate::specs::SelectFinder::leading_grouped))]
 fn grouped(
@@ -401,23 +451,9 @@ fn grouped(
 ) -> Result<(RawSelect, &[Token]), SyntaxFault>
     ensures { Reads (leading_grouped draft) tokens.now result }
 {
-    let Draft {
-        distinct,
-        members,
-        scope: Scope { tables, cond },
-    } = draft;
-    let columns = expect_word(tokens, "by")?;
-    let (by, rest) = list::<ColumnPart, Commas>(alloc, columns)?;
-    let outs = outs(alloc, distinct, members)?;
-    Ok((
-        RawSelect {
-            items: Sequence::new(alloc),
-            tables,
-            cond,
-            form: RawForm::Grouped { outs, by },
-        },
-        rest,
-    ))
+    let (draft, columns) = beside(draft, expect_word(tokens, "by"))?;
+    let (draft, (by, rest)) = beside(draft, list::<ColumnPart, Commas>(alloc, columns))?;
+    grouped_by(alloc, draft, by, rest)
 }
 
 /// The select that has to stand first, as long as it goes on, and the tokens behind it.

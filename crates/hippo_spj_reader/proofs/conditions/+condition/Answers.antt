@@ -1,5 +1,5 @@
 -- The first part begins the list; each further part is the next of it.
-use Rattle.std.proofs.Common.{◌≡◌, ℕ, zero, suc, ◌<◌, ◌≤◌, length, None, Some, Result, List, Bor, arith, sym}
+use Rattle.std.proofs.Common.{◌≡◌, ℕ, zero, suc, ◌<◌, ◌≤◌, [], length, None, Some, Result, List, Bor, refl, arith, sym}
 use Rattle.std.proofs.lemmas.Result.{err_from_is_err_and}
 use Rattle.hippo_lexer.specs.declared.faults.SyntaxFault.{SyntaxFault}
 use Rattle.hippo_values.specs.declared.keywords.Keyword.TheVariants.{KAnd, KNot, KOr}
@@ -8,46 +8,46 @@ use Rattle.hippo_spj_reader.specs.Promises.{Gives}
 use Rattle.hippo_spj_reader.specs.ConditionGrammar.{RawCond, any_of, all_of}
 use Rattle.hippo_spj_reader.specs.Front.{kinds, after_keyword}
 use Rattle.hippo_spj_reader.specs.ConditionFinder.{conjunction_with, primary_with, leading_negation}
-use Rattle.hippo_spj_reader.proofs.ListLoops.{begins, goes_on, breaks}
+use Rattle.hippo_spj_reader.proofs.ListLoops.{begins, adds, breaks, no_part}
 use Rattle.hippo_spj_reader.proofs.conditions.+condition.Goals as goal
 
 pub conjunction-loop-behind-init : goal.conjunction-loop-behind-init
 conjunction-loop-behind-init t c = record {
   no_longer = c.in_ok-first.ensures.no_longer;
-  so_far = λ n enough. begins (leading_negation n) (after_keyword KAnd) c.args.tokens.now c.in_ok-first.rest.now c.in_ok-first.first _ _ (c.in_ok-first.ensures.found n enough) c.in_ok-first.ensures.no_longer c.in_ok-parts.ensures c.in_ok-push.ensures.ok;
+  so_far = λ n enough. begins (leading_negation n) (after_keyword KAnd) c.args.tokens.now c.in_ok-first.rest.now c.in_ok-first.first [] _ (c.in_ok-first.ensures.found n enough) c.in_ok-first.ensures.no_longer refl c.in_ok-parts.ensures;
 }
 
 pub conjunction-loop-behind-preserved : goal.conjunction-loop-behind-preserved
 conjunction-loop-behind-preserved t c = record {
-  no_longer = omega (arith, c.in_ok-part.ensures.no_longer, c.in-Some.ensures.shorter);
-  so_far = λ n enough. goes_on (leading_negation n) (after_keyword KAnd) c.loop-behind.parts _ c.loop-behind.rest.now c.in-Some.behind.now c.in_ok-part.left.now c.in_ok-part.part
-      (c.loop-behind.invariant.so_far n enough) c.in-Some.ensures.rest (c.in_ok-part.ensures.found n (omega (arith, c.in-Some.ensures.shorter))) c.in_ok-part.ensures.no_longer c.in-Some.ensures.shorter c.in_ok-push-2.ensures.ok;
+  no_longer = omega (arith, c.in_ok-rest.ensures.no_longer, c.in-Some.ensures.shorter);
+  so_far = λ n enough. adds (leading_negation n) (after_keyword KAnd) c.loop-behind.parts _ c.loop-behind.rest.now c.in-Some.behind.now c.in_ok-rest.rest.now
+      (c.loop-behind.invariant.so_far n enough) c.in-Some.ensures.rest (c.in_ok-rest.ensures.found n (omega (arith, c.in-Some.ensures.shorter))) c.in_ok-rest.ensures.no_longer c.in-Some.ensures.shorter;
 }
 
-pub conjunction-returns-in_err-part-clause-found : goal.conjunction-returns-in_err-part-clause-found
-conjunction-returns-in_err-part-clause-found t c n enough =
-    let p = err_from_is_err_and c.from_residual-in_err-part.result c.from_residual-in_err-part.ensures.1 in
+pub conjunction-returns-in_err-rest-clause-found : goal.conjunction-returns-in_err-rest-clause-found
+conjunction-returns-in_err-rest-clause-found t c n enough =
+    let p = err_from_is_err_and c.from_residual-in_err-rest.result c.from_residual-in_err-rest.ensures.1 in
     rw (p.1, p.2) (breaks (leading_negation n) (after_keyword KAnd) (λ parts. Some (all_of parts.0, parts.1)) _ c.loop-behind.parts c.loop-behind.rest.now c.in-Some.behind.now
-    (c.loop-behind.invariant.so_far n enough) c.in-Some.ensures.rest c.in-Some.ensures.shorter (c.in_err-part.ensures.found n (omega (arith, c.in-Some.ensures.shorter))))
+    (c.loop-behind.invariant.so_far n enough) c.in-Some.ensures.rest c.in-Some.ensures.shorter (no_part _ c.loop-behind.parts _ (c.in_err-rest.ensures.found n (omega (arith, c.in-Some.ensures.shorter)))))
 
 pub disjunction-loop-behind-init : goal.disjunction-loop-behind-init
 disjunction-loop-behind-init t c = record {
   no_longer = c.in_ok-first.ensures.no_longer;
-  so_far = λ n enough. begins (conjunction_with (leading_negation n)) (after_keyword KOr) c.args.tokens.now c.in_ok-first.rest.now c.in_ok-first.first _ _ (c.in_ok-first.ensures.found n enough) c.in_ok-first.ensures.no_longer c.in_ok-parts.ensures c.in_ok-push.ensures.ok;
+  so_far = λ n enough. begins (conjunction_with (leading_negation n)) (after_keyword KOr) c.args.tokens.now c.in_ok-first.rest.now c.in_ok-first.first [] _ (c.in_ok-first.ensures.found n enough) c.in_ok-first.ensures.no_longer refl c.in_ok-parts.ensures;
 }
 
 pub disjunction-loop-behind-preserved : goal.disjunction-loop-behind-preserved
 disjunction-loop-behind-preserved t c = record {
-  no_longer = omega (arith, c.in_ok-part.ensures.no_longer, c.in-Some.ensures.shorter);
-  so_far = λ n enough. goes_on (conjunction_with (leading_negation n)) (after_keyword KOr) c.loop-behind.parts _ c.loop-behind.rest.now c.in-Some.behind.now c.in_ok-part.left.now c.in_ok-part.part
-      (c.loop-behind.invariant.so_far n enough) c.in-Some.ensures.rest (c.in_ok-part.ensures.found n (omega (arith, c.in-Some.ensures.shorter))) c.in_ok-part.ensures.no_longer c.in-Some.ensures.shorter c.in_ok-push-2.ensures.ok;
+  no_longer = omega (arith, c.in_ok-rest.ensures.no_longer, c.in-Some.ensures.shorter);
+  so_far = λ n enough. adds (conjunction_with (leading_negation n)) (after_keyword KOr) c.loop-behind.parts _ c.loop-behind.rest.now c.in-Some.behind.now c.in_ok-rest.rest.now
+      (c.loop-behind.invariant.so_far n enough) c.in-Some.ensures.rest (c.in_ok-rest.ensures.found n (omega (arith, c.in-Some.ensures.shorter))) c.in_ok-rest.ensures.no_longer c.in-Some.ensures.shorter;
 }
 
-pub disjunction-returns-in_err-part-clause-found : goal.disjunction-returns-in_err-part-clause-found
-disjunction-returns-in_err-part-clause-found t c n enough =
-    let p = err_from_is_err_and c.from_residual-in_err-part.result c.from_residual-in_err-part.ensures.1 in
+pub disjunction-returns-in_err-rest-clause-found : goal.disjunction-returns-in_err-rest-clause-found
+disjunction-returns-in_err-rest-clause-found t c n enough =
+    let p = err_from_is_err_and c.from_residual-in_err-rest.result c.from_residual-in_err-rest.ensures.1 in
     rw (p.1, p.2) (breaks (conjunction_with (leading_negation n)) (after_keyword KOr) (λ parts. Some (any_of parts.0, parts.1)) _ c.loop-behind.parts c.loop-behind.rest.now c.in-Some.behind.now
-    (c.loop-behind.invariant.so_far n enough) c.in-Some.ensures.rest c.in-Some.ensures.shorter (c.in_err-part.ensures.found n (omega (arith, c.in-Some.ensures.shorter))))
+    (c.loop-behind.invariant.so_far n enough) c.in-Some.ensures.rest c.in-Some.ensures.shorter (no_part _ c.loop-behind.parts _ (c.in_err-rest.ensures.found n (omega (arith, c.in-Some.ensures.shorter)))))
 
 -- where no NOT stands first, a negation is a primary
 plain : (result : Result (RawCond × Bor (List Token)) SyntaxFault) (tokens : List Token) (n : ℕ) → length tokens < n → None ≡ after_keyword KNot (kinds tokens) →

@@ -14,6 +14,12 @@ decreases-disjunction l = 4 * length l.tokens.now + 3
 abbrev pub decreases-conjunction : goal.decreases-conjunction
 decreases-conjunction l = 4 * length l.tokens.now + 2
 
+abbrev pub decreases-add_conjunction : goal.decreases-add_conjunction
+decreases-add_conjunction l = 4 * length l.tokens.now + 3
+
+abbrev pub decreases-add_negation : goal.decreases-add_negation
+decreases-add_negation l = 4 * length l.tokens.now + 2
+
 abbrev pub decreases-negation : goal.decreases-negation
 decreases-negation l = 4 * length l.tokens.now + 1
 

@@ -5,11 +5,11 @@ use Rattle.hippo_spj_reader.specs.SelectFinder.{leading_sources}
 use Rattle.hippo_spj_reader.proofs.SourceLoops.{Joins}
 use Rattle.hippo_spj_reader.proofs.selects.from_list.Given as goal
 
-abbrev pub invariant-loop-conditions : goal.invariant-loop-conditions
-invariant-loop-conditions l = record {
+abbrev pub invariant-loop-sources : goal.invariant-loop-sources
+invariant-loop-sources l = record {
   no_longer : length l.rest ≤ length l.fn.tokens;
-  so_far : Joins (leading_sources (kinds l.fn.tokens)) l.names l.conditions l.rest;
+  so_far : Joins (leading_sources (kinds l.fn.tokens)) l.sources.names l.sources.conditions l.rest;
 }
 
-abbrev pub decreases-loop-conditions : goal.decreases-loop-conditions
-decreases-loop-conditions l = length l.rest
+abbrev pub decreases-loop-sources : goal.decreases-loop-sources
+decreases-loop-sources l = length l.rest

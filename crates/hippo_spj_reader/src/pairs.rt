@@ -1,0 +1,18 @@
+//! What is held while more is read.
+ghost use Rattle.std.specs.Prelude.{◌≡◌, MatchResult, Ok, Err};
+
+use hippo_lexer::SyntaxFault;
+
+// A value, and what was read beside it.
+pub fn beside<A: Drop, B: Drop>(
+    held: A,
+    read: Result<B, SyntaxFault>,
+) -> Result<(A, B), SyntaxFault>
+    ensures { MatchResult result (λ both. (both.0 ≡ held) × (read ≡ Ok both.1))
+        (λ fault. read ≡ Err fault) }
+{
+    match read {
+        Ok(read) => Ok((held, read)),
+        Err(fault) => Err(fault),
+    }
+}
