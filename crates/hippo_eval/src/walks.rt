@@ -10,7 +10,7 @@ use hippo_values::Memory;
 use std::alloc::Global;
 
 /// Whether a visitor wants more combinations.
-#[derive(Clone, Copy, PartialEq, Eq)]
+#[derive(Clone, Copy)]
 pub enum Onward {
     More,
     /// What is kept already holds whatever combinations follow.

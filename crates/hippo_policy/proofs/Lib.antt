@@ -1,3 +1,4 @@
+pub mod KeyLemmas
 pub mod SaidLemmas
 pub mod AddLemmas
 pub mod BookLemmas

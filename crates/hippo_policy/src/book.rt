@@ -1,8 +1,7 @@
 //! The rules, choices, authorizations and items of a history, at every entry number.
-ghost use Rattle.std.specs.Prelude.{◌≡◌, ℕ, true, IsOk, ◌∷◌, [], ◌++◌, ◌+◌, OnOk, OnErr, IfOk};
+ghost use Rattle.std.specs.Prelude.{◌≡◌, true, IsOk, ◌∷◌, [], ◌++◌, ◌+◌, OnOk, OnErr, IfOk};
 ghost use Rattle.hippo_model.specs.Terms.{History};
 ghost use Rattle.hippo_model.specs.declared.entry.Entry.{Entry as HistoryEntry};
-ghost use Rattle.hippo_model.specs.declared.entry.Act.{Act as HistoryAct};
 ghost use Rattle.hippo_model.specs.declared.entry.Act.TheVariants.{Item, Choice};
 ghost use Rattle.hippo_policy.specs.Books.{BookStandsFor, RemembersMatter, BookAdds, AddsUser, AddsRule, BookIsAsBefore, cell_keys, ruled_cells, leaves_book};
 ghost use Rattle.hippo_policy.specs.Rulings.{ruling_in};
@@ -175,14 +174,6 @@ impl PolicyBook {
         Ok(())
     }
 
-    // An entry that says nothing of what the book keeps.
-    fn pass_over(&mut self)
-        ensures { (number : ℕ) (act : HistoryAct) → leaves_book act ≡ true
-            → BookAdds self.old self.new number act }
-    {
-        self.remember(Matter::Nothing);
-    }
-
     /// Takes in the entry that comes next: the book then stands for the history with the entry
     /// behind. It is unchanged where memory is short, which it never is for a Delete.
     pub fn add(&mut self, alloc: Global, entry: &Entry) -> Result<(), Memory>
@@ -206,7 +197,7 @@ impl PolicyBook {
             Act::Allow { .. } => self.add_rule(alloc, seq, &entry.act),
             Act::Revoke { .. } => self.add_rule(alloc, seq, &entry.act),
             Act::Choice { subject, item, yes } => self.add_choice(alloc, seq, subject, item, *yes),
-            _ => Ok(self.pass_over()),
+            _ => Ok(self.remember(Matter::Nothing)),
         }
     }
 

@@ -122,8 +122,9 @@ impl<K: Eq + Hash + Duplicate + Drop, W: Duplicate + Drop> LastWords<K, W> {
             (kept_words K.eq self.old other) }
     {
         for place in 0..keys.len() {
-            if !keys[..place].contains(&keys[place]) {
-                self.pop(&keys[place]);
+            let key = &keys[place];
+            if !keys[..place].contains(key) {
+                self.pop(key);
             }
         }
     }
@@ -144,8 +145,9 @@ impl<K: Eq + Hash + Duplicate + Drop, W: Duplicate + Drop> LastWords<K, W> {
             → kept_words K.eq self.new other ≡ kept_words K.eq self.old other) }
     {
         for place in 0..keys.len() {
-            if !keys[..place].contains(&keys[place]) {
-                match self.push_copy(alloc, &keys[place], number, word) {
+            let key = &keys[place];
+            if !keys[..place].contains(key) {
+                match self.push_copy(alloc, key, number, word) {
                     Ok(()) => {}
                     Err(Memory) => {
                         self.pop_all(&keys[..place]);

@@ -1,14 +1,14 @@
 -- The acts that say something of what a book keeps, and those that say nothing.
 use Rattle.std.proofs.Common.{refl}
 use Rattle.std.proofs.lemmas.Result.{on_ok_weaker}
-use Rattle.hippo_policy.proofs.BookLemmas.{leaves_book-rest, BookAdds-authorize, BookAdds-deauthorize, BookAdds-allow, BookAdds-revoke}
+use Rattle.hippo_policy.proofs.BookLemmas.{leaves_book-rest, BookAdds-silent, BookAdds-authorize, BookAdds-deauthorize, BookAdds-allow, BookAdds-revoke}
 use Rattle.hippo_policy.proofs.book.PolicyBook.add.Goals as goal
 
 pub returns-in_default : goal.returns-in_default
 returns-in_default c =
     let rest = c.in_default in
     record {
-      ok = c.pass_over.ensures c.args.entry.now.seq c.args.entry.now.act (leaves_book-rest c.args.entry.now.act rest.not-Item rest.not-Authorize rest.not-Deauthorize rest.not-Allow rest.not-Revoke rest.not-Choice);
+      ok = rw c.remember.ensures (BookAdds-silent c.args.self.now c.args.entry.now.seq c.args.entry.now.act (leaves_book-rest c.args.entry.now.act rest.not-Item rest.not-Authorize rest.not-Deauthorize rest.not-Allow rest.not-Revoke rest.not-Choice));
       err = tt;
       deletes = λ silent. refl;
     }
