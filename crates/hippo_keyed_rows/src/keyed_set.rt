@@ -1,11 +1,12 @@
 //! A table's rows in the order of their keys.
-ghost use Rattle.std.specs.Prelude.{◌≡◌, ◌<◌, ◌≤◌, ◌↔◌, [], true, length, map, option_map, slice_get, Some, IsTrue, OnOk, OnErr, IsOk, IsSome, IfSome, MatchOption};
+ghost use Rattle.std.specs.Prelude.{◌≡◌, List, ◌∷◌, ◌<◌, ◌≤◌, ◌↔◌, [], true, length, map, option_map, slice_get, Some, IsTrue, OnOk, OnErr, IsOk, IsSome, IfSome, MatchOption};
 ghost use Rattle.std.specs.List.Sorted.{IsSearchInRange, IsBinarySearchResult};
 ghost use Rattle.hippo_values.specs.Order.{value_cmp, cells_cmp};
 ghost use Rattle.hippo_model.specs.declared.born_row.BornRow.{BornRow};
 ghost use Rattle.hippo_model.specs.Rows.{cell_at, key_of};
 ghost use Rattle.hippo_keyed_rows.specs.Pieces.{begins_low, ends_below, PartsLow};
-ghost use Rattle.hippo_keyed_rows.specs.Searches.{sought_order};
+ghost use Rattle.hippo_model.specs.Terms.{Place};
+ghost use Rattle.hippo_keyed_rows.specs.Searches.{key_sought, sought_order};
 ghost use Rattle.hippo_keyed_rows.specs.RowSets.{IsAscending, IsFree, key_in, with_row, without_row, find_row};
 
 use crate::pieces::{Piece, Pieces, start};
@@ -15,11 +16,25 @@ use std::alloc::Global;
 use std::cmp::Ordering;
 use std::marker::Model;
 
+// Two values of any kinds. It stays a call, so that its callers compare numbers, which most keys
+// are, in few instructions.
+#[inline(never)]
+fn value_order(value: &Value, other: &Value) -> Ordering
+    ensures { result ≡ value_cmp value.now other.now }
+{
+    value.cmp(other)
+}
+
 /// The value in a row's column, which is null past the row's end, against another value.
+#[inline(always)]
 pub fn cell_order(row: &[Value], place: usize, other: &Value) -> Ordering
     ensures { result ≡ value_cmp (cell_at row.now place) other.now }
 {
-    row.get(place).unwrap_or(&Value::Null).cmp(other)
+    match (row.get(place), other) {
+        (Some(Value::Int(number)), Value::Int(other)) => number.cmp(other),
+        (Some(value), _) => value_order(value, other),
+        (None, _) => value_order(&Value::Null, other),
+    }
 }
 
 // A row's key against another.
@@ -55,13 +70,72 @@ enum Sought<'a> {
     Row(&'a [Value]),
 }
 
+impl<'a> Sought<'a> {
+    // The first value of the key, where the first of the key's columns has this place.
+    #[inline(always)]
+    fn first(&self, place: usize) -> Option<&'a Value>
+        ensures { (rest : List Place) → IfSome result (λ value.
+            slice_get (key_sought (place ∷ rest) self.now) 0 ≡ Some value.now) }
+    {
+        match self {
+            Sought::Key(key) => key.first(),
+            Sought::Row(row) => row.get(place),
+        }
+    }
+
+    // Whether the key has one value, where the key's columns are one.
+    #[inline(always)]
+    fn is_single(&self) -> bool
+        ensures { (place : Place) → result ≡ true
+            → length (key_sought (place ∷ []) self.now) ≡ 1 }
+    {
+        match self {
+            Sought::Key(key) => key.len() == 1,
+            Sought::Row(_) => true,
+        }
+    }
+}
+
+// A row's key against the one that is looked for, where numbers that both begin with tell.
+#[inline(always)]
+fn first_order(row: &[Value], places: &[usize], sought: &Sought<'_>) -> Option<Ordering>
+    ensures { IfSome result (λ order. cells_cmp (key_of places.now row.now)
+        (key_sought places.now sought.now) ≡ order) }
+{
+    let place = *places.first()?;
+    let Value::Int(other) = sought.first(place)? else {
+        return None;
+    };
+    let Value::Int(number) = row.get(place)? else {
+        return None;
+    };
+    let order = number.cmp(other);
+    if order.is_ne() || places.len() == 1 && sought.is_single() {
+        Some(order)
+    } else {
+        None
+    }
+}
+
+// A row's key against the one that is looked for, by all their values.
+fn whole_order(row: &[Value], places: &[usize], sought: &Sought<'_>) -> Ordering
+    ensures { result ≡ cells_cmp (key_of places.now row.now) (key_sought places.now sought.now) }
+{
+    match sought {
+        Sought::Key(key) => key_order(places, row, key),
+        Sought::Row(other) => row_order(places, row, other),
+    }
+}
+
 // A kept row against the one that is looked for, by their keys.
+#[inline(always)]
 fn sought_order(kept: &BornRow, places: &[usize], sought: &Sought<'_>) -> Ordering
     ensures { result ≡ sought_order places.now sought.now kept.now }
 {
-    match sought {
-        Sought::Key(key) => key_order(places, kept.row.as_slice(), key),
-        Sought::Row(row) => row_order(places, kept.row.as_slice(), row),
+    let row = kept.row.as_slice();
+    match first_order(row, places, sought) {
+        Some(order) => order,
+        None => whole_order(row, places, sought),
     }
 }
 

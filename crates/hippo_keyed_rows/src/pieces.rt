@@ -8,8 +8,8 @@ use std::alloc::Global;
 use std::marker::Model;
 use std::mem;
 
-// How many members a piece has at most, where memory allows.
-const PIECE_LIMIT: usize = 1024;
+// How many members a piece of a short list has at most, where memory allows.
+const PIECE_LIMIT: usize = 128;
 
 // Members that stand behind one another, and how many of the list's there are up to their end.
 #[derive(Drop)]
@@ -82,19 +82,28 @@ fn begin<T: Drop>(pieces: &mut Vec<Piece<T>>, member: T) -> Result<(), Memory>
     Ok(())
 }
 
+// How many members a piece has at most, where memory allows. An edit moves members of one piece and
+// marks the pieces behind it, so the longer the list, the more there may be of both.
+fn piece_limit(pieces: usize) -> usize
+    ensures { 0 < result }
+{
+    PIECE_LIMIT.max(pieces.saturating_mul(2))
+}
+
 // Cuts a piece that is too long in two, where memory allows; the upper part is handed out. The last
 // one keeps as many members as a piece may have, so that members that come in their order fill each
 // piece; any other is cut in halves. What room is left over is given back.
-fn cut<T>(piece: &mut Piece<T>, is_last: bool) -> Option<Piece<T>>
-    requires { length piece.old.members.items ≤ piece.old.end }
+fn cut<T>(piece: &mut Piece<T>, limit: usize, is_last: bool) -> Option<Piece<T>>
+    requires some { 0 < limit }
+    requires size { length piece.old.members.items ≤ piece.old.end }
     ensures { MatchOption result (piece.new ≡ piece.old)
         (λ upper. IsCutInTwo piece.old piece.new upper) }
 {
     let len = piece.members.len();
-    if len <= PIECE_LIMIT {
+    if len <= limit {
         return None;
     }
-    let kept = if is_last { PIECE_LIMIT } else { len / 2 };
+    let kept = if is_last { limit } else { len / 2 };
     let end = piece.end;
     let members = piece.members.split_off(kept).ok()?;
     piece.members.shrink_to_fit();
@@ -115,8 +124,9 @@ fn split<T: Drop>(pieces: &mut Vec<Piece<T>>, index: usize)
     let Ok(()) = pieces.reserve(1) else {
         return;
     };
+    let limit = piece_limit(pieces.len());
     let is_last = index + 1 == pieces.len();
-    if let Some(upper) = cut(&mut pieces[index], is_last) {
+    if let Some(upper) = cut(&mut pieces[index], limit, is_last) {
         let _ = pieces.insert(index + 1, upper);
     }
 }

@@ -6,8 +6,8 @@ use Rattle.hippo_keyed_rows.specs.Pieces.{contents, all_members, IsMarked, AreFu
 use Rattle.hippo_keyed_rows.proofs.PiecesLemmas.{size_below_end, IsMarked-cut, AreFull-cut, all_members-cut}
 use Rattle.hippo_keyed_rows.proofs.pieces.split.Goals as goal
 
-pub cut-requires : goal.cut-requires
-cut-requires g c =
+pub cut-requires-clause-size : goal.cut-requires-clause-size
+cut-requires-clause-size g c =
     let read = rw c.in-Ok.ensures.items at c.index_mut.ensures.value in
     subst (λ (piece : Piece g.row.T.Denot). length piece.members.items ≤ piece.end) (sym read) (size_below_end c.args.pieces.now.items c.requires.marked c.args.index c.index_mut.result.now c.requires.range)
 
