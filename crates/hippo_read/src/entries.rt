@@ -1,5 +1,6 @@
 //! Shows which entry has a stored form.
 
+use crate::unless_short;
 use hippo_entry::decode;
 use hippo_entry_texts::stored;
 use hippo_model::{Entry, StoredEntry};
@@ -38,8 +39,5 @@ fn shown(alloc: Global, text: &str) -> Result<String, Memory> {
 /// The entry that has the stored form that a text writes: its number, its moment and its act, or
 /// that there is none.
 pub fn shown_entry(alloc: Global, text: &str) -> Result<String, AllocError> {
-    match shown(alloc, text) {
-        Ok(shown) => Ok(shown),
-        Err(Memory) => Err(AllocError),
-    }
+    unless_short(shown(alloc, text))
 }

@@ -1,8 +1,11 @@
+//! Shows up to how many rows a query answers.
+
+use hippo_entry_texts::first_word;
 use hippo_eval::{EvalFault, evaluate};
 use hippo_model::{ChoiceView, CondOf, Expr, Exprs, Masked, Names, Ref};
 use hippo_rows::{RowSet, Sets};
 use hippo_values::{Memory, Moment, Name, Sequence, Value};
-use std::alloc::Global;
+use std::alloc::{AllocError, Global};
 
 // Nobody has a choice.
 #[derive(Drop)]
@@ -61,16 +64,17 @@ fn count_over(alloc: Global, first: &RowSet, second: &RowSet) -> Result<usize, E
     Ok(answer?.len())
 }
 
-// How many rows the product of two tables answers.
 fn count(alloc: Global, first: i64, second: i64) -> Result<usize, EvalFault> {
     let first = numbers(alloc, first)?;
     let second = numbers(alloc, second)?;
     count_over(alloc, &first, &second)
 }
 
-#[test]
-fn answers_up_to_the_limit(rt: HostRuntime) {
-    let alloc = rt.alloc();
-    assert_eq!(rt; count(alloc, 400, 250), Ok(100_000));
-    assert_eq!(rt; count(alloc, 317, 316), Err(EvalFault::TooManyRows));
+/// How many rows the product of two tables answers, each of which has as many rows as its number
+/// says, or why it has no answer.
+pub fn product(alloc: Global, text: &str) -> Result<String, AllocError> {
+    let (first, second) = first_word(text);
+    let (first, second) = (first.parse().unwrap_or(0), second.parse().unwrap_or(0));
+    let count = count(alloc, first, second);
+    format!(in alloc; "{count:?}")
 }
