@@ -6,6 +6,7 @@ use Rattle.std.proofs.Math.Seq.{take-add}
 use Rattle.std.proofs.lemmas.Bool.{and_parts}
 use Rattle.std.proofs.lemmas.List.{append-nil}
 use Rattle.std.proofs.lemmas.List.Elements.{filter-append}
+use Rattle.std.proofs.Math.Bool.{or-true}
 use Rattle.hippo_model.specs.declared.audit.Audit.{Audit}
 use Rattle.hippo_model.specs.declared.audit.Flag.{Flag}
 use Rattle.hippo_model.specs.declared.audit.SharedRow.{SharedRow}
@@ -108,11 +109,7 @@ begins_before [] kept place first below = tt
 begins_before (one ∷ rest) kept place first below = subst (λ (k : StoredEntry). place < k.seq) (sym (some_is one kept first)) below
 
 reads_so : (number : ℕ) (ahead : ReadAhead) (kept : StoredEntry) → slice_get ahead.waiting 0 ≡ Some kept → has_read number ahead ≡ true
-reads_so number ahead kept first = ap (λ (o : Option StoredEntry). nat_le number ahead.reached || is_some o) first ∙ or_true (nat_le number ahead.reached)
-  where
-    or_true : (b : Bool) → (b || true) ≡ true
-    or_true true = refl
-    or_true false = refl
+reads_so number ahead kept first = ap (λ (o : Option StoredEntry). nat_le number ahead.reached || is_some o) first ∙ or-true (nat_le number ahead.reached)
 
 pub above_place : (held : Store) (kept : StoredEntry) (place : ℕ) → slice_get held 0 ≡ Some kept → RisesAbove place held → place < kept.seq
 above_place [] kept place first rises = absurd cc

@@ -7,6 +7,7 @@ use Rattle.std.proofs.lemmas.Bool.{and_parts, false≢true}
 use Rattle.std.proofs.lemmas.List.{append-nil}
 use Rattle.std.proofs.lemmas.Option.{none-some}
 use Rattle.std.proofs.lemmas.Slice.Eq.{bytes_eq-Decides}
+use Rattle.std.proofs.Math.Bool.{and-false}
 use Rattle.hippo_values.specs.Moments.{first_moment}
 use Rattle.hippo_values.specs.Order.{same_cells}
 use Rattle.hippo_values.specs.declared.names.Name.{Name}
@@ -28,10 +29,6 @@ use Rattle.hippo_backlog.specs.Backlogs.{is_version_of, versions_of}
 option_or-None : {A : Type 0} (word : Option A) → option_or word None ≡ word
 option_or-None None = refl
 option_or-None (Some word) = refl
-
-and_false : (test : Bool) → (test && false) ≡ false
-and_false true = refl
-and_false false = refl
 
 -- what says nothing may be left out
 last_word-filter : {A : Type 0} (word : Entry → Option A) (test : Entry → Bool) → ((entry : Entry) → test entry ≡ false → word entry ≡ None) → (history : History) → last_word word (filter test history) ≡ last_word word history
@@ -73,7 +70,7 @@ module _ (schema : Schema) where
   born_at-versions history key =
       ap (λ last. unwrap_or last first_moment)
       (last_word-filter (λ entry. then_some (is_insert entry.act && names_key schema key entry.act) entry.moment) (is_version_of schema.name)
-      (λ entry other. ap (λ named. then_some (is_insert entry.act && option_map_or (λ named. same_cells named key) named false) entry.moment) (names_none entry other) ∙ ap (λ speaks. then_some speaks entry.moment) (and_false (is_insert entry.act))) history)
+      (λ entry other. ap (λ named. then_some (is_insert entry.act && option_map_or (λ named. same_cells named key) named false) entry.moment) (names_none entry other) ∙ ap (λ speaks. then_some speaks entry.moment) (and-false (is_insert entry.act))) history)
 
   born_row_at-versions : (history : History) (key : Key) → born_row_at schema (versions_of schema.name history) key ≡ born_row_at schema history key
   born_row_at-versions history key = λ i. option_map (λ row. record { row = row; born = born_at-versions history key i }) (row_at-versions history key i)

@@ -1,25 +1,19 @@
 -- What each kind of condition compares, by what its parts compare.
-use Rattle.std.proofs.Common.{◌≡◌, List, [], ◌∷◌, ◌++◌, map, refl, sym, ap, ◌∙◌, append_assoc}
+use Rattle.std.proofs.Common.{◌≡◌, List, [], ◌∷◌, ◌++◌, map, refl, sym, ap, ◌∙◌}
 use Rattle.std.specs.Prelude.{Bool, ◌||◌, false, true}
 use Rattle.std.specs.List.{flat_map, list_any}
 use Rattle.std.proofs.lemmas.List.{append-nil}
+use Rattle.std.proofs.lemmas.Grind.{flat_map-append}
+use Rattle.std.proofs.Math.Bool.{or-false}
 use Rattle.hippo_values.specs.declared.truths.CompareOp.{CompareOp}
 use Rattle.hippo_model.specs.declared.query.CondOf.{CondOf, CondOf-F, fold-roll-CondOf, roll-CondOf, map-CondOf}
 use Rattle.hippo_model.specs.declared.query.CondOf.TheVariants.{All, Any, Not, Compare, Between, Among, Missing, rolls-All, rolls-Any, rolls-Not, rolls-Compare, rolls-Between, rolls-Among, rolls-Missing}
 use Rattle.hippo_model.specs.declared.query.CondOf.TheOpen as open_
 use Rattle.hippo_catalog.specs.Comparisons.{comparisons_layer, comparisons}
 
-flat_map-append : {A B : Type 0} (f : A → List B) (xs ys : List A) → flat_map f (xs ++ ys) ≡ flat_map f xs ++ flat_map f ys
-flat_map-append f [] ys = refl
-flat_map-append f (x ∷ xs) ys = ap (λ l. f x ++ l) (flat_map-append f xs ys) ∙ sym (append_assoc (f x) (flat_map f xs) (flat_map f ys))
-
 or_with : (t a b c : Bool) → a ≡ (b || c) → (t || a) ≡ ((t || b) || c)
 or_with true a b c e = refl
 or_with false a b c e = e
-
-or_false : (b : Bool) → (b || false) ≡ b
-or_false true = refl
-or_false false = refl
 
 module _ {O : Type 0} where
   by_layer : (d : CondOf-F O (CondOf O)) (condition : CondOf O) → roll-CondOf O d ≡ condition → comparisons condition ≡ comparisons_layer (map-CondOf O (CondOf O) (List (List O)) comparisons d)
@@ -93,16 +87,16 @@ module _ {O : Type 0} where
     any-Not part = ap (list_any test) (comparisons-Not part)
 
     pub any-Compare : (op : CompareOp) (left right : O) → list_any test (comparisons (Compare op left right)) ≡ test (left ∷ right ∷ [])
-    any-Compare op left right = ap (list_any test) (comparisons-Compare op left right) ∙ or_false (test (left ∷ right ∷ []))
+    any-Compare op left right = ap (list_any test) (comparisons-Compare op left right) ∙ or-false (test (left ∷ right ∷ []))
 
     pub any-Between : (operand low high : O) → list_any test (comparisons (Between operand low high)) ≡ test (operand ∷ low ∷ high ∷ [])
-    any-Between operand low high = ap (list_any test) (comparisons-Between operand low high) ∙ or_false (test (operand ∷ low ∷ high ∷ []))
+    any-Between operand low high = ap (list_any test) (comparisons-Between operand low high) ∙ or-false (test (operand ∷ low ∷ high ∷ []))
 
     pub any-Among : (operand : O) (list : List O) → list_any test (comparisons (Among operand list)) ≡ test (operand ∷ list)
-    any-Among operand list = ap (list_any test) (comparisons-Among operand list) ∙ or_false (test (operand ∷ list))
+    any-Among operand list = ap (list_any test) (comparisons-Among operand list) ∙ or-false (test (operand ∷ list))
 
     pub any-Missing : (operand : O) → list_any test (comparisons (Missing operand)) ≡ test (operand ∷ [])
-    any-Missing operand = ap (list_any test) (comparisons-Missing operand) ∙ or_false (test (operand ∷ []))
+    any-Missing operand = ap (list_any test) (comparisons-Missing operand) ∙ or-false (test (operand ∷ []))
 
 pub ruleset gathered = (gathered-All, gathered-Any, gathered-Not, gathered-Compare, gathered-Between, gathered-Among, gathered-Missing)
 

@@ -5,6 +5,7 @@ use Rattle.std.specs.List.{AllByRecursion, IsDistinct}
 use Rattle.std.proofs.lemmas.Bool.{and_parts, false≢true}
 use Rattle.std.proofs.lemmas.List.Sums.{sum_by-cons}
 use Rattle.std.proofs.lemmas.Slice.Eq.{bytes_eq-Decides}
+use Rattle.std.proofs.Math.Bool.{and-true, and-false}
 use Rattle.hippo_values.specs.declared.names.Name.{Name}
 use Rattle.hippo_model.specs.declared.entry.Entry.{Entry}
 use Rattle.hippo_model.specs.Terms.{History, Meaning}
@@ -50,20 +51,12 @@ module _ (test : Entry → Bool) where
   within_is : (limit seq : ℕ) → seq ≤ limit → nat_le seq limit ≡ true
   within_is limit seq within = grind (arith, within)
 
-  and_false : (b : Bool) → (b && false) ≡ false
-  and_false true = refl
-  and_false false = refl
-
-  and_true : (b : Bool) → (b && true) ≡ b
-  and_true true = refl
-  and_true false = refl
-
   none_above : (limit number : ℕ) (history : History) → limit ≤ number → IsNumbered number history → count_by (up_to limit) history ≡ 0
   none_above limit number [] above numbered = refl
   none_above limit number (entry ∷ later) above numbered =
       let seq : entry.seq ≡ number + 1 = numbered.0 in
       let beyond : nat_le entry.seq limit ≡ false = above_is limit entry.seq (omega (arith, seq, above)) in
-      let fails : up_to limit entry ≡ false = ap (λ b. test entry && b) beyond ∙ and_false (test entry) in
+      let fails : up_to limit entry ≡ false = ap (λ b. test entry && b) beyond ∙ and-false (test entry) in
       let rest = none_above limit (number + 1) later (omega (arith, above)) numbered.1 in
       counts (up_to limit) entry later ∙ (λ i. one_if (fails i) + rest i)
 
@@ -80,7 +73,7 @@ module _ (test : Entry → Bool) where
   reached_are (suc place) number (entry ∷ later) numbered =
       let seq : entry.seq ≡ number + 1 = numbered.0 in
       let within : nat_le entry.seq (number + suc place) ≡ true = within_is (number + suc place) entry.seq (omega (arith, seq)) in
-      let passes : up_to (number + suc place) entry ≡ test entry = ap (λ b. test entry && b) within ∙ and_true (test entry) in
+      let passes : up_to (number + suc place) entry ≡ test entry = ap (λ b. test entry && b) within ∙ and-true (test entry) in
       let moved : number + suc place ≡ number + 1 + place = omega arith in
       let rest : count_by (up_to (number + suc place)) later ≡ length (filter test (take place later)) = ap (λ n. count_by (up_to n) later) moved ∙ reached_are place (number + 1) later numbered.1 in
       counts (up_to (number + suc place)) entry later ∙ (λ i. one_if (passes i) + rest i) ∙ filtered (test entry) entry (filter test (take place later))
@@ -101,7 +94,7 @@ not_theirs table entry [] apart is = refl
 not_theirs table entry (first ∷ rest) apart is =
     let its : table_changed entry.act ≡ table = (bytes_eq-Decides (table_changed entry.act) table).0 (and_parts (is_version entry.act) (bytes_eq (table_changed entry.act) table) is).1 in
     let another : bytes_eq (table_changed entry.act) first.schema.name ≡ false = ap (λ (name : Name). bytes_eq name first.schema.name) its ∙ apart.0 in
-    let no_version : is_version_of first.schema.name entry ≡ false = ap (λ b. is_version entry.act && b) another ∙ and_false (is_version_of first.schema.name) (is_version entry.act) in
+    let no_version : is_version_of first.schema.name entry ≡ false = ap (λ b. is_version entry.act && b) another ∙ and-false (is_version entry.act) in
     let later = not_theirs table entry rest apart.1 is in
     λ i. (no_version i && nat_le entry.seq first.versions.ahead.reached) || later i
 
@@ -119,7 +112,7 @@ split false false others is apart = refl
 module _ (meaning : Meaning) (history : History) (valid : is_valid meaning history ≡ true) where
   by_tables : (tables : List HeldLives) → IsDistinct bytes_eq (map name_of tables) → AllByRecursion (λ (lives : HeldLives). LivesFit lives history) tables → all_taken tables + unread_count tables history ≡ versions history
   unfolding IsDistinct
-  by_tables [] apart fits = zero-add (unread_count [] history) ∙ count_same (λ entry. is_version entry.act && true) (λ entry. is_version entry.act) (λ entry. and_true (λ e. true) (is_version entry.act)) history
+  by_tables [] apart fits = zero-add (unread_count [] history) ∙ count_same (λ entry. is_version entry.act && true) (λ entry. is_version entry.act) (λ entry. and-true (is_version entry.act)) history
   by_tables (lives ∷ rest) apart fits =
       let mine : Entry → Bool = is_reached_by lives in
       let each : (entry : Entry) → one_if (is_version entry.act && not (mine entry || is_reached rest entry)) + one_if (mine entry) ≡ one_if (is_version entry.act && not (is_reached rest entry)) = λ entry.

@@ -1,8 +1,8 @@
 -- What is written of a row is read back as the row.
-use Rattle.std.proofs.Common.{◌≡◌, ◌∙◌, ◌==◌, ◌||◌, ℕ, zero, suc, List, [], ◌∷◌, Bool, true, false, length, map, Some, Ok, refl, ap, sym, arith}
+use Rattle.std.proofs.Common.{◌≡◌, ◌∙◌, ◌==◌, ℕ, zero, suc, List, [], ◌∷◌, true, false, length, map, Some, Ok, refl, ap, sym, arith}
 use Rattle.std.specs.Cmp.Lexicographic.{pointwise, as_long}
 use Rattle.std.specs.List.{list_all, list_any, zip}
-use Rattle.std.proofs.lemmas.Bool.{and_parts, eq-eqb}
+use Rattle.std.proofs.lemmas.Bool.{and_parts, eq-eqb, or_parts}
 use Rattle.std.proofs.lemmas.List.{append-nil, length-map}
 use Rattle.csv.specs.Machine.{next_record}
 use Rattle.csv.specs.Reading.{default_config, records, records_from}
@@ -34,10 +34,6 @@ written-record fields =
     only zero = refl
     only (suc n) = refl
 
-or-parts : (a b : Bool) → (a || b) ≡ false → (a ≡ false) × (b ≡ false)
-or-parts true b none = absurd cc
-or-parts false b none = (refl, none)
-
 -- each field has its value
 fields-told : (columns : List Column) (row : Row) → pointwise fits columns row ≡ true → list_all value_is_keepable row ≡ true
     → list_any is_empty_text row ≡ false
@@ -48,7 +44,7 @@ fields-told (column ∷ columns) [] fit keep filled = refl
 fields-told (column ∷ columns) (value ∷ row) fit keep filled =
     let fits_here = and_parts (fits column value) (pointwise fits columns row) fit in
     let keeps = and_parts (value_is_keepable value) (list_all value_is_keepable row) keep in
-    let none = or-parts (is_empty_text value) (list_any is_empty_text row) filled in
+    let none = or_parts (is_empty_text value) (list_any is_empty_text row) filled in
     let first = value-told column value fits_here.0 keeps.0 none.0 in
     let later = fields-told columns row fits_here.1 keeps.1 none.1 in
     rw (first, later) refl

@@ -3,6 +3,7 @@ use Rattle.std.proofs.Common.{◌≡◌, Bool, true, false, List, [], ◌∷◌,
 use Rattle.std.specs.Prelude.{◌||◌}
 use Rattle.std.specs.List.{flat_map, list_any}
 use Rattle.std.proofs.lemmas.Bool.{false≢true}
+use Rattle.std.proofs.Math.Bool.{or-false}
 use Rattle.hippo_values.specs.declared.names.Name.{Name}
 use Rattle.hippo_values.specs.declared.truths.CompareOp.{CompareOp}
 use Rattle.hippo_model.specs.declared.query.CondOf.{CondOf}
@@ -16,10 +17,6 @@ use Rattle.hippo_model.specs.Terms.{Place}
 use Rattle.hippo_model.proofs.NamedColumns.{condition_columns-All, condition_columns-Any, condition_columns-Not, condition_columns-Compare, condition_columns-Between, condition_columns-Among, condition_columns-Missing}
 use Rattle.hippo_typing.proofs.LastingNames.{any-append}
 use Rattle.hippo_denials.specs.Listing.{is_it}
-
-or_false : (b : Bool) → (b || false) ≡ b
-or_false true = refl
-or_false false = refl
 
 any_in_each : {A B : Type 0} (test : B → Bool) (parts : A → List B) (members : List A) → list_any test (flat_map parts members) ≡ list_any (λ member. list_any test (parts member)) members
 any_in_each test parts [] = refl
@@ -35,7 +32,7 @@ any_mapped test f (first ∷ rest) = ap (λ b. test (f first) || b) (any_mapped 
 
 -- an operand that is a column has that one
 pub any_one : (test : Ref → Bool) (column : Ref) → list_any test (columns_in (Column column)) ≡ test column
-any_one test column = or_false (test column)
+any_one test column = or-false (test column)
 
 module _ (test : Ref → Bool) where
   pub any-All : (parts : List (CondOf Operand)) → list_any test (condition_columns (All parts)) ≡ list_any (λ part. list_any test (condition_columns part)) parts

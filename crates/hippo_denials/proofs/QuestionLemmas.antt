@@ -1,8 +1,8 @@
 -- A logged question at its own time: what its text means, and its tables.
-use Rattle.std.proofs.Common.{◌≡◌, ◌≤◌, ◌∙◌, ℕ, zero, suc, ◌+◌, Bool, true, false, List, [], ◌∷◌, ◌++◌, length, take, drop, Option, Some, None, refl, sym, ap, subst, arith}
-use Rattle.std.specs.Prelude.{◌&&◌, ◌-◌, flat_map, is_some, is_none, slice_get}
+use Rattle.std.proofs.Common.{◌≡◌, ◌≤◌, ◌∙◌, ℕ, zero, suc, ◌+◌, true, List, [], ◌∷◌, ◌++◌, length, take, drop, Option, Some, None, refl, sym, ap, subst, arith}
+use Rattle.std.specs.Prelude.{◌-◌, flat_map, is_some, is_none, slice_get}
 use Rattle.std.specs.List.{list_all}
-use Rattle.std.proofs.lemmas.Bool.{and_parts, false≢true}
+use Rattle.std.proofs.lemmas.Bool.{and_parts, false≢true, and_from}
 use Rattle.std.proofs.lemmas.List.{take-append-drop}
 use Rattle.std.proofs.lemmas.Option.{none-some, same_Some}
 use Rattle.hippo_values.specs.Texts.{Txt}
@@ -42,15 +42,11 @@ there : (found : Option Schema) (table : Name) → fault_if (is_none found) (Unk
 there None table none = absurd cc
 there (Some schema) table none = refl
 
-and_both : (a b : Bool) → a ≡ true → b ≡ true → (a && b) ≡ true
-and_both true b p q = q
-and_both false b p q = p
-
 all_created : (known : KnownNames) (tables : List Name) → flat_map (unknown_table known) tables ≡ [] → list_all (λ table. is_some (table_of known table)) tables ≡ true
 all_created known [] none = refl
 all_created known (table ∷ rest) none =
     let parts = both_none (unknown_table known table) (flat_map (unknown_table known) rest) none in
-    and_both (is_some (table_of known table)) (list_all (λ t. is_some (table_of known t)) rest) (there (table_of known table) table parts.0) (all_created known rest parts.1)
+    and_from (is_some (table_of known table)) (list_all (λ t. is_some (table_of known t)) rest) (there (table_of known table) table parts.0) (all_created known rest parts.1)
 
 -- the tables of a query that a text means are all created, and differ
 pub record HasTables (known : KnownNames) (query : Query) : Type 0 where

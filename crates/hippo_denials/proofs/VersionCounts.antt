@@ -5,6 +5,7 @@ use Rattle.std.specs.List.{list_any}
 use Rattle.std.proofs.lemmas.Bool.{false≢true}
 use Rattle.std.proofs.lemmas.List.Sums.{sum_by-cons}
 use Rattle.std.proofs.lemmas.Slice.Eq.{bytes_eq-Decides}
+use Rattle.std.proofs.Math.Bool.{or-false, or-true}
 use Rattle.hippo_values.specs.declared.names.Name.{Name}
 use Rattle.hippo_model.specs.declared.entry.Entry.{Entry}
 use Rattle.hippo_model.specs.declared.name_fault.NameFault.{NameFault}
@@ -25,14 +26,6 @@ unrefused : (test : Bool) (fault : NameFault) → fault_if test fault ≡ [] →
 unrefused true fault none = absurd cc
 unrefused false fault none = refl
 
-or_true : (b : Bool) → (b || true) ≡ true
-or_true true = refl
-or_true false = refl
-
-or_false : (b : Bool) → (b || false) ≡ b
-or_false true = refl
-or_false false = refl
-
 -- how often a name is this one
 abbrev times : Name → List Name → ℕ
 times table names = sum_by (λ name. cond (bytes_eq table name) 1 0) names
@@ -47,11 +40,11 @@ at_most_once before (name ∷ rest) table none =
     let later = at_most_once (before ++ name ∷ []) rest table parts.1 in
     let sum : times table (name ∷ rest) ≡ cond (bytes_eq table name) 1 0 + times table rest = sum_by-cons (λ n. cond (bytes_eq table n) 1 0) name rest in
     let among : list_any (bytes_eq table) (before ++ name ∷ []) ≡ (list_any (bytes_eq table) before || bytes_eq table name) =
-    any-append (bytes_eq table) before (name ∷ []) ∙ ap (λ b. list_any (bytes_eq table) before || b) (or_false (bytes_eq table name)) in
+    any-append (bytes_eq table) before (name ∷ []) ∙ ap (λ b. list_any (bytes_eq table) before || b) (or-false (bytes_eq table name)) in
     elim (bytes_eq table name) as (λ same. bytes_eq table name ≡ same → (list_any (bytes_eq table) before ≡ true → times table (name ∷ rest) ≡ 0) × (times table (name ∷ rest) ≤ 1)) [
       | true ↦ λ same.
           let is : table ≡ name = (bytes_eq-Decides table name).0 same in
-          let gone : times table rest ≡ 0 = later.0 (among ∙ ap (λ b. list_any (bytes_eq table) before || b) same ∙ or_true (list_any (bytes_eq table) before)) in
+          let gone : times table rest ≡ 0 = later.0 (among ∙ ap (λ b. list_any (bytes_eq table) before || b) same ∙ or-true (list_any (bytes_eq table) before)) in
           let one : times table (name ∷ rest) ≡ 1 + times table rest = sum ∙ ap (λ (b : Bool). cond b 1 0 + times table rest) same in
           (λ there. absurd (false≢true (sym new ∙ ap (λ t. list_any (bytes_eq t) before) (sym is) ∙ there)), omega (arith, one, gone))
       | false ↦ λ other.

@@ -3,13 +3,15 @@ use Rattle.std.proofs.Common.{◌≡◌, ℕ, ◌+◌, ◌<◌, ◌≤◌, arith
 use Rattle.std.specs.Prelude.{filter, ◌==◌}
 use Rattle.std.specs.List.{list_all}
 use Rattle.std.specs.Cmp.{nat_eq_equiv}
-use Rattle.std.proofs.lemmas.Bool.{and_parts, and_from, or_left, or_right, eqb-true}
+use Rattle.std.proofs.lemmas.Bool.{and_parts, and_from, or_left, or_right, eqb-true, or_parts}
 use Rattle.std.proofs.lemmas.List.Folds.{list_any-append}
+use Rattle.std.proofs.Math.Bool.{and-false}
 use Rattle.hippo_model.specs.Terms.{ShownRow}
 use Rattle.hippo_model.specs.Bags.{same_row, occurrences, same_bag}
 use Rattle.hippo_model.specs.Forms.{different_rows}
+use Rattle.hippo_model.proofs.SameRows.{same_row-refl}
 use Rattle.hippo_distinct.proofs.DifferentLemmas.{same_row-exact}
-use Rattle.hippo_distinct.proofs.NeededRows.{same_row-refl, is_among, one_if, counted, once}
+use Rattle.hippo_distinct.proofs.NeededRows.{is_among, one_if, counted, once}
 
 abbrev pub Test : Type 0
 Test = ShownRow → Bool
@@ -79,10 +81,6 @@ none_counted row (first ∷ rows) e = by (same_row row first) (none_counted row 
     by true later wrong = absurd cc
     by false later none = let l = later none in omega (arith, l)
 
-or_false_parts : (x y : Bool) → (x || y) ≡ false → (x ≡ false) × (y ≡ false)
-or_false_parts true y e = absurd cc
-or_false_parts false y e = (refl, e)
-
 -- from bags to counts, and back
 pub same-from_bag : (left right : List ShownRow) → same_bag left right ≡ true → AreSame left right
 same-from_bag left right bag row = by (is_among (left ++ right) row) refl
@@ -91,7 +89,7 @@ same-from_bag left right bag row = by (is_among (left ++ right) row) refl
     by true among =
         sym (occurrences-count row left) ∙ eqb-true _ _ (at_member (λ one. occurrences one left == occurrences one right) (left ++ right) bag row among) ∙ occurrences-count row right
     by false among =
-        let both = or_false_parts (is_among left row) (is_among right row) (sym (list_any-append (same_row row) left right) ∙ among) in
+        let both = or_parts (is_among left row) (is_among right row) (sym (list_any-append (same_row row) left right) ∙ among) in
         none_counted row left both.0 ∙ sym (none_counted row right both.1)
 
 pub bag-from_same : (left right : List ShownRow) → AreSame left right → same_bag left right ≡ true
@@ -150,11 +148,7 @@ all_implied p q then (row ∷ rows) e = by (p row) (q row) (then row) (count-le 
 module _ (some all : List ShownRow) (within : list_all (is_among all) some ≡ true) where
   shared_with : (row other : ShownRow) (same : Bool) → same_row row other ≡ same → (is_among some other && same) ≡ (is_among some row && same)
   shared_with row other true e = ap (λ (one : ShownRow). is_among some one && true) (sym (same_row-exact row other e))
-  shared_with row other false e = neither (is_among some other) ∙ sym (neither (is_among some row))
-    where
-      neither : (x : Bool) → (x && false) ≡ false
-      neither true = refl
-      neither false = refl
+  shared_with row other false e = and-false (is_among some other) ∙ sym (and-false (is_among some row))
 
   of_some : (row : ShownRow) (among : Bool) → is_among some row ≡ among → count (λ other. among && same_row row other) (different_rows all) ≡ one_if among
   of_some row true e = sym (occurrences-count row (different_rows all)) ∙ once row all ∙ ap one_if (at_member (is_among all) some within row e)

@@ -8,6 +8,7 @@ use Rattle.std.proofs.lemmas.Bool.{and_parts, eqb-true}
 use Rattle.std.proofs.lemmas.List.{append-nil}
 use Rattle.std.proofs.lemmas.List.Elements.{filter-append}
 use Rattle.std.proofs.lemmas.List.Folds.{list_any-append}
+use Rattle.std.proofs.Math.Bool.{or-false}
 use Rattle.hippo_values.specs.Order.{value_cmp}
 use Rattle.hippo_model.specs.declared.cells.Cell.{Cell}
 use Rattle.hippo_model.specs.declared.cells.Cell.TheVariants.{Shown, Denied}
@@ -71,9 +72,5 @@ different_rows-append (row ∷ more) rows =
           ∙ append_assoc (different_rows rows) (if_new (stands_in row rows) row) later.0,
     )
 
-or_false : (x : Bool) → (x || false) ≡ x
-or_false true = refl
-or_false false = refl
-
 pub stands-push : (other row : ShownRow) (rows : List ShownRow) → stands_in other (rows ++ row ∷ []) ≡ (stands_in other rows || same_row row other)
-stands-push other row rows = list_any-append (λ one. same_row one other) rows (row ∷ []) ∙ ap (λ (last : Bool). stands_in other rows || last) (or_false (same_row row other))
+stands-push other row rows = list_any-append (λ one. same_row one other) rows (row ∷ []) ∙ ap (λ (last : Bool). stands_in other rows || last) (or-false (same_row row other))

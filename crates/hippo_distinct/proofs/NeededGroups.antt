@@ -12,8 +12,9 @@ use Rattle.hippo_model.specs.declared.query.Shape.{Shape}
 use Rattle.hippo_model.specs.Terms.{ShownRow}
 use Rattle.hippo_model.specs.Bags.{same_row, same_bag}
 use Rattle.hippo_model.specs.Forms.{value_in, different_rows, members, group_cell, grouped_rows}
+use Rattle.hippo_model.proofs.SameRows.{same_row-refl}
 use Rattle.hippo_distinct.proofs.DifferentLemmas.{same_row-exact}
-use Rattle.hippo_distinct.proofs.NeededRows.{same_row-refl, is_among, all_different, not_all, answered, left, alone, alone_is, left_within}
+use Rattle.hippo_distinct.proofs.NeededRows.{is_among, all_different, not_all, answered, left, alone, alone_is, left_within}
 use Rattle.hippo_distinct.proofs.BagLemmas.{Test, count, count-same, implied, same-from_bag, bag-from_same, count-map, count-agree, count-different_rows, all_implied, at_member, all_members}
 use Rattle.hippo_distinct.proofs.BestValues.{below_for_min, below_for_max, lesser_is_lower, greater_is_lower, least_below, greatest_below}
 

@@ -2,25 +2,14 @@
 use Rattle.std.proofs.Common.{◌≡◌, ℕ, ◌+◌, Bool, true, false, not, cond, ◌&&◌, ◌||◌, List, [], ◌∷◌, ◌++◌, map, refl, sym, ap, ◌∙◌, zero-add}
 use Rattle.std.specs.Prelude.{filter, ◌==◌}
 use Rattle.std.specs.List.{list_any, list_all}
-use Rattle.std.specs.Cmp.{eq_by_cmp_equiv, nat_eq_equiv}
 use Rattle.std.proofs.lemmas.Bool.{and_parts, and_from, or_left, or_right}
 use Rattle.std.proofs.lemmas.List.Sums.{sum_by-cons}
 use Rattle.std.proofs.lemmas.List.Folds.{list_all-append}
-use Rattle.hippo_values.specs.OrderLaws.{value_total}
-use Rattle.hippo_model.specs.declared.cells.Cell.{Cell}
-use Rattle.hippo_model.specs.declared.cells.Cell.TheVariants.{Shown, Denied}
 use Rattle.hippo_model.specs.Terms.{ShownRow}
-use Rattle.hippo_model.specs.Bags.{same_cell, same_row, occurrences, same_bag}
+use Rattle.hippo_model.specs.Bags.{same_row, occurrences, same_bag}
 use Rattle.hippo_model.specs.Forms.{different_rows}
+use Rattle.hippo_model.proofs.SameRows.{same_row-refl}
 use Rattle.hippo_distinct.proofs.DifferentLemmas.{same_row-exact}
-
-pub same_cell-refl : (cell : Cell) → same_cell cell cell ≡ true
-same_cell-refl (Shown value) = (eq_by_cmp_equiv value_total).refl value
-same_cell-refl (Denied rule) = nat_eq_equiv.refl rule
-
-pub same_row-refl : (row : ShownRow) → same_row row row ≡ true
-same_row-refl [] = refl
-same_row-refl (cell ∷ row) = and_from _ _ (same_cell-refl cell) (same_row-refl row)
 
 -- whether a row is among others
 abbrev pub is_among : List ShownRow → ShownRow → Bool

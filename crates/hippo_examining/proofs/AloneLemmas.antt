@@ -10,6 +10,7 @@ use Rattle.std.proofs.lemmas.Bool.{and_parts, and_from, false≢true, or_left, o
 use Rattle.std.proofs.lemmas.List.{map-append}
 use Rattle.std.proofs.lemmas.List.Elements.{filter-append}
 use Rattle.std.proofs.lemmas.Map.Entries.{btree_map_get_place}
+use Rattle.std.proofs.Math.Bool.{and-false}
 use Rattle.hippo_values.specs.declared.names.Name.{Name}
 use Rattle.hippo_model.specs.declared.audit.Audit.{Audit}
 use Rattle.hippo_model.specs.declared.audit.SharedRow.{SharedRow}
@@ -21,6 +22,7 @@ use Rattle.hippo_model.specs.Terms.{Combination, Place, ShownRow}
 use Rattle.hippo_model.specs.Answers.{product}
 use Rattle.hippo_model.specs.Bags.{same_row}
 use Rattle.hippo_model.specs.Masking.{Choices, is_guarded, masked_passes, masked_items}
+use Rattle.hippo_model.proofs.SameRows.{same_row-refl}
 use Rattle.hippo_keyed_rows.specs.RowSets.{KeyedRows, IsAscending, key_in}
 use Rattle.hippo_eval.specs.Walks.{rows_of}
 use Rattle.hippo_sides.specs.Finding.{has_places}
@@ -39,13 +41,8 @@ use Rattle.hippo_shared.proofs.CandidateLemmas.{marked-alone}
 use Rattle.hippo_examining.specs.AloneRows.{Marks, mark_at, makes_row, row_mark, AreMarked}
 use Rattle.hippo_distinct.proofs.CellOrder.{row_order, row_total, order_same}
 use Rattle.hippo_distinct.proofs.DifferentLemmas.{same_row-exact}
-use Rattle.hippo_distinct.proofs.NeededRows.{same_row-refl, answered, needs_what_comes_alone}
-
-turned : (a b : ShownRow) → same_row a b ≡ same_row b a
-turned a b =
-    both_ways (same_row a b) (same_row b a)
-    (λ e. ap (same_row b) (same_row-exact a b e) ∙ same_row-refl b)
-    (λ e. ap (same_row a) (same_row-exact b a e) ∙ same_row-refl a)
+use Rattle.hippo_distinct.proofs.KeptLemmas.{same_row-sym}
+use Rattle.hippo_distinct.proofs.NeededRows.{answered, needs_what_comes_alone}
 
 -- ---- one combination more
 module _ (choices : Choices) (query : Masked) (sets : List KeyedRows) (tables : List Place) (before : List Combination) (rows : Combination) where
@@ -90,11 +87,11 @@ module _ (choices : Choices) (query : Masked) (sets : List KeyedRows) (tables : 
       by true e =
           ap (λ b. cond b (mark_of (tuples made before ++ row_places sets tables rows ∷ [])) (mark_at row_order marks row)) (order_same made row ∙ e)
           ∙ ap (λ (r : ShownRow). mark_of (tuples r before ++ row_places sets tables rows ∷ [])) (same_row-exact made row e)
-          ∙ sym (one_tuple row true (and_from passing (same_row row made) passes (turned row made ∙ e)))
+          ∙ sym (one_tuple row true (and_from passing (same_row row made) passes (same_row-sym row made ∙ e)))
       by false e =
           ap (λ b. cond b (mark_of (tuples made before ++ row_places sets tables rows ∷ [])) (mark_at row_order marks row)) (order_same made row ∙ e)
           ∙ are row
-          ∙ sym (one_tuple row false ((λ i. passes i && (turned row made ∙ e) i)) ∙ ap mark_of (append_nothing (tuples row before)))
+          ∙ sym (one_tuple row false ((λ i. passes i && (same_row-sym row made ∙ e) i)) ∙ ap mark_of (append_nothing (tuples row before)))
 
   -- one that makes a given row, and has the tuple of given places
   pub marked-by : (marks after : Marks) (row : ShownRow) (given : List Place) → passing ≡ true → row ≡ made → given ≡ row_places sets tables rows
@@ -259,34 +256,8 @@ pub none-needed : (choices : Choices) (query : Masked) (form : Form) (audit : Au
     → None ≡ first_needed choices query form audit seen query_sets audit_sets
 none-needed choices query form audit seen query_sets audit_sets none =
     sym (find-nothing (λ tuple. needs_by choices query form query_sets tuple && query_has choices query seen query_sets tuple && audit_has audit audit_sets tuple)
-    (λ tuple. ap (λ b. needs_by choices query form query_sets tuple && query_has choices query seen query_sets tuple && b) (none tuple) ∙ never (needs_by choices query form query_sets tuple && query_has choices query seen query_sets tuple))
+    (λ tuple. ap (λ b. needs_by choices query form query_sets tuple && query_has choices query seen query_sets tuple && b) (none tuple) ∙ and-false (needs_by choices query form query_sets tuple && query_has choices query seen query_sets tuple))
     (virtual_tuples_in audit.tables audit_sets (common_tables query.tables audit.tables)))
-  where
-    never : (b : Bool) → (b && false) ≡ false
-    never true = refl
-    never false = refl
-
--- ---- a list whose members are taken out one after the other: those left that pass a test, or what was found
-module _ {A : Type 0} (test : A → Bool) (items : List A) (now whole : Bool) (so_far : (list_any test items || now) ≡ whole) where
-  pub one-taken : (item : A) (rest : List A) (later : Bool) → items ≡ item ∷ rest → later ≡ (test item || now) → (list_any test rest || later) ≡ whole
-  one-taken item rest later split added =
-      ap (λ (taken : Bool). list_any test rest || taken) added
-      ∙ turned_round (test item) (list_any test rest) now
-      ∙ sym (ap (λ (left : List A). list_any test left || now) split)
-      ∙ so_far
-    where
-      turned_round : (x y z : Bool) → (y || (x || z)) ≡ ((x || y) || z)
-      turned_round true true z = refl
-      turned_round true false z = refl
-      turned_round false true z = refl
-      turned_round false false z = refl
-
-  pub none-left : items ≡ [] → now ≡ whole
-  none-left none = sym (ap (λ (left : List A). list_any test left || now) none) ∙ so_far
-
-pub or_false : (x : Bool) → (x || false) ≡ x
-or_false true = refl
-or_false false = refl
 
 -- what an answer that is Ok says
 pub ok-by : {A E : Type 0} (P Q : A → Type 0) → ((a : A) → P a → Q a) → (result : Result A E) → IfOk result P → IfOk result Q

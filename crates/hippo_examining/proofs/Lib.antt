@@ -11,3 +11,4 @@ mod AloneLemmas
 mod MarkLemmas
 mod MarksTheorem
 mod ChangingTheorem
+mod TakenLemmas

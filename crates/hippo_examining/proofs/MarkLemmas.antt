@@ -117,29 +117,3 @@ module _ (old : Best) (who : List (List Place)) (value : Value) (places : List P
   after-none is_better apart better is =
       (λ i. record { value = old.value; mark = is i })
       ∙ sym (ap (λ (test : Bool). cond test (record { value = value; mark = mark_of (places ∷ []) }) (record { value = old.value; mark = mark_of who })) better) ∙ after-other is_better apart
-
--- whether some of what is left passes, or what was taken did
-module _ {A : Type 0} (test : A → Bool) (items : List A) (now whole : Bool) (so_far : (list_any test items || now) ≡ whole) where
-  pub one-taken : (item : A) (rest : List A) (later : Bool) → items ≡ item ∷ rest → later ≡ (test item || now) → (list_any test rest || later) ≡ whole
-  one-taken item rest later split added =
-      ap (λ (taken : Bool). list_any test rest || taken) added
-      ∙ turned (test item) (list_any test rest) now
-      ∙ sym (ap (λ (left : List A). list_any test left || now) split)
-      ∙ so_far
-    where
-      turned : (x y z : Bool) → (y || (x || z)) ≡ ((x || y) || z)
-      turned true true z = refl
-      turned true false z = refl
-      turned false true z = refl
-      turned false false z = refl
-
-  pub all-taken : (count : ℕ) → count ≡ length items → count ≡ 0 → now ≡ whole
-  all-taken count is none = by items (sym is ∙ none) so_far
-    where
-      by : (left : List A) → length left ≡ 0 → (list_any test left || now) ≡ whole → now ≡ whole
-      by [] none so_far = so_far
-      by (item ∷ left) none so_far = absurd (omega (arith, none))
-
-pub or_false : (x : Bool) → (x || false) ≡ x
-or_false true = refl
-or_false false = refl

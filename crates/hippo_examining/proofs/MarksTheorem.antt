@@ -18,9 +18,9 @@ use Rattle.hippo_model.specs.Conditions.{is_null}
 use Rattle.hippo_model.specs.Bags.{same_cell, same_row, same_bag}
 use Rattle.hippo_model.specs.Forms.{least_value, greatest_value, values_in, group_cell, grouped_rows}
 use Rattle.hippo_model.specs.Masking.{Choices, is_guarded, masked_passes, masked_items}
+use Rattle.hippo_model.proofs.SameRows.{same_cell-refl, same_row-refl}
 use Rattle.hippo_keyed_rows.specs.RowSets.{KeyedRows}
 use Rattle.hippo_eval.specs.Answering.{masked_rows}
-use Rattle.hippo_distinct.proofs.NeededRows.{same_cell-refl, same_row-refl}
 use Rattle.hippo_distinct.proofs.NeededGroups.{needs_what_changes_groups}
 use Rattle.hippo_shared.specs.declared.marks.Mark.TheVariants.{One, Several}
 use Rattle.hippo_shared.specs.Marks.{row_places, same_places, mark_of, is_one}

@@ -4,7 +4,7 @@ use Rattle.std.specs.Prelude.{IfSome, is_none, is_some, flat_map, nat_lt, slice_
 use Rattle.std.specs.Bool.{then_some}
 use Rattle.std.specs.List.{AllByRecursion, list_any, list_all}
 use Rattle.std.specs.Option.{option_or, option_map_or}
-use Rattle.std.proofs.lemmas.Bool.{and_parts, false≢true}
+use Rattle.std.proofs.lemmas.Bool.{and_parts, false≢true, or_left, or_right}
 use Rattle.std.proofs.lemmas.List.{take-append-drop}
 use Rattle.std.proofs.lemmas.Option.{none-some}
 use Rattle.std.proofs.lemmas.Slice.Eq.{bytes_eq-Decides}
@@ -156,19 +156,11 @@ or_parts : (first second : Bool) → (first || second) ≡ true → (first ≡ f
 or_parts true second e is = absurd cc
 or_parts false second e is = e
 
-or_second : (first second : Bool) → second ≡ true → (first || second) ≡ true
-or_second true second e = refl
-or_second false second e = e
-
-or_first : (first second : Bool) → first ≡ true → (first || second) ≡ true
-or_first true second e = refl
-or_first false second e = absurd cc
-
 -- a name that stands at a place stands in the list, or it is empty
 stands : (names : List Name) (place : Place) (table : Name) → table ≢ [] → bytes_eq table (slice_index_or names place []) ≡ true → list_any (bytes_eq table) names ≡ true
 stands [] place table some same = absurd (some ((bytes_eq-Decides table []).0 same))
-stands (name ∷ names) zero table some same = or_first (bytes_eq table name) (list_any (bytes_eq table) names) same
-stands (name ∷ names) (suc place) table some same = or_second (bytes_eq table name) (list_any (bytes_eq table) names) (stands names place table some same)
+stands (name ∷ names) zero table some same = or_left (bytes_eq table name) (list_any (bytes_eq table) names) same
+stands (name ∷ names) (suc place) table some same = or_right (bytes_eq table name) (list_any (bytes_eq table) names) (stands names place table some same)
 
 module _ (tables : List Name) (table : Name) (place : Place) (some : table ≢ []) where
   table_named : (columns : List Ref) → list_any (same_column (table, place)) (map (named_column tables) columns) ≡ true → list_any (bytes_eq table) tables ≡ true

@@ -3,7 +3,8 @@ use Rattle.std.proofs.Common.{◌≡◌, Bool, true, false, not, ◌&&◌, ◌||
 use Rattle.std.specs.Prelude.{◌==◌, filter, find}
 use Rattle.std.specs.List.{list_all, list_any}
 use Rattle.std.specs.Cmp.{nat_eq_equiv}
-use Rattle.std.proofs.lemmas.Bool.{and_from, false≢true}
+use Rattle.std.proofs.lemmas.Bool.{and_from, false≢true, or_parts}
+use Rattle.std.proofs.Math.Bool.{and-true}
 use Rattle.hippo_model.specs.declared.audit.Audit.{Audit}
 use Rattle.hippo_model.specs.declared.audit.SharedRow.{SharedRow}
 use Rattle.hippo_model.specs.declared.query.Expr.{Expr}
@@ -29,14 +30,6 @@ use Rattle.hippo_shared.specs.Needs.{needs_by, first_needed}
 use Rattle.hippo_shared.specs.HistoryLaws.{sets_at}
 use Rattle.hippo_examining.specs.Seen.{to_be_seen}
 use Rattle.hippo_examining.specs.SharedLaws.{QueryNeedsOverRows, QueryNeedsWhatItHas, NeededServesFirst, SharedServesFirst}
-
-pub and_true : (b : Bool) → (b && true) ≡ b
-and_true true = refl
-and_true false = refl
-
-or_parts : (a b : Bool) → (a || b) ≡ false → (a ≡ false) × (b ≡ false)
-or_parts true b none = absurd (false≢true (sym none))
-or_parts false b none = (refl, none)
 
 -- where none of those that are out counts, as many count as are left
 same_left : {X : Type 0} (is_out counts : X → Bool) (xs : List X) → list_any (λ x. is_out x && counts x) xs ≡ false → filter counts (filter (λ x. not (is_out x)) xs) ≡ filter counts xs
@@ -74,7 +67,7 @@ module _ (choices : Choices) (query : Masked) (sets : List KeyedRows) (tuple : L
   combinations = product (rows_of sets)
 
   had_is : list_any (λ rows. is_out rows && counts rows) combinations ≡ query_has choices query [] sets tuple
-  had_is = λ i. list_any (λ rows. is_out rows && sym (and_true (counts rows)) i) combinations
+  had_is = λ i. list_any (λ rows. is_out rows && sym (and-true (counts rows)) i) combinations
 
   not_needed : (form : Form) → query_has choices query [] sets tuple ≡ false → needs_by choices query form sets tuple ≡ false
   not_needed form none =

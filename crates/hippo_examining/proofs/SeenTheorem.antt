@@ -5,7 +5,7 @@ use Rattle.std.specs.List.{AllByRecursion, flat_map, list_all, list_any}
 use Rattle.std.specs.Option.{option_map_or}
 use Rattle.std.specs.Ordering.{is_eq}
 use Rattle.std.specs.Cmp.{eq_by_cmp_equiv}
-use Rattle.std.proofs.lemmas.Bool.{and_parts, false≢true}
+use Rattle.std.proofs.lemmas.Bool.{and_parts, false≢true, or_right}
 use Rattle.std.proofs.lemmas.Option.{slice_get-get_or}
 use Rattle.hippo_values.specs.declared.names.Name.{Name}
 use Rattle.hippo_values.specs.declared.values.Value.{Value}
@@ -42,10 +42,6 @@ use Rattle.hippo_shared.proofs.KeyLemmas.{below_at}
 use Rattle.hippo_shared.proofs.HistoryLemmas.{rows_by, set_is}
 use Rattle.hippo_shared.proofs.TupleLemmas.{no_rows}
 use Rattle.hippo_examining.proofs.QueryTheorem.{schema_found}
-
-or_right : (a b : Bool) → b ≡ true → (a || b) ≡ true
-or_right true b e = refl
-or_right false b e = e
 
 -- a name at a place stands among the names
 pub stands-at : (names : List Name) (place : ℕ) → place < length names → list_any (bytes_eq (get_or names place [])) names ≡ true

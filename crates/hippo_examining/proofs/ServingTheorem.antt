@@ -5,6 +5,7 @@ use Rattle.std.specs.List.{AllByRecursion, flat_map, list_all, list_any}
 use Rattle.std.specs.Option.{option_map_or}
 use Rattle.std.proofs.lemmas.Bool.{and_parts}
 use Rattle.std.proofs.lemmas.Option.{slice_get-get_or}
+use Rattle.std.proofs.Math.Bool.{and-true}
 use Rattle.hippo_values.specs.declared.names.Name.{Name}
 use Rattle.hippo_model.specs.declared.audit.Audit.{Audit}
 use Rattle.hippo_model.specs.declared.audit.SharedRow.{SharedRow}
@@ -35,7 +36,7 @@ use Rattle.hippo_shared.proofs.CommonLemmas.{same_as_itself, common-in-query, co
 use Rattle.hippo_shared.proofs.SideLemmas.{one-of-product, any-of-product}
 use Rattle.hippo_examining.specs.Seen.{column_in_query, to_be_seen, IsCommon}
 use Rattle.hippo_examining.specs.SharedLaws.{QueryNeedsOverRows, NeededServesFirst}
-use Rattle.hippo_examining.proofs.PlainTheorem.{and_true, needed-had}
+use Rattle.hippo_examining.proofs.PlainTheorem.{needed-had}
 use Rattle.hippo_examining.proofs.SeenTheorem.{stands-at, in-common, product-has, seen-column}
 
 -- the members of a product's combinations are those of the lists
@@ -204,6 +205,6 @@ needed-serves of_query of_audit of_tuples shows = λ meaning history context que
     by_need : (needs audits all_seen : Bool) (had : List Expr → Bool) (exprs : List Expr) → (needs ≡ true → had [] ≡ true) → had exprs ≡ (had [] && all_seen) → (shown : Bool)
         → (needs && had (if shown then exprs else []) && audits) ≡ (needs && audits && (not shown || all_seen))
     by_need true audits all_seen had exprs has with_seen true = (λ i. (with_seen ∙ ap (λ (b : Bool). b && all_seen) (has refl)) i && audits) ∙ turned all_seen audits
-    by_need true audits all_seen had exprs has with_seen false = ap (λ (b : Bool). b && audits) (has refl) ∙ sym (and_true audits)
+    by_need true audits all_seen had exprs has with_seen false = ap (λ (b : Bool). b && audits) (has refl) ∙ sym (and-true audits)
     by_need false audits all_seen had exprs has with_seen true = refl
     by_need false audits all_seen had exprs has with_seen false = refl

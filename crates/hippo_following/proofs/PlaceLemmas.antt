@@ -3,7 +3,7 @@ use Rattle.std.proofs.Common.{◌≡◌, ℕ, suc, ◌<◌, ◌≤◌, Bool, tru
 use Rattle.std.specs.Prelude.{not, ◌||◌, nat_eq, nat_lt, slice_get, position, is_none, bytes_eq}
 use Rattle.std.specs.Cmp.Lexicographic.{nat_list_eq_equiv}
 use Rattle.std.specs.List.{list_any, list_all, cons_option, AllByRecursion, IsDistinct}
-use Rattle.std.proofs.lemmas.Bool.{and_parts, and_from, or_parts, ltb-true, lt-ltb, eqb-true, not-true, not_from_false, false_from_ne_true, false≢true}
+use Rattle.std.proofs.lemmas.Bool.{and_parts, and_from, or_parts, ltb-true, lt-ltb, eqb-true, not-true, not_from_false, false_from_ne_true, false≢true, or_from}
 use Rattle.std.proofs.lemmas.List.Quantifiers.{position-Some}
 use Rattle.std.proofs.lemmas.Map.Steps.{length-le_from_distinct_below}
 use Rattle.std.proofs.lemmas.Option.{slice_get-get_or}
@@ -71,17 +71,13 @@ places_within schema (name ∷ rest) =
       | Some place ↦ λ e. and_from _ _ (lt-ltb place (length schema.columns) (found_at schema name place e).within) (places_within schema rest)
     ] refl
 
-or_none : (a b : Bool) → a ≡ false → b ≡ false → (a || b) ≡ false
-or_none true b p q = p
-or_none false b p q = q
-
 -- what is not among some and one more
 none_of_two : (before : List Name) (name other : Name) → list_any (bytes_eq other) (before ++ name ∷ []) ≡ false → (list_any (bytes_eq other) before ≡ false) × (bytes_eq other name ≡ false)
 none_of_two [] name other none = (refl, (or_parts (bytes_eq other name) false none).0)
 none_of_two (first ∷ before) name other none =
     let parts = or_parts (bytes_eq other first) (list_any (bytes_eq other) (before ++ name ∷ [])) none in
     let later = none_of_two before name other parts.1 in
-    (or_none (bytes_eq other first) (list_any (bytes_eq other) before) parts.0 later.0, later.1)
+    (or_from (bytes_eq other first) (list_any (bytes_eq other) before) parts.0 later.0, later.1)
 
 abbrev are_new : List Name → List Name → Bool
 are_new before names = list_all (λ other. not (list_any (bytes_eq other) before)) names
@@ -92,7 +88,7 @@ new_of_two before name (other ∷ rest) all =
     let both = and_parts (not (list_any (bytes_eq other) (before ++ name ∷ []))) (are_new (before ++ name ∷ []) rest) all in
     let here = none_of_two before name other (not-true _ both.0) in
     let later = new_of_two before name rest both.1 in
-    (or_none (bytes_eq name other) (list_any (bytes_eq name) rest) (nat_list_eq_equiv.symm name other ∙ here.1) later.0, and_from _ _ (not_from_false (list_any (bytes_eq other) before) here.0) later.1)
+    (or_from (bytes_eq name other) (list_any (bytes_eq name) rest) (nat_list_eq_equiv.symm name other ∙ here.1) later.0, and_from _ _ (not_from_false (list_any (bytes_eq other) before) here.0) later.1)
 
 differ_after : (before names : List Name) → repeated_after before names ≡ [] → (are_new before names ≡ true) × (all_differ bytes_eq names ≡ true)
 differ_after before [] none = (refl, refl)
@@ -126,7 +122,7 @@ other_places schema name place is (other ∷ rest) none =
     let later = other_places schema name place is rest parts.1 in
     elim (place_of schema other) as (λ found. place_of schema other ≡ found → list_any (nat_eq place) (cons_option found (places_named schema rest)) ≡ false) [
       | None ↦ λ e. later
-      | Some second ↦ λ e. or_none (nat_eq place second) (list_any (nat_eq place) (places_named schema rest))
+      | Some second ↦ λ e. or_from (nat_eq place second) (list_any (nat_eq place) (places_named schema rest))
           (false_from_ne_true (nat_eq place second) (λ same.
           let twice : bytes_eq name other ≡ true = one_name schema name other second (is ∙ ap Some (eqb-true place second same)) e in
           false≢true (sym parts.0 ∙ twice))) later

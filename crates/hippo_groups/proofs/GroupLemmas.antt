@@ -8,10 +8,10 @@ use Rattle.std.proofs.lemmas.List.Elements.{filter-append}
 use Rattle.hippo_model.specs.Terms.{ShownRow, Place}
 use Rattle.hippo_model.specs.Bags.{same_row}
 use Rattle.hippo_model.specs.Forms.{different_rows}
+use Rattle.hippo_model.proofs.SameRows.{same_row-refl}
 use Rattle.hippo_distinct.specs.DistinctRows.{stands_in}
 use Rattle.hippo_distinct.proofs.DifferentLemmas.{if_new, different_rows-push}
 use Rattle.hippo_distinct.proofs.KeptLemmas.{same_row-sym, stands-different_rows}
-use Rattle.hippo_distinct.proofs.NeededRows.{same_row-refl}
 use Rattle.hippo_groups.specs.KeptGroups.{members_of, keys_of}
 
 pub stands-there : (row : ShownRow) (front back : List ShownRow) → stands_in row (front ++ row ∷ back) ≡ true

@@ -6,7 +6,7 @@ use Rattle.std.specs.List.Sorted.{IsStrictlyIncreasing, IsStrictlySortedBy}
 use Rattle.std.specs.Ordering.{is_eq, nat_cmp}
 use Rattle.std.specs.Cmp.Lexicographic.{slice_cmp}
 use Rattle.std.specs.declared.cmp.Ordering.TheVariants.{Less}
-use Rattle.std.proofs.lemmas.Bool.{and_parts, false≢true}
+use Rattle.std.proofs.lemmas.Bool.{and_parts, false≢true, or_left, or_right}
 use Rattle.std.proofs.lemmas.Bool.Decides.{nat_tests}
 use Rattle.std.proofs.lemmas.List.{append-nil, map-append, set-set}
 use Rattle.std.proofs.lemmas.List.FromFn.{get_or-range_with_len, length-range_with_len}
@@ -30,7 +30,7 @@ use Rattle.hippo_sides.specs.Visiting.{Completes, KeptOn, AreAll, Visited}
 use Rattle.hippo_lookups.proofs.PlaceSteps.{below_or_at, get_or_default, rises-range}
 use Rattle.hippo_join.proofs.ExistenceLemmas.{Fits-unset, fits-itself}
 use Rattle.hippo_sides.proofs.FindingLemmas.{before-chosen_rows, open-unchosen, open-within}
-use Rattle.hippo_sides.proofs.FoundLemmas.{has-both, has-filter, has-first, or-cases, or-left, or-right, same_places}
+use Rattle.hippo_sides.proofs.FoundLemmas.{has-both, has-filter, has-first, or-cases, same_places}
 use Rattle.hippo_sides.proofs.ProductLemmas.{Below, rising-append, same-first, has-places_of, rising-places_of}
 use Rattle.hippo_lookups.proofs.PruneLemmas.{in-range, long-enough}
 use Rattle.hippo_lookups.proofs.SlotLemmas.{Fits-open, Fits-set, Fits-whole}
@@ -65,7 +65,7 @@ has_alone places other has = elim (or-cases (is_eq (slice_cmp nat_cmp places oth
 
 each_has : (P : List Place → Type 0) (some : List (List Place)) → ((places : List Place) → has_places places some ≡ true → P places) → AllByRecursion P some
 each_has P [] all = tt
-each_has P (first ∷ some) all = (all first (has-first first some), each_has P some (λ places has. all places (or-right (is_eq (slice_cmp nat_cmp places first)) (has_places places some) has)))
+each_has P (first ∷ some) all = (all first (has-first first some), each_has P some (λ places has. all places (or_right (is_eq (slice_cmp nat_cmp places first)) (has_places places some) has)))
 
 rising_both : (some more : List (List Place)) → IsRising some → IsRising more → ((p q : List Place) → has_places p some ≡ true → has_places q more ≡ true → slice_cmp nat_cmp p q ≡ Less) → IsRising (some ++ more)
 rising_both some more a b lower = rising-append some more a b (each_has (λ p. Below p more) some (λ p has. each_has (λ q. slice_cmp nat_cmp p q ≡ Less) more (λ q there. lower p q has there)))
@@ -82,8 +82,8 @@ module _ (in_order : Bool) where
       | inr right ↦ inr (b.sound places right)
     ];
     whole = λ places is. has-both places some more ∙ (elim is as (λ _. (has_places places some || has_places places more) ≡ true) [
-      | inl left ↦ or-left (has_places places some) (has_places places more) (a.whole places left)
-      | inr right ↦ or-right (has_places places some) (has_places places more) (b.whole places right)
+      | inl left ↦ or_left (has_places places some) (has_places places more) (a.whole places left)
+      | inr right ↦ or_right (has_places places some) (has_places places more) (b.whole places right)
     ]);
     rising = λ asked. rising_both some more (a.rising asked) (b.rising asked) (λ p q has there. lower asked p q (a.sound p has) (b.sound q there));
   }

@@ -1,6 +1,7 @@
 -- What the checks of a question come to.
-use Rattle.std.proofs.Common.{◌≡◌, ◌≢◌, ◌⊎◌, ◌∙◌, inl, inr, refl, sym, ap, subst, Bool, true, false, ◌&&◌, List, [], ◌∷◌, Option, Some, Ok, Err}
+use Rattle.std.proofs.Common.{◌≡◌, ◌≢◌, ◌⊎◌, ◌∙◌, inl, inr, refl, sym, ap, subst, true, List, [], ◌∷◌, Option, Some, Ok, Err}
 use Rattle.std.specs.Prelude.{ℕ, length, is_none, is_some, flat_map, unwrap_or, slice_get}
+use Rattle.std.proofs.lemmas.Bool.{and_from}
 use Rattle.hippo_values.specs.Texts.{Txt}
 use Rattle.hippo_values.specs.declared.names.Name.{Name}
 use Rattle.hippo_values.specs.Results.{◌>>=◌}
@@ -65,16 +66,12 @@ pub judged_written : (written : WrittenQuestion) (text : Txt) (history : History
 judged_written written text history world session =
     judged_asked written.handing history world session written.select.now written.start written.end text
 
-both_true : (first second : Bool) → first ≡ true → second ≡ true → (first && second) ≡ true
-both_true true second one other = other
-both_true false second one other = absurd cc
-
 -- tables that are not refused are created
 created : (history : History) (names : List Name) → NamesAreThoseOf history → flat_map (unknown_table (known_at history)) names ≡ [] → are_created history names ≡ true
 created history [] known none = refl
 created history (name ∷ names) known none =
     let parts = none_of_both (fault_if (is_none (table_of (known_at history) name)) (UnknownTable name)) (flat_map (unknown_table (known_at history)) names) none in
-    both_true (is_some (schema_at history name)) (are_created history names)
+    and_from (is_some (schema_at history name)) (are_created history names)
     (ap is_some (sym (known.tables name)) ∙ there (table_of (known_at history) name) (UnknownTable name) parts.0)
     (created history names known parts.1)
 

@@ -3,7 +3,7 @@ use Rattle.std.proofs.Common.{◌≡◌, ◌≢◌, ◌∙◌, ◌≤◌, ◌<�
 use Rattle.std.specs.Prelude.{◌-◌, ◌&&◌, if◌then◌else◌, find, slice_get, nat_le, int_lt, unsigned_abs, unwrap_or}
 use Rattle.std.specs.Bool.{then_some}
 use Rattle.std.specs.Ordering.{int_eq}
-use Rattle.std.proofs.lemmas.Bool.{false≢true, and_parts}
+use Rattle.std.proofs.lemmas.Bool.{false≢true, and_parts, and_left}
 use Rattle.std.proofs.lemmas.Bool.Decides.{nat_tests, Decides-int_eq}
 use Rattle.std.proofs.lemmas.Cmp.{int_eq_equiv}
 use Rattle.std.proofs.lemmas.List.{take-append-drop, map-append, length-take-le}
@@ -81,10 +81,6 @@ int_off a b differ =
 int_same : (a : ℕ) → int_eq (pos a) (pos a) ≡ true
 int_same a = int_eq_equiv.refl (pos a)
 
-and_false : (a b : Bool) → a ≡ false → (a && b) ≡ false
-and_false true b e = absurd (false≢true (sym e))
-and_false false b e = refl
-
 abbrev asks : ℤ → Entry → Bool
 asks number entry = int_eq (pos entry.seq) number && is_question entry.act
 
@@ -97,7 +93,7 @@ module _ (history : History) (valid : is_valid meaning history ≡ true) where
   question_is place entry is =
       found_at (asks (pos entry.seq)) history place entry is (λ other one at differ.
       let numbers : one.seq ≢ entry.seq = λ e. differ (omega (arith, e, seq_of other one at, seq_of place entry is)) in
-      and_false (int_eq (pos one.seq) (pos entry.seq)) (is_question one.act) (int_off one.seq entry.seq numbers))
+      and_left (int_eq (pos one.seq) (pos entry.seq)) (is_question one.act) (int_off one.seq entry.seq numbers))
       ∙ ap (λ (b : Bool). then_some (b && is_question entry.act) entry) (int_same entry.seq)
 
 within : (place : Place) (history : History) (entry : Entry) → slice_get history place ≡ Some entry → place < length history
@@ -114,7 +110,7 @@ pub no_question : (history : History) (number : ℤ) → is_valid meaning histor
 no_question history (pos number) valid none =
     none_found (asks (pos number)) history (λ place entry is.
     let inside = within place history entry is in
-    and_false (int_eq (pos entry.seq) (pos number)) (is_question entry.act) (int_off entry.seq number (λ e. outside number (length history) none (omega (arith, e, inside, seq_of history valid place entry is)) (omega (arith, e, inside, seq_of history valid place entry is)))))
+    and_left (int_eq (pos entry.seq) (pos number)) (is_question entry.act) (int_off entry.seq number (λ e. outside number (length history) none (omega (arith, e, inside, seq_of history valid place entry is)) (omega (arith, e, inside, seq_of history valid place entry is)))))
   where
     not_below : (number : ℕ) → 1 ≤ number → int_lt (pos number) (pos 1) ≡ false
     not_below number from = grind (arith, nat_tests)
@@ -128,7 +124,7 @@ no_question history (pos number) valid none =
         let high : nat_le number count ≡ true = grind (arith, nat_tests) in
         none_some number (sym none ∙ ap (λ (b : Bool). if b then None else then_some (nat_le number count) number) low ∙ ap (λ (b : Bool). then_some b number) high)
 no_question history (negsuc number) valid none =
-    none_found (asks (negsuc number)) history (λ place entry is. and_false (int_eq (pos entry.seq) (negsuc number)) (is_question entry.act) (apart entry.seq number))
+    none_found (asks (negsuc number)) history (λ place entry is. and_left (int_eq (pos entry.seq) (negsuc number)) (is_question entry.act) (apart entry.seq number))
   where
     apart : (a b : ℕ) → int_eq (pos a) (negsuc b) ≡ false
     apart a b = refl

@@ -1,20 +1,16 @@
 -- The row that has a key, among rows of which one was put or taken.
-use Rattle.std.proofs.Common.{◌≡◌, true, false, ℕ, zero, suc, ◌<◌, List, [], ◌∷◌, map, length, get_or, Option, Some, None, if◌then◌else◌, slice_get, sym, ap, ◌∙◌, refl, subst, arith}
+use Rattle.std.proofs.Common.{◌≡◌, true, false, ℕ, zero, suc, ◌<◌, List, [], ◌∷◌, map, length, Option, Some, None, if◌then◌else◌, slice_get, sym, ap, ◌∙◌, refl, subst, arith}
 use Rattle.std.specs.Prelude.{option_and_then, option_map}
 use Rattle.std.specs.Ordering.{is_eq, match_ordering}
 use Rattle.std.specs.declared.cmp.Ordering.TheVariants.{Less, Equal, Greater}
 use Rattle.std.proofs.lemmas.Cmp.{tied_itself}
+use Rattle.std.proofs.lemmas.Option.{get_or_from_slice_get}
 use Rattle.hippo_model.specs.declared.born_row.BornRow.{BornRow}
 use Rattle.hippo_model.specs.Terms.{Key, Place, Row}
 use Rattle.hippo_values.specs.Order.{cells_cmp, same_cells}
 use Rattle.hippo_keyed_rows.specs.RowSets.{IsBelowAll, IsAscending, key_in, put_row, take_row, find_row, row_with}
 use Rattle.hippo_keyed_rows.proofs.Orders.{cells_total, cells_exact, same_exact}
 use Rattle.hippo_keyed_rows.proofs.KeptRows.{flipped, shown, find_row-found, slice_get-find_row}
-
-pub get_or-slice_get : {X : Type 0} (xs : List X) (i : ℕ) (x d : X) → slice_get xs i ≡ Some x → get_or xs i d ≡ x
-get_or-slice_get [] i x d at = cc
-get_or-slice_get (first ∷ rest) zero x d at = cc
-get_or-slice_get (first ∷ rest) (suc i) x d at = get_or-slice_get rest i x d at
 
 pub slice_get-within : {X : Type 0} (xs : List X) (i : ℕ) (x : X) → slice_get xs i ≡ Some x → i < length xs
 slice_get-within [] i x at = absurd cc
@@ -98,7 +94,7 @@ module _ (places : List Place) where
   pub find_row-at : (rows : List BornRow) (place : Place) (kept : BornRow) → IsAscending (map (key_in places) rows) → slice_get rows place ≡ Some kept → find_row places (key_in places kept) rows ≡ Some place
   find_row-at rows place kept ascends at =
       find_row-found places (key_in places kept) rows place ascends (slice_get-within rows place kept at) (λ d.
-      ap (λ (other : BornRow). cells_cmp (key_in places other) (key_in places kept)) (get_or-slice_get rows place kept d at) ∙ tied_itself cells_total (key_in places kept))
+      ap (λ (other : BornRow). cells_cmp (key_in places other) (key_in places kept)) (get_or_from_slice_get rows place kept d at) ∙ tied_itself cells_total (key_in places kept))
 
   -- where a row has a key, it stands at some place
   pub place-row_with : (rows : List BornRow) (key : Key) (kept : BornRow) → row_with key (shown places rows) ≡ Some kept → (place : Place) × (slice_get rows place ≡ Some kept)

@@ -3,7 +3,7 @@ use Rattle.std.proofs.Common.{◌≡◌, ℕ, zero, suc, ◌<◌, Bool, true, fa
 use Rattle.std.specs.Prelude.{filter, flat_map, find, is_some, option_and_then, ◌==◌, if◌then◌else◌}
 use Rattle.std.specs.List.{list_any, list_all}
 use Rattle.std.specs.Option.{option_map_or}
-use Rattle.std.proofs.lemmas.Bool.{and_parts, and_from, eqb-true}
+use Rattle.std.proofs.lemmas.Bool.{and_parts, and_from, eqb-true, or_from}
 use Rattle.std.proofs.lemmas.List.{get_or-map, length-map}
 use Rattle.std.proofs.lemmas.List.Folds.{list_all-append, list_all-map}
 use Rattle.std.proofs.lemmas.List.Concat.{flat_map-cons}
@@ -121,14 +121,11 @@ fails true false hit step none = refl
 fails true true true step none = absurd cc
 fails true true false step none = sym (step refl)
 
-neither : (a b : Bool) → a ≡ false → b ≡ false → (a || b) ≡ false
-neither a b left right = λ i. left i || right i
-
 none_lost : {A : Type 0} (out pass hit : A → Bool) → ((x : A) → pass x ≡ true → hit x ≡ true) → (xs : List A) → list_all (λ x. not (hit x)) xs ≡ true → list_any (λ x. out x && pass x) xs ≡ false
 none_lost out pass hit each [] all = refl
 none_lost out pass hit each (x ∷ xs) all =
     let both = and_parts (not (hit x)) (list_all (λ y. not (hit y)) xs) all in
-    neither (out x && pass x) (list_any (λ y. out y && pass y) xs) (fails (out x) (pass x) (hit x) (each x) both.0) (none_lost out pass hit each xs both.1)
+    or_from (out x && pass x) (list_any (λ y. out y && pass y) xs) (fails (out x) (pass x) (hit x) (each x) both.0) (none_lost out pass hit each xs both.1)
 
 middle_fails : (a b c : Bool) → b ≡ false → (a && b && c) ≡ false
 middle_fails true b c e = ap (λ x. x && c) e

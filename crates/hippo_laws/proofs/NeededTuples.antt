@@ -2,23 +2,13 @@
 use Rattle.std.proofs.Common.{◌≡◌, ℕ, ◌+◌, ◌<◌, Bool, true, false, not, cond, ◌&&◌, ◌||◌, List, [], ◌∷◌, ◌++◌, map, refl, sym, ap, ◌∙◌, arith}
 use Rattle.std.specs.Prelude.{filter, ◌==◌}
 use Rattle.std.specs.List.{list_any, list_all}
-use Rattle.std.specs.Cmp.{eq_by_cmp_equiv, nat_eq_equiv}
-use Rattle.std.proofs.lemmas.Bool.{and_parts, and_from, eqb-true}
+use Rattle.std.specs.Cmp.{nat_eq_equiv}
+use Rattle.std.proofs.lemmas.Bool.{and_parts, and_from, eqb-true, or_parts}
 use Rattle.std.proofs.lemmas.List.Sums.{sum_by-cons}
 use Rattle.std.proofs.lemmas.List.Folds.{list_all-append}
-use Rattle.hippo_model.specs.declared.cells.Cell.{Cell}
-use Rattle.hippo_model.specs.declared.cells.Cell.TheVariants.{Shown, Denied}
 use Rattle.hippo_model.specs.Terms.{ShownRow}
-use Rattle.hippo_model.specs.Bags.{same_cell, same_row, occurrences, same_bag}
-use Rattle.hippo_values.specs.OrderLaws.{value_total}
-
-same_cell-refl : (cell : Cell) → same_cell cell cell ≡ true
-same_cell-refl (Shown value) = (eq_by_cmp_equiv value_total).refl value
-same_cell-refl (Denied rule) = nat_eq_equiv.refl rule
-
-same_row-refl : (row : ShownRow) → same_row row row ≡ true
-same_row-refl [] = refl
-same_row-refl (cell ∷ row) = and_from _ _ (same_cell-refl cell) (same_row-refl row)
+use Rattle.hippo_model.specs.Bags.{same_row, occurrences, same_bag}
+use Rattle.hippo_model.proofs.SameRows.{same_row-refl}
 
 -- the same rows make the same bag
 same_counts : (rows some : List ShownRow) → list_all (λ row. occurrences row rows == occurrences row rows) some ≡ true
@@ -78,10 +68,6 @@ module _ {C : Type 0} (row_of : C → ShownRow) (passes is_out : C → Bool) whe
   same_if true false first whole part none e = e
   same_if false true first whole part none e = ap (λ (rows : List ShownRow). first ∷ rows) e
   same_if false false first whole part none e = e
-
-  or_parts : (x y : Bool) → (x || y) ≡ false → (x ≡ false) × (y ≡ false)
-  or_parts true y e = absurd cc
-  or_parts false y e = (refl, e)
 
   same_if_none : (combinations : List C) → list_any is_lost combinations ≡ false → left combinations ≡ answered combinations
   same_if_none [] none = refl

@@ -3,10 +3,11 @@ use Rattle.std.proofs.Common.{◌≡◌, ℕ, ◌+◌, ◌≤◌, false, List, l
 use Rattle.std.proofs.lemmas.Bool.Decides.{nat_tests}
 use Rattle.std.proofs.lemmas.List.{length-take}
 use Rattle.std.proofs.lemmas.List.Sums.{count_by-le-length}
+use Rattle.std.proofs.lemmas.Bool.{or_from}
 use Rattle.hippo_values.specs.Limits.{depth_limit}
 use Rattle.hippo_lexer.specs.declared.kinds.Token.{Token}
 use Rattle.hippo_lexer.specs.Words.{is_left_paren, is_right_paren, negates, token_count, is_steep, is_too_deep}
-use Rattle.hippo_lexer.proofs.RangeLemmas.{false_or, list_any-range_false}
+use Rattle.hippo_lexer.proofs.RangeLemmas.{list_any-range_false}
 
 not_above : (limit a b : ℕ) → b ≤ limit → nat_lt (a + limit) b ≡ false
 not_above limit a b few = grind (arith, nat_tests)
@@ -21,7 +22,7 @@ few_are_flat : (tokens : List Token) → length tokens ≤ depth_limit → is_to
 few_are_flat tokens few =
     let negated = count_by-le-length (λ (token : Token). negates token.kind) tokens in
     let no_steep = list_any-range_false (λ n. is_steep (take n tokens)) 0 (length tokens + 1) (λ n small. rw zero-add (flat_front tokens n few)) in
-    false_or _ _ no_steep (not_above depth_limit 0 (token_count negates tokens) (omega (arith, negated, few)))
+    or_from _ _ no_steep (not_above depth_limit 0 (token_count negates tokens) (omega (arith, negated, few)))
 
 test_fails : (limit n : ℕ) → n ≤ limit → nat_lt limit n ≡ false
 test_fails limit n few = grind (arith, nat_tests)

@@ -1,7 +1,7 @@
 -- At each byte that is no blank a token begins or a fault.
 use Rattle.std.proofs.Common.{◌≡◌, ℕ, ◌⊎◌, true, false, ◌||◌, List, ◌∷◌, ◌++◌, take, Option, Some, None, refl, sym, ap, ◌∙◌, inl, inr, IfSome, IfNone, ℤ}
 use Rattle.std.specs.Char.{is_ascii_alphabetic, is_ascii_digit}
-use Rattle.std.proofs.lemmas.Bool.{cases_Bool, eqb-true}
+use Rattle.std.proofs.lemmas.Bool.{cases_Bool, eqb-true, or_parts}
 use Rattle.std.proofs.lemmas.List.{take-append-drop}
 use Rattle.hippo_values.specs.Names.{is_word_byte, keyword_of}
 use Rattle.hippo_text_forms.specs.Dates.{IsDayText}
@@ -18,7 +18,7 @@ use Rattle.hippo_lexer.proofs.QuotedLemmas.{quoted_or_open}
 use Rattle.hippo_lexer.proofs.SignLemmas.{sign_or_none}
 use Rattle.hippo_lexer.proofs.TokenLemmas.{regrouped}
 use Rattle.hippo_lexer.proofs.WholeLemmas.{cut_whole, quoted_there, quoted_or_none}
-use Rattle.hippo_lexer.proofs.WordLemmas.{word_cases, or_false}
+use Rattle.hippo_lexer.proofs.WordLemmas.{word_cases}
 
 abbrev pub HasToken : List ℕ → Type 0
 HasToken bytes = (text : List ℕ) × (rest : List ℕ) × (kind : TokenKind) × (bytes ≡ text ++ rest) × IsToken text kind rest
@@ -87,7 +87,7 @@ sign_is : (place byte : ℕ) (rest : List ℕ) → is_blank byte ≡ false → i
 sign_is place byte rest blank letter numeral quote = elim (sign_or_none byte rest) [
   | inl found ↦ inl (found.0, found.1, _, found.3, a_sign found.0 found.1 found.2 found.4 found.5)
   | inr none ↦
-      let parts = or_false (is_ascii_digit byte) (is_minus byte) numeral in
+      let parts = or_parts (is_ascii_digit byte) (is_minus byte) numeral in
       inr (_, stray place byte _ rest (record { blank = blank; letter = letter; digit = parts.0; minus = parts.1; quote = quote; sign = none.0; longer = none.1 }) refl)
 ]
 

@@ -1,33 +1,22 @@
 -- A test of the numbers below a bound.
-use Rattle.std.proofs.Common.{◌≡◌, ℕ, zero, suc, ◌+◌, ◌<◌, Bool, true, false, ◌||◌, refl, arith, add-zero}
+use Rattle.std.proofs.Common.{◌≡◌, ℕ, zero, suc, ◌+◌, ◌<◌, Bool, true, false, refl, arith, add-zero}
 use Rattle.std.specs.List.{list_any, range_with_len}
-
-true_or_right : (a b : Bool) → b ≡ true → (a || b) ≡ true
-true_or_right true b h = refl
-true_or_right false b h = h
-
-true_or_left : (a b : Bool) → a ≡ true → (a || b) ≡ true
-true_or_left true b h = refl
-true_or_left false b h = cc
-
-pub false_or : (a b : Bool) → a ≡ false → b ≡ false → (a || b) ≡ false
-false_or true b h k = cc
-false_or false b h k = k
+use Rattle.std.proofs.lemmas.Bool.{or_from, or_left, or_right}
 
 -- one number from `low` on passes
 pub list_any-range_true : (test : ℕ → Bool) (low n k : ℕ) → k < n → test (low + k) ≡ true → list_any test (range_with_len low n) ≡ true
 list_any-range_true test low zero k small h = absurd (omega arith)
-list_any-range_true test low (suc n) zero small h = true_or_left (test low) _ (rw add-zero at h)
+list_any-range_true test low (suc n) zero small h = or_left (test low) _ (rw add-zero at h)
 list_any-range_true test low (suc n) (suc k) small h =
     let same : low + suc k ≡ low + 1 + k = omega arith in
-    true_or_right (test low) _ (list_any-range_true test (low + 1) n k (omega arith) (rw same at h))
+    or_right (test low) _ (list_any-range_true test (low + 1) n k (omega arith) (rw same at h))
 
 -- none passes
 pub list_any-range_false : (test : ℕ → Bool) (low n : ℕ) → ((k : ℕ) → k < n → test (low + k) ≡ false) → list_any test (range_with_len low n) ≡ false
 list_any-range_false test low zero h = refl
 list_any-range_false test low (suc n) h =
     let first : test (low + 0) ≡ false = h 0 (omega arith) in
-    false_or (test low) _ (rw add-zero at first)
+    or_from (test low) _ (rw add-zero at first)
     (list_any-range_false test (low + 1) n (λ k small.
     let same : low + suc k ≡ low + 1 + k = omega arith in
     let next : test (low + suc k) ≡ false = h (suc k) (omega arith) in

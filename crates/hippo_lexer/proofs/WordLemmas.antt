@@ -1,5 +1,5 @@
 -- Which kind of token a word is.
-use Rattle.std.proofs.Common.{◌≡◌, ℕ, ◌<◌, ◌≤◌, ◌⊎◌, Bool, true, false, not, ◌&&◌, ◌||◌, List, [], ◌∷◌, length, Option, Some, None, is_some, option_map, refl, sym, ap, ◌∙◌, inl, inr, arith, bytes_eq}
+use Rattle.std.proofs.Common.{◌≡◌, ℕ, ◌<◌, ◌≤◌, ◌⊎◌, Bool, true, false, not, ◌&&◌, List, [], ◌∷◌, length, Option, Some, None, is_some, option_map, refl, sym, ap, ◌∙◌, inl, inr, arith, bytes_eq}
 use Rattle.std.specs.Map.{keys_of}
 use Rattle.std.specs.Char.{to_ascii_lowercase}
 use Rattle.std.specs.List.{list_any, list_all}
@@ -55,10 +55,6 @@ keyword_not_refused word among = not-true (is_among unsupported_words word) (amo
 
 no_keyword : (word : List ℕ) → is_among grammar_words word ≡ false → keyword_of word ≡ None
 no_keyword word h = none_there (keyword_of word) (keyword-among word ∙ h)
-
-pub or_false : (a b : Bool) → (a || b) ≡ false → (a ≡ false) × (b ≡ false)
-or_false true b h = absurd (both_ways _ h refl)
-or_false false b h = (refl, h)
 
 not_among : (words : List (List ℕ)) (word : List ℕ) → list_all (λ known. nat_le (length known) 63) words ≡ true → 63 < length word → is_among words word ≡ false
 not_among words word short long = elim (cases_Bool (is_among words word)) [

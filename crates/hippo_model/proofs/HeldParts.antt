@@ -1,6 +1,7 @@
 -- A condition is true exactly where the parts of its outermost All are.
-use Rattle.std.proofs.Common.{◌≡◌, Bool, true, false, ◌&&◌, List, [], ◌∷◌, map, refl, sym, ap, subst, ◌∙◌}
+use Rattle.std.proofs.Common.{◌≡◌, Bool, true, ◌&&◌, List, [], ◌∷◌, map, refl, sym, ap, subst, ◌∙◌}
 use Rattle.std.specs.List.{list_all}
+use Rattle.std.proofs.Math.Bool.{and-true}
 use Rattle.hippo_values.specs.declared.values.Value.{Value}
 use Rattle.hippo_values.specs.declared.truths.Truth.{Truth}
 use Rattle.hippo_values.specs.declared.truths.Truth.TheVariants.{False, Unknown, True}
@@ -26,10 +27,6 @@ module _ {O : Type 0} (value : O → Value) where
   all_held [] = refl
   all_held (part ∷ parts) = ap (λ b. is_held part && b) (all_held parts) ∙ sym (true_both (truth value part) (least (map (truth value) parts)))
 
-  and_true : (b : Bool) → (b && true) ≡ b
-  and_true true = refl
-  and_true false = refl
-
   abbrev parts_in : CondOf-F O (CondOf O) → CondOf O → List (CondOf O)
   parts_in layer condition = elim layer [ All parts ↦ parts | _ ↦ condition ∷ [] ]
 
@@ -38,12 +35,12 @@ module _ {O : Type 0} (value : O → Value) where
 
   by_layer : (layer : CondOf-F O (CondOf O)) → list_all is_held (parts_in layer (roll-CondOf O layer)) ≡ is_held (roll-CondOf O layer)
   by_layer (All parts) = all_held parts ∙ sym (ap is_true (truth-All value parts)) ∙ sym (ap is_held (rolls-All parts))
-  by_layer (Any parts) = and_true (is_held (roll-CondOf O (Any parts)))
-  by_layer (Not part) = and_true (is_held (roll-CondOf O (Not part)))
-  by_layer (Compare op left right) = and_true (is_held (roll-CondOf O (Compare op left right)))
-  by_layer (Between operand low high) = and_true (is_held (roll-CondOf O (Between operand low high)))
-  by_layer (Among operand list) = and_true (is_held (roll-CondOf O (Among operand list)))
-  by_layer (Missing operand) = and_true (is_held (roll-CondOf O (Missing operand)))
+  by_layer (Any parts) = and-true (is_held (roll-CondOf O (Any parts)))
+  by_layer (Not part) = and-true (is_held (roll-CondOf O (Not part)))
+  by_layer (Compare op left right) = and-true (is_held (roll-CondOf O (Compare op left right)))
+  by_layer (Between operand low high) = and-true (is_held (roll-CondOf O (Between operand low high)))
+  by_layer (Among operand list) = and-true (is_held (roll-CondOf O (Among operand list)))
+  by_layer (Missing operand) = and-true (is_held (roll-CondOf O (Missing operand)))
 
   opened : (layer : CondOf-F O (CondOf O)) → IsSame (roll-CondOf O layer)
   opened layer = subst (λ (l : CondOf-F O (CondOf O)). list_all is_held (parts_in l (roll-CondOf O layer)) ≡ is_held (roll-CondOf O layer)) (sym (out-roll-CondOf O layer)) (by_layer layer)

@@ -6,3 +6,4 @@ pub mod ChangedOperands
 pub mod CopiedConditions
 pub mod OuterParts
 pub mod HeldParts
+pub mod SameRows

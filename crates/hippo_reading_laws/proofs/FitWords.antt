@@ -2,7 +2,7 @@
 use Rattle.std.proofs.Common.{◌≡◌, ℕ, suc, ◌+◌, ◌≤◌, ◌<◌, true, false, Bool, cond, ◌||◌, List, [], ◌∷◌, ◌++◌, length, take, Option, Some, None, Result, Ok, Err, refl, sym, ap, ◌∙◌, inl, inr, arith, zero-add}
 use Rattle.std.specs.Prelude.{count_by, position, nat_lt, if◌then◌else◌}
 use Rattle.std.specs.List.{list_any, position_or_len, range_with_len}
-use Rattle.std.proofs.lemmas.Bool.{cases_Bool, both_ways, ltb-false, le-ltb}
+use Rattle.std.proofs.lemmas.Bool.{cases_Bool, both_ways, ltb-false, le-ltb, or_parts}
 use Rattle.std.proofs.lemmas.List.{length-append, length-map, take-append-le, take-map}
 use Rattle.std.proofs.lemmas.List.Folds.{list_any-append}
 use Rattle.std.proofs.lemmas.List.Sums.{sum_by-cons, sum_by-append}
@@ -13,7 +13,6 @@ use Rattle.hippo_lexer.specs.declared.faults.SyntaxFault.{SyntaxFault}
 use Rattle.hippo_lexer.specs.declared.faults.SyntaxFault.TheVariants.{TooDeep}
 use Rattle.hippo_lexer.specs.Words.{is_left_paren, is_right_paren, negates, is_unsupported, token_count, is_steep, support_of, words_check}
 use Rattle.hippo_lexer.proofs.RangeLemmas.{list_any-range_true, list_any-range_false}
-use Rattle.hippo_lexer.proofs.WordLemmas.{or_false}
 use Rattle.hippo_spj_reader.specs.Front.{Kinds, kinds}
 
 -- parentheses and NOT are at most 64 deep, and no word is refused
@@ -47,7 +46,7 @@ past_all test (x ∷ xs) past = elim (cases_Bool (test x)) [
 all_past : {X : Type 0} (test : X → Bool) (xs : List X) → list_any test xs ≡ false → length xs ≤ position_or_len test xs
 all_past test [] none = omega arith
 all_past test (x ∷ xs) none =
-    let parts = or_false (test x) (list_any test xs) none in
+    let parts = or_parts (test x) (list_any test xs) none in
     rw parts.0 (let more = all_past test xs parts.1 in omega arith)
 
 none-position : {X : Type 0} (test : X → Bool) (xs : List X) → position test xs ≡ None → list_any test xs ≡ false
@@ -116,6 +115,6 @@ fit-part skipped front rest closed fit = record {
       omega (arith, level, sum_by-append (λ (k : TokenKind). cond (is_left_paren k) 1 0) skipped (take n front), sum_by-append (λ (k : TokenKind). cond (is_right_paren k) 1 0) skipped (take n front), closed);
   few = omega (arith, fit.few, sum_by-append (λ (k : TokenKind). cond (negates k) 1 0) skipped (front ++ rest), sum_by-append (λ (k : TokenKind). cond (negates k) 1 0) front rest);
   supported =
-      (let behind = or_false (list_any is_unsupported skipped) (list_any is_unsupported (front ++ rest)) (sym (list_any-append is_unsupported skipped (front ++ rest)) ∙ fit.supported) in
-      (or_false (list_any is_unsupported front) (list_any is_unsupported rest) (sym (list_any-append is_unsupported front rest) ∙ behind.1)).0);
+      (let behind = or_parts (list_any is_unsupported skipped) (list_any is_unsupported (front ++ rest)) (sym (list_any-append is_unsupported skipped (front ++ rest)) ∙ fit.supported) in
+      (or_parts (list_any is_unsupported front) (list_any is_unsupported rest) (sym (list_any-append is_unsupported front rest) ∙ behind.1)).0);
 }

@@ -5,6 +5,7 @@ use Rattle.std.specs.List.{list_any}
 use Rattle.std.proofs.lemmas.List.{append-nil}
 use Rattle.std.proofs.lemmas.List.Elements.{filter-append}
 use Rattle.std.proofs.lemmas.List.Folds.{list_any-append}
+use Rattle.std.proofs.Math.Bool.{or-false, and-true}
 use Rattle.hippo_model.specs.declared.audit.Audit.{Audit}
 use Rattle.hippo_model.specs.declared.audit.SharedRow.{SharedRow}
 use Rattle.hippo_model.specs.declared.query.Form.{Form}
@@ -61,11 +62,7 @@ needs_is choices query form sets tuple left whole left_is whole_is same is =
 -- one combination more that may be what is looked for
 pub any_more : (test : Combination → Bool) (before : List Combination) (combo : Combination) (so_far found : Bool) → so_far ≡ list_any test before → so_far ≡ false → found ≡ test combo → found ≡ list_any test (before ++ combo ∷ [])
 any_more test before combo so_far found is none found_is =
-    found_is ∙ sym (or_none (test combo)) ∙ sym (ap (λ (b : Bool). b || list_any test (combo ∷ [])) (sym is ∙ none)) ∙ sym (list_any-append test before (combo ∷ []))
-  where
-    or_none : (b : Bool) → (b || false) ≡ b
-    or_none true = refl
-    or_none false = refl
+    found_is ∙ sym (or-false (test combo)) ∙ sym (ap (λ (b : Bool). b || list_any test (combo ∷ [])) (sym is ∙ none)) ∙ sym (list_any-append test before (combo ∷ []))
 
 -- and whatever follows one that was found
 pub any_enough : (test : Combination → Bool) (before more : List Combination) (so_far : Bool) → so_far ≡ list_any test before → so_far ≡ true → so_far ≡ list_any test (before ++ more)
@@ -74,11 +71,7 @@ any_enough test before more so_far is found =
 
 -- an audit needs a tuple by removal exactly where it has it
 module _ (choices : Choices) (audit : Audit) (sets : List KeyedRows) (tuple : List SharedRow) where
-  and_true : (b : Bool) → (b && true) ≡ b
-  and_true true = refl
-  and_true false = refl
-
   pub audit_needs_by : needs_by choices (unmasked_query audit) Plain sets tuple ≡ audit_has audit sets tuple
   audit_needs_by =
       plain-needs choices (unmasked_query audit) sets tuple
-      ∙ (λ i. list_any (λ (rows : Combination). has_tuple_in audit.tables sets tuple rows && (and_true (masked_passes choices (unmasked_query audit) rows) ∙ passes-unmasked_operand choices audit.cond rows) i) (product (rows_of sets)))
+      ∙ (λ i. list_any (λ (rows : Combination). has_tuple_in audit.tables sets tuple rows && (and-true (masked_passes choices (unmasked_query audit) rows) ∙ passes-unmasked_operand choices audit.cond rows) i) (product (rows_of sets)))

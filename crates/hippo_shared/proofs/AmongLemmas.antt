@@ -9,6 +9,7 @@ use Rattle.std.proofs.lemmas.Cmp.{nat_list_cmp_total}
 use Rattle.std.proofs.lemmas.List.{drop_all}
 use Rattle.std.proofs.lemmas.Option.{slice_get_read}
 use Rattle.std.proofs.lemmas.List.Kept.{IsStrictlySortedBy-filter}
+use Rattle.std.proofs.Math.Bool.{or-true}
 use Rattle.hippo_model.specs.Terms.{Place}
 use Rattle.hippo_keyed_rows.specs.RowSets.{KeyedRows}
 use Rattle.hippo_sides.specs.Finding.{has_places, IsRising}
@@ -54,15 +55,11 @@ module _ (holds : List Place → Type 0) where
   found-among test [] agree (Some places) first = absurd first
   found-among test (c ∷ candidates) agree found first = by (test c) refl (λ other. found-among test candidates later other) found first
     where
-      or_true : (b : Bool) → (b || true) ≡ true
-      or_true true = refl
-      or_true false = refl
-
       here : Agrees test c
       here = agree c (ap (λ b. b || has_places c candidates) ((eq_by_cmp_equiv nat_list_cmp_total).refl c))
 
       later : (places : List Place) → has_places places candidates ≡ true → Agrees test places
-      later places has = agree places (ap (λ b. is_eq (slice_cmp nat_cmp places c) || b) has ∙ or_true (is_eq (slice_cmp nat_cmp places c)))
+      later places has = agree places (ap (λ b. is_eq (slice_cmp nat_cmp places c) || b) has ∙ or-true (is_eq (slice_cmp nat_cmp places c)))
 
       by : (passes : Bool) → test c ≡ passes → ((other : Option (List Place)) → IsFirstAmong holds candidates other → find test candidates ≡ other) → (found : Option (List Place)) → IsFirstAmong holds (c ∷ candidates) found → find test (c ∷ candidates) ≡ found
       by true e behind None first = absurd (first.0 (here.1 e))

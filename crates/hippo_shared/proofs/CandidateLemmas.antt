@@ -9,6 +9,7 @@ use Rattle.std.specs.Cmp.Lexicographic.{slice_cmp}
 use Rattle.std.proofs.lemmas.Bool.{and_parts, false≢true}
 use Rattle.std.proofs.lemmas.Cmp.{nat_list_cmp_total}
 use Rattle.std.proofs.lemmas.Option.{slice_get-get_or}
+use Rattle.std.proofs.Math.Bool.{or-true}
 use Rattle.hippo_values.specs.declared.names.Name.{Name}
 use Rattle.hippo_model.specs.declared.audit.SharedRow.{SharedRow}
 use Rattle.hippo_model.specs.Terms.{Place, Combination}
@@ -37,15 +38,11 @@ from_all P (x ∷ xs) all = (all 0 x (omega arith), from_all P xs (λ k d within
 each_chosen : (sets : List KeyedRows) (P : Combination → Type 0) → ((places : List Place) → in_range sets places ≡ true → P (chosen_rows sets places)) → AllByRecursion P (product (rows_of sets))
 each_chosen sets P holds = subst (λ (all : List Combination). AllByRecursion P all) (sym (product-rows sets)) (each (places_of sets) (λ places has. holds places (sym (has-places_of sets places) ∙ has)))
   where
-    or_true : (b : Bool) → (b || true) ≡ true
-    or_true true = refl
-    or_true false = refl
-
     each : (some : List (List Place)) → ((places : List Place) → has_places places some ≡ true → P (chosen_rows sets places)) → AllByRecursion P (map (chosen_rows sets) some)
     each [] holds = tt
     each (first ∷ some) holds = (
       holds first (ap (λ b. b || has_places first some) ((eq_by_cmp_equiv nat_list_cmp_total).refl first)),
-      each some (λ places has. holds places (ap (λ b. is_eq (slice_cmp nat_cmp places first) || b) has ∙ or_true (is_eq (slice_cmp nat_cmp places first)))),
+      each some (λ places has. holds places (ap (λ b. is_eq (slice_cmp nat_cmp places first) || b) has ∙ or-true (is_eq (slice_cmp nat_cmp places first)))),
     )
 
 module _ (query audit : List Name) (query_sets audit_sets : List KeyedRows) (long_query : length query_sets ≡ length query) (long_audit : length audit_sets ≡ length audit)

@@ -2,7 +2,7 @@
 use Rattle.std.proofs.Common.{◌≡◌, ℕ, zero, suc, ◌+◌, ◌<◌, Bool, true, false, ◌||◌, not, cond, List, [], ◌∷◌, map, length, get_or, refl, sym, ap, subst, ◌∙◌, Option, Some, None, arith, replicate}
 use Rattle.std.specs.Prelude.{slice_get, slice_set, bytes_eq}
 use Rattle.std.specs.List.{list_any, AllByRecursion, IsDistinct}
-use Rattle.std.proofs.lemmas.Bool.{false≢true}
+use Rattle.std.proofs.lemmas.Bool.{false≢true, or_right}
 use Rattle.std.proofs.lemmas.Slice.Eq.{bytes_eq-Decides}
 use Rattle.hippo_values.specs.declared.names.Name.{Name}
 use Rattle.hippo_model.specs.Terms.{Place}
@@ -39,10 +39,6 @@ InBoth query audit table = (list_any (bytes_eq table) query ≡ true) × (list_a
 all_more : (P Q : Name → Type 0) → ((name : Name) → P name → Q name) → (names : List Name) → AllByRecursion P names → AllByRecursion Q names
 all_more P Q stage [] all = tt
 all_more P Q stage (name ∷ names) all = (stage name all.0, all_more P Q stage names all.1)
-
-or_right : (a b : Bool) → b ≡ true → (a || b) ≡ true
-or_right true b e = refl
-or_right false b e = e
 
 each_stands : (names : List Name) → AllByRecursion (λ name. list_any (bytes_eq name) names ≡ true) names
 each_stands [] = tt

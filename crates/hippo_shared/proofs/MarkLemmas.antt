@@ -12,6 +12,7 @@ use Rattle.std.proofs.lemmas.Cmp.{nat_list_cmp_total}
 use Rattle.std.proofs.lemmas.List.Folds.{list_all-append}
 use Rattle.std.proofs.lemmas.Option.{slice_get_past}
 use Rattle.std.proofs.lemmas.Slice.Eq.{bytes_eq-Decides}
+use Rattle.std.proofs.Math.Bool.{and-true}
 use Rattle.hippo_values.specs.Order.{cells_cmp, same_cells}
 use Rattle.hippo_model.specs.declared.born_row.BornRow.{BornRow}
 use Rattle.hippo_model.specs.Terms.{Row, Place, Combination}
@@ -89,11 +90,7 @@ place_like-own set place ascends within =
 
 -- ---- one combination more
 all_more : (first : List Place) (rest : List (List Place)) (places : List Place) → list_all (same_places first) (rest ++ places ∷ []) ≡ (list_all (same_places first) rest && same_places first places)
-all_more first rest places = list_all-append (same_places first) rest (places ∷ []) ∙ ap (λ b. list_all (same_places first) rest && b) (and_true (same_places first places))
-  where
-    and_true : (b : Bool) → (b && true) ≡ b
-    and_true true = refl
-    and_true false = refl
+all_more first rest places = list_all-append (same_places first) rest (places ∷ []) ∙ ap (λ b. list_all (same_places first) rest && b) (and-true (same_places first places))
 
 -- one that has the same tuple, or is the first
 pub mark-same : (mark : Mark) (tuples : List (List Place)) (places : List Place) → mark ≡ mark_of tuples → has_no_other places mark ≡ true → One places ≡ mark_of (tuples ++ places ∷ [])

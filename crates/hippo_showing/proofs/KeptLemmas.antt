@@ -1,8 +1,7 @@
 -- Stored entries, shown one after the other.
-use Rattle.std.proofs.Common.{◌≡◌, ◌≢◌, ◌∙◌, ℕ, ◌+◌, ◌<◌, ◌≤◌, Bool, true, false, [], ◌∷◌, ◌++◌, map, length, take, drop, get_or, Option, Some, None, refl, sym, ap, subst, append_assoc, arith}
-use Rattle.std.specs.Prelude.{◌&&◌}
+use Rattle.std.proofs.Common.{◌≡◌, ◌≢◌, ◌∙◌, ℕ, ◌+◌, ◌<◌, ◌≤◌, [], ◌∷◌, ◌++◌, map, length, take, drop, get_or, Option, Some, None, refl, sym, ap, subst, append_assoc, arith}
 use Rattle.std.specs.List.{list_all}
-use Rattle.std.proofs.lemmas.Bool.{and_parts}
+use Rattle.std.proofs.lemmas.Bool.{and_parts, and_from}
 use Rattle.std.proofs.lemmas.List.{take-append-drop}
 use Rattle.hippo_values.specs.Texts.{Txt}
 use Rattle.hippo_values.specs.declared.moments.Moment.{Moment}
@@ -41,7 +40,7 @@ split (kept ∷ first) second (entry ∷ entries) has =
       front = entry ∷ rest.front;
       later = rest.later;
       parts = ap (λ (h : History). entry ∷ h) rest.parts;
-      first_forms = record { forms = λ i. one has.forms i ∷ rest.first_forms.forms i; keepable = both (is_keepable entry) (list_all is_keepable rest.front) can.0 rest.first_forms.keepable };
+      first_forms = record { forms = λ i. one has.forms i ∷ rest.first_forms.forms i; keepable = and_from (is_keepable entry) (list_all is_keepable rest.front) can.0 rest.first_forms.keepable };
       second_forms = rest.second_forms;
     }
   where
@@ -50,10 +49,6 @@ split (kept ∷ first) second (entry ∷ entries) has =
 
     others : stored entry ∷ map stored entries ≡ kept ∷ (first ++ second) → map stored entries ≡ first ++ second
     others e = cc
-
-    both : (a b : Bool) → a ≡ true → b ≡ true → (a && b) ≡ true
-    both true b p q = q
-    both false b p q = p
 
 module _ (known : KnownNames) (excerpt : Excerpt) where
   -- entries, and others behind them

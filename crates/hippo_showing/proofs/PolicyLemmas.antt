@@ -4,7 +4,7 @@ use Rattle.std.specs.Prelude.{◌||◌, is_some, is_none, nat_eq, nat_lt, bytes_
 use Rattle.std.specs.Bool.{then_some}
 use Rattle.std.specs.List.{list_any, range_with_len}
 use Rattle.std.specs.Option.{option_or, option_map_or}
-use Rattle.std.proofs.lemmas.Bool.{and_parts, false≢true}
+use Rattle.std.proofs.lemmas.Bool.{and_parts, false≢true, false_from_ne_true}
 use Rattle.std.proofs.lemmas.Grind.{flat_map-append}
 use Rattle.std.proofs.lemmas.List.{append-nil, take-append-drop}
 use Rattle.std.proofs.lemmas.Slice.Eq.{bytes_eq-Decides}
@@ -134,14 +134,10 @@ flat_none f (x ∷ list) none = λ i. none x i ++ flat_none f list none i
 flat_same : {A : Type 0} (f : A → Txt) (list : List A) (x : A) → f x ≡ [] → flat_map f (list ++ x ∷ []) ≡ flat_map f list
 flat_same f list x none = flat_map-append f list (x ∷ []) ∙ ap (λ (t : Txt). flat_map f list ++ (t ++ [])) none ∙ append-nil (flat_map f list)
 
-false_by : (b : Bool) → (b ≡ true → ⊥) → b ≡ false
-false_by true never = absurd (never refl)
-false_by false never = refl
-
 module _ (front : History) (valid : is_valid meaning front ≡ true) (format : Format) (scope : Scope) where
   no_text : (purpose recipient : Name) (schema : Schema) → (Exists front purpose recipient schema.name → ⊥) → table_shown format scope front purpose recipient schema ≡ []
   no_text purpose recipient schema none =
-      let unruled = false_by (is_ruled front purpose recipient schema) (λ is. none (ruled_exist front valid purpose recipient schema is)) in
+      let unruled = false_from_ne_true (is_ruled front purpose recipient schema) (λ is. none (ruled_exist front valid purpose recipient schema is)) in
       by_scope (has_table scope schema.name) (is_ruled front purpose recipient schema) unruled
     where
       by_scope : (asked ruled : Bool) → ruled ≡ false → cond (asked && ruled) (columns_shown format front purpose recipient schema) [] ≡ []

@@ -12,7 +12,7 @@ use Rattle.std.specs.Ordering.{is_eq, nat_cmp}
 use Rattle.std.specs.Cmp.Lexicographic.{slice_cmp}
 use Rattle.std.specs.Cmp.{eq_by_cmp_equiv}
 use Rattle.std.proofs.lemmas.Cmp.{nat_list_cmp_total}
-use Rattle.std.proofs.lemmas.Bool.{false≢true}
+use Rattle.std.proofs.lemmas.Bool.{false≢true, or_left}
 use Rattle.std.proofs.lemmas.Bool.Decides.{nat_tests}
 use Rattle.std.proofs.lemmas.Option.{slice_get-get_or}
 use Rattle.hippo_model.specs.declared.query.Masked.{Masked}
@@ -25,7 +25,7 @@ use Rattle.hippo_lookups.specs.Known.{is_chosen, is_open}
 use Rattle.hippo_sides.specs.Stages.{AreStages}
 use Rattle.hippo_sides.specs.Walking.{IsWalkable, AreWalkable, CanWalk}
 use Rattle.hippo_sides.specs.Finding.{has_places, Covers, HasOnePlaceMore, AreFound}
-use Rattle.hippo_sides.proofs.FoundLemmas.{has-both, or-cases, or-left}
+use Rattle.hippo_sides.proofs.FoundLemmas.{has-both, or-cases}
 use Rattle.hippo_lookups.proofs.PlaceSteps.{map_push}
 
 -- a test of places, one table after the other
@@ -289,7 +289,7 @@ module _ (limit : ℕ) (visited : List (List Place)) (found : List (List Place))
   -- there are too many, whatever follows
   pub found-enough : (more : List (List Place)) → limit < length found → AreFound (λ places. has_places places (visited ++ more) ≡ true) limit found
   found-enough more many = record {
-    sound = λ places has. has-both places visited more ∙ or-left (has_places places visited) (has_places places more) (are.sound places has);
+    sound = λ places has. has-both places visited more ∙ or_left (has_places places visited) (has_places places more) (are.sound places has);
     whole = λ few. absurd (omega (arith, few, many));
   }
 

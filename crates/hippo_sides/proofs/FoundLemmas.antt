@@ -7,7 +7,7 @@ use Rattle.std.specs.declared.cmp.Ordering.{Ordering}
 use Rattle.std.specs.declared.cmp.Ordering.TheVariants.{Less, Equal, Greater}
 use Rattle.std.specs.Cmp.Lexicographic.{slice_cmp}
 use Rattle.std.specs.Cmp.{IsTotalOrder, eq_by_cmp_equiv}
-use Rattle.std.proofs.lemmas.Bool.{false≢true}
+use Rattle.std.proofs.lemmas.Bool.{false≢true, or_left}
 use Rattle.std.proofs.lemmas.Cmp.{nat_list_cmp_total}
 use Rattle.std.proofs.lemmas.List.Folds.{list_any-append}
 use Rattle.std.proofs.lemmas.List.Kept.{IsStrictlySortedBy-filter}
@@ -39,13 +39,6 @@ same_as_itself c = (eq_by_cmp_equiv total).refl c
 pub same_places : (c d : List Place) → is_eq (slice_cmp nat_cmp c d) ≡ true → c ≡ d
 same_places c d same = by_order (slice_cmp nat_cmp c d) (λ e. absurd (false≢true (sym (ap is_eq e) ∙ same))) (λ e. exact_bytes c d e) (λ e. absurd (false≢true (sym (ap is_eq e) ∙ same)))
 
-pub or-left : (x y : Bool) → x ≡ true → (x || y) ≡ true
-or-left x y e = ap (λ b. b || y) e
-
-pub or-right : (x y : Bool) → y ≡ true → (x || y) ≡ true
-or-right true y e = refl
-or-right false y e = e
-
 pub or-cases : (x y : Bool) → (x || y) ≡ true → (x ≡ true) ⊎ (y ≡ true)
 or-cases true y e = inl refl
 or-cases false y e = inr e
@@ -64,7 +57,7 @@ lower c d [] less below = tt
 lower c d (other ∷ rest) less below = (total.trans c d other less below.0, lower c d rest less below.1)
 
 pub has-first : (c : List Place) (rest : List (List Place)) → has_places c (c ∷ rest) ≡ true
-has-first c rest = or-left (is_eq (slice_cmp nat_cmp c c)) (has_places c rest) (same_as_itself c)
+has-first c rest = or_left (is_eq (slice_cmp nat_cmp c c)) (has_places c rest) (same_as_itself c)
 
 not_here : (c d : List Place) (rest : List (List Place)) → slice_cmp nat_cmp c d ≡ Less → Below d rest → has_places c (d ∷ rest) ≡ false
 not_here c d rest less below = absent c (d ∷ rest) (less, lower c d rest less below)

@@ -3,7 +3,7 @@ use Rattle.std.proofs.Common.{◌≡◌, ◌∙◌, sym, ap, refl, subst, arith,
 use Rattle.std.specs.Prelude.{◌&&◌, is_some, option_and_then, if◌then◌else◌}
 use Rattle.std.specs.List.{AllByRecursion, cons_option}
 use Rattle.std.specs.Option.{option_map_or}
-use Rattle.std.proofs.lemmas.Bool.{and_parts, false≢true}
+use Rattle.std.proofs.lemmas.Bool.{and_parts, false≢true, and_from}
 use Rattle.std.proofs.lemmas.List.{take_all}
 use Rattle.hippo_values.specs.Texts.{Txt}
 use Rattle.hippo_values.specs.declared.names.Name.{Name}
@@ -37,14 +37,11 @@ use Rattle.hippo_examining.proofs.PastLemmas.{created_by_meaning, are_common}
 use Rattle.hippo_watch.specs.declared.alarms.AskedNow.{AskedNow}
 use Rattle.hippo_watch.specs.Alarms.{AreOfSome, IsPresentOf, asked_next, IsAskedNext, ServesNow, SharesNext}
 
-both_true : (first second : Bool) → first ≡ true → second ≡ true → (first && second) ≡ true
-both_true first second one other = λ i. one i && other i
-
 -- ---- tables that are there
 all_created : (history : History) (names : List Name) → AllByRecursion (λ table. is_some (schema_at history table) ≡ true) names → are_created history names ≡ true
 all_created history [] all = refl
 all_created history (name ∷ names) all =
-    both_true (is_some (schema_at history name)) (are_created history names) all.0 (all_created history names all.1)
+    and_from (is_some (schema_at history name)) (are_created history names) all.0 (all_created history names all.1)
 
 abbrev set_of : History → Option Schema → KeyedRows
 set_of history found = option_map_or (λ schema. kept_at schema history) found (record { key = []; rows = [] })
@@ -117,7 +114,7 @@ module _ (asked : AskedNow) (audit : Audit) (answer : Bool)
   pub nothing_missing : answer ≡ false → ServesNow asked audit None
   nothing_missing none = λ history present its names created.
       absurd (false≢true (sym none ∙ at_hand history present.tables_are
-      ∙ both_true (are_created history audit.tables) (are_created history asked.query.now.tables) (all_created history audit.tables its.created) created))
+      ∙ and_from (are_created history audit.tables) (are_created history asked.query.now.tables) (all_created history audit.tables its.created) created))
 
 -- ---- the question as the next entry
 front_is : (history : History) → take (length history + 1 - 1) history ≡ history

@@ -1,15 +1,16 @@
 -- One mark after the other.
 use Rattle.std.proofs.Common.{◌||◌, ◌∙◌}
 use Rattle.std.specs.List.{list_any}
+use Rattle.std.proofs.Math.Bool.{or-false}
 use Rattle.hippo_sides.specs.Finding.{has_places}
 use Rattle.hippo_shared.specs.Marks.{is_one}
-use Rattle.hippo_examining.proofs.AloneLemmas.{one-taken, none-left, or_false}
+use Rattle.hippo_examining.proofs.TakenLemmas.{one-taken, none-left}
 use Rattle.hippo_examining.proofs.alone.alone.Goals as goal
 
 pub loop-mark-init : goal.loop-mark-init
 loop-mark-init c = λ places.
     (λ i. list_any (λ entry. is_one places entry.1) (c.into_iter-mark-iterator.ensures.into_iter_gives.0 i) || has_places places (c.new-candidates.ensures.empty i))
-    ∙ or_false (list_any (λ entry. is_one places entry.1) c.args.marks.entries)
+    ∙ or-false (list_any (λ entry. is_one places entry.1) c.args.marks.entries)
 
 pub loop-mark-preserved : goal.loop-mark-preserved
 loop-mark-preserved c = λ places.

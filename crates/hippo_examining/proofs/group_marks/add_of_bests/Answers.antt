@@ -4,7 +4,7 @@ use Rattle.std.specs.List.{list_any}
 use Rattle.std.specs.Vec.Iter.{into_iter_items}
 use Rattle.hippo_sides.specs.Finding.{has_places}
 use Rattle.hippo_examining.specs.GroupMarks.{is_best_changed}
-use Rattle.hippo_examining.proofs.MarkLemmas.{one-taken, all-taken}
+use Rattle.hippo_examining.proofs.TakenLemmas.{one-taken, all-taken}
 use Rattle.hippo_examining.proofs.group_marks.add_of_bests.Goals as goal
 
 pub loop-best-init : goal.loop-best-init

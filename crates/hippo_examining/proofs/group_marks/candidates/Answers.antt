@@ -2,15 +2,16 @@
 use Rattle.std.proofs.Common.{◌||◌, ◌∙◌}
 use Rattle.std.specs.List.{list_any}
 use Rattle.std.specs.Vec.Iter.{into_iter_items}
+use Rattle.std.proofs.Math.Bool.{or-false}
 use Rattle.hippo_sides.specs.Finding.{has_places}
 use Rattle.hippo_examining.specs.GroupMarks.{changes_without}
-use Rattle.hippo_examining.proofs.MarkLemmas.{or_false, one-taken, all-taken}
+use Rattle.hippo_examining.proofs.TakenLemmas.{one-taken, all-taken}
 use Rattle.hippo_examining.proofs.group_marks.candidates.Goals as goal
 
 pub loop-group-init : goal.loop-group-init
 loop-group-init c = λ places.
     (λ i. list_any (changes_without places) (c.into_iter-group-iterator.ensures.into_iter_gives.0 i) || has_places places (c.new-candidates.ensures.empty i))
-    ∙ or_false (list_any (changes_without places) c.args.groups.items)
+    ∙ or-false (list_any (changes_without places) c.args.groups.items)
 
 pub loop-group-preserved : goal.loop-group-preserved
 loop-group-preserved c = λ places.

@@ -1,8 +1,8 @@
 -- The member is written in the piece that is reached, where the old one stood.
 use Rattle.std.proofs.Common.{◌≡◌, ◌-◌, length, slice_set, slice_get, sym, ap, ◌∙◌, arith}
+use Rattle.std.proofs.lemmas.Option.{get_or_from_slice_get}
 use Rattle.hippo_keyed_rows.specs.Pieces.{contents, all_members}
 use Rattle.hippo_keyed_rows.proofs.PiecesLemmas.{joined_written, IsWhole-written, member_reached}
-use Rattle.hippo_keyed_rows.proofs.RowsByKey.{get_or-slice_get}
 use Rattle.hippo_keyed_rows.proofs.pieces.Pieces.replace.Goals as goal
 
 pub invariant_of-self : goal.invariant_of-self
@@ -25,6 +25,6 @@ returns-clause-old g c =
     let pieces = c.self.inside.pieces.items in
     let reached = rw c.deref.ensures.value at c.reaching-index.ensures in
     let size : length (all_members (contents pieces)) ≡ length c.args.self.now = ap length c.self.view_is in
-    let at = get_or-slice_get c.index_mut.result.now.members.items (c.args.place - c.reaching-index.result.1) c.exchange.result c.exchange.result c.exchange.ensures.old in
+    let at = get_or_from_slice_get c.index_mut.result.now.members.items (c.args.place - c.reaching-index.result.1) c.exchange.result c.exchange.result c.exchange.ensures.old in
     ap (λ all. slice_get all c.args.place) (sym c.self.view_is)
     ∙ member_reached pieces c.args.place c.reaching-index.result.0 c.reaching-index.result.1 reached (omega (arith, size)) c.index_mut.result.now c.index_mut.ensures.value c.exchange.result (sym at)
