@@ -12,8 +12,8 @@ use Rattle.hippo_model.specs.declared.name_fault.NameFault.TheVariants.{Repeated
 use Rattle.hippo_model.specs.declared.query.Ref.{Ref}
 use Rattle.hippo_model.specs.declared.schema.Column.{Column}
 use Rattle.hippo_model.specs.declared.schema.Schema.{Schema}
-use Rattle.hippo_model.specs.declared.statement.RawAudit.{RawAudit}
-use Rattle.hippo_model.specs.declared.statement.RawColumn.{RawColumn}
+use Rattle.hippo_statements.specs.declared.statement.RawAudit.{RawAudit}
+use Rattle.hippo_statements.specs.declared.statement.RawColumn.{RawColumn}
 use Rattle.hippo_model.specs.Terms.{History, Place}
 use Rattle.hippo_model.specs.Histories.{schema_at}
 use Rattle.hippo_model.specs.Validity.{is_valid}

@@ -9,7 +9,8 @@ ghost use Rattle.hippo_audit_reader.specs.AuditGrammar.{IsAudit};
 ghost use Rattle.hippo_audit_reader.specs.AuditFinder.{leading_quoted, leading_pair, leading_exempt, leading_period, leading_shown, leading_audit};
 
 use hippo_lexer::{Keyword, Symbol, SyntaxFault, Token, TokenKind, Tokens};
-use hippo_model::{Pair, Pairs, RawAudit, RawCond};
+use hippo_model::{Pair, Pairs};
+use hippo_statements::{RawAudit, RawCond};
 use hippo_spj_reader::{
     ColumnPart, Commas, NamePart, Part, after_keyword, after_where, expect_keyword, expect_symbol,
     list, name, split, whole, whole_condition,

@@ -16,15 +16,15 @@ use Rattle.hippo_model.specs.declared.schema.Column.{Column}
 use Rattle.hippo_model.specs.declared.schema.ColumnKind.{ColumnKind}
 use Rattle.hippo_model.specs.declared.schema.ColumnKind.TheVariants.{Integer, Text as TextColumn}
 use Rattle.hippo_model.specs.declared.schema.Schema.{Schema}
-use Rattle.hippo_model.specs.declared.statement.RawColumn.{RawColumn}
-use Rattle.hippo_model.specs.declared.statement.RawForm.TheVariants.{Plain, Grouped}
-use Rattle.hippo_model.specs.declared.statement.RawItem.{RawItem}
-use Rattle.hippo_model.specs.declared.statement.RawItem.TheVariants as items
-use Rattle.hippo_model.specs.declared.statement.RawOperand.{RawOperand}
-use Rattle.hippo_model.specs.declared.statement.RawOperand.TheVariants.{Column as WrittenColumn, Literal}
-use Rattle.hippo_model.specs.declared.statement.RawOut.{RawOut}
-use Rattle.hippo_model.specs.declared.statement.RawOut.TheVariants as outs
-use Rattle.hippo_model.specs.declared.statement.RawSelect.{RawSelect}
+use Rattle.hippo_statements.specs.declared.statement.RawColumn.{RawColumn}
+use Rattle.hippo_statements.specs.declared.statement.RawForm.TheVariants.{Plain, Grouped}
+use Rattle.hippo_statements.specs.declared.statement.RawItem.{RawItem}
+use Rattle.hippo_statements.specs.declared.statement.RawItem.TheVariants as items
+use Rattle.hippo_statements.specs.declared.statement.RawOperand.{RawOperand}
+use Rattle.hippo_statements.specs.declared.statement.RawOperand.TheVariants.{Column as WrittenColumn, Literal}
+use Rattle.hippo_statements.specs.declared.statement.RawOut.{RawOut}
+use Rattle.hippo_statements.specs.declared.statement.RawOut.TheVariants as outs
+use Rattle.hippo_statements.specs.declared.statement.RawSelect.{RawSelect}
 use Rattle.hippo_catalog.specs.Catalogs.{KnownNames}
 use Rattle.hippo_catalog.specs.Selects.{select_refused, query_of}
 use Rattle.hippo_catalog.proofs.ComparedOperands.{comparisons_of}

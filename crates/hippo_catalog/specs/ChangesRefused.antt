@@ -9,8 +9,8 @@ use Rattle.hippo_model.specs.declared.name_fault.NameFault.{NameFault}
 use Rattle.hippo_model.specs.declared.name_fault.NameFault.TheVariants.{UnknownColumn, AlreadyThere, TypeMismatch, NullNotAllowed, WrongCount, KeyChanged, NoSubject, BadText, NotTheKey, TooManyParts}
 use Rattle.hippo_model.specs.declared.schema.Column.{Column}
 use Rattle.hippo_model.specs.declared.schema.Schema.{Schema}
-use Rattle.hippo_model.specs.declared.statement.Stmt.{Stmt}
-use Rattle.hippo_model.specs.declared.statement.Stmt.TheVariants.{CreateTable, CreatePurpose, CreateRecipient, CreateItem, Authorize, Deauthorize, Allow, Revoke, Choice, Insert, Update, Delete}
+use Rattle.hippo_statements.specs.declared.statement.Stmt.{Stmt}
+use Rattle.hippo_statements.specs.declared.statement.Stmt.TheVariants.{CreateTable, CreatePurpose, CreateRecipient, CreateItem, Authorize, Deauthorize, Allow, Revoke, Choice, Insert, Update, Delete}
 use Rattle.hippo_model.specs.Conditions.{is_null}
 use Rattle.hippo_model.specs.Terms.{Place}
 use Rattle.hippo_model.specs.Validity.{is_integer, has_subject}

@@ -9,8 +9,8 @@ use Rattle.hippo_model.specs.declared.query.CondOf.{CondOf, CondOf-F, fold-CondO
 use Rattle.hippo_model.specs.declared.query.CondOf.TheOpen.{All, Any, Not, Compare, Between, Among, Missing}
 use Rattle.hippo_model.specs.declared.schema.ColumnKind.{ColumnKind}
 use Rattle.hippo_model.specs.declared.schema.Schema.{Schema}
-use Rattle.hippo_model.specs.declared.statement.RawOperand.{RawOperand}
-use Rattle.hippo_model.specs.declared.statement.RawOperand.TheVariants.{Column as WrittenColumn, Literal as WrittenLiteral}
+use Rattle.hippo_statements.specs.declared.statement.RawOperand.{RawOperand}
+use Rattle.hippo_statements.specs.declared.statement.RawOperand.TheVariants.{Column as WrittenColumn, Literal as WrittenLiteral}
 use Rattle.hippo_model.specs.Conditions.{changed_operands}
 use Rattle.hippo_catalog.specs.Kinds.{kind_of, same_kind, is_bad_text}
 use Rattle.hippo_catalog.specs.Refusals.{fault_if}

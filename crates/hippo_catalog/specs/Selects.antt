@@ -11,14 +11,14 @@ use Rattle.hippo_model.specs.declared.query.Out.TheVariants as shown
 use Rattle.hippo_model.specs.declared.query.Query.{Query}
 use Rattle.hippo_model.specs.declared.query.Ref.{Ref}
 use Rattle.hippo_model.specs.declared.schema.Schema.{Schema}
-use Rattle.hippo_model.specs.declared.statement.RawColumn.{RawColumn}
-use Rattle.hippo_model.specs.declared.statement.RawForm.{RawForm}
-use Rattle.hippo_model.specs.declared.statement.RawForm.TheVariants as forms
-use Rattle.hippo_model.specs.declared.statement.RawItem.{RawItem}
-use Rattle.hippo_model.specs.declared.statement.RawItem.TheVariants.{All, AllOf, One}
-use Rattle.hippo_model.specs.declared.statement.RawOut.{RawOut}
-use Rattle.hippo_model.specs.declared.statement.RawOut.TheVariants.{Column, Min, Max}
-use Rattle.hippo_model.specs.declared.statement.RawSelect.{RawSelect}
+use Rattle.hippo_statements.specs.declared.statement.RawColumn.{RawColumn}
+use Rattle.hippo_statements.specs.declared.statement.RawForm.{RawForm}
+use Rattle.hippo_statements.specs.declared.statement.RawForm.TheVariants as forms
+use Rattle.hippo_statements.specs.declared.statement.RawItem.{RawItem}
+use Rattle.hippo_statements.specs.declared.statement.RawItem.TheVariants.{All, AllOf, One}
+use Rattle.hippo_statements.specs.declared.statement.RawOut.{RawOut}
+use Rattle.hippo_statements.specs.declared.statement.RawOut.TheVariants.{Column, Min, Max}
+use Rattle.hippo_statements.specs.declared.statement.RawSelect.{RawSelect}
 use Rattle.hippo_model.specs.Terms.{Place}
 use Rattle.hippo_catalog.specs.Catalogs.{KnownNames, schemas_of}
 use Rattle.hippo_catalog.specs.Refusals.{fault_if, unknown_table, repeated_names}

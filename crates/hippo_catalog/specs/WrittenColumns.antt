@@ -9,7 +9,7 @@ use Rattle.hippo_model.specs.declared.name_fault.NameFault.TheVariants.{UnknownC
 use Rattle.hippo_model.specs.declared.query.Ref.{Ref}
 use Rattle.hippo_model.specs.declared.schema.Column.{Column}
 use Rattle.hippo_model.specs.declared.schema.Schema.{Schema}
-use Rattle.hippo_model.specs.declared.statement.RawColumn.{RawColumn}
+use Rattle.hippo_statements.specs.declared.statement.RawColumn.{RawColumn}
 use Rattle.hippo_model.specs.Terms.{Place}
 
 -- the place of a table's column

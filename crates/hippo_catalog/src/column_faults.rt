@@ -5,7 +5,8 @@ ghost use Rattle.hippo_model.specs.declared.name_fault.NameFault.TheVariants as 
 ghost use Rattle.hippo_catalog.specs.Refusals.{IsFirstOf};
 ghost use Rattle.hippo_catalog.specs.WrittenColumns.{column_text};
 
-use hippo_model::{NameFault, RawColumn};
+use hippo_model::NameFault;
+use hippo_statements::RawColumn;
 use hippo_values::{Duplicate, Memory, Name, Txt};
 use std::alloc::Global;
 

@@ -1,8 +1,8 @@
 //! What a statement that changes something asks for, or why it is refused.
 ghost use Rattle.std.specs.Prelude.{◌≡◌, false, if◌then◌else◌, Some, Err};
 ghost use Rattle.hippo_model.specs.declared.name_fault.NameFault.TheVariants as faults;
-ghost use Rattle.hippo_model.specs.declared.statement.Stmt.TheVariants.{CreatePurpose, CreateRecipient, CreateItem, Choice, Insert};
-ghost use Rattle.hippo_model.specs.declared.statement.Wanted.TheVariants.{Ready};
+ghost use Rattle.hippo_statements.specs.declared.statement.Stmt.TheVariants.{CreatePurpose, CreateRecipient, CreateItem, Choice, Insert};
+ghost use Rattle.hippo_model.specs.declared.wanted.Wanted.TheVariants.{Ready};
 ghost use Rattle.hippo_model.specs.declared.entry.Act.TheVariants as acts;
 ghost use Rattle.hippo_catalog.specs.Refusals.{Resolves, unknown_pair};
 ghost use Rattle.hippo_catalog.specs.ChangesRefused.{known_name_refused, change_refused};
@@ -15,7 +15,8 @@ use crate::rules::{check_allow, check_revoke};
 use crate::tables::check_create_table;
 use crate::values::check_new_row;
 use hippo_catalog::{Catalog, check_pair};
-use hippo_model::{Act, Cells, ItemKind, NameFault, Stmt, Wanted, copied_key};
+use hippo_model::{Act, Cells, ItemKind, NameFault, Wanted, copied_key};
+use hippo_statements::Stmt;
 use hippo_values::{Duplicate, Name};
 use std::alloc::Global;
 

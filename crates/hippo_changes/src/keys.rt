@@ -2,8 +2,8 @@
 ghost use Rattle.std.specs.Prelude.{◌≡◌, ◌++◌, filter_map, nat_eq, IfOk};
 ghost use Rattle.std.specs.List.{zip};
 ghost use Rattle.std.specs.Map.{lookup};
-ghost use Rattle.hippo_model.specs.declared.statement.Stmt.TheVariants.{Update, Delete};
-ghost use Rattle.hippo_model.specs.declared.statement.Wanted.TheVariants.{Set, Remove};
+ghost use Rattle.hippo_statements.specs.declared.statement.Stmt.TheVariants.{Update, Delete};
+ghost use Rattle.hippo_model.specs.declared.wanted.Wanted.TheVariants.{Set, Remove};
 ghost use Rattle.hippo_catalog.specs.Refusals.{Resolves};
 ghost use Rattle.hippo_catalog.specs.ChangesRefused.{places_named, unknown_columns, rule_refused, key_refused};
 ghost use Rattle.hippo_catalog.specs.ChangesRefused.{update_refused, delete_refused};

@@ -1,8 +1,8 @@
 //! ALLOW and REVOKE.
 ghost use Rattle.std.specs.Prelude.{◌≡◌, IfOk};
 ghost use Rattle.hippo_model.specs.declared.entry.Act.TheVariants as acts;
-ghost use Rattle.hippo_model.specs.declared.statement.Stmt.TheVariants.{Allow, Revoke};
-ghost use Rattle.hippo_model.specs.declared.statement.Wanted.TheVariants.{Ready};
+ghost use Rattle.hippo_statements.specs.declared.statement.Stmt.TheVariants.{Allow, Revoke};
+ghost use Rattle.hippo_model.specs.declared.wanted.Wanted.TheVariants.{Ready};
 ghost use Rattle.hippo_catalog.specs.Refusals.{Resolves};
 ghost use Rattle.hippo_catalog.specs.ChangesRefused.{rule_item_refused};
 ghost use Rattle.hippo_changes.specs.Checking.{Checks};

@@ -1,7 +1,7 @@
 //! CREATE TABLE.
 ghost use Rattle.std.specs.Prelude.{◌≡◌, [], ◌++◌, map, option_copied, option_to_list, bytes_eq, IfOk};
 ghost use Rattle.std.specs.List.{list_any};
-ghost use Rattle.hippo_model.specs.declared.statement.Stmt.TheVariants.{CreateTable};
+ghost use Rattle.hippo_statements.specs.declared.statement.Stmt.TheVariants.{CreateTable};
 ghost use Rattle.hippo_model.specs.Validity.{is_integer};
 ghost use Rattle.hippo_catalog.specs.Refusals.{Resolves, repeated_names};
 ghost use Rattle.hippo_catalog.specs.ChangesRefused.{keyless_table, column_named, unknown_columns};

@@ -10,7 +10,7 @@ use Rattle.hippo_lexer.specs.Grammar.{IsOutcome}
 use Rattle.hippo_lexer.specs.Words.{words_check}
 use Rattle.hippo_lexer.specs.Cutting.{outcome_of}
 use Rattle.hippo_lexer.proofs.OutcomeLemmas.{outcome-one}
-use Rattle.hippo_model.specs.declared.statement.Stmt.{Stmt}
+use Rattle.hippo_statements.specs.declared.statement.Stmt.{Stmt}
 use Rattle.hippo_stmt_reader.specs.StatementFinder.{statement_of}
 use Rattle.hippo_stmt_reader.specs.StatementGrammar.{IsStatement, IsRefusal}
 use Rattle.hippo_stmt_reader.proofs.StatementTheorem.{found, complete}

@@ -7,7 +7,7 @@ use Rattle.std.specs.Prelude.{Some}
 use Rattle.hippo_lexer.specs.declared.kinds.Token.{Token}
 use Rattle.hippo_lexer.specs.Grammar.{IsOutcome}
 use Rattle.hippo_lexer.specs.Words.{words_check}
-use Rattle.hippo_model.specs.declared.statement.Stmt.{Stmt}
+use Rattle.hippo_statements.specs.declared.statement.Stmt.{Stmt}
 use Rattle.hippo_stmt_reader.specs.StatementGrammar.{IsStatement}
 use Rattle.hippo_commands.specs.Moments.{moment_in}
 use Rattle.hippo_commands.specs.Commands.{statement_in}

@@ -16,7 +16,7 @@ use Rattle.hippo_lexer.specs.declared.kinds.TokenKind.TheVariants as kinds
 use Rattle.hippo_lexer.specs.Cutting.{outcome_of}
 use Rattle.hippo_lexer.specs.Words.{words_check}
 use Rattle.hippo_lines.specs.Forms.{Form, says_nothing, sets_clock, makes_request, makes_statement, Request, logs_out, closes, drops, unwatches, line_form}
-use Rattle.hippo_model.specs.declared.statement.Stmt.{Stmt}
+use Rattle.hippo_statements.specs.declared.statement.Stmt.{Stmt}
 use Rattle.hippo_stmt_reader.specs.StatementFinder.{statement_of}
 use Rattle.hippo_report.specs.declared.refusal.Refusal.{Refusal}
 use Rattle.hippo_report.specs.declared.refusal.Refusal.TheVariants.{BadLine, LineTooLong, BadToken, BadSyntax, Unsupported, TooDeep, NumberTooLarge, BadDate, BadMoment, Memory}

@@ -4,7 +4,7 @@ use Rattle.hippo_values.specs.Texts.{Txt}
 use Rattle.hippo_values.specs.declared.moments.Moment.{Moment}
 use Rattle.hippo_text_forms.specs.Dates.{moment_text}
 use Rattle.hippo_values.specs.Moments.{first_moment}
-use Rattle.hippo_model.specs.declared.statement.RawAudit.{RawAudit}
+use Rattle.hippo_statements.specs.declared.statement.RawAudit.{RawAudit}
 use Rattle.hippo_catalog.specs.declared.period.Period.{Period}
 
 -- the moment so many seconds after the first

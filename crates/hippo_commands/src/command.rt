@@ -1,6 +1,6 @@
 //! Commands.
 use hippo_lines::RequestForm;
-use hippo_model::Stmt;
+use hippo_statements::Stmt;
 use hippo_report::{Refusal, Speaker};
 use hippo_values::Moment;
 

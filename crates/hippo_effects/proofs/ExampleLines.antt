@@ -9,11 +9,11 @@ use Rattle.hippo_model.specs.declared.query.CondOf.TheVariants.{All}
 use Rattle.hippo_model.specs.declared.schema.Column.{Column}
 use Rattle.hippo_model.specs.declared.schema.ColumnKind.{ColumnKind}
 use Rattle.hippo_model.specs.declared.schema.ColumnKind.TheVariants.{Integer, Text as TextColumn}
-use Rattle.hippo_model.specs.declared.statement.RawForm.TheVariants.{Plain}
-use Rattle.hippo_model.specs.declared.statement.RawItem.TheVariants.{One}
-use Rattle.hippo_model.specs.declared.statement.RawSelect.{RawSelect}
-use Rattle.hippo_model.specs.declared.statement.Stmt.{Stmt}
-use Rattle.hippo_model.specs.declared.statement.Stmt.TheVariants.{CreateTable, CreatePurpose, CreateRecipient, Authorize, Allow, Insert, Select}
+use Rattle.hippo_statements.specs.declared.statement.RawForm.TheVariants.{Plain}
+use Rattle.hippo_statements.specs.declared.statement.RawItem.TheVariants.{One}
+use Rattle.hippo_statements.specs.declared.statement.RawSelect.{RawSelect}
+use Rattle.hippo_statements.specs.declared.statement.Stmt.{Stmt}
+use Rattle.hippo_statements.specs.declared.statement.Stmt.TheVariants.{CreateTable, CreatePurpose, CreateRecipient, Authorize, Allow, Insert, Select}
 use Rattle.hippo_model.specs.Terms.{History}
 use Rattle.hippo_report.specs.declared.speaker.Speaker.TheVariants.{Console, Session}
 use Rattle.hippo_report.specs.declared.format.Format.TheVariants as formats

@@ -1,8 +1,8 @@
 -- The steps of a run over three versions, computed.
 use Rattle.std.proofs.Common.{◌≡◌, ◌≤◌, ◌*◌, ◌+◌, ℕ, pos, Bool, true, false, inl, inr, List, [], ◌∷◌, Option, Some, None, unwrap_or, refl, sym, ap, subst, arith}
 use Rattle.std.specs.Option.{option_map_or}
-use Rattle.hippo_model.specs.declared.statement.RawAudit.{RawAudit}
-use Rattle.hippo_model.specs.declared.statement.Stmt.TheVariants.{Explain, BeginAudit}
+use Rattle.hippo_statements.specs.declared.statement.RawAudit.{RawAudit}
+use Rattle.hippo_statements.specs.declared.statement.Stmt.TheVariants.{Explain, BeginAudit}
 use Rattle.hippo_lines.specs.Forms.{steps, drops}
 use Rattle.hippo_report.specs.declared.speaker.Speaker.TheVariants.{Console}
 use Rattle.hippo_report.specs.declared.refusal.Refusal.TheVariants.{Memory}

@@ -6,7 +6,7 @@ use Rattle.hippo_values.specs.declared.values.Value.TheVariants.{Null, Int}
 use Rattle.hippo_model.specs.declared.cells.Cell.TheVariants.{Shown, Denied}
 use Rattle.hippo_model.specs.declared.entry.Act.TheVariants as acts
 use Rattle.hippo_model.specs.declared.name_fault.NameFault.TheVariants as faults
-use Rattle.hippo_model.specs.declared.statement.Stmt.TheVariants.{CreatePurpose, Insert, Delete, Select, Extract}
+use Rattle.hippo_statements.specs.declared.statement.Stmt.TheVariants.{CreatePurpose, Insert, Delete, Select, Extract}
 use Rattle.hippo_model.specs.Terms.{History, ShownRow}
 use Rattle.hippo_model.proofs.Truths.{truths}
 use Rattle.hippo_model.proofs.ChangedOperands.{changes_of_operands}

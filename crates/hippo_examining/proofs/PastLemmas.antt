@@ -20,7 +20,7 @@ use Rattle.hippo_model.specs.declared.name_fault.NameFault.TheVariants.{UnknownT
 use Rattle.hippo_model.specs.declared.query.Query.{Query}
 use Rattle.hippo_model.specs.declared.query.Ref.{Ref}
 use Rattle.hippo_model.specs.declared.schema.Schema.{Schema}
-use Rattle.hippo_model.specs.declared.statement.RawSelect.{RawSelect}
+use Rattle.hippo_statements.specs.declared.statement.RawSelect.{RawSelect}
 use Rattle.hippo_model.specs.Columns.{named_column, query_columns, same_column, names_all}
 use Rattle.hippo_model.specs.Histories.{schema_created, schema_at}
 use Rattle.hippo_model.specs.Keepable.{act_is_keepable}

@@ -21,7 +21,7 @@ use Rattle.hippo_lines.specs.Numbers.{numeral_value}
 use Rattle.hippo_lines.specs.Words.{words_of, around_space, only}
 use Rattle.hippo_lines.specs.declared.short_words.ShortWord.{ShortWord}
 use Rattle.hippo_lines.proofs.FormLemmas.{makes_statement-within}
-use Rattle.hippo_model.specs.declared.statement.Stmt.{Stmt}
+use Rattle.hippo_statements.specs.declared.statement.Stmt.{Stmt}
 use Rattle.hippo_report.specs.declared.refusal.Refusal.{Refusal}
 use Rattle.hippo_report.specs.declared.refusal.Refusal.TheVariants.{BadSyntax}
 use Rattle.hippo_report.specs.declared.speaker.Speaker.{Speaker}

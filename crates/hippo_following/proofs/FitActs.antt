@@ -3,8 +3,8 @@ use Rattle.std.proofs.Common.{◌≡◌, ◌+◌, true, Ok, refl, ap, ◌∙◌,
 use Rattle.std.proofs.lemmas.Bool.{and_from, eq-eqb}
 use Rattle.hippo_values.specs.declared.moments.Moment.{Moment}
 use Rattle.hippo_model.specs.declared.entry.Act.{Act}
-use Rattle.hippo_model.specs.declared.statement.Wanted.{Wanted}
-use Rattle.hippo_model.specs.declared.statement.Wanted.TheVariants.{Ready}
+use Rattle.hippo_model.specs.declared.wanted.Wanted.{Wanted}
+use Rattle.hippo_model.specs.declared.wanted.Wanted.TheVariants.{Ready}
 use Rattle.hippo_model.specs.Keepable.{act_is_keepable}
 use Rattle.hippo_model.specs.Terms.{History, Meaning}
 use Rattle.hippo_model.specs.Validity.{is_acceptable, may_follow}

@@ -6,9 +6,9 @@ use Rattle.hippo_values.specs.declared.names.Name.{Name}
 use Rattle.hippo_model.specs.declared.entry.Act.TheVariants as acts
 use Rattle.hippo_model.specs.declared.schema.ColumnKind.TheVariants.{Integer, Text}
 use Rattle.hippo_model.specs.declared.schema.Schema.{Schema}
-use Rattle.hippo_model.specs.declared.statement.Stmt.{Stmt}
-use Rattle.hippo_model.specs.declared.statement.Stmt.TheVariants as stmt
-use Rattle.hippo_model.specs.declared.statement.Wanted.TheVariants.{Ready}
+use Rattle.hippo_statements.specs.declared.statement.Stmt.{Stmt}
+use Rattle.hippo_statements.specs.declared.statement.Stmt.TheVariants as stmt
+use Rattle.hippo_model.specs.declared.wanted.Wanted.TheVariants.{Ready}
 use Rattle.hippo_model.specs.Terms.{Meaning}
 use Rattle.hippo_model.specs.Validity.{may_follow}
 use Rattle.hippo_following.specs.FollowingLaws.{following_entry, HasRoomAt, ComesTo}

@@ -11,7 +11,7 @@ use Rattle.hippo_lexer.specs.declared.kinds.Token.{Token}
 use Rattle.hippo_lexer.specs.declared.kinds.TokenKind.{TokenKind}
 use Rattle.hippo_lexer.specs.declared.kinds.TokenKind.TheVariants.{Symbol}
 use Rattle.hippo_model.specs.declared.schema.Column.{Column}
-use Rattle.hippo_model.specs.declared.statement.Stmt.{Stmt}
+use Rattle.hippo_statements.specs.declared.statement.Stmt.{Stmt}
 use Rattle.hippo_model.specs.Keepable.{is_folded_name, item_is_keepable}
 use Rattle.hippo_model.specs.Validity.{days_fit}
 use Rattle.hippo_spj_reader.specs.ConditionGrammar.{IsLiteral, number, quoted_literal, day, null}

@@ -9,8 +9,8 @@ use Rattle.hippo_values.specs.declared.values.Value.TheVariants.{Null, Int, Text
 use Rattle.hippo_lexer.specs.declared.kinds.TokenKind.{TokenKind}
 use Rattle.hippo_lexer.specs.declared.kinds.TokenKind.TheVariants.{Word, Number, Quoted, Day as DayToken}
 use Rattle.hippo_model.specs.declared.schema.Column.{Column}
-use Rattle.hippo_model.specs.declared.statement.Stmt.{Stmt}
-use Rattle.hippo_model.specs.declared.statement.Stmt.TheVariants.{CreateTable, CreatePurpose, CreateRecipient, CreateItem, Authorize, Deauthorize, Allow, Revoke, Choice, Insert, Update, Delete}
+use Rattle.hippo_statements.specs.declared.statement.Stmt.{Stmt}
+use Rattle.hippo_statements.specs.declared.statement.Stmt.TheVariants.{CreateTable, CreatePurpose, CreateRecipient, CreateItem, Authorize, Deauthorize, Allow, Revoke, Choice, Insert, Update, Delete}
 use Rattle.hippo_model.specs.Keepable.{is_folded_name, item_is_keepable}
 use Rattle.hippo_model.specs.Validity.{days_fit}
 

@@ -4,7 +4,7 @@ use Rattle.hippo_values.specs.Texts.{Txt}
 use Rattle.hippo_values.specs.declared.names.Name.{Name}
 use Rattle.hippo_values.specs.Results.{◌>>=◌}
 use Rattle.hippo_model.specs.declared.entry.Entry.{Entry}
-use Rattle.hippo_model.specs.declared.statement.Stmt.{Stmt}
+use Rattle.hippo_statements.specs.declared.statement.Stmt.{Stmt}
 use Rattle.hippo_model.specs.Terms.{History}
 use Rattle.hippo_catalog.specs.Catalogs.{KnownNames, known_at}
 use Rattle.hippo_report.specs.declared.refusal.Refusal.{Refusal}

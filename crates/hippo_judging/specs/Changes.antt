@@ -4,8 +4,8 @@ use Rattle.std.specs.Prelude.{◌≡◌, Result, Ok, MatchResult, ok_or}
 use Rattle.hippo_values.specs.Results.{◌>>=◌}
 use Rattle.hippo_model.specs.declared.entry.Act.{Act}
 use Rattle.hippo_model.specs.declared.entry.Entry.{Entry}
-use Rattle.hippo_model.specs.declared.statement.Stmt.{Stmt}
-use Rattle.hippo_model.specs.declared.statement.Wanted.{Wanted}
+use Rattle.hippo_statements.specs.declared.statement.Stmt.{Stmt}
+use Rattle.hippo_model.specs.declared.wanted.Wanted.{Wanted}
 use Rattle.hippo_model.specs.Terms.{History}
 use Rattle.hippo_catalog.specs.Catalogs.{KnownNames}
 use Rattle.hippo_catalog.specs.ChangesRefused.{change_refused}

@@ -9,11 +9,11 @@ use Rattle.hippo_model.specs.declared.audit.Audit.{Audit}
 use Rattle.hippo_model.specs.declared.audit.Pair.{Pair}
 use Rattle.hippo_model.specs.declared.name_fault.NameFault.TheVariants as faults
 use Rattle.hippo_model.specs.declared.schema.Schema.{Schema}
-use Rattle.hippo_model.specs.declared.statement.RawAudit.{RawAudit}
-use Rattle.hippo_model.specs.declared.statement.RawSelect.{RawSelect}
-use Rattle.hippo_model.specs.declared.statement.Stmt.{Stmt}
-use Rattle.hippo_model.specs.declared.statement.Stmt.TheVariants as stmt
-use Rattle.hippo_model.specs.declared.statement.Wanted.{Wanted}
+use Rattle.hippo_statements.specs.declared.statement.RawAudit.{RawAudit}
+use Rattle.hippo_statements.specs.declared.statement.RawSelect.{RawSelect}
+use Rattle.hippo_statements.specs.declared.statement.Stmt.{Stmt}
+use Rattle.hippo_statements.specs.declared.statement.Stmt.TheVariants as stmt
+use Rattle.hippo_model.specs.declared.wanted.Wanted.{Wanted}
 use Rattle.hippo_model.specs.Terms.{History, Row}
 use Rattle.hippo_catalog.specs.Catalogs.{KnownNames, known_at, table_of}
 use Rattle.hippo_catalog.specs.Selects.{select_refused, query_of}

@@ -1,7 +1,7 @@
 //! Statements: what is to be done for each, or why not.
 ghost use Rattle.std.specs.Prelude.{◌≡◌, true, false};
 ghost use Rattle.hippo_values.specs.Texts.{Txt as Text};
-ghost use Rattle.hippo_model.specs.declared.statement.Stmt.TheVariants as stmt;
+ghost use Rattle.hippo_statements.specs.declared.statement.Stmt.TheVariants as stmt;
 ghost use Rattle.hippo_catalog.specs.ChangesWanted.{changes_something};
 ghost use Rattle.hippo_keeper.specs.Keeping.{IsReady};
 ghost use Rattle.hippo_commands.specs.Commands as commands;
@@ -20,7 +20,8 @@ use crate::changes::entry_of_change;
 use crate::deeds::{Deed, Unjudged};
 use crate::entries::question_at;
 use hippo_keeper::{Keeper, Steps};
-use hippo_model::{Audit, RawAudit, Stmt};
+use hippo_model::Audit;
+use hippo_statements::{RawAudit, Stmt};
 use hippo_replay::State;
 use hippo_report::{Refusal, Speaker};
 use hippo_sessions::WorldView;

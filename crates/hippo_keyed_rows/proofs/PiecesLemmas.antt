@@ -145,6 +145,12 @@ module _ {A : Type 0} where
           let above = lt_from_test (get_or pieces index d).end place (parted.1 index d (omega arith) (omega arith)) in
           (inside, omega (arith, above, end_of_piece index d (omega arith), start_of-next (contents pieces) index inside))
 
+  -- a piece that begins at or before a place and ends behind it
+  pub IsReached-held : (pieces : List (Piece A)) → IsMarked pieces → (place index start : ℕ) (piece : Piece A) → index < length pieces → piece ≡ get_or pieces index piece → start ≡ start_of (contents pieces) index → start ≤ place → place < piece.end → IsReached (contents pieces) place index start
+  IsReached-held pieces marked place index start piece inside here begins low below =
+      let within : index < length (contents pieces) = omega (arith, inside, length-map pieces (λ (piece : Piece A). piece.members.items)) in
+      record { begins = begins; low = low; reached = λ bound. (within, omega (arith, begins, below, ap (λ (piece : Piece A). piece.end) here, end_of_piece pieces marked index piece inside, start_of-next (contents pieces) index within)) }
+
   -- the piece that a search for a place finds
   pub IsReached-parted : (pieces : List (Piece A)) → IsMarked pieces → (place index start : ℕ) → index ≤ length pieces → IsPartitionPoint (λ (piece : Piece A). nat_le piece.end place ≡ true) (λ (piece : Piece A). nat_le piece.end place ≡ false) pieces index → start ≡ start_of (contents pieces) index → IsReached (contents pieces) place index start
   IsReached-parted [] marked place zero start range parted begins = record { begins = begins; low = omega arith; reached = λ within. absurd (omega arith) }

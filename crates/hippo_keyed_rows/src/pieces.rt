@@ -45,13 +45,41 @@ pub(crate) fn start<T>(pieces: &[Piece<T>], index: usize) -> usize
     if index == 0 { 0 } else { pieces[index - 1].end }
 }
 
-// The piece that holds the member at a place, and how many stand before it.
-fn reaching<T>(pieces: &[Piece<T>], place: usize) -> (usize, usize)
+// The piece at a place's share of the list, but for the last piece. It holds the member at that
+// place where all but the last are of one length, as when members came in their order.
+fn likely<T>(pieces: &[Piece<T>], place: usize) -> usize
+    requires { IsMarked pieces.now }
+    ensures { result ≤ length pieces.now }
+{
+    let last = pieces.len().saturating_sub(1);
+    let before_last = start(pieces, last);
+    if place < before_last {
+        last.min(place.saturating_mul(last) / before_last)
+    } else {
+        last
+    }
+}
+
+// The piece that holds the member at a place, among all, and how many stand before it.
+fn reaching_by_search<T>(pieces: &[Piece<T>], place: usize) -> (usize, usize)
     requires { IsMarked pieces.now }
     ensures { IsReached (contents pieces.now) place result.0 result.1 }
 {
     let index = pieces.partition_point(|piece| piece.end <= place);
     (index, start(pieces, index))
+}
+
+// The piece that holds the member at a place, and how many stand before it.
+fn reaching<T>(pieces: &[Piece<T>], place: usize) -> (usize, usize)
+    requires { IsMarked pieces.now }
+    ensures { IsReached (contents pieces.now) place result.0 result.1 }
+{
+    let index = likely(pieces, place);
+    let start = start(pieces, index);
+    match pieces.get(index) {
+        Some(piece) if start <= place && place < piece.end => (index, start),
+        _ => reaching_by_search(pieces, place),
+    }
 }
 
 // Marks anew where the pieces end, from one on.

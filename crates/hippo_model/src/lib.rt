@@ -12,9 +12,9 @@ mod operands;
 mod policy;
 mod query;
 mod schema;
-mod statement;
 mod stored;
 mod table_fault;
+mod wanted;
 
 pub use audit::{Audit, Flag, Flags, Pair, Pairs, SharedRow, SharedTuple};
 pub use born_row::BornRow;
@@ -30,9 +30,6 @@ pub use query::{
     Refs, Shape,
 };
 pub use schema::{Column, ColumnKind, Columns, Names, Places, Schema};
-pub use statement::{
-    RawAudit, RawColumn, RawColumns, RawCond, RawForm, RawItem, RawItems, RawOperand, RawOut,
-    RawOuts, RawSelect, Stmt, Wanted,
-};
 pub use stored::{StoredEntry, StoredList};
 pub use table_fault::TableFault;
+pub use wanted::Wanted;

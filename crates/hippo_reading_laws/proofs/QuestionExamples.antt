@@ -6,11 +6,11 @@ use Rattle.hippo_values.specs.declared.truths.CompareOp.TheVariants.{Ne}
 use Rattle.hippo_values.specs.declared.values.Value.TheVariants.{Text}
 use Rattle.hippo_values.specs.Words.{word_of}
 use Rattle.hippo_model.specs.declared.query.CondOf.{All, Compare}
-use Rattle.hippo_model.specs.declared.statement.RawForm.TheVariants.{Plain}
-use Rattle.hippo_model.specs.declared.statement.RawItem.{RawItem}
-use Rattle.hippo_model.specs.declared.statement.RawItem.TheVariants as item
-use Rattle.hippo_model.specs.declared.statement.RawOperand.TheVariants.{Column, Literal}
-use Rattle.hippo_model.specs.declared.statement.RawSelect.{RawSelect}
+use Rattle.hippo_statements.specs.declared.statement.RawForm.TheVariants.{Plain}
+use Rattle.hippo_statements.specs.declared.statement.RawItem.{RawItem}
+use Rattle.hippo_statements.specs.declared.statement.RawItem.TheVariants as item
+use Rattle.hippo_statements.specs.declared.statement.RawOperand.TheVariants.{Column, Literal}
+use Rattle.hippo_statements.specs.declared.statement.RawSelect.{RawSelect}
 use Rattle.hippo_model.proofs.OuterParts.{outer_parts_of}
 use Rattle.hippo_lexer.specs.declared.kinds.Token.{Token}
 use Rattle.hippo_lexer.specs.declared.faults.LexFault.{LexFault}

@@ -3,11 +3,11 @@ use Rattle.std.proofs.Common.{◌≡◌, List, [], ◌∷◌, ◌++◌, Option, 
 use Rattle.std.proofs.lemmas.List.{append_assoc}
 use Rattle.hippo_values.specs.declared.values.Value.{Value}
 use Rattle.hippo_values.specs.declared.keywords.Keyword.TheVariants.{KAnd, KBetween, KDistinct, KFrom, KGroup, KIn, KInner, KIs, KJoin, KMax, KMin, KNot, KNull, KOn, KOr, KSelect, KWhere}
-use Rattle.hippo_model.specs.declared.statement.RawColumn.{RawColumn}
-use Rattle.hippo_model.specs.declared.statement.RawItem.{RawItem}
-use Rattle.hippo_model.specs.declared.statement.RawOut.{RawOut}
-use Rattle.hippo_model.specs.declared.statement.RawOperand.{RawOperand}
-use Rattle.hippo_model.specs.declared.statement.RawSelect.{RawSelect}
+use Rattle.hippo_statements.specs.declared.statement.RawColumn.{RawColumn}
+use Rattle.hippo_statements.specs.declared.statement.RawItem.{RawItem}
+use Rattle.hippo_statements.specs.declared.statement.RawOut.{RawOut}
+use Rattle.hippo_statements.specs.declared.statement.RawOperand.{RawOperand}
+use Rattle.hippo_statements.specs.declared.statement.RawSelect.{RawSelect}
 use Rattle.hippo_lexer.specs.declared.kinds.Symbol.TheVariants.{Comma, Dot, LeftParen, RightParen, Star}
 use Rattle.hippo_lexer.specs.declared.kinds.TokenKind.{TokenKind}
 use Rattle.hippo_lexer.specs.declared.kinds.TokenKind.TheVariants.{Word, Keyword, Number, Quoted, Day, Symbol}

@@ -17,8 +17,8 @@ use Rattle.hippo_model.specs.declared.entry.Act.TheVariants.{Asked}
 use Rattle.hippo_model.specs.declared.entry.Entry.{Entry}
 use Rattle.hippo_model.specs.declared.policy.Authorization.{Authorization}
 use Rattle.hippo_model.specs.declared.policy.Authorization.TheVariants.{Yes, No}
-use Rattle.hippo_model.specs.declared.statement.RawSelect.{RawSelect}
-use Rattle.hippo_model.specs.declared.statement.Stmt.TheVariants as stmt
+use Rattle.hippo_statements.specs.declared.statement.RawSelect.{RawSelect}
+use Rattle.hippo_statements.specs.declared.statement.Stmt.TheVariants as stmt
 use Rattle.hippo_model.specs.Keepable.{act_is_keepable, is_folded_name, question_is_keepable}
 use Rattle.hippo_model.specs.Rules.{authorized_at}
 use Rattle.hippo_model.specs.Terms.{History}

@@ -19,8 +19,8 @@ use Rattle.hippo_lexer.specs.declared.kinds.Token.{Token}
 use Rattle.hippo_lexer.specs.declared.kinds.TokenKind.{TokenKind}
 use Rattle.hippo_lexer.proofs.EdgeLemmas.{BeginsPlain, token_begins}
 use Rattle.hippo_lexer.proofs.RunLemmas.{cut-is}
-use Rattle.hippo_model.specs.declared.statement.RawSelect.{RawSelect}
-use Rattle.hippo_model.specs.declared.statement.Stmt.{Stmt}
+use Rattle.hippo_statements.specs.declared.statement.RawSelect.{RawSelect}
+use Rattle.hippo_statements.specs.declared.statement.Stmt.{Stmt}
 use Rattle.hippo_spj_reader.specs.Front.{kinds}
 use Rattle.hippo_stmt_reader.specs.StatementGrammar as statements
 use Rattle.hippo_stmt_reader.specs.StatementGrammar.{IsPlacedSelect, placed, IsStatement, console, open_select, extract_select}

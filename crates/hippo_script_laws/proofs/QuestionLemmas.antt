@@ -22,8 +22,8 @@ use Rattle.hippo_lexer.specs.Spelling.{begins_with, is_blank}
 use Rattle.hippo_lexer.specs.Words.{words_check}
 use Rattle.hippo_lines.specs.Forms.{short_words}
 use Rattle.hippo_lines.specs.Words.{is_filled, words_of}
-use Rattle.hippo_model.specs.declared.statement.RawSelect.{RawSelect}
-use Rattle.hippo_model.specs.declared.statement.Stmt.TheVariants as stmt
+use Rattle.hippo_statements.specs.declared.statement.RawSelect.{RawSelect}
+use Rattle.hippo_statements.specs.declared.statement.Stmt.TheVariants as stmt
 use Rattle.hippo_spj_reader.specs.Front.{Kinds, kinds, same_keyword}
 use Rattle.hippo_spj_reader.specs.SelectGrammar as selects
 use Rattle.hippo_spj_reader.specs.SelectGrammar.{IsSelect}

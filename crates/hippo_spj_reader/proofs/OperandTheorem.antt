@@ -5,9 +5,9 @@ use denote.Enum.Bare.{same_true}
 use Rattle.hippo_values.specs.declared.values.Value.{Value}
 use Rattle.hippo_values.specs.declared.values.Value.TheVariants as value
 use Rattle.hippo_values.specs.declared.truths.CompareOp.{CompareOp}
-use Rattle.hippo_model.specs.declared.statement.RawColumn.{RawColumn}
-use Rattle.hippo_model.specs.declared.statement.RawOperand.{RawOperand}
-use Rattle.hippo_model.specs.declared.statement.RawOperand.TheVariants.{Column, Literal}
+use Rattle.hippo_statements.specs.declared.statement.RawColumn.{RawColumn}
+use Rattle.hippo_statements.specs.declared.statement.RawOperand.{RawOperand}
+use Rattle.hippo_statements.specs.declared.statement.RawOperand.TheVariants.{Column, Literal}
 use Rattle.hippo_values.specs.contracts.keywords.Keyword as keywords
 use Rattle.hippo_values.specs.declared.keywords.Keyword.TheVariants.{KNull, KNot}
 use Rattle.hippo_values.specs.Options.{◌>>=◌}

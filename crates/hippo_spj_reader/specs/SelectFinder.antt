@@ -1,13 +1,13 @@
 -- The select that can be found at the front of a list of tokens, part by part: the longest one.
 use Rattle.std.specs.Prelude.{ℕ, zero, suc, Bool, true, false, if◌then◌else◌, codes, List, [], ◌∷◌, ◌++◌, length, option_to_list, Option, Some, None}
 use Rattle.hippo_values.specs.declared.names.Name.{Name}
-use Rattle.hippo_model.specs.declared.statement.RawColumn.{RawColumn}
-use Rattle.hippo_model.specs.declared.statement.RawItem.{RawItem}
-use Rattle.hippo_model.specs.declared.statement.RawItem.TheVariants as item
-use Rattle.hippo_model.specs.declared.statement.RawForm.TheVariants.{Plain, Distinct, Grouped}
-use Rattle.hippo_model.specs.declared.statement.RawOut.{RawOut}
-use Rattle.hippo_model.specs.declared.statement.RawOut.TheVariants as out
-use Rattle.hippo_model.specs.declared.statement.RawSelect.{RawSelect}
+use Rattle.hippo_statements.specs.declared.statement.RawColumn.{RawColumn}
+use Rattle.hippo_statements.specs.declared.statement.RawItem.{RawItem}
+use Rattle.hippo_statements.specs.declared.statement.RawItem.TheVariants as item
+use Rattle.hippo_statements.specs.declared.statement.RawForm.TheVariants.{Plain, Distinct, Grouped}
+use Rattle.hippo_statements.specs.declared.statement.RawOut.{RawOut}
+use Rattle.hippo_statements.specs.declared.statement.RawOut.TheVariants as out
+use Rattle.hippo_statements.specs.declared.statement.RawSelect.{RawSelect}
 use Rattle.hippo_values.specs.declared.keywords.Keyword.TheVariants.{KDistinct, KFrom, KGroup, KInner, KJoin, KMax, KMin, KOn, KSelect, KWhere}
 use Rattle.hippo_values.specs.Options.{◌>>=◌}
 use Rattle.hippo_lexer.specs.declared.kinds.Symbol.TheVariants.{Comma, Dot, LeftParen, RightParen, Star}

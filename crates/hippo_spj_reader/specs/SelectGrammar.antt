@@ -4,14 +4,14 @@ use Rattle.std.specs.Prelude.{◌≡◌, List, [], ◌∷◌, ◌++◌, codes, o
 use Rattle.std.specs.List.{flat_map}
 use Rattle.hippo_values.specs.declared.names.Name.{Name}
 use Rattle.hippo_model.specs.declared.query.CondOf.{All}
-use Rattle.hippo_model.specs.declared.statement.RawColumn.{RawColumn}
-use Rattle.hippo_model.specs.declared.statement.RawItem.{RawItem}
-use Rattle.hippo_model.specs.declared.statement.RawItem.TheVariants as item
-use Rattle.hippo_model.specs.declared.statement.RawForm.{RawForm}
-use Rattle.hippo_model.specs.declared.statement.RawForm.TheVariants.{Plain, Distinct, Grouped}
-use Rattle.hippo_model.specs.declared.statement.RawOut.{RawOut}
-use Rattle.hippo_model.specs.declared.statement.RawOut.TheVariants as out
-use Rattle.hippo_model.specs.declared.statement.RawSelect.{RawSelect}
+use Rattle.hippo_statements.specs.declared.statement.RawColumn.{RawColumn}
+use Rattle.hippo_statements.specs.declared.statement.RawItem.{RawItem}
+use Rattle.hippo_statements.specs.declared.statement.RawItem.TheVariants as item
+use Rattle.hippo_statements.specs.declared.statement.RawForm.{RawForm}
+use Rattle.hippo_statements.specs.declared.statement.RawForm.TheVariants.{Plain, Distinct, Grouped}
+use Rattle.hippo_statements.specs.declared.statement.RawOut.{RawOut}
+use Rattle.hippo_statements.specs.declared.statement.RawOut.TheVariants as out
+use Rattle.hippo_statements.specs.declared.statement.RawSelect.{RawSelect}
 use Rattle.hippo_values.specs.declared.keywords.Keyword.TheVariants.{KDistinct, KFrom, KGroup, KInner, KJoin, KMax, KMin, KOn, KSelect, KWhere}
 use Rattle.hippo_lexer.specs.declared.kinds.Symbol.TheVariants.{Comma, Dot, LeftParen, RightParen, Star}
 use Rattle.hippo_lexer.specs.declared.kinds.TokenKind.TheVariants.{Word, Keyword, Symbol}

@@ -13,7 +13,8 @@ use crate::front::{
 use crate::lists::{Commas, Part, list, only, whole};
 use crate::pairs::beside;
 use hippo_lexer::{Keyword, Symbol, SyntaxFault, Token, TokenKind, Tokens};
-use hippo_model::{CondOf, RawColumn, RawCond, RawOperand};
+use hippo_model::CondOf;
+use hippo_statements::{RawColumn, RawCond, RawOperand};
 use hippo_values::{Boxed, CompareOp, Sequence};
 use std::alloc::Global;
 

@@ -1,8 +1,8 @@
 //! Selects: their items, their sources and their condition.
 
 ghost use Rattle.std.specs.Prelude.{◌≡◌, [], ◌∷◌, ◌++◌, ◌<◌, ◌≤◌, length, IfOk, slice_range, IfSome, OnOk, option_map, option_to_list, Some, None, if◌then◌else◌};
-ghost use Rattle.hippo_model.specs.declared.statement.RawForm.TheVariants.{Plain, Distinct};
-ghost use Rattle.hippo_model.specs.declared.statement.RawSelect.{RawSelect};
+ghost use Rattle.hippo_statements.specs.declared.statement.RawForm.TheVariants.{Plain, Distinct};
+ghost use Rattle.hippo_statements.specs.declared.statement.RawSelect.{RawSelect};
 ghost use Rattle.hippo_lexer.specs.Words.{words_check};
 ghost use Rattle.hippo_spj_reader.specs.Promises.{Gives, GivesPart, LeavesNoMore, Reads, Passes, ReadsAll};
 ghost use Rattle.hippo_spj_reader.specs.Front.{kinds, kinds_between};
@@ -17,10 +17,8 @@ use crate::front::{
 use crate::lists::{Commas, Part, list, only, whole};
 use crate::pairs::beside;
 use hippo_lexer::{Keyword, Symbol, SyntaxFault, Token, TokenKind, Tokens};
-use hippo_model::{
-    CondOf, Names, RawColumn, RawColumns, RawCond, RawForm, RawItem, RawItems, RawOut, RawOuts,
-    RawSelect,
-};
+use hippo_model::{CondOf, Names};
+use hippo_statements::{RawColumn, RawColumns, RawCond, RawForm, RawItem, RawItems, RawOut, RawOuts, RawSelect};
 use hippo_values::{Memory, Name, Sequence};
 use std::alloc::Global;
 

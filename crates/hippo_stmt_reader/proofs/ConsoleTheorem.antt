@@ -2,8 +2,8 @@
 use Rattle.std.proofs.Common.{◌≡◌, codes, List, [], ◌∷◌, true, false, Option, Some, None, refl, sym}
 use Rattle.std.proofs.lemmas.Option.{none-some, same_Some, some_pair_parts}
 use Rattle.hippo_model.specs.declared.entry.ItemKind.TheVariants.{OptIn, OptOut}
-use Rattle.hippo_model.specs.declared.statement.RawAudit.{RawAudit}
-use Rattle.hippo_model.specs.declared.statement.Stmt.{Stmt}
+use Rattle.hippo_statements.specs.declared.statement.RawAudit.{RawAudit}
+use Rattle.hippo_statements.specs.declared.statement.Stmt.{Stmt}
 use Rattle.hippo_values.specs.declared.keywords.Keyword as words
 use Rattle.hippo_values.specs.declared.keywords.Keyword.TheVariants.{KAllow, KAnd, KAudit, KAuthorize, KBegin, KChoice, KCreate, KDeauthorize, KDelete, KDuring, KExplain, KFrom, KIn, KInsert, KInto, KIs, KItem, KKey, KNo, KOn, KOpen, KOpt, KOut, KPrimary, KPurpose, KRecipient, KRevoke, KSelect, KSet, KTable, KUpdate, KValues, KWhere, KWith, KYes}
 use Rattle.hippo_values.specs.Options.{◌>>=◌}

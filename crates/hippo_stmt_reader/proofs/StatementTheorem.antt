@@ -5,9 +5,9 @@ use Rattle.std.proofs.lemmas.List.{length-map, drop-map, take-append-drop}
 use Rattle.std.proofs.lemmas.Option.{none-some, same_Some}
 use Rattle.std.specs.List.{slice_get}
 use Rattle.std.specs.Result.{IfOk, IfErr}
-use Rattle.hippo_model.specs.declared.statement.RawSelect.{RawSelect}
-use Rattle.hippo_model.specs.declared.statement.Stmt.{Stmt}
-use Rattle.hippo_model.specs.declared.statement.Stmt.TheVariants as stmt
+use Rattle.hippo_statements.specs.declared.statement.RawSelect.{RawSelect}
+use Rattle.hippo_statements.specs.declared.statement.Stmt.{Stmt}
+use Rattle.hippo_statements.specs.declared.statement.Stmt.TheVariants as stmt
 use Rattle.hippo_lexer.specs.Words.{words_check, support_of}
 use Rattle.hippo_lexer.specs.declared.faults.SyntaxFault.{SyntaxFault}
 use Rattle.hippo_lexer.specs.declared.faults.SyntaxFault.TheVariants as fault

@@ -7,7 +7,8 @@ ghost use Rattle.hippo_stmt_reader.specs.StatementFinder.{leading_assignment, in
 
 use crate::parts::with_end;
 use hippo_lexer::{Keyword, Symbol, SyntaxFault, Token};
-use hippo_model::{Cells, Names, Stmt};
+use hippo_model::{Cells, Names};
+use hippo_statements::Stmt;
 use hippo_spj_reader::{
     Commas, Part, Separator, after_keyword, expect_keyword, expect_symbol, list, literal, name,
 };

@@ -6,7 +6,8 @@ ghost use Rattle.hippo_stmt_reader.specs.StatementFinder.{leading_grant, authori
 
 use crate::parts::{names, number, with_end};
 use hippo_lexer::{Keyword, Symbol, SyntaxFault, Token};
-use hippo_model::{Names, Stmt};
+use hippo_model::Names;
+use hippo_statements::Stmt;
 use hippo_spj_reader::{
     after_keyword, after_word, expect_keyword, expect_symbol, expect_word, name,
 };

@@ -1,6 +1,6 @@
 //! Which statement the tokens are.
 ghost use Rattle.std.specs.Prelude.{◌≡◌, ◌<◌, length, is_some, IsTrue, IfOk, IfErr};
-ghost use Rattle.hippo_model.specs.declared.statement.Stmt.{Stmt};
+ghost use Rattle.hippo_statements.specs.declared.statement.Stmt.{Stmt};
 ghost use Rattle.hippo_lexer.specs.Words.{words_check};
 ghost use Rattle.hippo_spj_reader.specs.Promises.{Gives};
 ghost use Rattle.hippo_spj_reader.specs.Front.{kinds, after_keyword, after_word};
@@ -13,7 +13,7 @@ use crate::policies::{allow, authorize, choice, deauthorize, revoke};
 use crate::schemas::create;
 use hippo_audit_reader::audit;
 use hippo_lexer::{Keyword, SyntaxFault, Token, TokenKind, Tokens, check_words};
-use hippo_model::{RawSelect, Stmt};
+use hippo_statements::{RawSelect, Stmt};
 use hippo_spj_reader::{after_keyword, after_word, expect_keyword, select, split};
 use std::alloc::Global;
 

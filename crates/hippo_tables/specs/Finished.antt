@@ -5,8 +5,8 @@ use Rattle.hippo_values.specs.declared.names.Name.{Name}
 use Rattle.hippo_values.specs.declared.values.Value.{Value}
 use Rattle.hippo_model.specs.declared.entry.Act.{Act}
 use Rattle.hippo_model.specs.declared.entry.Act.TheVariants.{Insert, Update, Delete}
-use Rattle.hippo_model.specs.declared.statement.Wanted.{Wanted}
-use Rattle.hippo_model.specs.declared.statement.Wanted.TheVariants.{Ready, Add, Set, Remove}
+use Rattle.hippo_model.specs.declared.wanted.Wanted.{Wanted}
+use Rattle.hippo_model.specs.declared.wanted.Wanted.TheVariants.{Ready, Add, Set, Remove}
 use Rattle.hippo_model.specs.declared.table_fault.TableFault.{TableFault}
 use Rattle.hippo_model.specs.declared.table_fault.TableFault.TheVariants.{KeyThere, KeyMissing, Memory}
 use Rattle.hippo_model.specs.Terms.{History, Row, Key, Place}

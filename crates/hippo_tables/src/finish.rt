@@ -2,7 +2,7 @@
 ghost use Rattle.std.specs.Prelude.{◌≡◌, slice_set, IfOk, Ok as Good};
 ghost use Rattle.hippo_model.specs.Terms.{History};
 ghost use Rattle.hippo_model.specs.declared.entry.Act.TheVariants.{Insert, Update, Delete};
-ghost use Rattle.hippo_model.specs.declared.statement.Wanted.TheVariants.{Add, Set, Remove};
+ghost use Rattle.hippo_model.specs.declared.wanted.Wanted.TheVariants.{Add, Set, Remove};
 ghost use Rattle.hippo_tables.specs.Standing.{TablesStandFor};
 ghost use Rattle.hippo_tables.specs.Finished.{written_row, finished_act, IsFinishedAct};
 

@@ -16,8 +16,8 @@ use Rattle.hippo_lexer.specs.declared.kinds.TokenKind.TheVariants.{Word, Keyword
 use Rattle.hippo_lexer.proofs.RangeLemmas.{list_any-range_true}
 use Rattle.hippo_model.specs.declared.entry.Act.TheVariants.{Update}
 use Rattle.hippo_model.specs.declared.schema.Column.{Column}
-use Rattle.hippo_model.specs.declared.statement.Stmt.TheVariants as stmt
-use Rattle.hippo_model.specs.declared.statement.Wanted.TheVariants.{Set}
+use Rattle.hippo_statements.specs.declared.statement.Stmt.TheVariants as stmt
+use Rattle.hippo_model.specs.declared.wanted.Wanted.TheVariants.{Set}
 use Rattle.hippo_model.specs.Keepable.{is_folded_name, value_is_keepable}
 use Rattle.hippo_model.specs.Rows.{cell_at, key_of}
 use Rattle.hippo_model.specs.Terms.{Key, Place, Row}

@@ -14,8 +14,8 @@ use Rattle.hippo_lexer.specs.declared.kinds.Symbol.TheVariants.{Equal}
 use Rattle.hippo_lexer.specs.declared.kinds.TokenKind.TheVariants.{Word, Keyword, Symbol}
 use Rattle.hippo_model.specs.declared.schema.Column.{Column}
 use Rattle.hippo_model.specs.declared.schema.Schema.{Schema}
-use Rattle.hippo_model.specs.declared.statement.Stmt.TheVariants as stmt
-use Rattle.hippo_model.specs.declared.statement.Wanted.TheVariants.{Remove}
+use Rattle.hippo_statements.specs.declared.statement.Stmt.TheVariants as stmt
+use Rattle.hippo_model.specs.declared.wanted.Wanted.TheVariants.{Remove}
 use Rattle.hippo_model.specs.Keepable.{is_folded_name, value_is_keepable}
 use Rattle.hippo_model.specs.Terms.{Key, Place}
 use Rattle.hippo_model.specs.Validity.{all_differ}

@@ -15,9 +15,9 @@ use Rattle.hippo_model.specs.declared.entry.Act.{Act}
 use Rattle.hippo_model.specs.declared.entry.Act.TheVariants.{Purpose, Recipient, Item, Authorize, Deauthorize, Choice}
 use Rattle.hippo_model.specs.declared.entry.ItemKind.TheVariants.{OptIn, OptOut}
 use Rattle.hippo_model.specs.declared.schema.Schema.{Schema}
-use Rattle.hippo_model.specs.declared.statement.Stmt.{Stmt}
-use Rattle.hippo_model.specs.declared.statement.Stmt.TheVariants as stmt
-use Rattle.hippo_model.specs.declared.statement.Wanted.TheVariants.{Ready}
+use Rattle.hippo_statements.specs.declared.statement.Stmt.{Stmt}
+use Rattle.hippo_statements.specs.declared.statement.Stmt.TheVariants as stmt
+use Rattle.hippo_model.specs.declared.wanted.Wanted.TheVariants.{Ready}
 use Rattle.hippo_model.specs.Keepable.{is_folded_name}
 use Rattle.hippo_model.specs.Terms.{History}
 use Rattle.hippo_spj_reader.specs.Front.{Kinds}

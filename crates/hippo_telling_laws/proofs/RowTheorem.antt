@@ -8,8 +8,8 @@ use Rattle.hippo_values.specs.declared.values.Value.TheVariants as values
 use Rattle.hippo_values.specs.declared.keywords.Keyword.TheVariants.{KInsert, KInto, KValues}
 use Rattle.hippo_lexer.specs.declared.kinds.Symbol.TheVariants.{Comma, LeftParen, RightParen}
 use Rattle.hippo_lexer.specs.declared.kinds.TokenKind.TheVariants.{Word, Keyword, Symbol}
-use Rattle.hippo_model.specs.declared.statement.Stmt.TheVariants as stmt
-use Rattle.hippo_model.specs.declared.statement.Wanted.TheVariants.{Add}
+use Rattle.hippo_statements.specs.declared.statement.Stmt.TheVariants as stmt
+use Rattle.hippo_model.specs.declared.wanted.Wanted.TheVariants.{Add}
 use Rattle.hippo_model.specs.Keepable.{is_folded_name, value_is_keepable}
 use Rattle.hippo_model.specs.Rows.{key_of}
 use Rattle.hippo_model.specs.Terms.{Row}

@@ -22,8 +22,8 @@ use Rattle.hippo_model.specs.declared.schema.Column.{Column}
 use Rattle.hippo_model.specs.declared.schema.ColumnKind.{ColumnKind}
 use Rattle.hippo_model.specs.declared.schema.ColumnKind.TheVariants as kinds
 use Rattle.hippo_model.specs.declared.schema.Schema.{Schema}
-use Rattle.hippo_model.specs.declared.statement.Stmt.TheVariants as stmt
-use Rattle.hippo_model.specs.declared.statement.Wanted.TheVariants.{Ready}
+use Rattle.hippo_statements.specs.declared.statement.Stmt.TheVariants as stmt
+use Rattle.hippo_model.specs.declared.wanted.Wanted.TheVariants.{Ready}
 use Rattle.hippo_model.specs.Keepable.{is_folded_name, is_short, is_place, columns_are_keepable, key_is_keepable, subject_is_keepable, schema_is_keepable}
 use Rattle.hippo_model.specs.Terms.{Place}
 use Rattle.hippo_model.specs.Validity.{all_differ, column_passes, key_column_fits, subject_column_fits, is_well_formed}

@@ -11,8 +11,8 @@ use Rattle.hippo_model.specs.declared.entry.Act.TheVariants.{Create, Insert, Upd
 use Rattle.hippo_model.specs.declared.entry.Entry.{Entry}
 use Rattle.hippo_model.specs.declared.schema.Column.{Column}
 use Rattle.hippo_model.specs.declared.schema.Schema.{Schema}
-use Rattle.hippo_model.specs.declared.statement.Stmt.{Stmt}
-use Rattle.hippo_model.specs.declared.statement.Wanted.{Wanted}
+use Rattle.hippo_statements.specs.declared.statement.Stmt.{Stmt}
+use Rattle.hippo_model.specs.declared.wanted.Wanted.{Wanted}
 use Rattle.hippo_model.specs.Keepable.{is_folded_name, item_is_keepable, value_is_keepable, schema_is_keepable, act_is_keepable}
 use Rattle.hippo_model.specs.Rows.{key_of}
 use Rattle.hippo_model.specs.Terms.{History, Key, Meaning, Place, Row}

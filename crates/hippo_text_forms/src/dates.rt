@@ -5,8 +5,7 @@ ghost use Rattle.std.specs.Int.{int_div_euclid, int_rem_euclid};
 ghost use Rattle.std.specs.Str.{IsAscii};
 
 use hippo_values::{DayNumber, Moment};
-use jiff::civil::Date;
-use jiff_core::civil;
+use jiff_core::civil::Date;
 
 // The bytes of a day as it is written.
 const DAY_LENGTH: usize = 10;
@@ -63,7 +62,7 @@ fn day_of_date(year: u16, month: u8, day: u8) -> Option<DayNumber>
         return None;
     }
     match Date::new(year as i16, month as i8, day as i8) {
-        Ok(date) => DayNumber::new(date.to_plain().to_unix_epoch_day()),
+        Ok(date) => DayNumber::new(date.to_unix_epoch_day()),
         Err(_) => None,
     }
 }
@@ -151,7 +150,7 @@ pub fn read_moment(text: &str) -> Option<Moment>
 fn date_of_day(day: DayNumber) -> (u16, u8, u8)
     ensures { HasDate day result.0 result.1 result.2 }
 {
-    let date = civil::Date::from_days_since_min((day.day() + DAYS_BEFORE) as u32);
+    let date = Date::from_days_since_min((day.day() + DAYS_BEFORE) as u32);
     (date.year as u16, date.month, date.day)
 }
 

@@ -11,8 +11,8 @@ use Rattle.hippo_model.specs.declared.entry.Entry.{Entry}
 use Rattle.hippo_model.specs.declared.name_fault.NameFault.{NameFault}
 use Rattle.hippo_model.specs.declared.name_fault.NameFault.TheVariants.{UnknownTable, UnknownPurpose, UnknownRecipient}
 use Rattle.hippo_model.specs.declared.schema.Schema.{Schema}
-use Rattle.hippo_model.specs.declared.statement.RawAudit.{RawAudit}
-use Rattle.hippo_model.specs.declared.statement.RawSelect.{RawSelect}
+use Rattle.hippo_statements.specs.declared.statement.RawAudit.{RawAudit}
+use Rattle.hippo_statements.specs.declared.statement.RawSelect.{RawSelect}
 use Rattle.hippo_model.specs.Terms.{History}
 use Rattle.hippo_catalog.specs.declared.period.Period.{Period}
 use Rattle.hippo_catalog.specs.AuditExpressions.{audit_parts_refused, period_refused, audit_refused, audit_of}

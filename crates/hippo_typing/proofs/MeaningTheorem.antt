@@ -16,7 +16,7 @@ use Rattle.hippo_lexer.specs.Cutting.{outcome_of}
 use Rattle.hippo_lexer.proofs.OutcomeLemmas.{outcome-one}
 use Rattle.hippo_model.specs.declared.name_fault.NameFault.{NameFault}
 use Rattle.hippo_model.specs.declared.query.Query.{Query}
-use Rattle.hippo_model.specs.declared.statement.RawSelect.{RawSelect}
+use Rattle.hippo_statements.specs.declared.statement.RawSelect.{RawSelect}
 use Rattle.hippo_spj_reader.specs.Front.{Kinds, kinds, kinds_between}
 use Rattle.hippo_spj_reader.specs.Promises.{whole_of, part_at_end, ReadsAll, IsFaultOnlyWhere}
 use Rattle.hippo_spj_reader.specs.SelectFinder.{leading_select}

@@ -5,7 +5,7 @@ use Rattle.hippo_model.specs.declared.name_fault.NameFault.{NameFault}
 use Rattle.hippo_model.specs.declared.query.CondOf.{CondOf}
 use Rattle.hippo_model.specs.declared.query.Operand.{Operand}
 use Rattle.hippo_model.specs.declared.schema.Schema.{Schema}
-use Rattle.hippo_model.specs.declared.statement.RawAudit.{RawAudit}
+use Rattle.hippo_statements.specs.declared.statement.RawAudit.{RawAudit}
 use Rattle.hippo_catalog.specs.declared.period.Period.{Period}
 use Rattle.hippo_catalog.specs.Catalogs.{KnownNames}
 use Rattle.hippo_catalog.specs.Refusals.{unknown_table, unknown_pair, repeated_names}

@@ -19,7 +19,8 @@ use crate::tables::tables_of;
 use hippo_catalog::{
     Catalog, Period, StatementTables, check_kinds, check_pair, check_repeats, check_texts,
 };
-use hippo_model::{Audit, CondOf, NameFault, Names, Operand, Pairs, RawAudit, Refs};
+use hippo_model::{Audit, CondOf, NameFault, Names, Operand, Pairs, Refs};
+use hippo_statements::RawAudit;
 use hippo_text_forms::read_moment;
 use hippo_values::{Duplicate, FROM_LIMIT, ITEM_LIMIT, Moment, PAIR_LIMIT, Txt};
 use std::alloc::Global;

@@ -8,7 +8,8 @@ ghost use Rattle.hippo_typing.specs.Found.{with_column};
 
 use crate::found::{Found, FoundColumns};
 use hippo_catalog::{IndexedTable, StatementTables, column_faults};
-use hippo_model::{NameFault, RawColumn, Ref, Refs};
+use hippo_model::{NameFault, Ref, Refs};
+use hippo_statements::RawColumn;
 use hippo_values::{Name, Sequence};
 use std::alloc::Global;
 

@@ -8,7 +8,8 @@ ghost use Rattle.hippo_catalog.specs.Comparisons.{operand_refused, operand_of, o
 
 use crate::columns::found_column;
 use hippo_catalog::StatementTables;
-use hippo_model::{CondOf, NameFault, Operand, Operands, RawColumn, RawCond, RawOperand};
+use hippo_model::{CondOf, NameFault, Operand, Operands};
+use hippo_statements::{RawColumn, RawCond, RawOperand};
 use hippo_values::{Boxed, CompareOp, Duplicate, Sequence, Value};
 use std::alloc::Global;
 

@@ -11,7 +11,8 @@ ghost use Rattle.hippo_typing.specs.Found.{groups_found_refused, out_found, show
 use crate::columns::found_column;
 use crate::found::{Found, FoundColumn, FoundColumns, FoundOut, FoundOuts};
 use hippo_catalog::{StatementTables, column_faults};
-use hippo_model::{NameFault, Out, Outs, RawColumn, RawOut, Ref, Refs};
+use hippo_model::{NameFault, Out, Outs, Ref, Refs};
+use hippo_statements::{RawColumn, RawOut};
 use hippo_values::{Memory, Sequence};
 use std::alloc::Global;
 

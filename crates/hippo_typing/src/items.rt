@@ -8,7 +8,8 @@ ghost use Rattle.hippo_catalog.specs.Selects.{item_refused, item_columns, star_r
 
 use crate::columns::{found_column, may_stand_in};
 use hippo_catalog::{IndexedTable, StatementTables, column_faults};
-use hippo_model::{NameFault, RawColumn, RawItem, Ref, Refs};
+use hippo_model::{NameFault, Ref, Refs};
+use hippo_statements::{RawColumn, RawItem};
 use hippo_values::{Memory, Name, Sequence};
 use std::alloc::Global;
 

@@ -19,10 +19,8 @@ use crate::pairs::paired;
 use crate::parts::check_count;
 use crate::tables::found_tables;
 use hippo_catalog::{Catalog, StatementTables, check_kinds, check_texts};
-use hippo_model::{
-    CondOf, Form, NameFault, Names, Operand, Query, RawColumn, RawForm, RawOut, RawOuts, RawSelect,
-    Refs, Shape,
-};
+use hippo_model::{CondOf, Form, NameFault, Names, Operand, Query, Refs, Shape};
+use hippo_statements::{RawColumn, RawForm, RawOut, RawOuts, RawSelect};
 use hippo_values::{Duplicate, FROM_LIMIT, ITEM_LIMIT, Memory, Sequence};
 use std::alloc::Global;
 

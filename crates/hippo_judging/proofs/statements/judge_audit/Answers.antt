@@ -1,5 +1,5 @@
 use Rattle.std.proofs.Common.{refl, Ok}
-use Rattle.hippo_model.specs.declared.statement.Stmt.TheVariants as stmt
+use Rattle.hippo_statements.specs.declared.statement.Stmt.TheVariants as stmt
 use Rattle.hippo_commands.specs.Commands as commands
 use Rattle.hippo_judging.proofs.FindingLemmas.{may_audit, refused_audit}
 use Rattle.hippo_report.specs.declared.speaker.Speaker.TheVariants.{Console}

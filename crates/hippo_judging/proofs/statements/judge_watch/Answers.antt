@@ -1,7 +1,7 @@
 use Rattle.std.proofs.Common.{refl, sym, subst, ap, ◌∙◌, Ok}
 use Rattle.std.specs.Prelude.{ok_or}
 use Rattle.hippo_values.specs.Results.{◌>>=◌}
-use Rattle.hippo_model.specs.declared.statement.Stmt.TheVariants as stmt
+use Rattle.hippo_statements.specs.declared.statement.Stmt.TheVariants as stmt
 use Rattle.hippo_commands.specs.Commands as commands
 use Rattle.hippo_report.specs.declared.refusal.Refusal.TheVariants.{WatchLimit}
 use Rattle.hippo_sessions.specs.Worlds.{free_number}

@@ -1,6 +1,6 @@
 -- Each statement of the console is judged by its own checks.
 use Rattle.std.proofs.Common.{refl}
-use Rattle.hippo_model.specs.declared.statement.Stmt.TheVariants as stmt
+use Rattle.hippo_statements.specs.declared.statement.Stmt.TheVariants as stmt
 use Rattle.hippo_commands.specs.Commands as commands
 use Rattle.hippo_report.specs.declared.speaker.Speaker.TheVariants.{Console}
 use Rattle.hippo_judging.proofs.FindingLemmas.{judges_found, sessions_only}

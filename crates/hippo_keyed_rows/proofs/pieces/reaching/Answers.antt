@@ -1,12 +1,8 @@
--- The pieces are parted by where they end.
-use Rattle.std.proofs.Common.{nat_le, rules}
-use Rattle.std.proofs.lemmas.List.Sorted.{IsPartitionPoint-from_clause, IsPartitionedBy-leb}
-use Rattle.hippo_keyed_rows.specs.declared.pieces.Piece.{Piece}
-use Rattle.hippo_keyed_rows.proofs.PiecesLemmas.{ends_rise, IsReached-parted}
+-- The likely piece holds the place.
+use Rattle.std.proofs.Common.{arith}
+use Rattle.std.proofs.lemmas.Bool.Decides.{nat_tests}
+use Rattle.hippo_keyed_rows.proofs.PiecesLemmas.{IsReached-held}
 use Rattle.hippo_keyed_rows.proofs.pieces.reaching.Goals as goal
 
-pub returns : goal.returns
-returns g c =
-    let pieces = c.args.pieces.now in
-    let parted = IsPartitionPoint-from_clause (λ (piece : Piece g.row.T.Denot). nat_le piece.end c.args.place) pieces c.partition_point-index.result c.partition_point-index.ensures.partitioned (IsPartitionedBy-leb (λ (piece : Piece g.row.T.Denot). piece.end) pieces c.args.place (ends_rise pieces c.requires)) (λ a r f called. search rules) in
-    IsReached-parted pieces c.requires c.args.place c.partition_point-index.result c.start.result c.partition_point-index.ensures.bound parted c.start.ensures
+pub returns-in-Some : goal.returns-in-Some
+returns-in-Some g c = IsReached-held c.args.pieces.now c.requires c.args.place c.likely-index.result c.start-start.result c.in-Some.piece.now c.in-Some.ensures.lookup.3.0 c.in-Some.ensures.lookup.1 c.start-start.ensures (grind (arith, nat_tests, c.if-start-place.true)) (grind (arith, nat_tests, c.if-place-piece.true))

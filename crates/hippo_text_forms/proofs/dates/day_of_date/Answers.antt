@@ -1,4 +1,4 @@
-use Rattle.std.proofs.Common.{◌≡◌, ℤ, Option, None, Some, SomeIff, IfNone, arith, pos, rules, FitsSigned, w32, to_z-of_z, ◌∙◌, ap}
+use Rattle.std.proofs.Common.{◌≡◌, ℤ, Option, None, Some, SomeIff, IfNone, arith, pos, rules, FitsSigned, w32, to_z-of_z, ◌∙◌}
 use Rattle.jiff_core.specs.Date.{epoch_day}
 use Rattle.jiff_core.proofs.SignedLemmas.{signed_casts}
 use Rattle.hippo_values.specs.Moments.{IsDayNumber}
@@ -18,4 +18,4 @@ returns-in-Ok-clause-none c =
     let day : date.day ≡ c.args.day = omega (arith, signed_casts, same) in
     let has = HasDate-of_civil date _ _ _ (omega arith) year month day in
     let fits : FitsSigned w32 c.to_unix_epoch_day.result = search rules in
-    none_of _ _ _ _ c.new-in-Ok.ensures (to_z-of_z fits ∙ c.to_unix_epoch_day.ensures.value ∙ ap epoch_day c.to_plain.ensures) (IsDayNumber-of_date _ _ _ _ has)
+    none_of _ _ _ _ c.new-in-Ok.ensures (to_z-of_z fits ∙ c.to_unix_epoch_day.ensures.value) (IsDayNumber-of_date _ _ _ _ has)

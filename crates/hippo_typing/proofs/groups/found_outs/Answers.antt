@@ -1,8 +1,8 @@
 use Rattle.std.proofs.Common.{List, arith, rules, refl, subst}
 use Rattle.std.specs.List.{flat_map}
 use Rattle.hippo_model.specs.declared.name_fault.NameFault.{NameFault}
-use Rattle.hippo_model.specs.declared.statement.RawColumn.{RawColumn}
-use Rattle.hippo_model.specs.declared.statement.RawOut.{RawOut}
+use Rattle.hippo_statements.specs.declared.statement.RawColumn.{RawColumn}
+use Rattle.hippo_statements.specs.declared.statement.RawOut.{RawOut}
 use Rattle.hippo_catalog.specs.Refusals.{IsFirstOf}
 use Rattle.hippo_catalog.specs.Selects.{column_in}
 use Rattle.hippo_catalog.specs.WrittenColumns.{column_refused}

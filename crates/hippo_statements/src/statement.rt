@@ -1,9 +1,5 @@
-//! Statements as they are written.
-use crate::audit::Pairs;
-use crate::cells::Cells;
-use crate::entry::{Act, ItemKind};
-use crate::query::CondOf;
-use crate::schema::{Columns, Names, Places};
+//! Selects, audit expressions and whole statements, with names for what they name.
+use hippo_model::{Cells, Columns, CondOf, ItemKind, Names, Pairs};
 use hippo_values::{Boxed, Name, Sequence, Txt, Value};
 
 /// A column as it is written, with its table or without.
@@ -161,27 +157,5 @@ pub enum Stmt {
         select: RawSelect,
         start: usize,
         end: usize,
-    },
-}
-
-/// A change that is right by names and types; what it does may still wait for the rows that are
-/// there.
-#[derive(Drop)]
-pub enum Wanted {
-    Ready(Act),
-    Add {
-        table: Name,
-        row: Cells,
-        key: Cells,
-    },
-    Set {
-        table: Name,
-        key: Cells,
-        places: Places,
-        values: Cells,
-    },
-    Remove {
-        table: Name,
-        key: Cells,
     },
 }
