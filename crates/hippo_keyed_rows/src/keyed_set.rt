@@ -1,6 +1,7 @@
 //! A table's rows in the order of their keys.
 ghost use Rattle.std.specs.Prelude.{◌≡◌, List, ◌∷◌, ◌<◌, ◌≤◌, ◌↔◌, [], true, length, map, option_map, slice_get, Some, IsTrue, OnOk, OnErr, IsOk, IsSome, IfSome, MatchOption};
 ghost use Rattle.std.specs.List.Sorted.{IsSearchInRange, IsBinarySearchResult};
+ghost use Rattle.std.specs.declared.cmp.Ordering.TheVariants.{Equal};
 ghost use Rattle.hippo_values.specs.Order.{value_cmp, cells_cmp};
 ghost use Rattle.hippo_model.specs.declared.born_row.BornRow.{BornRow};
 ghost use Rattle.hippo_model.specs.Rows.{cell_at, key_of};
@@ -103,17 +104,16 @@ fn first_order(row: &[Value], places: &[usize], sought: &Sought<'_>) -> Option<O
         (key_sought places.now sought.now) ≡ order) }
 {
     let place = *places.first()?;
-    let Value::Int(other) = sought.first(place)? else {
-        return None;
-    };
-    let Value::Int(number) = row.get(place)? else {
-        return None;
-    };
-    let order = number.cmp(other);
-    if order.is_ne() || places.len() == 1 && sought.is_single() {
-        Some(order)
-    } else {
-        None
+    match (row.get(place), sought.first(place)) {
+        (Some(Value::Int(number)), Some(Value::Int(other))) => {
+            let order = number.cmp(other);
+            if order.is_ne() || places.len() == 1 && sought.is_single() {
+                Some(order)
+            } else {
+                None
+            }
+        }
+        _ => None,
     }
 }
 
@@ -200,6 +200,71 @@ fn search(rows: &Pieces<BornRow>, places: &[usize], sought: &Sought<'_>) -> Resu
     match search_piece(&pieces[low - 1], places, sought) {
         Ok(place) => Ok(start + place),
         Err(place) => Err(start + place),
+    }
+}
+
+// The number at a place of a row.
+fn number_at(row: &[Value], place: usize) -> Option<i64> {
+    match row.get(place) {
+        Some(Value::Int(number)) => Some(*number),
+        _ => None,
+    }
+}
+
+// The number at a place of the row of a kept one.
+fn kept_number(kept: Option<&BornRow>, place: usize) -> Option<i64> {
+    match kept {
+        Some(kept) => number_at(kept.row.as_slice(), place),
+        None => None,
+    }
+}
+
+// The number with which a key begins that is looked for.
+fn sought_number(sought: &Sought<'_>, place: usize) -> Option<i64> {
+    match sought.first(place) {
+        Some(Value::Int(number)) => Some(*number),
+        _ => None,
+    }
+}
+
+// A number's share of the numbers from one to another, as so many places.
+fn share(number: i64, first: i64, last: i64, places: usize) -> usize {
+    if first < last {
+        let before = number.abs_diff(first).saturating_mul(places as u64);
+        (before / last.abs_diff(first)) as usize
+    } else {
+        0
+    }
+}
+
+// Where a row stands whose key is one number, if all numbers between those of the first row and the
+// last have rows.
+fn likely_place(rows: &Pieces<BornRow>, places: &[usize], sought: &Sought<'_>) -> Option<usize> {
+    let place = *places.first()?;
+    let number = sought_number(sought, place)?;
+    let first = kept_number(rows.first(), place)?;
+    let last = kept_number(rows.last(), place)?;
+    Some(share(number, first, last, rows.len().saturating_sub(1)))
+}
+
+// Whether the row at a place is the one that is looked for.
+fn stands_at(rows: &Pieces<BornRow>, places: &[usize], sought: &Sought<'_>, place: usize) -> bool
+    ensures { result ≡ true → (place < length rows.now)
+        × ((kept : BornRow) → slice_get rows.now place ≡ Some kept
+        → sought_order places.now sought.now kept ≡ Equal) }
+{
+    place < rows.len() && sought_order(rows.get(place), places, sought).is_eq()
+}
+
+// Where a key stands among all rows, or where it would; it is looked for first where it stands if
+// keys are numbers without gaps.
+fn look_up(rows: &Pieces<BornRow>, places: &[usize], sought: &Sought<'_>) -> Result<usize, usize>
+    ensures range { IsSearchInRange result (length rows.now) }
+    ensures place { IsBinarySearchResult (sought_order places.now sought.now) rows.now result }
+{
+    match likely_place(rows, places, sought) {
+        Some(place) if stands_at(rows, places, sought, place) => Ok(place),
+        _ => search(rows, places, sought),
     }
 }
 
@@ -292,7 +357,7 @@ impl KeyedSet {
         ensures { self.new ≡ without_row key.now self.old }
     {
         let sought = Sought::Key(key.as_slice());
-        if let Ok(place) = search(&self.rows, self.key.as_slice(), &sought) {
+        if let Ok(place) = look_up(&self.rows, self.key.as_slice(), &sought) {
             self.rows.remove(place);
         }
     }
@@ -312,7 +377,7 @@ impl KeyedSet {
         ensures range { IfSome result (λ place. place < length self.now.rows) }
         ensures order { IsAscending (map (key_in self.now.key) self.now.rows) }
     {
-        search(&self.rows, self.key.as_slice(), &Sought::Key(key)).ok()
+        look_up(&self.rows, self.key.as_slice(), &Sought::Key(key)).ok()
     }
 
     /// The place of the row that has the same key as this one, none exactly where no row has it.
@@ -320,7 +385,7 @@ impl KeyedSet {
         ensures place { result ≡ find_row self.now.key (key_of self.now.key row.now) self.now.rows }
         ensures range { IfSome result (λ place. place < length self.now.rows) }
     {
-        search(
+        look_up(
             &self.rows,
             self.key.as_slice(),
             &Sought::Row(row.as_slice()),

@@ -246,6 +246,11 @@ impl<T> Pieces<T> {
         &self.pieces[index].members[place - start]
     }
 
+    // The first member, if there is one.
+    pub(crate) fn first(&self) -> Option<&T> {
+        self.pieces.first()?.members.first()
+    }
+
     // The last member, if there is one.
     pub(crate) fn last(&self) -> Option<&T>
         ensures { option_copied result ≡ slice_get self.now (length self.now - 1) }

@@ -7,9 +7,9 @@ use Rattle.hippo_keyed_rows.proofs.keyed_set.KeyedSet.find_like.Goals as goal
 
 pub returns-clause-place : goal.returns-clause-place
 returns-clause-place c =
-    let range = c.search.ensures.range in
-    let place = rw (c.as_slice.ensures, c.as_slice-2.ensures) at c.search.ensures.place in
-    let found = find_row-searched c.self.inside.key (key_of c.self.inside.key c.args.row.now) c.self.inside.rows c.search.result c.self.invariant range place in
+    let range = c.look_up.ensures.range in
+    let place = rw (c.as_slice.ensures, c.as_slice-2.ensures) at c.look_up.ensures.place in
+    let found = find_row-searched c.self.inside.key (key_of c.self.inside.key c.args.row.now) c.self.inside.rows c.look_up.result c.self.invariant range place in
     c.ok.ensures.value ∙ sym found ∙ ap (λ (set : KeyedRows). find_row set.key (key_of set.key c.args.row.now) set.rows) c.self.view_is
 
 pub returns-clause-range : goal.returns-clause-range

@@ -20,6 +20,6 @@ returns-in-Ok c =
 -- no row has the key
 pub returns-in_default : goal.returns-in_default
 returns-in_default c =
-    let place = rw (c.in_default.is, c.as_slice.ensures, c.as_slice-2.ensures) at c.search.ensures.place in
+    let place = rw (c.in_default.is, c.as_slice.ensures, c.as_slice-2.ensures) at c.look_up.ensures.place in
     let parted = place (answers_rise c.self.inside.key c.args.key.now c.self.inside.rows c.self.invariant) in
     sym c.self.view_is ∙ without_row-missing c.self.inside.key c.args.key.now c.self.inside.rows c.in_default.field-0 parted ∙ ap (without_row c.args.key.now) c.self.view_is
