@@ -113,10 +113,10 @@ pub fn shared_of<C: ChoiceView>(
         audit_sets: &*audit_sets,
         choices: &*choices,
     };
-    let masked = rewrite(alloc, query, rules)?;
     let seen = to_be_seen(alloc, query, audit, rules)?;
+    let masked = rewrite(alloc, query, rules)?;
     let shared = first_needed(alloc, &query.form, &masked, &seen, &audited);
-    drop(seen);
     drop(masked);
+    drop(seen);
     shared
 }

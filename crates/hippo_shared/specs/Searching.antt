@@ -1,5 +1,5 @@
 -- The search for the first places of the common tables' rows: what it counts on, and what it finds.
-use Rattle.std.specs.Prelude.{◌≡◌, ℕ, true, List, [], ◌∷◌, get_or, map, length, replicate, Option, None, Result, OnOk, IfOk, option_map}
+use Rattle.std.specs.Prelude.{◌≡◌, ℕ, true, List, [], ◌∷◌, get_or, map, length, take, replicate, Option, None, Result, OnOk, IfOk, option_map}
 use Rattle.std.specs.List.{All, Contains}
 use Rattle.std.specs.List.Sorted.{IsNonDecreasing}
 use Rattle.std.specs.Global.{Vec}
@@ -34,6 +34,10 @@ IsStageOf choices side stage = IsStage (choices side.choices.now) side.query.now
 abbrev pub AreWholeOf : {C : Type 0} → (C → Choices) → Side C → List Stage → Type 0
 AreWholeOf choices side stages =
     AreWhole (choices side.choices.now) side.query.now side.sets.now stages
+
+-- the first stages are those of some tables
+abbrev pub BeginWith : List Stage → List Place → Type 0
+BeginWith stages tables = take (length tables) (map (λ stage. stage.table) stages) ≡ tables
 
 -- a side has a combination with the rows that are chosen, in which all is shown that is to be seen
 abbrev pub HasOneOf : {C : Type 0} → (C → Choices) → Side C → List Expr → Slots → Type 0

@@ -63,7 +63,9 @@ pub fn audit_has_any<C: ChoiceView>(alloc: Global, audited: &Audited<'_, C>) -> 
         → audit_has audited.now.audit.now audited.now.audit_sets.now tuple ≡ false) }
 {
     let unmasked = unmasked_query(alloc, audited.audit)?;
-    any_counts(alloc, &unmasked, audited.audit_sets, audited.choices)
+    let has = any_counts(alloc, &unmasked, audited.audit_sets, audited.choices);
+    drop(unmasked);
+    has
 }
 
 // Places in ascending order.
@@ -111,6 +113,29 @@ fn first_listed<C: ChoiceView>(
     }
 }
 
+// What `first_of` answers for places in ascending order.
+fn first_of_listed<C: ChoiceView>(
+    alloc: Global,
+    listed: &[Places],
+    query: &Masked,
+    seen: &Exprs,
+    audited: &Audited<'_, C>,
+) -> Result<Option<SharedTuple>, Memory>
+    requires order { IsRising listed.now }
+    requires rows { HasRowsFor query.now.tables audited.now }
+    ensures { IfOk result (λ shared. (test : List shared_row.SharedRow → Bool)
+        → AreCandidates test audited.now.audit.now.tables audited.now.audit_sets.now
+        (common_tables query.now.tables audited.now.audit.now.tables) listed.now
+        → shared ≡ first_passing test (C.choices audited.now.choices.now) query.now
+        audited.now.audit.now seen.now
+        audited.now.query_sets.now audited.now.audit_sets.now) }
+{
+    let side = audit_side(alloc, query, audited.audit)?;
+    let found = first_listed(alloc, listed, query, seen, audited, &side);
+    drop(side);
+    found
+}
+
 /// Of the virtual tuples whose rows stand at these places of the common tables, the first that some
 /// combination of the query's rows has which makes a row of its answer and in which each expression
 /// of `seen` is a shown cell, and that some combination of the audit's rows has of which its
@@ -131,6 +156,5 @@ pub fn first_of<C: ChoiceView>(
         audited.now.query_sets.now audited.now.audit_sets.now) }
 {
     let listed = listed(alloc, candidates)?;
-    let side = audit_side(alloc, query, audited.audit)?;
-    first_listed(alloc, &listed, query, seen, audited, &side)
+    first_of_listed(alloc, &listed, query, seen, audited)
 }

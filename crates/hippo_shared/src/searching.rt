@@ -4,7 +4,7 @@ ghost use Rattle.std.specs.List.{All};
 ghost use Rattle.std.specs.List.Sorted.{IsNonDecreasing, IsPermutation};
 ghost use Rattle.hippo_join.specs.Existence.{Decides};
 ghost use Rattle.hippo_shared.specs.FirstPlaces.{AreCommon, IsFirst, IsFirstAmong, with_rows};
-ghost use Rattle.hippo_shared.specs.Searching.{AreWholeOf, FindsFirst, HasOneOf, HaveCommon, IsSearchReady, IsStageOf, ReachesOf, Shared, SharedBy, SharedPlaces};
+ghost use Rattle.hippo_shared.specs.Searching.{AreWholeOf, BeginWith, FindsFirst, HasOneOf, HaveCommon, IsSearchReady, IsStageOf, ReachesOf, Shared, SharedBy, SharedPlaces};
 
 use crate::sides::Sides;
 use hippo_commons::{CommonPlaces, CommonStages, common_stages, order_from};
@@ -234,6 +234,21 @@ impl<'a, C: ChoiceView> Search<'a, C> {
     }
 }
 
+// The stages of a side's tables, those of some tables first.
+fn stages_from<C: ChoiceView>(
+    alloc: Global,
+    side: &Side<'_, C>,
+    first: &[usize],
+) -> Result<Vec<Stage>, Memory>
+    requires { All (λ table. table < length side.now.sets.now) first.now }
+    ensures whole { IfOk result (λ stages. AreWholeOf C.choices side.now stages.items) }
+    ensures front { IfOk result (λ stages.
+        BeginWith stages.items first.now) }
+{
+    let order = order_from(alloc, side, first)?;
+    side.stages(alloc, &order)
+}
+
 // The first of some places of the common tables' rows with which both sides have a combination.
 pub(crate) fn first_staged<'p, C: ChoiceView>(
     alloc: Global,
@@ -244,10 +259,8 @@ pub(crate) fn first_staged<'p, C: ChoiceView>(
     ensures { IfOk result (λ found.
         IsFirstAmong (SharedBy C.choices sides.now) candidates.now (option_copied found)) }
 {
-    let query_order = order_from(alloc, &sides.query, &sides.common.query)?;
-    let audit_order = order_from(alloc, &sides.audit, &sides.common.audit)?;
-    let query_stages = sides.query.stages(alloc, &query_order)?;
-    let audit_stages = sides.audit.stages(alloc, &audit_order)?;
+    let query_stages = stages_from(alloc, &sides.query, &sides.common.query)?;
+    let audit_stages = stages_from(alloc, &sides.audit, &sides.common.audit)?;
     let search = Search {
         query: &sides.query,
         audit: &sides.audit,
@@ -256,6 +269,34 @@ pub(crate) fn first_staged<'p, C: ChoiceView>(
         seen: sides.seen,
     };
     search.first_of(alloc, sides.common, candidates)
+}
+
+// What `first_walked` answers, by the stages of both sides, those of the common tables first.
+fn first_along<C: ChoiceView>(
+    alloc: Global,
+    sides: &Sides<'_, C>,
+    query_stages: &[Stage],
+    audit_stages: &[Stage],
+) -> Result<Option<Vec<usize>>, Memory>
+    requires common { HaveCommon sides.now }
+    requires query { AreWholeOf C.choices sides.now.query query_stages.now }
+    requires audit { AreWholeOf C.choices sides.now.audit audit_stages.now }
+    requires query_front { BeginWith query_stages.now sides.now.common.now.query.items }
+    requires audit_front { BeginWith audit_stages.now sides.now.common.now.audit.items }
+    ensures { IfOk result (λ found.
+        IsFirst (SharedBy C.choices sides.now) (option_map (λ places. places.items) found)) }
+{
+    let stages = common_stages(alloc, sides.common.query.len(), query_stages, audit_stages)?;
+    let mut query_slots = open_slots(alloc, sides.query.sets.len())?;
+    let mut audit_slots = open_slots(alloc, sides.audit.sets.len())?;
+    let search = Search {
+        query: &sides.query,
+        audit: &sides.audit,
+        query_stages,
+        audit_stages,
+        seen: sides.seen,
+    };
+    search.first(alloc, &stages, &mut query_slots, &mut audit_slots)
 }
 
 // The first places of the common tables' rows with which both sides have a combination.
@@ -267,20 +308,7 @@ pub(crate) fn first_walked<C: ChoiceView>(
     ensures { IfOk result (λ found.
         IsFirst (SharedBy C.choices sides.now) (option_map (λ places. places.items) found)) }
 {
-    let common = sides.common;
-    let query_order = order_from(alloc, &sides.query, &common.query)?;
-    let audit_order = order_from(alloc, &sides.audit, &common.audit)?;
-    let query_stages = sides.query.stages(alloc, &query_order)?;
-    let audit_stages = sides.audit.stages(alloc, &audit_order)?;
-    let stages = common_stages(alloc, common.query.len(), &query_stages, &audit_stages)?;
-    let mut query_slots = open_slots(alloc, sides.query.sets.len())?;
-    let mut audit_slots = open_slots(alloc, sides.audit.sets.len())?;
-    let search = Search {
-        query: &sides.query,
-        audit: &sides.audit,
-        query_stages: &query_stages,
-        audit_stages: &audit_stages,
-        seen: sides.seen,
-    };
-    search.first(alloc, &stages, &mut query_slots, &mut audit_slots)
+    let query_stages = stages_from(alloc, &sides.query, &sides.common.query)?;
+    let audit_stages = stages_from(alloc, &sides.audit, &sides.common.audit)?;
+    first_along(alloc, sides, &query_stages, &audit_stages)
 }

@@ -145,5 +145,7 @@ pub fn first_shared<C: ChoiceView>(
         audited.now.audit.now seen.now audited.now.query_sets.now audited.now.audit_sets.now) }
 {
     let side = audit_side(alloc, query, audited.audit)?;
-    first_beside(alloc, query, seen, audited, &side)
+    let found = first_beside(alloc, query, seen, audited, &side);
+    drop(side);
+    found
 }

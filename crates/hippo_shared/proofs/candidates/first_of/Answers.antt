@@ -2,4 +2,4 @@
 use Rattle.hippo_shared.proofs.candidates.first_of.Goals as goal
 
 pub returns : goal.returns
-returns g c = rw (c.deref.ensures.value, c.in_ok-listed.ensures.keys) at c.first_listed.ensures
+returns g c = rw (c.deref.ensures.value, c.in_ok-listed.ensures.keys) at c.first_of_listed.ensures
