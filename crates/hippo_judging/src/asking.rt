@@ -22,10 +22,10 @@ use crate::refusals::{check_room, name_refusal};
 use crate::session_checks::{check_allowed, open_session};
 use hippo_following::{moment_fits, name_fits};
 use hippo_model::Query;
-use hippo_statements::{RawSelect, Stmt};
 use hippo_replay::State;
 use hippo_report::Refusal;
 use hippo_sessions::{Session, WorldView};
+use hippo_statements::{RawSelect, Stmt};
 use hippo_typing::resolve_select;
 use hippo_values::LINE_LIMIT;
 use std::alloc::Global;
@@ -183,7 +183,10 @@ fn with_delivery(
 {
     match delivery {
         Ok(delivery) => Ok(Asking { delivery, ..asking }),
-        Err(refusal) => Err(refusal),
+        Err(refusal) => {
+            drop(asking);
+            Err(refusal)
+        }
     }
 }
 

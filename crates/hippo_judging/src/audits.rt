@@ -13,9 +13,9 @@ ghost use Rattle.hippo_judging.specs.Judging.{audit_in};
 use crate::refusals::name_refusal;
 use hippo_catalog::Catalog;
 use hippo_model::Audit;
-use hippo_statements::RawAudit;
 use hippo_replay::State;
 use hippo_report::Refusal;
+use hippo_statements::RawAudit;
 use hippo_typing::resolve_audit;
 use std::alloc::Global;
 

@@ -16,10 +16,10 @@ use hippo_catalog::Catalog;
 use hippo_changes::check_change;
 use hippo_following::moment_fits;
 use hippo_model::{Act, Entry, TableFault, Wanted};
-use hippo_statements::Stmt;
 use hippo_replay::State;
 use hippo_report::Refusal;
 use hippo_sessions::WorldView;
+use hippo_statements::Stmt;
 use hippo_tables::Tables;
 use std::alloc::Global;
 

@@ -22,10 +22,10 @@ use hippo_csv::{CsvFault, Fields, field_values, read_fields};
 use hippo_following::name_fits;
 use hippo_lines::WrittenName;
 use hippo_model::{Cells, Entry, NameFault, Schema};
-use hippo_statements::Stmt;
 use hippo_replay::State;
 use hippo_report::Refusal;
 use hippo_sessions::WorldView;
+use hippo_statements::Stmt;
 use hippo_values::{DayNumber, Duplicate, Memory, Name, Value};
 use std::alloc::Global;
 

@@ -21,10 +21,10 @@ use crate::deeds::{Deed, Unjudged};
 use crate::entries::question_at;
 use hippo_keeper::{Keeper, Steps};
 use hippo_model::Audit;
-use hippo_statements::{RawAudit, Stmt};
 use hippo_replay::State;
 use hippo_report::{Refusal, Speaker};
 use hippo_sessions::WorldView;
+use hippo_statements::{RawAudit, Stmt};
 use std::alloc::Global;
 use std::sync::ledger::Ledger;
 
