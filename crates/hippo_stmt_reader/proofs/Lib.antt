@@ -1,3 +1,4 @@
 pub mod ConsoleTheorem
 pub mod PartTheorem
 pub mod StatementTheorem
+pub mod BehindLemmas

@@ -73,6 +73,10 @@ abbrev pub after_column : Kinds → Option (Kinds)
 after_column tokens =
     after_symbol Comma tokens >>= λ behind. if begins_with_name behind then Some behind else None
 
+-- a name behind this keyword
+abbrev pub leading_name_behind : words.Keyword → Finder Name
+leading_name_behind keyword tokens = after_keyword keyword tokens >>= leading_name
+
 -- "(" c {"," c} ")"
 unfoldable pub leading_names : Finder (List Name)
 leading_names tokens = do
@@ -118,6 +122,14 @@ leading_assignment tokens = do
   behind ← after_symbol Equal c.1
   v ← leading_literal behind
   Some ((c.0, v.0), v.1)
+
+-- behind this keyword, the columns and the values of the assignments with such a thing between them
+abbrev pub leading_assigned : words.Keyword → (Kinds → Option Kinds)
+    → Finder (List Name × List Value)
+leading_assigned keyword after tokens = do
+  behind ← after_keyword keyword tokens
+  found ← leading_list leading_assignment after behind
+  Some ((assigned_columns found.0, assigned_values found.0), found.1)
 
 -- behind CREATE TABLE
 unfoldable pub create_table_of : Kinds → Option Stmt

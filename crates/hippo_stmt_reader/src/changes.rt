@@ -3,15 +3,15 @@ ghost use Rattle.std.specs.Prelude.{◌≡◌, ◌<◌, IfOk};
 ghost use Rattle.hippo_spj_reader.specs.Promises.{Gives, Reads};
 ghost use Rattle.hippo_spj_reader.specs.Front.{kinds};
 ghost use Rattle.hippo_stmt_reader.specs.StatementGrammar.{assigned_columns, assigned_values};
-ghost use Rattle.hippo_stmt_reader.specs.StatementFinder.{leading_assignment, insert_of, update_of, delete_of};
+ghost use Rattle.hippo_stmt_reader.specs.StatementFinder.{leading_assignment, leading_assigned, insert_of, update_of, delete_of};
 
-use crate::parts::with_end;
+use crate::parts::{name_behind, with_end};
 use hippo_lexer::{Keyword, Symbol, SyntaxFault, Token};
 use hippo_model::{Cells, Names};
-use hippo_statements::Stmt;
 use hippo_spj_reader::{
     Commas, Part, Separator, after_keyword, expect_keyword, expect_symbol, list, literal, name,
 };
+use hippo_statements::Stmt;
 use hippo_values::{Memory, Name, Sequence, Value};
 use std::alloc::Global;
 
@@ -87,6 +87,20 @@ fn columns_and_values(
     Ok((columns, values))
 }
 
+// The columns and the values that are assigned behind the keyword that has to stand first, and the
+// tokens behind them.
+fn assigned<S: Separator>(
+    alloc: Global,
+    keyword: Keyword,
+    tokens: &[Token],
+) -> Result<((Names, Cells), &[Token]), SyntaxFault>
+    ensures { Reads (leading_assigned keyword S.after) tokens.now result }
+{
+    let rest = expect_keyword(tokens, keyword)?;
+    let (assignments, rest) = list::<AssignmentPart, S>(alloc, rest)?;
+    Ok((columns_and_values(alloc, assignments)?, rest))
+}
+
 /// The statement that the tokens behind INSERT have to be.
 #[tactic(auto, unfolding(crate::specs::StatementFinder::insert_of))]
 pub fn insert(alloc: Global, tokens: &[Token]) -> Result<Stmt, SyntaxFault>
@@ -102,17 +116,13 @@ pub fn insert(alloc: Global, tokens: &[Token]) -> Result<Stmt, SyntaxFault>
 }
 
 /// The statement that the tokens behind UPDATE have to be.
-#[tactic(auto, unfolding(crate::specs::StatementFinder::update_of))]
+#[tactic(auto, using(crate::proofs::BehindLemmas::update_parts))]
 pub fn update(alloc: Global, tokens: &[Token]) -> Result<Stmt, SyntaxFault>
     ensures { Gives (λ s. s) result (update_of (kinds tokens.now)) }
 {
     let (table, rest) = name(alloc, tokens)?;
-    let rest = expect_keyword(rest, Keyword::KSet)?;
-    let (settings, rest) = list::<AssignmentPart, Commas>(alloc, rest)?;
-    let rest = expect_keyword(rest, Keyword::KWhere)?;
-    let (keys, rest) = list::<AssignmentPart, Ands>(alloc, rest)?;
-    let (columns, values) = columns_and_values(alloc, settings)?;
-    let (key_columns, key_values) = columns_and_values(alloc, keys)?;
+    let ((columns, values), rest) = assigned::<Commas>(alloc, Keyword::KSet, rest)?;
+    let ((key_columns, key_values), rest) = assigned::<Ands>(alloc, Keyword::KWhere, rest)?;
     with_end(
         Stmt::Update {
             table,
@@ -126,15 +136,12 @@ pub fn update(alloc: Global, tokens: &[Token]) -> Result<Stmt, SyntaxFault>
 }
 
 /// The statement that the tokens behind DELETE have to be.
-#[tactic(auto, unfolding(crate::specs::StatementFinder::delete_of))]
+#[tactic(auto, using(crate::proofs::BehindLemmas::delete_parts))]
 pub fn delete(alloc: Global, tokens: &[Token]) -> Result<Stmt, SyntaxFault>
     ensures { Gives (λ s. s) result (delete_of (kinds tokens.now)) }
 {
-    let rest = expect_keyword(tokens, Keyword::KFrom)?;
-    let (table, rest) = name(alloc, rest)?;
-    let rest = expect_keyword(rest, Keyword::KWhere)?;
-    let (keys, rest) = list::<AssignmentPart, Ands>(alloc, rest)?;
-    let (key_columns, key_values) = columns_and_values(alloc, keys)?;
+    let (table, rest) = name_behind(alloc, Keyword::KFrom, tokens)?;
+    let ((key_columns, key_values), rest) = assigned::<Ands>(alloc, Keyword::KWhere, rest)?;
     with_end(
         Stmt::Delete {
             table,

@@ -2,11 +2,14 @@
 ghost use Rattle.std.specs.Prelude.{◌<◌};
 ghost use Rattle.hippo_spj_reader.specs.Promises.{Gives, Reads};
 ghost use Rattle.hippo_spj_reader.specs.Front.{kinds};
-ghost use Rattle.hippo_stmt_reader.specs.StatementFinder.{leading_names, leading_number, nothing_left, end_left, with_end};
+ghost use Rattle.hippo_stmt_reader.specs.StatementFinder.{leading_name_behind, leading_names, leading_number, nothing_left, end_left, with_end};
 
-use hippo_lexer::{Symbol, SyntaxFault, Token, TokenKind};
+use hippo_lexer::{Keyword, Symbol, SyntaxFault, Token, TokenKind};
 use hippo_model::Names;
-use hippo_spj_reader::{Commas, NamePart, after_symbol, expect_symbol, list, split};
+use hippo_spj_reader::{
+    Commas, NamePart, after_symbol, expect_keyword, expect_symbol, list, name, split,
+};
+use hippo_values::Name;
 use std::alloc::Global;
 
 /// The names in parentheses that have to stand first, and the tokens behind them.
@@ -18,6 +21,18 @@ pub fn names(alloc: Global, tokens: &[Token]) -> Result<(Names, &[Token]), Synta
     let (names, rest) = list::<NamePart, Commas>(alloc, inside)?;
     let rest = expect_symbol(rest, Symbol::RightParen)?;
     Ok((names, rest))
+}
+
+/// The name behind the keyword that has to stand first, and the tokens behind it.
+pub fn name_behind(
+    alloc: Global,
+    keyword: Keyword,
+    tokens: &[Token],
+) -> Result<(Name, &[Token]), SyntaxFault>
+    ensures { Reads (leading_name_behind keyword) tokens.now result }
+{
+    let rest = expect_keyword(tokens, keyword)?;
+    name(alloc, rest)
 }
 
 /// The number that has to stand first, and the tokens behind it.

@@ -4,13 +4,13 @@ ghost use Rattle.hippo_spj_reader.specs.Promises.{Gives, Reads};
 ghost use Rattle.hippo_spj_reader.specs.Front.{kinds};
 ghost use Rattle.hippo_stmt_reader.specs.StatementFinder.{leading_grant, authorize_of, deauthorize_of, leading_disclosure, leading_with_item, days_of, leading_retention, allow_of, revoke_of, leading_yes_or_no, choice_of};
 
-use crate::parts::{names, number, with_end};
+use crate::parts::{name_behind, names, number, with_end};
 use hippo_lexer::{Keyword, Symbol, SyntaxFault, Token};
 use hippo_model::Names;
-use hippo_statements::Stmt;
 use hippo_spj_reader::{
     after_keyword, after_word, expect_keyword, expect_symbol, expect_word, name,
 };
+use hippo_statements::Stmt;
 use hippo_values::{Name, RETENTION_LIMIT};
 use std::alloc::Global;
 
@@ -27,8 +27,7 @@ fn authorization(alloc: Global, tokens: &[Token]) -> Result<(Grant, &[Token]), S
     ensures { Reads leading_grant tokens.now result }
 {
     let (user, rest) = name(alloc, tokens)?;
-    let rest = expect_keyword(rest, Keyword::KFor)?;
-    let (purpose, rest) = name(alloc, rest)?;
+    let (purpose, rest) = name_behind(alloc, Keyword::KFor, rest)?;
     let rest = expect_symbol(rest, Symbol::Comma)?;
     let (recipient, rest) = name(alloc, rest)?;
     Ok((
@@ -82,15 +81,13 @@ struct Disclosure {
     columns: Names,
 }
 
-#[tactic(auto, unfolding(crate::specs::StatementFinder::leading_disclosure))]
+#[tactic(auto, using(crate::proofs::BehindLemmas::disclosure_parts))]
 fn disclosed(alloc: Global, tokens: &[Token]) -> Result<(Disclosure, &[Token]), SyntaxFault>
     ensures { Reads leading_disclosure tokens.now result }
 {
     let (purpose, rest) = name(alloc, tokens)?;
-    let rest = expect_keyword(rest, Keyword::KTo)?;
-    let (recipient, rest) = name(alloc, rest)?;
-    let rest = expect_keyword(rest, Keyword::KOn)?;
-    let (table, rest) = name(alloc, rest)?;
+    let (recipient, rest) = name_behind(alloc, Keyword::KTo, rest)?;
+    let (table, rest) = name_behind(alloc, Keyword::KOn, rest)?;
     let (columns, rest) = names(alloc, rest)?;
     Ok((
         Disclosure {

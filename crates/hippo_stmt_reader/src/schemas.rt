@@ -7,10 +7,10 @@ ghost use Rattle.hippo_stmt_reader.specs.StatementFinder.{column_kind_of, leadin
 use crate::parts::{names, with_end};
 use hippo_lexer::{Keyword, Symbol, SyntaxFault, Token, TokenKind};
 use hippo_model::{Column, ColumnKind, ItemKind};
-use hippo_statements::Stmt;
 use hippo_spj_reader::{
     Part, Separator, after_keyword, after_symbol, expect_keyword, expect_symbol, list, name, split,
 };
+use hippo_statements::Stmt;
 use hippo_values::Name;
 use std::alloc::Global;
 

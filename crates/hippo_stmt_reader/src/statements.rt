@@ -13,8 +13,8 @@ use crate::policies::{allow, authorize, choice, deauthorize, revoke};
 use crate::schemas::create;
 use hippo_audit_reader::audit;
 use hippo_lexer::{Keyword, SyntaxFault, Token, TokenKind, Tokens, check_words};
-use hippo_statements::{RawSelect, Stmt};
 use hippo_spj_reader::{after_keyword, after_word, expect_keyword, select, split};
+use hippo_statements::{RawSelect, Stmt};
 use std::alloc::Global;
 
 #[tactic(auto, unfolding(crate::specs::StatementFinder::audit_statement_of))]
