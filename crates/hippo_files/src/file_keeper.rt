@@ -37,7 +37,9 @@ impl FileKeeper {
     }
 
     /// Lets go of its files.
-    pub fn close(self) {}
+    pub fn close(self) {
+        drop(self);
+    }
 }
 
 impl Keeper for FileKeeper {

@@ -149,5 +149,7 @@ impl State {
 
     /// Lets go of all that it holds. Who is given a state ends with this: that its parts are let go
     /// is then proved here alone.
-    pub fn close(self) {}
+    pub fn close(self) {
+        drop(self);
+    }
 }

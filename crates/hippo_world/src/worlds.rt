@@ -157,7 +157,9 @@ impl World {
 
     /// Lets go of all that it holds. Who is given a world ends with this: that its parts are let go
     /// is then proved here alone.
-    pub fn close(self) {}
+    pub fn close(self) {
+        drop(self);
+    }
 }
 
 impl WorldView for World {
