@@ -1,4 +1,5 @@
 pub mod MeaningTheorem
+pub mod GroupLemmas
 pub mod FoundTheorem
 pub mod PairLemmas
 pub mod AuditTheorem

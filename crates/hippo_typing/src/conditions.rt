@@ -123,7 +123,6 @@ fn found_missing(
 /// A condition with its columns found, each of which has to be one of the statement's tables, and
 /// only one.
 #[cycle(found_condition)]
-#[tactic(auto, using(hippo_catalog::proofs::ComparedOperands::gathered, hippo_model::proofs::ChangedOperands::changes_of_operands))]
 pub fn found_condition(
     alloc: Global,
     tables: &StatementTables<'_>,

@@ -13,8 +13,8 @@ use hippo_catalog::Catalog;
 use hippo_lexer::lexer::tokens;
 use hippo_lexer::{LexFault, SyntaxFault, Tokens, check_words};
 use hippo_model::{NameFault, Query};
-use hippo_statements::RawSelect;
 use hippo_spj_reader::read_select;
+use hippo_statements::RawSelect;
 use hippo_values::Memory;
 use std::alloc::Global;
 
@@ -80,12 +80,21 @@ fn query_in(alloc: Global, catalog: &Catalog, select: &RawSelect) -> Result<Opti
     }
 }
 
+// The query of a select that nobody needs afterwards: it falls here, in one call.
+fn query_of(alloc: Global, catalog: &Catalog, select: RawSelect) -> Result<Option<Query>, Memory>
+    ensures { IfOk result (λ found. found ≡ query_in catalog.now.names select) }
+{
+    let query = query_in(alloc, catalog, &select);
+    drop(select);
+    query
+}
+
 #[tactic(auto, unfolding(crate::specs::Meanings::meaning_in))]
 fn meaning_in(alloc: Global, catalog: &Catalog, text: &str) -> Result<Option<Query>, Memory>
     ensures { IfOk result (λ found. found ≡ meaning_in catalog.now.names text.now) }
 {
     match select_in(alloc, text)? {
-        Some(select) => query_in(alloc, catalog, &select),
+        Some(select) => query_of(alloc, catalog, select),
         None => Ok(None),
     }
 }

@@ -5,7 +5,15 @@ use Rattle.hippo_typing.specs.declared.audits.FoundAudit.{FoundAudit}
 use Rattle.hippo_typing.specs.FoundAudits.{judged_refused, head_of_audit}
 use Rattle.hippo_typing.proofs.AuditTheorem.{first_of_audit_columns, first_of_judged, none_of_audit, audit_of_found}
 use Rattle.hippo_typing.proofs.PairLemmas.{paired_fault, paired_form}
+use Rattle.hippo_catalog.proofs.Refused.{first_with_more, with_four}
 use Rattle.hippo_typing.proofs.audits.resolve_over.Goals as goal
+
+pub returns-in_err-tables : goal.returns-in_err-tables
+returns-in_err-tables c =
+    let fault = c.in_err-tables.field-0.0 in
+    let first : IsFirstOf (audit_refused c.args.catalog.now.names c.args.period.now c.args.audit.now) c.in_err-tables.field-0.0 =
+    first_with_more _ _ fault (first_with_more _ _ fault (with_four _ _ _ _ _ fault c.in_err-tables.ensures)) in
+    search rules
 
 pub returns-in_err-found : goal.returns-in_err-found
 returns-in_err-found c =

@@ -6,7 +6,13 @@ use Rattle.hippo_catalog.specs.Refusals.{IsFirstOf}
 use Rattle.hippo_catalog.specs.Selects.{by_of, list_refused, columns_refused}
 use Rattle.hippo_catalog.specs.WrittenColumns.{column_refused}
 use Rattle.hippo_catalog.proofs.Refused.{first_with_more, first_after}
+use Rattle.hippo_typing.proofs.GroupLemmas.{first_of_three}
 use Rattle.hippo_typing.proofs.selects.found_select.Goals as goal
+
+pub returns-in_err-list : goal.returns-in_err-list
+returns-in_err-list c =
+    let first : IsFirstOf (columns_refused c.args.tables.now c.args.select.now) c.in_err-list.field-0.0 = first_of_three _ _ _ c.in_err-list.field-0.0 c.in_err-list.ensures in
+    search rules
 
 pub returns-in_err-cond : goal.returns-in_err-cond
 returns-in_err-cond c =

@@ -5,7 +5,15 @@ use Rattle.hippo_catalog.specs.Selects.{select_refused}
 use Rattle.hippo_typing.specs.FoundSelects.{head_refused, head_of}
 use Rattle.hippo_typing.proofs.FoundTheorem.{first_of_columns, first_of_head, none_of_select, query_of_select}
 use Rattle.hippo_typing.proofs.PairLemmas.{paired_fault, paired_form}
+use Rattle.hippo_catalog.proofs.Refused.{first_with_more, with_four}
 use Rattle.hippo_typing.proofs.selects.resolve_select.Goals as goal
+
+pub returns-in_err-tables : goal.returns-in_err-tables
+returns-in_err-tables c =
+    let fault = c.in_err-tables.field-0.0 in
+    let first : IsFirstOf (select_refused c.args.catalog.now.names c.args.select.now) c.in_err-tables.field-0.0 =
+    with_four _ _ _ _ _ fault (first_with_more _ _ fault c.in_err-tables.ensures) in
+    search rules
 
 pub returns-in_err-found : goal.returns-in_err-found
 returns-in_err-found c =
