@@ -1,4 +1,5 @@
 pub mod PartLoops
+pub mod PartLemmas
 pub mod TextLemmas
 pub mod Fields
 pub mod EntryAgain
