@@ -1,5 +1,7 @@
 -- Statements that are found part by part, where a keyword and what stands behind it are one part.
-use Rattle.std.proofs.Common.{◌≡◌, List, true, false, Option, Some, None, refl, ◌∙◌}
+use Rattle.std.proofs.Common.{◌≡◌, List, true, false, Option, Some, None, refl, ◌∙◌, ◌-◌, length, take, drop, ap, sym}
+use Rattle.std.proofs.Math.Seq.{take-length}
+use Rattle.std.proofs.lemmas.List.{length-drop}
 use Rattle.std.specs.Prelude.{is_some}
 use Rattle.hippo_values.specs.Options.{◌>>=◌}
 use Rattle.hippo_values.specs.declared.names.Name.{Name}
@@ -24,6 +26,10 @@ absent (Some x) e = absurd cc
 pub present : {A P : Type 0} (found : Option A) → true ≡ is_some found → ((x : A) → found ≡ Some x → P) → P
 present None e then = absurd cc
 present (Some x) e then = then x refl
+
+-- all of what is behind the first
+pub all_behind : {A : Type 0} (l : List A) → take (length l - 1) (drop 1 l) ≡ drop 1 l
+all_behind l = ap (λ n. take n (drop 1 l)) (sym (length-drop 1 l)) ∙ take-length (drop 1 l)
 
 -- where the first part is not found, nothing is
 pub fails_first : {A B : Type 0} (e : SyntaxFault) (found : Option A) (next : A → Option B) → Fails e found → Fails e (found >>= next)
