@@ -10,11 +10,11 @@ ghost use Rattle.hippo_audit_reader.specs.AuditFinder.{leading_quoted, leading_p
 
 use hippo_lexer::{Keyword, Symbol, SyntaxFault, Token, TokenKind, Tokens};
 use hippo_model::{Pair, Pairs};
-use hippo_statements::{RawAudit, RawCond};
 use hippo_spj_reader::{
     ColumnPart, Commas, NamePart, Part, after_keyword, after_where, expect_keyword, expect_symbol,
     list, name, split, whole, whole_condition,
 };
+use hippo_statements::{RawAudit, RawCond};
 use hippo_values::{Memory, Sequence, Txt};
 use std::alloc::Global;
 

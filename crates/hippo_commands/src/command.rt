@@ -1,7 +1,7 @@
 //! Commands.
 use hippo_lines::RequestForm;
-use hippo_statements::Stmt;
 use hippo_report::{Refusal, Speaker};
+use hippo_statements::Stmt;
 use hippo_values::Moment;
 
 /// What a line commands. Texts are the line's own.

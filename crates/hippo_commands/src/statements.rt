@@ -7,8 +7,8 @@ ghost use Rattle.hippo_commands.specs.Commands.{lexing_refusal, refused_word, wo
 
 use hippo_lexer::lexer::tokens;
 use hippo_lexer::{LexFault, SyntaxFault, TokenKind, Tokens};
-use hippo_statements::Stmt;
 use hippo_report::Refusal;
+use hippo_statements::Stmt;
 use hippo_stmt_reader::read_statement;
 use hippo_values::{Memory, Txt};
 use std::alloc::Global;

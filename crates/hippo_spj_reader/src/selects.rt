@@ -18,7 +18,9 @@ use crate::lists::{Commas, Part, list, only, whole};
 use crate::pairs::beside;
 use hippo_lexer::{Keyword, Symbol, SyntaxFault, Token, TokenKind, Tokens};
 use hippo_model::{CondOf, Names};
-use hippo_statements::{RawColumn, RawColumns, RawCond, RawForm, RawItem, RawItems, RawOut, RawOuts, RawSelect};
+use hippo_statements::{
+    RawColumn, RawColumns, RawCond, RawForm, RawItem, RawItems, RawOut, RawOuts, RawSelect,
+};
 use hippo_values::{Memory, Name, Sequence};
 use std::alloc::Global;
 
