@@ -211,7 +211,7 @@ fn number_at(row: &[Value], place: usize) -> Option<i64> {
     }
 }
 
-// The number at a place of the row of a kept one.
+// The number at a place of a kept row.
 fn kept_number(kept: Option<&BornRow>, place: usize) -> Option<i64> {
     match kept {
         Some(kept) => number_at(kept.row.as_slice(), place),
@@ -237,8 +237,8 @@ fn share(number: i64, first: i64, last: i64, places: usize) -> usize {
     }
 }
 
-// Where a row stands whose key is one number, if all numbers between those of the first row and the
-// last have rows.
+// Where a row stands whose key begins with a number, if one row has each of the numbers from that of
+// the first row to that of the last.
 fn likely_place(rows: &Pieces<BornRow>, places: &[usize], sought: &Sought<'_>) -> Option<usize> {
     let place = *places.first()?;
     let number = sought_number(sought, place)?;
