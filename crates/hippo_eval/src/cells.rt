@@ -1,9 +1,10 @@
 //! What an expression stands for in a combination of rows.
-ghost use Rattle.std.specs.Prelude.{◌≡◌, true, option_map, option_copied, slice_get, IfOk};
+ghost use Rattle.std.specs.Prelude.{◌≡◌, true, option_map, option_copied, slice_get, IfOk, IfSome};
 ghost use Rattle.std.specs.Option.{option_map_or};
 ghost use Rattle.hippo_model.specs.Verdicts.{number_in};
 ghost use Rattle.hippo_model.specs.Forms.{value_in};
-ghost use Rattle.hippo_model.specs.Masking.{raw_value, is_younger, agrees_by, shown_if, masked_cell, is_shown_cell};
+ghost use Rattle.hippo_model.specs.Masking.{Choices, raw_value, is_younger, agrees_by, shown_if, masked_cell, is_shown_cell};
+ghost use Rattle.hippo_model.specs.MaskedTruth.{masked_value};
 ghost use Rattle.hippo_model.specs.declared.cells.Cell.TheVariants.{Shown};
 ghost use Rattle.hippo_eval.specs.LentCells.{or_null, lent_cell};
 
@@ -21,6 +22,7 @@ pub enum LentCell<'a> {
 }
 
 // The row of the table at a place, if there is one.
+#[inline(always)]
 fn row_at<'a>(combo: &'a Combo<'_>, place: usize) -> Option<&'a Cells>
     ensures { option_copied result ≡ option_map (λ kept. kept.row) (slice_get combo.now place) }
 {
@@ -32,12 +34,26 @@ fn row_at<'a>(combo: &'a Combo<'_>, place: usize) -> Option<&'a Cells>
 }
 
 // The value in a column of a combination; none past its end.
+#[inline(always)]
 fn raw_value<'a>(combo: &'a Combo<'_>, column: &Ref) -> Option<&'a Value>
     ensures { or_null (option_copied result) ≡ raw_value combo.now column.now }
 {
     match row_at(combo, column.table) {
         None => None,
         Some(row) => row.as_slice().get(column.column),
+    }
+}
+
+// The value that an expression stands for, where no rule masks it and a value stands there.
+#[inline(always)]
+pub(crate) fn plain_value<'a>(expr: &'a Expr, combo: &'a Combo<'_>) -> Option<&'a Value>
+    ensures { (choices : Choices) → IfSome result (λ value.
+        masked_value choices combo.now expr.now ≡ value.now) }
+{
+    match expr {
+        Expr::Keep(column) => raw_value(combo, column),
+        Expr::Literal(value) => Some(value),
+        _ => None,
     }
 }
 
@@ -78,8 +94,14 @@ fn shown_if<'a>(test: bool, value: Option<&'a Value>, rule: u64) -> LentCell<'a>
     }
 }
 
-/// The cell that an expression stands for in a combination of rows, with its value lent.
-pub fn cell<'a, C: ChoiceView>(expr: &'a Expr, combo: &'a Combo<'_>, choices: &C) -> LentCell<'a>
+// The cell of any expression. It stays a call, so that `cell` lends what no rule masks in few
+// instructions.
+#[inline(never)]
+fn cell_by_rule<'a, C: ChoiceView>(
+    expr: &'a Expr,
+    combo: &'a Combo<'_>,
+    choices: &C,
+) -> LentCell<'a>
     ensures { lent_cell result ≡ masked_cell (C.choices choices.now) combo.now expr.now }
 {
     match expr {
@@ -109,9 +131,22 @@ pub fn cell<'a, C: ChoiceView>(expr: &'a Expr, combo: &'a Combo<'_>, choices: &C
     }
 }
 
+/// The cell that an expression stands for in a combination of rows, with its value lent.
+#[inline(always)]
+pub fn cell<'a, C: ChoiceView>(expr: &'a Expr, combo: &'a Combo<'_>, choices: &C) -> LentCell<'a>
+    ensures { lent_cell result ≡ masked_cell (C.choices choices.now) combo.now expr.now }
+{
+    match expr {
+        Expr::Keep(column) => LentCell::Shown(raw_value(combo, column)),
+        Expr::Literal(value) => LentCell::Shown(Some(value)),
+        _ => cell_by_rule(expr, combo, choices),
+    }
+}
+
 impl<'a> LentCell<'a> {
     /// The value that a comparison sees; none, for null, where the cell is denied or no value
     /// stands there.
+    #[inline(always)]
     pub fn value(&self) -> Option<&'a Value>
         ensures { or_null (option_copied result) ≡ value_in (lent_cell self.now) }
     {
@@ -121,6 +156,7 @@ impl<'a> LentCell<'a> {
         }
     }
 
+    #[inline(always)]
     pub fn is_shown(&self) -> bool
         ensures { result ≡ is_shown_cell (lent_cell self.now) }
     {

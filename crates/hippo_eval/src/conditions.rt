@@ -2,26 +2,66 @@
 ghost use Rattle.std.specs.Prelude.{◌≡◌, ◌↔◌, map, IsTrue};
 ghost use Rattle.hippo_values.specs.declared.truths.CompareOp.TheVariants.{Eq as Equal, Le as AtMost, Ge as AtLeast};
 ghost use Rattle.hippo_values.specs.declared.truths.Truth.TheVariants.{False as Untrue, True as Truly};
-ghost use Rattle.hippo_values.specs.Truths.{truth_and, truth_of, comparison};
+ghost use Rattle.hippo_values.specs.declared.values.Value.TheVariants.{Int};
+ghost use Rattle.hippo_values.specs.Truths.{truth_and, truth_of, is_allowed, comparison};
 ghost use Rattle.hippo_model.specs.Conditions.{least, greatest, is_null};
 ghost use Rattle.hippo_model.specs.Forms.{value_in};
 ghost use Rattle.hippo_eval.specs.LentCells.{lent_cell};
 ghost use Rattle.hippo_model.specs.MaskedTruth.{masked_value, masked_truth};
 
-use crate::cells::{LentCell, cell};
+use crate::cells::{LentCell, cell, plain_value};
 use hippo_model::{ChoiceView, Combo, CondOf, Expr, Exprs};
 use hippo_values::{CompareOp, Sequence, Truth, Value, compare, truth_and, truth_not, truth_or};
+use std::cmp::Ordering;
 
+#[inline(always)]
 fn is_false(truth: Truth) -> bool
     ensures { IsTrue result ↔ (truth ≡ Untrue) }
 {
     matches!(truth, Truth::False)
 }
 
+#[inline(always)]
 fn is_true(truth: Truth) -> bool
     ensures { IsTrue result ↔ (truth ≡ Truly) }
 {
     matches!(truth, Truth::True)
+}
+
+fn is_allowed(op: CompareOp, order: Ordering) -> bool
+    ensures { result ≡ is_allowed op order }
+{
+    match op {
+        CompareOp::Eq => order.is_eq(),
+        CompareOp::Ne => order.is_ne(),
+        CompareOp::Lt => order.is_lt(),
+        CompareOp::Le => order.is_le(),
+        CompareOp::Gt => order.is_gt(),
+        CompareOp::Ge => order.is_ge(),
+    }
+}
+
+// What a comparison of two numbers says.
+#[inline(always)]
+fn compared_numbers(op: CompareOp, left: &i64, right: &i64) -> Truth
+    ensures { result ≡ comparison op (Int left.now) (Int right.now) }
+{
+    if is_allowed(op, left.cmp(right)) {
+        Truth::True
+    } else {
+        Truth::False
+    }
+}
+
+// What a comparison of two values says. Numbers, which most conditions compare, take no call.
+#[inline(always)]
+fn compared_values(op: CompareOp, left: &Value, right: &Value) -> Truth
+    ensures { result ≡ comparison op left.now right.now }
+{
+    match (left, right) {
+        (Value::Int(left), Value::Int(right)) => compared_numbers(op, left, right),
+        _ => compare(op, left, right),
+    }
 }
 
 // What a comparison of two cells says, where a denied one counts as null.
@@ -30,7 +70,7 @@ fn compared(op: CompareOp, left: &LentCell<'_>, right: &LentCell<'_>) -> Truth
         (value_in (lent_cell right.now)) }
 {
     let left = left.value().unwrap_or(&Value::Null);
-    compare(op, left, right.value().unwrap_or(&Value::Null))
+    compared_values(op, left, right.value().unwrap_or(&Value::Null))
 }
 
 // What a comparison of a cell with an expression says.
@@ -45,6 +85,40 @@ fn compared_with<C: ChoiceView>(
         (masked_value (C.choices choices.now) combo.now right.now) }
 {
     compared(op, left, &cell(right, combo, choices))
+}
+
+// What a comparison of any two expressions says. It stays a call, so that `compared_exprs` compares
+// what no rule masks in few instructions.
+#[inline(never)]
+fn compared_cells<C: ChoiceView>(
+    op: CompareOp,
+    left: &Expr,
+    right: &Expr,
+    combo: &Combo<'_>,
+    choices: &C,
+) -> Truth
+    ensures { let value_of = masked_value (C.choices choices.now) combo.now in
+        result ≡ comparison op (value_of left.now) (value_of right.now) }
+{
+    compared_with(op, &cell(left, combo, choices), right, combo, choices)
+}
+
+// What a comparison of two expressions says.
+#[inline(always)]
+fn compared_exprs<C: ChoiceView>(
+    op: CompareOp,
+    left: &Expr,
+    right: &Expr,
+    combo: &Combo<'_>,
+    choices: &C,
+) -> Truth
+    ensures { let value_of = masked_value (C.choices choices.now) combo.now in
+        result ≡ comparison op (value_of left.now) (value_of right.now) }
+{
+    match (plain_value(left, combo), plain_value(right, combo)) {
+        (Some(left), Some(right)) => compared_values(op, left, right),
+        _ => compared_cells(op, left, right, combo, choices),
+    }
 }
 
 fn is_between<C: ChoiceView>(
@@ -93,13 +167,29 @@ fn is_missing<C: ChoiceView>(value: &Expr, combo: &Combo<'_>, choices: &C) -> Tr
     }
 }
 
+// As `test`, which stays a call; a comparison takes none.
+#[inline(always)]
+#[cycle(truth)]
+pub(crate) fn part_truth<C: ChoiceView>(
+    part: &CondOf<Expr>,
+    combo: &Combo<'_>,
+    choices: &C,
+) -> Truth
+    ensures { result ≡ masked_truth (C.choices choices.now) combo.now part.now }
+{
+    match part {
+        CondOf::Compare { op, left, right } => compared_exprs(*op, left, right, combo, choices),
+        _ => test(part, combo, choices),
+    }
+}
+
 #[cycle(truth)]
 fn least<C: ChoiceView>(parts: &Sequence<CondOf<Expr>>, combo: &Combo<'_>, choices: &C) -> Truth
     ensures { result ≡ least (map (masked_truth (C.choices choices.now) combo.now) parts.now) }
 {
     let mut so_far = Truth::True;
     for part in parts.as_slice() {
-        so_far = truth_and(so_far, test(part, combo, choices));
+        so_far = truth_and(so_far, part_truth(part, combo, choices));
         if is_false(so_far) {
             return so_far;
         }
@@ -113,7 +203,7 @@ fn greatest<C: ChoiceView>(parts: &Sequence<CondOf<Expr>>, combo: &Combo<'_>, ch
 {
     let mut so_far = Truth::False;
     for part in parts.as_slice() {
-        so_far = truth_or(so_far, test(part, combo, choices));
+        so_far = truth_or(so_far, part_truth(part, combo, choices));
         if is_true(so_far) {
             return so_far;
         }
@@ -131,9 +221,7 @@ pub fn test<C: ChoiceView>(cond: &CondOf<Expr>, combo: &Combo<'_>, choices: &C) 
         CondOf::All(parts) => least(parts, combo, choices),
         CondOf::Any(parts) => greatest(parts, combo, choices),
         CondOf::Not(part) => truth_not(test(part.get(), combo, choices)),
-        CondOf::Compare { op, left, right } => {
-            compared_with(*op, &cell(left, &*combo, choices), right, combo, choices)
-        }
+        CondOf::Compare { op, left, right } => { compared_exprs(*op, left, right, combo, choices) }
         CondOf::Between { value, low, high } => is_between(value, low, high, combo, choices),
         CondOf::Among { value, list } => is_among(value, list, combo, choices),
         CondOf::Missing { value } => is_missing(value, combo, choices),

@@ -4,13 +4,14 @@ ghost use Rattle.hippo_model.specs.Conditions.{is_true};
 ghost use Rattle.hippo_model.specs.Masking.{masked_cell, is_shown_cell, is_guarded, masked_passes, masked_items};
 
 use crate::cells::cell;
-use crate::conditions::test;
+use crate::conditions::part_truth;
 use hippo_model::{CellRow, ChoiceView, Combo, Expr, Masked};
 use hippo_values::{Memory, Sequence, Truth};
 use std::alloc::Global;
 
 /// Whether the cell is shown that an expression stands for in a combination of rows. Takes no look
 /// at the rows where the expression alone says it.
+#[inline(always)]
 pub fn is_shown<C: ChoiceView>(expr: &Expr, combo: &Combo<'_>, choices: &C) -> bool
     ensures { result ≡ is_shown_cell (masked_cell (C.choices choices.now) combo.now expr.now) }
 {
@@ -22,6 +23,7 @@ pub fn is_shown<C: ChoiceView>(expr: &Expr, combo: &Combo<'_>, choices: &C) -> b
     }
 }
 
+#[inline(always)]
 fn is_guarded<C: ChoiceView>(query: &Masked, combo: &Combo<'_>, choices: &C) -> bool
     ensures { result ≡ is_guarded (C.choices choices.now) query.now combo.now }
 {
@@ -33,6 +35,7 @@ fn is_guarded<C: ChoiceView>(query: &Masked, combo: &Combo<'_>, choices: &C) -> 
     true
 }
 
+#[inline(always)]
 fn is_true(truth: Truth) -> bool
     ensures { result ≡ is_true truth }
 {
@@ -45,7 +48,7 @@ pub fn passes<C: ChoiceView>(query: &Masked, combo: &Combo<'_>, choices: &C) -> 
     ensures { result ≡ (is_guarded (C.choices choices.now) query.now combo.now
         && masked_passes (C.choices choices.now) query.now combo.now) }
 {
-    is_guarded(query, combo, choices) && is_true(test(&query.cond, combo, choices))
+    is_guarded(query, combo, choices) && is_true(part_truth(&query.cond, combo, choices))
 }
 
 /// The row of a query's answer that a combination of rows makes.
