@@ -1,8 +1,10 @@
 -- What is visited of the combinations that count, place by place.
 use Rattle.std.proofs.Common.{◌≡◌, ℕ, zero, suc, ◌+◌, ◌<◌, ◌≤◌, Bool, true, false, ◌&&◌, ◌||◌, cond, not, List, [], ◌∷◌, ◌++◌, map, length, get_or, refl, sym, ap, subst, ◌∙◌, append_assoc, arith, Option, Some, None, inl, inr, ◌⊎◌, nat_eq, replicate, zero-add}
+use Rattle.std.proofs.Math.Dec.{eqb, eqb-suc-zero}
 use Rattle.std.specs.Prelude.{filter, slice_get, slice_set, Result, Ok, Err, IfOk}
 use Rattle.std.specs.List.{All, AllByRecursion, Contains, range_with_len}
 use Rattle.std.specs.List.Sorted.{IsStrictlyIncreasing, IsStrictlySortedBy}
+use Rattle.std.specs.Option.{option_map_or}
 use Rattle.std.specs.Ordering.{is_eq, nat_cmp}
 use Rattle.std.specs.Cmp.Lexicographic.{slice_cmp}
 use Rattle.std.specs.declared.cmp.Ordering.TheVariants.{Less}
@@ -20,7 +22,7 @@ use Rattle.hippo_values.specs.declared.memory.Memory.{Memory}
 use Rattle.hippo_eval.specs.Walks.{KeptAfter}
 use Rattle.hippo_eval.specs.declared.walks.Onward.{Onward}
 use Rattle.hippo_eval.specs.declared.walks.Onward.TheVariants.{More, Enough}
-use Rattle.hippo_lookups.specs.Places.{Fits, chosen_rows, in_range, places_of, stands}
+use Rattle.hippo_lookups.specs.Places.{Fits, blank, chosen_rows, in_range, places_of, row_at_place, rows_at, stands}
 use Rattle.hippo_lookups.specs.Known.{is_chosen, is_open}
 use Rattle.hippo_sides.specs.Finding.{has_places, IsRising}
 use Rattle.hippo_sides.specs.Stages.{ReachesFrom}
@@ -44,6 +46,10 @@ true_or_not true = inl refl
 true_or_not false = inr refl
 
 module _ {A : Type 0} where
+  pub none-left : (xs : List A) → eqb (length xs) 0 ≡ true → xs ≡ []
+  none-left [] none = refl
+  none-left (x ∷ xs) none = absurd (false≢true (sym (eqb-suc-zero (length xs)) ∙ none))
+
   -- where one test implies another, it is enough to make the narrower one
   pub filter-implied : (wide narrow : A → Bool) → ((x : A) → narrow x ≡ true → wide x ≡ true) → (xs : List A) → filter narrow (filter wide xs) ≡ filter narrow xs
   filter-implied wide narrow implied [] = refl
@@ -108,6 +114,13 @@ at_place (slot ∷ slots) [] (suc table) place within fits = absurd fits
 at_place (slot ∷ slots) (first ∷ places) zero place within fits = ap Some (sym fits.0)
 at_place (None ∷ slots) (first ∷ places) (suc table) place within fits = at_place slots places table place (omega (arith, within)) fits
 at_place (Some fixed ∷ slots) (first ∷ places) (suc table) place within fits = at_place slots places table place (omega (arith, within)) fits.1
+
+-- the rows, once that of a table is no longer chosen
+pub rows-left : (sets : List KeyedRows) (slots : List (Option Place)) (table : ℕ) → table < length slots → slice_set (rows_at sets slots) table blank ≡ rows_at sets (slice_set slots table None)
+rows-left [] slots table within = refl
+rows-left (set ∷ sets) [] table within = absurd (omega (arith, within))
+rows-left (set ∷ sets) (slot ∷ slots) zero within = refl
+rows-left (set ∷ sets) (slot ∷ slots) (suc table) within = ap (λ (rows : Combination). option_map_or (row_at_place set.rows) slot blank ∷ rows) (rows-left sets slots table (omega (arith, within)))
 
 -- combinations with the same rows before a table, and other rows in it
 lower_at : (slots : List (Option Place)) (p q : List Place) (table a b : ℕ) → Fits slots p → Fits slots q → ((before : ℕ) → before < table → is_chosen slots before ≡ true) → slice_get p table ≡ Some a → slice_get q table ≡ Some b → a < b → slice_cmp nat_cmp p q ≡ Less

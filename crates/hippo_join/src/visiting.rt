@@ -30,6 +30,7 @@ impl<'a, V: Visitor> PlaceVisitor for RowTeller<'a, V> {
     ghost Keeps = { λ teller sets front visited state.
         V.Keeps teller.visitor.now (front ++ map (chosen_rows sets) visited) state };
 
+    #[inline(always)]
     fn visit(
         &self,
         alloc: Global,

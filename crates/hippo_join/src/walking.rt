@@ -90,6 +90,7 @@ fn following_in<'s, C: ChoiceView>(
 }
 
 // Whether each place that is chosen is one of its table's.
+#[inline(always)]
 fn in_range<C: ChoiceView>(side: &Side<'_, C>, slots: &[Option<usize>]) -> bool
     requires { length slots.now ≡ length side.now.sets.now }
     ensures { (places : List Place) → slots.now ≡ map Some places
@@ -104,6 +105,7 @@ fn in_range<C: ChoiceView>(side: &Side<'_, C>, slots: &[Option<usize>]) -> bool
 }
 
 // Whether a combination counts whose rows are all chosen.
+#[inline(always)]
 fn counts<C: ChoiceView>(side: &Side<'_, C>, slots: &[Option<usize>], rows: &Combo<'_>) -> bool
     requires long { length slots.now ≡ length side.now.sets.now }
     requires rows { rows.now ≡ rows_at side.now.sets.now slots.now }
@@ -114,6 +116,7 @@ fn counts<C: ChoiceView>(side: &Side<'_, C>, slots: &[Option<usize>], rows: &Com
 }
 
 // Visits the combination whose rows are all chosen, if it counts.
+#[inline(always)]
 fn visit_whole<C: ChoiceView, V: PlaceVisitor>(
     side: &Side<'_, C>,
     alloc: Global,
@@ -139,6 +142,7 @@ fn visit_whole<C: ChoiceView, V: PlaceVisitor>(
 }
 
 // Lets the row of a table go that is chosen.
+#[inline(always)]
 fn leave<'a, C: ChoiceView>(
     side: &Side<'a, C>,
     rows: &mut Combo<'a>,
@@ -152,11 +156,86 @@ fn leave<'a, C: ChoiceView>(
     ensures rows { rows.new ≡ rows_at side.now.sets.now slots.new }
 {
     slots[table] = None;
-    side.renew(rows, slots, table);
+    rows.set(table, &side.blank.row, side.blank.born);
+}
+
+// Visits the combination whose rows are all chosen but for that of the last stage's table, with the
+// row at a place there in the place of the one before, if it counts.
+#[inline(always)]
+fn visit_with<'a, C: ChoiceView, V: PlaceVisitor>(
+    side: &Side<'a, C>,
+    alloc: Global,
+    stage: &Stage,
+    place: usize,
+    in_order: bool,
+    slots: &mut [Option<usize>],
+    rows: &mut Combo<'a>,
+    visitor: &V,
+    state: &mut V::State,
+) -> Result<Onward, Memory>
+    requires table { stage.now.table < length slots.old }
+    requires walk { CanWalk (C.choices side.now.choices.now) side.now.query.now
+        side.now.sets.now in_order
+        (stage.now ∷ []) slots.old }
+    requires rows { rows.old ≡ rows_at side.now.sets.now slots.old }
+    ensures slots { OnOk result (slots.new ≡ slice_set slots.old stage.now.table (Some place)) }
+    ensures rows { OnOk result (rows.new ≡ rows_at side.now.sets.now slots.new) }
+    ensures kept { Visits
+        (Completes (C.choices side.now.choices.now) side.now.query.now side.now.sets.now
+        (slice_set slots.old stage.now.table (Some place)))
+        in_order (V.Keeps visitor.now side.now.sets.now) result state.old state.new }
+{
+    slots[stage.table] = Some(place);
+    side.renew(rows, slots, stage.table);
+    let onward = visit_whole(side, alloc, in_order, slots, rows, visitor, state)?;
+    Ok(onward)
+}
+
+// Visits what counts and has the rows that are chosen, for each of the places of the last stage
+// that may follow them: as `walk_each`, in fewer instructions, since there are no stages behind.
+// The last of these rows stays chosen.
+fn visit_each<'a, C: ChoiceView, V: PlaceVisitor>(
+    side: &Side<'a, C>,
+    alloc: Global,
+    stage: &Stage,
+    following: &Following<'_>,
+    in_order: bool,
+    slots: &mut [Option<usize>],
+    rows: &mut Combo<'a>,
+    visitor: &V,
+    state: &mut V::State,
+) -> Result<Onward, Memory>
+    requires still { is_open slots.old stage.now.table ≡ true }
+    requires walk { CanWalk (C.choices side.now.choices.now) side.now.query.now
+        side.now.sets.now in_order
+        (stage.now ∷ []) slots.old }
+    requires rows { rows.old ≡ rows_at side.now.sets.now slots.old }
+    requires reaches { ReachesFrom (C.choices side.now.choices.now) side.now.query.now
+        side.now.sets.now
+        slots.old stage.now.table (following_places following.now) }
+    requires order { in_order ≡ true → IsStrictlyIncreasing (following_places following.now) }
+    ensures slots { OnOk result (slice_set slots.new stage.now.table None ≡ slots.old) }
+    ensures rows { OnOk result (rows.new ≡ rows_at side.now.sets.now slots.new) }
+    ensures kept { Visits
+        (Completes (C.choices side.now.choices.now) side.now.query.now side.now.sets.now
+        slots.old)
+        in_order (V.Keeps visitor.now side.now.sets.now) result state.old state.new }
+{
+    for index in 0..following.len() {
+        let place = following.place(index);
+        let onward = visit_with(
+            side, alloc, stage, place, in_order, slots, rows, visitor, state,
+        )?;
+        if let Onward::Enough = onward {
+            return Ok(Onward::Enough);
+        }
+    }
+    Ok(Onward::More)
 }
 
 // Visits what counts and has the rows that are chosen, where the row at a place of a stage's table
 // is chosen too, in the place of the one before.
+#[inline(always)]
 #[cycle(walk)]
 fn walk_with<'a, C: ChoiceView, V: PlaceVisitor>(
     side: &Side<'a, C>,
@@ -229,6 +308,11 @@ fn walk_each<'a, C: ChoiceView, V: PlaceVisitor>(
         slots.old)
         in_order (V.Keeps visitor.now side.now.sets.now) result state.old state.new }
 {
+    if rest.is_empty() {
+        return visit_each(
+            side, alloc, stage, following, in_order, slots, rows, visitor, state,
+        );
+    }
     for index in 0..following.len() {
         let place = following.place(index);
         let onward = walk_with(
@@ -242,6 +326,7 @@ fn walk_each<'a, C: ChoiceView, V: PlaceVisitor>(
 }
 
 // Visits what counts and has the rows that are chosen, if some parts of the condition allow it.
+#[inline(always)]
 #[cycle(walk)]
 fn walk_behind<'a, C: ChoiceView, V: PlaceVisitor>(
     side: &Side<'a, C>,

@@ -1,15 +1,16 @@
 -- What counts is visited stage by stage and place by place.
-use Rattle.std.proofs.Common.{◌≡◌, suc, List, ◌∷◌, ◌++◌, length, length-set, Option, Some, None, refl, sym, ap, ◌∙◌, arith}
+use Rattle.std.proofs.Common.{◌≡◌, suc, List, ◌∷◌, ◌++◌, length, length-set, Option, Some, None, refl, sym, ap, subst, ◌∙◌, arith}
 use Rattle.std.specs.Prelude.{slice_set}
 use Rattle.std.proofs.lemmas.Bool.{false≢true}
 use Rattle.std.proofs.lemmas.List.{set-set}
 use Rattle.hippo_model.specs.Terms.{Combination, Place}
 use Rattle.hippo_lookups.specs.Places.{blank}
 use Rattle.hippo_sides.specs.Visiting.{Completes}
-use Rattle.hippo_sides.specs.Walking.{following_places, IsWalkable}
+use Rattle.hippo_sides.specs.Walking.{following_places, CanWalk, IsWalkable}
+use Rattle.hippo_sides.specs.declared.stages.Stage.{Stage}
 use Rattle.hippo_sides.proofs.FindingLemmas.{all-first, walk-again, walk-closed, walk-first, walk-chosen_rows, open-within, still-open, within-set}
 use Rattle.hippo_lookups.proofs.SlotLemmas.{rows-but}
-use Rattle.hippo_join.proofs.VisitingLemmas.{Tried, is-next, visited-none, visited-more, visited-all, visited-enough}
+use Rattle.hippo_join.proofs.VisitingLemmas.{Tried, is-next, none-left, visited-none, visited-more, visited-all, visited-enough}
 use Rattle.hippo_join.proofs.walking.+walk.Goals as goal
 
 pub walk-walk-requires : goal.walk-walk-requires
@@ -46,6 +47,10 @@ walk-leave-requires-clause-table g t c =
 
 pub walk-returns-clause-slots : goal.walk-returns-clause-slots
 walk-returns-clause-slots g t c = c.leave.ensures.slots ∙ c.in_ok-onward.ensures.slots
+
+pub walk_each-visit_each-requires-clause-walk : goal.walk_each-visit_each-requires-clause-walk
+walk_each-visit_each-requires-clause-walk g t c =
+    subst (λ (rest : List Stage). CanWalk (g.C.ChoiceView.choices c.args.side.now.choices.now) c.args.side.now.query.now c.args.side.now.sets.now c.args.in_order (c.args.stage.now ∷ rest) c.args.slots.now) (none-left c.args.rest.now (sym c.is_empty.ensures ∙ c.if-is_empty.true)) c.requires.walk
 
 pub walk_each-walk_with-requires : goal.walk_each-walk_with-requires
 walk_each-walk_with-requires g t c κs within =

@@ -1,14 +1,14 @@
 -- The rows of the other tables stay.
-use Rattle.std.proofs.Common.{None, length-set, ap, ◌∙◌}
+use Rattle.std.proofs.Common.{length, ap, ◌∙◌, arith}
 use Rattle.std.specs.Prelude.{slice_set}
-use Rattle.hippo_model.specs.Terms.{Combination}
-use Rattle.hippo_lookups.specs.Places.{blank}
-use Rattle.hippo_lookups.proofs.SlotLemmas.{rows-but}
+use Rattle.hippo_lookups.proofs.SlotLemmas.{length-rows_at}
+use Rattle.hippo_join.proofs.VisitingLemmas.{rows-left}
 use Rattle.hippo_join.proofs.walking.leave.Goals as goal
 
-pub renew-requires-clause-long : goal.renew-requires-clause-long
-renew-requires-clause-long g c = length-set c.args.slots.now c.args.table None ∙ c.requires.long
+pub set-requires : goal.set-requires
+set-requires g c = omega (arith, c.requires.long, c.requires.table, ap length c.requires.rows, length-rows_at c.args.side.now.sets.now c.args.slots.now)
 
-pub renew-requires-clause-rows : goal.renew-requires-clause-rows
-renew-requires-clause-rows g c =
-    ap (λ (rows : Combination). slice_set rows c.args.table blank) c.requires.rows ∙ rows-but c.args.side.now.sets.now c.args.slots.now c.args.table None blank
+pub returns-clause-rows : goal.returns-clause-rows
+returns-clause-rows g c =
+    c.set.ensures ∙ (λ i. slice_set (c.requires.rows i) c.args.table (c.args.side.now.is_blank i))
+    ∙ rows-left c.args.side.now.sets.now c.args.slots.now c.args.table c.requires.table
