@@ -1,5 +1,5 @@
 //! Answers as the lines that say their rows, which are printed as the rows are found.
-ghost use Rattle.std.specs.Prelude.{◌≡◌, ◌++◌, ℕ, List, [], flat_map, OnOk, IfOk};
+ghost use Rattle.std.specs.Prelude.{◌≡◌, ◌++◌, ℕ, List, [], flat_map, decimal, OnOk, IfOk};
 ghost use Rattle.hippo_model.specs.Terms.{ShownRow};
 ghost use Rattle.hippo_model.specs.Masking.{masked_cell, masked_items, masked_answer};
 ghost use Rattle.hippo_report.specs.Cells.{answer_line, cell_text, comma, separated_text};
@@ -76,7 +76,8 @@ fn append_later<C: ChoiceView, const ROOM: usize>(
         ++ cell_text (masked_cell (C.choices choices.now) combo.now item)) items.now) }
 {
     for item in items {
-        out.append(", ")?;
+        out.push(',')?;
+        out.push(' ')?;
         append_item(item, combo, choices, out)?;
     }
     Ok(())
@@ -99,21 +100,22 @@ fn append_items<C: ChoiceView, const ROOM: usize>(
     append_later(rest, combo, choices, out)
 }
 
-// Adds the line of the row that a combination makes.
+// Adds the line of the row that a combination makes, to the session of which these are the digits.
 fn append_row<C: ChoiceView, const ROOM: usize>(
-    session: u8,
+    digits: &str,
     query: &Masked,
     combo: &Combo<'_>,
     choices: &C,
     out: &mut RoomyTxt<ROOM>,
 ) -> Result<(), Memory>
-    ensures { OnOk result (out.new ≡ out.old ++ answer_line session (masked_items
+    ensures { (session : ℕ) → digits.now ≡ decimal session
+        → OnOk result (out.new ≡ out.old ++ answer_line session (masked_items
         (C.choices choices.now) query.now combo.now)) }
 {
-    out.append(Buffer::new().format(session))?;
+    out.append(digits)?;
     out.append(" row ")?;
     append_items(query.items.as_slice(), combo, choices, out)?;
-    out.append("\n")
+    out.push('\n')
 }
 
 // Prints the rows of combinations that count, and one at most beyond the limit.
@@ -122,6 +124,9 @@ struct RowPrinter<'a, C> {
     query: &'a Masked,
     choices: &'a C,
     session: u8,
+    // Those of the session, which are made once.
+    digits: &'a str,
+    ghost are_digits: { digits.now ≡ decimal session },
 }
 
 impl<'a, C: ChoiceView> Visitor for RowPrinter<'a, C> {
@@ -147,7 +152,7 @@ impl<'a, C: ChoiceView> Visitor for RowPrinter<'a, C> {
             return Ok(Onward::Enough);
         }
         append_row(
-            self.session,
+            self.digits,
             self.query,
             combo,
             self.choices,
@@ -184,10 +189,12 @@ pub(crate) fn walked_lines<C: ChoiceView>(
     ensures { IsSaid ANSWER_LIMIT session (masked_answer (C.choices choices.now) query.now
         (rows_of sets.now)) result }
 {
+    let mut buffer = Buffer::new();
     let printer = RowPrinter {
         query,
         choices,
         session,
+        digits: buffer.format(session),
     };
     let mut lines = Lines::new(alloc)?;
     match walk_joined(alloc, query, sets, choices, &printer, &mut lines) {
