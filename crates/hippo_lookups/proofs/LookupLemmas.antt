@@ -1,9 +1,9 @@
 -- What a search by halves finds among values in order.
-use Rattle.std.proofs.Common.{◌≡◌, ℕ, ◌+◌, ◌-◌, ◌<◌, ◌≤◌, true, false, List, length, take, drop, refl, sym, ap, ◌∙◌, arith, get_or, length-take, length-drop, inl, inr, ◌⊎◌}
+use Rattle.std.proofs.Common.{◌≡◌, ℕ, ◌+◌, ◌-◌, ◌<◌, ◌≤◌, true, false, List, length, map, take, drop, refl, sym, ap, ◌∙◌, arith, get_or, length-take, length-drop, inl, inr, ◌⊎◌}
 use Rattle.std.proofs.lemmas.List.{get_or-drop, get_or-take, get_or-map, length-map}
 use Rattle.std.specs.Prelude.{slice_index_or}
 use Rattle.std.specs.List.{Contains}
-use Rattle.std.specs.List.Sorted.{IsPartitionedBy, IsPartitionPoint, IsNonDecreasingBy}
+use Rattle.std.specs.List.Sorted.{IsPartitionedBy, IsPartitionPoint, IsNonDecreasingBy, IsSorted}
 use Rattle.std.specs.Ordering.{is_lt, is_le, ordering_index}
 use Rattle.std.specs.declared.cmp.Ordering.{Ordering}
 use Rattle.std.specs.declared.cmp.Ordering.TheVariants.{Less, Equal, Greater}
@@ -14,7 +14,7 @@ use Rattle.hippo_values.specs.Order.{value_cmp}
 use Rattle.hippo_values.specs.OrderLaws.{value_total}
 use Rattle.hippo_model.specs.Terms.{Place}
 use Rattle.hippo_keyed_rows.specs.RowSets.{KeyedRows}
-use Rattle.hippo_lookups.specs.Lookups.{value_at_place, IsIndex}
+use Rattle.hippo_lookups.specs.Lookups.{value_at_place, IsByColumn, IsIndex}
 use Rattle.hippo_lookups.proofs.PlaceSteps.{get_or_default}
 
 cases_lt : (a b : ℕ) → (a < b) ⊎ (b ≤ a)
@@ -111,3 +111,11 @@ module _ (set : KeyedRows) (column : Place) (values : List Value) (places : List
         simp (length-take, length-drop) (omega (arith, at.1, after, before, within)),
         get_or-take (end - start) (drop start places) (k - start) place (omega (arith, after, before)) ∙ get_or-drop start places (k - start) place ∙ ap (λ j. get_or places j place) there ∙ at.2,
       )
+
+-- values in a column that do not fall make places that stand by them
+pub rises-by_values : (set : KeyedRows) (column : Place) (values : List Value) (places : List Place) → values ≡ map (value_at_place set column) places → IsSorted value_cmp values → IsByColumn set column places
+rises-by_values set column values places are up k d lower within =
+    let value_of : Place → Value = value_at_place set column in
+    let long : length values ≡ length places = ap length are ∙ length-map places value_of in
+    let same : (j : ℕ) → j < length places → get_or values j (value_of d) ≡ value_of (get_or places j d) = λ j inside. ap (λ (l : List Value). get_or l j (value_of d)) are ∙ get_or-map value_of places j d (value_of d) inside in
+    sym (λ i. is_lt (value_cmp (same (k + 1) within i) (same k (omega (arith, within)) i))) ∙ up k (value_of d) lower (omega (arith, within, long))

@@ -8,5 +8,5 @@ mod ties;
 
 pub use known::{is_open, knows, knows_expr, slot_at};
 pub use lists::{count_listed, find_list, places_listed};
-pub use lookups::{is_null, known_value, sort_by_column, value_at, values_at, with_value};
+pub use lookups::{Index, index_by_column, is_null, known_value, value_at, with_value};
 pub use ties::{Tie, column_of, find_tie, outer_parts, shows_column};

@@ -1,7 +1,7 @@
 //! Rows of a table in the order of one of its columns.
 ghost use Rattle.std.specs.Prelude.{◌≡◌, ◌<◌, ◌≤◌, ℕ, List, true, IfOk, MatchOption, get_or, length, map, option_copied, unwrap_or};
 ghost use Rattle.std.specs.List.{Contains};
-ghost use Rattle.std.specs.List.Sorted.{IsPermutation};
+ghost use Rattle.std.specs.List.Sorted.{IsPermutation, IsSorted};
 ghost use Rattle.std.specs.Ordering.{is_lt, is_le};
 ghost use Rattle.std.specs.declared.cmp.Ordering.TheVariants.{Equal};
 ghost use Rattle.hippo_values.specs.declared.values.Value.TheVariants.{Null};
@@ -17,7 +17,15 @@ use std::alloc::Global;
 use std::cell::Cell;
 use std::cmp::Ordering;
 
+/// Places of rows in the order of the values in a column, and these values.
+#[derive(Drop)]
+pub struct Index {
+    pub places: Vec<usize>,
+    pub values: Vec<Value>,
+}
+
 /// The value in a column of the row at a place, if one stands there.
+#[inline(always)]
 pub fn value_at<'a>(set: &'a RowSet, column: usize, place: usize) -> Option<&'a Value>
     ensures { unwrap_or (option_copied result) Null ≡ value_at_place set.now column place }
 {
@@ -36,6 +44,7 @@ pub fn is_null(value: &Value) -> bool
 }
 
 /// The value that a column has at a place, if it is there and not null.
+#[inline(always)]
 pub fn known_value<'a>(set: &'a RowSet, column: usize, place: usize) -> Option<&'a Value>
     ensures { MatchOption result (is_null (value_at_place set.now column place) ≡ true)
         (λ value. value.now ≡ value_at_place set.now column place) }
@@ -65,20 +74,40 @@ fn row_order(set: &RowSet, column: usize, place: usize, other: usize) -> Orderin
     )
 }
 
+// Whether two values are the same.
+#[inline(always)]
+fn is_same(own: &Value, value: &Value) -> bool {
+    match (own, value) {
+        (Value::Int(own), Value::Int(value)) => *own == *value,
+        _ => own == value,
+    }
+}
+
+// Whether a value is below another. Numbers, as most keys are, are compared without a call, for
+// speed.
+#[inline(always)]
 fn is_below(own: &Value, value: &Value) -> bool
     ensures { result ≡ is_lt (value_cmp own.now value.now) }
 {
-    own.cmp(value).is_lt()
+    match (own, value) {
+        (Value::Int(own), Value::Int(value)) => *own < *value,
+        _ => own.cmp(value).is_lt(),
+    }
 }
 
+// Whether a value is not above another.
+#[inline(always)]
 fn is_within(own: &Value, value: &Value) -> bool
     ensures { result ≡ is_le (value_cmp own.now value.now) }
 {
-    own.cmp(value).is_le()
+    match (own, value) {
+        (Value::Int(own), Value::Int(value)) => *own <= *value,
+        _ => own.cmp(value).is_le(),
+    }
 }
 
-/// Puts places in the order of the values in a column.
-pub fn sort_by_column(set: &RowSet, column: usize, places: &mut [usize])
+// Puts places in the order of the values in a column.
+fn sort_by_column(set: &RowSet, column: usize, places: &mut [usize])
     ensures permutation { IsPermutation places.old places.new }
     ensures order { IsByColumn set.now column places.new }
 {
@@ -95,8 +124,8 @@ fn copied_value(alloc: Global, value: Option<&Value>) -> Result<Value, Memory>
     }
 }
 
-/// The values in a column of the rows at some places.
-pub fn values_at(
+// The values in a column of the rows at some places.
+fn values_at(
     alloc: Global,
     set: &RowSet,
     column: usize,
@@ -110,6 +139,53 @@ pub fn values_at(
         values.push(copied_value(alloc, value_at(set, column, *place))?)?;
     }
     Ok(values)
+}
+
+// Whether values do not fall, from one to the next.
+fn rises(values: &[Value]) -> bool
+    ensures { result ≡ true → IsSorted value_cmp values.now }
+{
+    for index in 1..values.len() {
+        if is_below(&values[index], &values[index - 1]) {
+            return false;
+        }
+    }
+    true
+}
+
+fn sorted_index(
+    alloc: Global,
+    set: &RowSet,
+    column: usize,
+    mut places: Vec<usize>,
+) -> Result<Index, Memory>
+    ensures permutation { IfOk result (λ index. IsPermutation places.items index.places.items) }
+    ensures index { IfOk result (λ index. IsIndex set.now column index.values.items
+        index.places.items) }
+{
+    sort_by_column(set, column, &mut places);
+    let values = values_at(alloc, set, column, &places)?;
+    Ok(Index { places, values })
+}
+
+/// Places in the order of the values in a column, with these values. Those that stand in this order
+/// already, as when rows came in it, are not sorted: one look-up a place tells.
+pub fn index_by_column(
+    alloc: Global,
+    set: &RowSet,
+    column: usize,
+    places: Vec<usize>,
+) -> Result<Index, Memory>
+    ensures permutation { IfOk result (λ index. IsPermutation places.items index.places.items) }
+    ensures index { IfOk result (λ index. IsIndex set.now column index.values.items
+        index.places.items) }
+{
+    let values = values_at(alloc, set, column, &places)?;
+    if rises(&values) {
+        return Ok(Index { places, values });
+    }
+    drop(values);
+    sorted_index(alloc, set, column, places)
 }
 
 // Where those of some values begin, by their order, that are not below one; it is found by halves.
@@ -138,6 +214,32 @@ fn is_below_at(values: &[Value], place: usize, value: &Value) -> bool
     }
 }
 
+// Whether the value at a place is above another one, or none is there.
+fn is_above_at(values: &[Value], place: usize, value: &Value) -> bool
+    ensures { result ≡ true → (set : KeyedRows) (column : Place) (places : List Place)
+        → IsIndex set column values.now places
+        → (k : ℕ) → k < length places → value_cmp (value_at_place set column (get_or places k 0))
+        value.now ≡ Equal
+        → k < place }
+{
+    if place < values.len() {
+        !is_within(&values[place], value)
+    } else {
+        true
+    }
+}
+
+// Whether a place is the first, or the value before it is below another one.
+fn begins_at(values: &[Value], place: usize, value: &Value) -> bool
+    ensures { result ≡ true → (set : KeyedRows) (column : Place) (places : List Place)
+        → IsIndex set column values.now places
+        → (k : ℕ) → k < length places → value_cmp (value_at_place set column (get_or places k 0))
+        value.now ≡ Equal
+        → place ≤ k }
+{
+    place == 0 || is_below_at(values, place - 1, value)
+}
+
 // Where they begin, which is tried near a place first, since look-ups often rise.
 fn start_near(values: &[Value], near: usize, value: &Value) -> usize
     ensures { (set : KeyedRows) (column : Place) (places : List Place)
@@ -146,10 +248,7 @@ fn start_near(values: &[Value], near: usize, value: &Value) -> usize
         value.now ≡ Equal
         → result ≤ k }
 {
-    if near == 0 {
-        return start_with(values, value);
-    }
-    if is_below_at(values, near - 1, value) && !is_below_at(values, near, value) {
+    if begins_at(values, near, value) && !is_below_at(values, near, value) {
         near
     } else {
         start_with(values, value)
@@ -172,6 +271,20 @@ fn end_with(values: &[Value], start: usize, value: &Value) -> usize
     values.len()
 }
 
+// Whether a value is equal to the one at a place alone, of some that rise.
+fn is_only_at(values: &[Value], place: usize, value: &Value) -> bool
+    ensures { result ≡ true → (set : KeyedRows) (column : Place) (places : List Place)
+        → IsIndex set column values.now places
+        → (k : ℕ) → k < length places → value_cmp (value_at_place set column (get_or places k 0))
+        value.now ≡ Equal
+        → k ≡ place }
+{
+    if place >= values.len() || !is_same(&values[place], value) {
+        return false;
+    }
+    is_above_at(values, place + 1, value) && begins_at(values, place, value)
+}
+
 /// The places whose row has a value, of places that stand by the values in a column, and these
 /// values; where the last search ended is tried first, and marked anew.
 pub fn with_value<'a>(
@@ -185,7 +298,12 @@ pub fn with_value<'a>(
         → value_cmp (value_at_place set column place) value.now ≡ Equal
         → Contains result.now place }
 {
-    let start = start_near(values, near.get(), value);
+    let last = near.get();
+    if last < places.len() && is_only_at(values, last, value) {
+        near.set(last + 1);
+        return &places[last..last + 1];
+    }
+    let start = start_near(values, last, value);
     let end = end_with(values, start, value);
     near.set(end);
     if start <= end && end <= places.len() {

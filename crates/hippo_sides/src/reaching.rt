@@ -1,9 +1,7 @@
 //! Which rows of a table may follow those that are chosen.
 ghost use Rattle.std.specs.Prelude.{◌≡◌, ◌<◌, true, false, None, Some, [], ◌∷◌, ◌++◌, if◌then◌else◌, OnOk, IfOk, length, replicate};
 ghost use Rattle.std.specs.List.{All};
-ghost use Rattle.std.specs.List.Sorted.{IsPermutation};
 ghost use Rattle.hippo_lookups.specs.Places.{chosen_rows as chosen};
-ghost use Rattle.hippo_lookups.specs.Lookups.{IsByColumn};
 ghost use Rattle.hippo_sides.specs.Walking.{following_places, IsWalkable, AreWalkable};
 ghost use Rattle.hippo_sides.specs.Stages.{Reaches, ReachesFrom, IsStage, AreStages};
 
@@ -11,11 +9,10 @@ use crate::following::{Following, listed};
 use crate::sides::Side;
 use crate::stages::Stage;
 use hippo_lookups::{
-    Tie, find_tie, known_value, knows, knows_expr, outer_parts, slot_at, sort_by_column, values_at,
+    Tie, find_tie, index_by_column, known_value, knows, knows_expr, outer_parts, slot_at,
     with_value,
 };
 use hippo_model::{ChoiceView, Expr, Ref};
-use hippo_rows::RowSet;
 use hippo_values::Memory;
 use std::alloc::Global;
 use std::cell::Cell;
@@ -39,14 +36,6 @@ pub fn push_if(test: bool, places: &mut Vec<usize>, place: usize) -> Result<(), 
         places.push(place)?;
     }
     Ok(())
-}
-
-fn sorted_by_column(set: &RowSet, column: usize, mut places: Vec<usize>) -> Vec<usize>
-    ensures permutation { IsPermutation places.items result.items }
-    ensures order { IsByColumn set.now column result.items }
-{
-    sort_by_column(set, column, &mut places);
-    places
 }
 
 // About how many combinations there are behind a stage, of so many before it.
@@ -205,15 +194,13 @@ impl<'a, C: ChoiceView> Side<'a, C> {
                 tests,
             });
         };
-        let set = self.sets.get(table);
-        let places = sorted_by_column(set, tie.column, places);
-        let values = values_at(alloc, set, tie.column, &places)?;
+        let index = index_by_column(alloc, self.sets.get(table), tie.column, places)?;
         Ok(Stage {
             table,
             tie: Some(tie),
             is_sought: false,
-            places,
-            values,
+            places: index.places,
+            values: index.values,
             near: Cell::new(0),
             tests,
         })

@@ -1,8 +1,8 @@
--- What is sorted has the places that it had, and the tie is one of all that counts.
-use Rattle.std.proofs.Common.{◌≡◌, Some, map, sym, ap, subst, ◌∙◌}
+-- The index has the places that there were, and the tie is one of all that counts.
+use Rattle.std.proofs.Common.{◌≡◌, Some, sym, subst, ◌∙◌}
 use Rattle.std.proofs.lemmas.List.Sorted.{Contains-permutation}
 use Rattle.hippo_keyed_rows.specs.RowSets.{KeyedRows}
-use Rattle.hippo_lookups.specs.Lookups.{value_at_place, IsIndex}
+use Rattle.hippo_lookups.specs.Lookups.{IsIndex}
 use Rattle.hippo_sides.proofs.ReachLemmas.{tie-counts}
 use Rattle.hippo_sides.proofs.sides.Side.listed_stage.Goals as goal
 
@@ -14,8 +14,9 @@ returns-clause-stage g c =
     let choices = g.C.ChoiceView.choices c.args.self.now.choices.now in
     let query = c.args.self.now.query.now in
     let sets = c.args.self.now.sets.now in
+    let index = c.in_ok-index.index in
     record {
-      reaches = λ places counts place at. Contains-permutation c.in_ok-places.places.items c.sorted_by_column-places.result.items place c.sorted_by_column-places.ensures.permutation (c.in_ok-places.ensures places counts place at);
+      reaches = λ places counts place at. Contains-permutation c.in_ok-places.places.items index.places.items place c.in_ok-index.ensures.permutation (c.in_ok-places.ensures places counts place at);
       tied = tie-counts choices query sets c.args.table c.in-Some.tie c.outer_parts.result.now c.outer_parts.ensures c.in-Some.ensures;
-      ordered = λ set at. subst (λ (s : KeyedRows). IsIndex s c.in-Some.tie.column c.in_ok-values.values.items c.sorted_by_column-places.result.items) (some_is (sym c.get-set.ensures ∙ at)) (record { are = c.in_ok-values.ensures ∙ ap (map (value_at_place c.get-set.result.now c.in-Some.tie.column)) c.deref.ensures.value; rise = c.sorted_by_column-places.ensures.order });
+      ordered = λ set at. subst (λ (s : KeyedRows). IsIndex s c.in-Some.tie.column index.values.items index.places.items) (some_is (sym c.get.ensures ∙ at)) c.in_ok-index.ensures.index;
     }
