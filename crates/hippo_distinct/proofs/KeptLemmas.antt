@@ -70,3 +70,7 @@ put_in kept found row are =
     by : (stands : Bool) → cond stands (different_rows found) (different_rows found ++ row ∷ []) ≡ different_rows found ++ if_new stands row
     by true = sym (append-nil (different_rows found))
     by false = refl
+
+-- a row that stands there adds none
+pub there_already : (kept found : List ShownRow) (row : ShownRow) → kept ≡ different_rows found → list_any (row_eq row) kept ≡ true → kept ≡ different_rows (found ++ row ∷ [])
+there_already kept found row are there = sym (ap (λ (test : Bool). cond test kept (kept ++ row ∷ [])) there) ∙ put_in kept found row are

@@ -1,17 +1,44 @@
 //! The different rows of a query's answer, as a walk over the combinations that count finds them.
-ghost use Rattle.std.specs.Prelude.{◌≡◌, IfOk};
+ghost use Rattle.std.specs.Prelude.{◌≡◌, [], ◌∷◌, ◌++◌, List, IfOk, OnOk};
+ghost use Rattle.hippo_model.specs.Terms.{ShownRow};
 ghost use Rattle.hippo_model.specs.Forms.{different_rows};
 ghost use Rattle.hippo_model.specs.Masking.{masked_answer};
 ghost use Rattle.hippo_eval.specs.Answering.{IsAnswered};
 ghost use Rattle.hippo_eval.specs.Walks.{rows_of};
 
-use hippo_eval::{ANSWER_LIMIT, EvalFault, Gatherer};
-use hippo_join::gather_joined;
-use hippo_model::{Answer, CellRow, ChoiceView, Masked};
+use crate::gathering::{ComboGatherer, gather_combos, refill};
+use hippo_eval::{ANSWER_LIMIT, EvalFault};
+use hippo_model::{Answer, CellRow, ChoiceView, Combo, Masked};
 use hippo_rows::Sets;
 use hippo_values::{Memory, Sequence};
 use indexmap::IndexSet;
 use std::alloc::Global;
+use std::mem;
+
+// The different rows that were found. The rest is for speed alone: a row that was found before is
+// made in the memory of the row at hand and takes no other, and where the last row that was put in
+// was new, the next is put in with no look before whether it is there, and so is hashed once.
+#[derive(Drop)]
+struct DifferentRows {
+    rows: IndexSet<CellRow>,
+    at_hand: CellRow,
+    expects_new: bool,
+}
+
+impl DifferentRows {
+    // Takes in the row at hand, in its own memory where it is new.
+    fn add(&mut self, alloc: Global) -> Result<(), Memory>
+        ensures { (found : List ShownRow) → self.old.rows.keys ≡ different_rows found
+            → OnOk result (self.new.rows.keys ≡ different_rows (found ++ self.old.at_hand ∷ [])) }
+    {
+        if !self.expects_new && self.rows.contains(&self.at_hand) {
+            return Ok(());
+        }
+        let next = Sequence::with_capacity(alloc, self.at_hand.len())?;
+        self.expects_new = self.rows.insert(mem::replace(&mut self.at_hand, next))?;
+        Ok(())
+    }
+}
 
 // The rows of a set, in its order.
 fn listed(alloc: Global, rows: IndexSet<CellRow>) -> Result<Vec<CellRow>, Memory>
@@ -24,35 +51,43 @@ fn listed(alloc: Global, rows: IndexSet<CellRow>) -> Result<Vec<CellRow>, Memory
 #[derive(Drop)]
 struct Different;
 
-impl Gatherer for Different {
+impl ComboGatherer for Different {
     ghost use Rattle.std.specs.Prelude.{◌≡◌};
     ghost use Rattle.hippo_model.specs.Forms.{different_rows};
 
-    type Rows = IndexSet<CellRow>;
+    type Rows = DifferentRows;
 
-    ghost Holds = { λ gatherer found kept. kept.keys ≡ different_rows found };
+    ghost Holds = { λ gatherer found kept. kept.rows.keys ≡ different_rows found };
 
     ghost answer = { λ gatherer found. different_rows found };
 
-    fn start(&self, alloc: Global) -> IndexSet<CellRow> {
-        IndexSet::new(alloc)
+    fn start(&self, alloc: Global) -> DifferentRows {
+        DifferentRows {
+            rows: IndexSet::new(alloc),
+            at_hand: Sequence::new(alloc),
+            expects_new: true,
+        }
     }
 
-    fn len(&self, rows: &IndexSet<CellRow>) -> usize {
-        rows.len()
+    fn len(&self, found: &DifferentRows) -> usize {
+        found.rows.len()
     }
 
-    fn add(
+    fn add<C: ChoiceView>(
         &self,
-        _alloc: Global,
-        rows: &mut IndexSet<CellRow>,
-        row: CellRow,
+        alloc: Global,
+        found: &mut DifferentRows,
+        query: &Masked,
+        combo: &Combo<'_>,
+        choices: &C,
     ) -> Result<(), Memory> {
-        rows.insert(row)?;
-        Ok(())
+        let items = query.items.as_slice();
+        refill(alloc, items, combo, choices, &mut found.at_hand)?;
+        found.add(alloc)
     }
 
-    fn finish(&self, alloc: Global, rows: IndexSet<CellRow>) -> Result<Answer, Memory> {
+    fn finish(&self, alloc: Global, found: DifferentRows) -> Result<Answer, Memory> {
+        let DifferentRows { rows, .. } = found;
         Ok(Sequence::from_vec(listed(alloc, rows)?))
     }
 }
@@ -69,5 +104,5 @@ pub fn distinct<C: ChoiceView>(
     ensures { let rows = masked_answer (C.choices choices.now) query.now (rows_of sets.now) in
         IsAnswered ANSWER_LIMIT (different_rows rows) result }
 {
-    gather_joined(alloc, query, sets, choices, &Different, ANSWER_LIMIT)
+    gather_combos(alloc, query, sets, choices, &Different, ANSWER_LIMIT)
 }

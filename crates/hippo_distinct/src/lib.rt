@@ -2,6 +2,8 @@
 #![tactic(auto)]
 
 mod deduplication;
+mod gathering;
 pub mod laws;
 
 pub use deduplication::distinct;
+pub use gathering::{ComboGatherer, gather_combos, refill};

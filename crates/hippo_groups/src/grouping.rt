@@ -9,19 +9,23 @@ ghost use Rattle.hippo_eval.specs.Walks.{rows_of};
 ghost use Rattle.hippo_groups.specs.KeptGroups.{AreGroups};
 
 use crate::group_rows::{join_at, row_of_first};
-use hippo_eval::{ANSWER_LIMIT, EvalFault, Gatherer};
-use hippo_join::gather_joined;
-use hippo_model::{Answer, Cell, CellRow, ChoiceView, Masked, Shape};
+use hippo_distinct::{ComboGatherer, gather_combos, refill};
+use hippo_eval::{ANSWER_LIMIT, EvalFault};
+use hippo_model::{Answer, Cell, CellRow, ChoiceView, Combo, Masked, Shape};
 use hippo_rows::Sets;
 use hippo_values::{Memory, Sequence};
 use indexmap::IndexSet;
 use std::alloc::Global;
+use std::mem;
 
-// The keys of the groups, in the order of their first members, and their rows at the same places.
+// The keys of the groups, in the order of their first members, and their rows at the same places;
+// and the memory of the row at hand: for speed alone, since a further member of a group then takes
+// no memory.
 #[derive(Drop)]
 struct Groups {
     keys: IndexSet<Vec<Cell>>,
     rows: Vec<CellRow>,
+    at_hand: CellRow,
 }
 
 /// The first cells of a row, so many; all, where it has fewer.
@@ -48,19 +52,21 @@ impl Groups {
         Groups {
             keys: IndexSet::new(alloc),
             rows: Vec::new(alloc),
+            at_hand: Sequence::new(alloc),
         }
     }
 
-    // Takes in a row, in its own group or as the first of a new one.
-    fn add(&mut self, alloc: Global, shape: &Shape, row: CellRow) -> Result<(), Memory>
+    // Takes in the row at hand, in its own group or as the first of a new one.
+    fn add(&mut self, alloc: Global, shape: &Shape) -> Result<(), Memory>
         ensures { (found : List ShownRow) → AreGroups shape.now found self.old
-            → OnOk result (AreGroups shape.now (found ++ row ∷ []) self.new) }
+            → OnOk result (AreGroups shape.now (found ++ self.old.at_hand ∷ []) self.new) }
     {
-        let key = front(&row, shape.keys);
+        let key = front(&self.at_hand, shape.keys);
         if let Some(place) = self.keys.get_index_of(key) {
-            return join_at(alloc, &shape.outs, &mut self.rows, place, &row);
+            return join_at(alloc, &shape.outs, &mut self.rows, place, &self.at_hand);
         }
-        let first = row_of_first(alloc, &shape.outs, key, &row)?;
+        let first = row_of_first(alloc, &shape.outs, key, &self.at_hand)?;
+        let row = mem::replace(&mut self.at_hand, Sequence::new(alloc));
         self.keys.insert(into_front(row, shape.keys))?;
         self.rows.push(first)?;
         Ok(())
@@ -73,7 +79,7 @@ struct ByShape<'a> {
     shape: &'a Shape,
 }
 
-impl<'a> Gatherer for ByShape<'a> {
+impl<'a> ComboGatherer for ByShape<'a> {
     ghost use Rattle.hippo_model.specs.Forms.{grouped_rows};
     ghost use Rattle.hippo_groups.specs.KeptGroups.{AreGroups};
 
@@ -91,8 +97,17 @@ impl<'a> Gatherer for ByShape<'a> {
         groups.rows.len()
     }
 
-    fn add(&self, alloc: Global, groups: &mut Groups, row: CellRow) -> Result<(), Memory> {
-        groups.add(alloc, self.shape, row)
+    fn add<C: ChoiceView>(
+        &self,
+        alloc: Global,
+        groups: &mut Groups,
+        query: &Masked,
+        combo: &Combo<'_>,
+        choices: &C,
+    ) -> Result<(), Memory> {
+        let items = query.items.as_slice();
+        refill(alloc, items, combo, choices, &mut groups.at_hand)?;
+        groups.add(alloc, self.shape)
     }
 
     fn finish(&self, _alloc: Global, groups: Groups) -> Result<Answer, Memory> {
@@ -117,7 +132,7 @@ pub fn grouped<C: ChoiceView>(
     ensures { let rows = masked_answer (C.choices choices.now) query.now (rows_of sets.now) in
         IsAnswered ANSWER_LIMIT (grouped_rows shape.now rows) result }
 {
-    gather_joined(
+    gather_combos(
         alloc,
         query,
         sets,

@@ -1,7 +1,7 @@
 -- The groups of a front come first.
 use Rattle.std.proofs.Common.{◌∙◌}
 use Rattle.hippo_groups.proofs.KeptLemmas.{not_fewer}
-use Rattle.hippo_groups.proofs.grouping.ByShapeGatherer.finish.Goals as goal
+use Rattle.hippo_groups.proofs.grouping.ByShapeComboGatherer.finish.Goals as goal
 
 pub returns : goal.returns
 returns c found held =

@@ -3,7 +3,7 @@ use Rattle.std.proofs.Common.{◌≡◌, length, ap, arith, ◌++◌, ◌∙◌}
 use Rattle.std.proofs.lemmas.List.{length-append}
 use Rattle.hippo_model.specs.Forms.{different_rows}
 use Rattle.hippo_distinct.proofs.DifferentLemmas.{different_rows-append}
-use Rattle.hippo_distinct.proofs.deduplication.DifferentGatherer.finish.Goals as goal
+use Rattle.hippo_distinct.proofs.deduplication.DifferentComboGatherer.finish.Goals as goal
 
 pub returns : goal.returns
 returns c found held =
