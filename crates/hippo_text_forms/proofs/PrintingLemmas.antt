@@ -1,7 +1,8 @@
 -- A text is printed in pieces, from one quote to the next.
-use Rattle.std.proofs.Common.{◌≡◌, ◌≢◌, ℕ, suc, false, inl, inr, ◌+◌, ◌<◌, ◌≤◌, List, [], ◌∷◌, ◌++◌, length, get_or, refl, ap, ◌∙◌, arith, append_assoc}
-use Rattle.std.proofs.lemmas.List.{length-append, length-take, take-append-le}
-use Rattle.std.proofs.lemmas.Bool.{cases_Bool}
+use Rattle.std.proofs.Common.{◌≡◌, ◌≢◌, ℕ, suc, Bool, true, false, ◌||◌, inl, inr, ◌+◌, ◌<◌, ◌≤◌, List, [], ◌∷◌, ◌++◌, length, get_or, take, refl, ap, ◌∙◌, arith, append_assoc}
+use Rattle.std.specs.List.{list_any}
+use Rattle.std.proofs.lemmas.List.{length-append, length-take, take-append-le, take_all}
+use Rattle.std.proofs.lemmas.Bool.{cases_Bool, true≢false}
 use Rattle.std.proofs.lemmas.Bool.Decides.{nat_tests}
 use Rattle.hippo_text_forms.specs.Printing.{KeepsFront}
 use Rattle.hippo_text_forms.specs.Quoting.{is_quote, doubled_quotes}
@@ -17,6 +18,17 @@ pub doubled_quotes-without : (text : List ℕ) → HasNoQuote text → doubled_q
 doubled_quotes-without [] h = refl
 doubled_quotes-without (b ∷ bs) h =
     rw (is_quote-other b (h 0 (omega arith))) (ap (λ t. b ∷ t) (doubled_quotes-without bs (λ i lt. h (suc i) (omega arith))))
+
+-- the same, by a test of each byte
+pub doubled_quotes-same : (text : List ℕ) → list_any is_quote text ≡ false → doubled_quotes text ≡ text
+doubled_quotes-same [] none = refl
+doubled_quotes-same (b ∷ bs) none =
+    let both = or_none (is_quote b) (list_any is_quote bs) none in
+    rw (both.0) (ap (λ t. b ∷ t) (doubled_quotes-same bs both.1))
+  where
+    or_none : (x y : Bool) → (x || y) ≡ false → (x ≡ false) × (y ≡ false)
+    or_none true y e = absurd (true≢false e)
+    or_none false y e = (refl, e)
 
 doubled_quotes-append : (xs ys : List ℕ) → doubled_quotes (xs ++ ys) ≡ doubled_quotes xs ++ doubled_quotes ys
 doubled_quotes-append [] ys = refl
@@ -34,6 +46,9 @@ pub KeepsFront-append : (old new more : List ℕ) → KeepsFront old new → Kee
 KeepsFront-append old new more h =
     let within : length old ≤ length new = omega (arith, length-take (length old) new, ap length h) in
     take-append-le (length old) new more within ∙ h
+
+pub KeepsFront-same : (old new : List ℕ) → new ≡ old → KeepsFront old new
+KeepsFront-same old new same = ap (take (length old)) same ∙ take_all (length old) old (omega arith)
 
 -- one more quote is printed
 pub doubled_quotes-step : (initial text out rest before after first second : List ℕ) → out ++ doubled_quotes rest ≡ initial ++ doubled_quotes text → (rest ≡ before ++ (39 ∷ after)) × HasNoQuote before → first ≡ out ++ before → second ≡ first ++ (39 ∷ 39 ∷ []) → second ++ doubled_quotes after ≡ initial ++ doubled_quotes text

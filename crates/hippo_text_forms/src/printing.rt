@@ -1,9 +1,10 @@
 //! How a value is printed.
 ghost use Rattle.std.specs.Prelude.{◌≡◌, ◌+◌, ◌≤◌, ◌++◌, length, IsOk, OnOk, OnErr};
 ghost use Rattle.std.specs.Fmt.{signed_decimal};
+ghost use Rattle.std.specs.List.{list_any};
 ghost use Rattle.hippo_text_forms.specs.Dates.{day_text};
 ghost use Rattle.hippo_text_forms.specs.Printing.{value_text, AddsText};
-ghost use Rattle.hippo_text_forms.specs.Quoting.{doubled_quotes, quoted_text};
+ghost use Rattle.hippo_text_forms.specs.Quoting.{is_quote, doubled_quotes, quoted_text};
 
 use crate::dates;
 use hippo_values::{DayNumber, Memory, RoomyTxt, Value};
@@ -16,7 +17,15 @@ fn append_integer<const ROOM: usize>(number: i64, out: &mut RoomyTxt<ROOM>) -> R
     out.append(Buffer::new().format(number))
 }
 
-fn append_doubled<const ROOM: usize>(text: &str, out: &mut RoomyTxt<ROOM>) -> Result<(), Memory>
+// Whether a text has a quote, by one pass over its bytes.
+fn has_quote(text: &str) -> bool
+    ensures { result ≡ list_any is_quote text.now }
+{
+    text.as_bytes().contains(&b'\'')
+}
+
+// Adds a text with each quote in it doubled, from one quote to the next.
+fn append_by_quotes<const ROOM: usize>(text: &str, out: &mut RoomyTxt<ROOM>) -> Result<(), Memory>
     ensures adds { AddsText (doubled_quotes text.now) result out.old out.new }
     ensures room { length out.old + length (doubled_quotes text.now) ≤ ROOM → IsOk result }
 {
@@ -27,6 +36,18 @@ fn append_doubled<const ROOM: usize>(text: &str, out: &mut RoomyTxt<ROOM>) -> Re
         rest = after;
     }
     out.append(rest)
+}
+
+// Adds a text with each quote in it doubled; one without any is added whole, for speed.
+fn append_doubled<const ROOM: usize>(text: &str, out: &mut RoomyTxt<ROOM>) -> Result<(), Memory>
+    ensures adds { AddsText (doubled_quotes text.now) result out.old out.new }
+    ensures room { length out.old + length (doubled_quotes text.now) ≤ ROOM → IsOk result }
+{
+    if has_quote(text) {
+        append_by_quotes(text, out)
+    } else {
+        out.append(text)
+    }
 }
 
 fn append_quoted<const ROOM: usize>(text: &str, out: &mut RoomyTxt<ROOM>) -> Result<(), Memory>

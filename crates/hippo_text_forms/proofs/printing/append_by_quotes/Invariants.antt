@@ -4,7 +4,7 @@ use denote.Text.{Utf8}
 use denote.Shadow.{shadow}
 use Rattle.hippo_text_forms.specs.Printing.{KeepsFront}
 use Rattle.hippo_text_forms.specs.Quoting.{doubled_quotes}
-use Rattle.hippo_text_forms.proofs.printing.append_doubled.Given as goal
+use Rattle.hippo_text_forms.proofs.printing.append_by_quotes.Given as goal
 
 abbrev pub invariant-loop-before : goal.invariant-loop-before
 invariant-loop-before g l = record {
