@@ -7,7 +7,7 @@ use Rattle.std.proofs.lemmas.Slice.Zip.{length-zip}
 use Rattle.hippo_model.specs.declared.name_fault.NameFault.{NameFault}
 use Rattle.hippo_catalog.specs.Refusals.{IsFirstOf}
 use Rattle.hippo_catalog.proofs.ListLemmas.{drop_at_get_or}
-use Rattle.hippo_catalog.proofs.Refused.{first_with_more, first_after}
+use Rattle.hippo_catalog.proofs.Refused.{first_with_more}
 
 -- no pair is left where the shorter list has ended
 pub zip-past_end : {A B : Type 0} (xs : List A) (ys : List B) (n : ℕ) → n ≡ min (length xs) (length ys) → zip (drop n xs) (drop n ys) ≡ []
@@ -28,14 +28,3 @@ first_at_pair refuse xs ys n x y fault within also read too left first =
 pub first_of_front : {A : Type 0} (refuse : A → List NameFault) (front back : List A) (fault : NameFault) → IsFirstOf (flat_map refuse front) fault → IsFirstOf (flat_map refuse (front ++ back)) fault
 first_of_front refuse front back fault first =
     rw (flat_map-append refuse front back) (first_with_more (flat_map refuse front) (flat_map refuse back) fault first)
-
--- the first of a group is that of the group with two or three more behind it
-pub with_two : (first a b : List NameFault) (fault : NameFault) → IsFirstOf first fault → IsFirstOf (first ++ a ++ b) fault
-with_two first a b fault is = first_with_more (first ++ a) b fault (first_with_more first a fault is)
-
-pub with_three : (first a b c : List NameFault) (fault : NameFault) → IsFirstOf first fault → IsFirstOf (first ++ a ++ b ++ c) fault
-with_three first a b c fault is = first_with_more (first ++ a ++ b) c fault (with_two first a b fault is)
-
--- the first refusal of a group, where nothing is refused before it, and a group comes behind it
-pub with_one : (before group : List NameFault) (fault : NameFault) → before ≡ [] → IsFirstOf group fault → (later : List NameFault) → IsFirstOf (before ++ group ++ later) fault
-with_one before group fault none first later = first_with_more (before ++ group) later fault (first_after before group fault none first)

@@ -3,9 +3,8 @@ use Rattle.std.proofs.Common.{◌++◌}
 use Rattle.std.specs.List.{zip}
 use Rattle.std.proofs.lemmas.Result.{err_from_is_err_and}
 use Rattle.hippo_catalog.specs.ChangesRefused.{key_refused, key_changed, assignments_refused}
-use Rattle.hippo_catalog.proofs.Refused.{first_with_more}
+use Rattle.hippo_catalog.proofs.Refused.{first_with_more, first_of_three}
 use Rattle.hippo_changes.specs.Checking.{names_refused}
-use Rattle.hippo_changes.proofs.ChangesLemmas.{with_two}
 use Rattle.hippo_changes.proofs.keys.update_places.Goals as goal
 
 pub returns-in_err-places : goal.returns-in_err-places
@@ -14,7 +13,7 @@ returns-in_err-places c =
     let table = c.args.table.now in
     let set = c.args.set.names.now in
     let keys = c.args.key.names.now in
-    rw (p.1, p.2) (with_two (names_refused set keys table ++ key_refused table keys) (key_changed table set) (assignments_refused table (zip set c.args.set.values.now ++ zip keys c.args.key.values.now)) c.in_err-places.field-0.0 c.in_err-places.ensures)
+    rw (p.1, p.2) (first_of_three (names_refused set keys table ++ key_refused table keys) (key_changed table set) (assignments_refused table (zip set c.args.set.values.now ++ zip keys c.args.key.values.now)) c.in_err-places.field-0.0 c.in_err-places.ensures)
 
 pub returns-in_err-check_key_stays : goal.returns-in_err-check_key_stays
 returns-in_err-check_key_stays c =

@@ -2,8 +2,7 @@
 use Rattle.std.proofs.lemmas.Result.{err_from_is_err_and}
 use Rattle.hippo_catalog.specs.Refusals.{unknown_table, unknown_pair}
 use Rattle.hippo_catalog.specs.ChangesRefused.{in_table, rule_refused}
-use Rattle.hippo_catalog.proofs.Refused.{first_with_more}
-use Rattle.hippo_changes.proofs.ChangesLemmas.{with_two}
+use Rattle.hippo_catalog.proofs.Refused.{first_with_more, first_of_three}
 use Rattle.hippo_changes.proofs.rules.check_revoke.Goals as goal
 
 pub returns-in_err-found : goal.returns-in_err-found
@@ -11,7 +10,7 @@ returns-in_err-found c =
     let p = err_from_is_err_and c.from_residual.result c.from_residual.ensures.1 in
     let known = c.args.catalog.now.names in
     let table = c.args.table.now in
-    rw (p.1, p.2) (with_two (unknown_table known table) (unknown_pair known c.args.purpose.now c.args.recipient.now) (in_table known table (rule_refused c.args.columns.now)) c.in_err-found.field-0.0 c.in_err-found.ensures.fault)
+    rw (p.1, p.2) (first_of_three (unknown_table known table) (unknown_pair known c.args.purpose.now c.args.recipient.now) (in_table known table (rule_refused c.args.columns.now)) c.in_err-found.field-0.0 c.in_err-found.ensures.fault)
 
 pub returns-in_err-check_pair : goal.returns-in_err-check_pair
 returns-in_err-check_pair c =

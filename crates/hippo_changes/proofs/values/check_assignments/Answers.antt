@@ -3,8 +3,7 @@ use Rattle.std.proofs.Common.{◌++◌}
 use Rattle.std.specs.List.{zip}
 use Rattle.std.proofs.lemmas.Result.{err_from_is_err_and}
 use Rattle.hippo_catalog.specs.ChangesRefused.{assigned_refused, kind_refused, null_refused, text_refused}
-use Rattle.hippo_catalog.proofs.Refused.{first_with_more}
-use Rattle.hippo_changes.proofs.ChangesLemmas.{with_two}
+use Rattle.hippo_catalog.proofs.Refused.{first_with_more, first_of_three}
 use Rattle.hippo_changes.proofs.values.check_assignments.Goals as goal
 
 pub returns-in_err-check_both : goal.returns-in_err-check_both
@@ -12,7 +11,7 @@ returns-in_err-check_both c =
     let p = err_from_is_err_and c.from_residual.result c.from_residual.ensures.1 in
     let table = c.args.table.now in
     let all = zip c.args.one.names.now c.args.one.values.now ++ zip c.args.other.names.now c.args.other.values.now in
-    rw (p.1, p.2) (with_two (assigned_refused kind_refused table all) (assigned_refused null_refused table all) (assigned_refused text_refused table all) c.in_err-check_both.field-0.0 c.in_err-check_both.ensures)
+    rw (p.1, p.2) (first_of_three (assigned_refused kind_refused table all) (assigned_refused null_refused table all) (assigned_refused text_refused table all) c.in_err-check_both.field-0.0 c.in_err-check_both.ensures)
 
 pub returns-in_err-check_both-2 : goal.returns-in_err-check_both-2
 returns-in_err-check_both-2 c =
