@@ -21,8 +21,8 @@ use Rattle.hippo_audit_reader.specs.AuditGrammar.{IsAudit}
 use Rattle.hippo_audit_reader.specs.AuditFinder.{leading_audit}
 use Rattle.hippo_audit_reader.proofs.AuditTheorem as auditing
 use Rattle.hippo_stmt_reader.specs.StatementGrammar.{IsColumnDef, IsSubject, AreSettings, IsConsole, create_table, create_purpose, create_recipient, create_opt_in, create_opt_out, authorize, deauthorize, allow, revoke, choice_yes, choice_no, insert, update, delete, console_explain, console_audit, console_begin_audit, console_watch, IsEnd, no_semicolon, semicolon}
-use Rattle.hippo_stmt_reader.specs.StatementFinder.{end_left, leading_column_def, after_column, leading_names, leading_subject, leading_with_item, leading_retention, leading_number, leading_assignment, leading_grant, leading_disclosure, create_table_of, create_purpose_of, create_recipient_of, leading_item_kind, create_item_of, create_of, authorize_of, deauthorize_of, allow_of, revoke_of, leading_yes_or_no, choice_of, insert_of, update_of, delete_of, explain_of, audit_statement_of, begin_audit_of, watch_of, console_behind, console_by_keyword, console_of}
-use Rattle.hippo_stmt_reader.proofs.PartTheorem.{end_found, end_complete, number_found, column_defs_found, column_defs_complete, names_then, names_whole, subject_found, subject_complete, with_found, with_complete, retention_found, retention_complete, retention-no_with, settings_found, settings_complete, keys_found, keys_complete, literals_found, literals_complete, grant_then, disclosure_then}
+use Rattle.hippo_stmt_reader.specs.StatementFinder.{end_left, leading_column_def, after_column, leading_names, leading_subject, leading_with_item, leading_retention, leading_number, leading_grant, leading_disclosure, create_table_of, create_purpose_of, create_recipient_of, leading_item_kind, create_item_of, create_of, authorize_of, deauthorize_of, allow_of, revoke_of, leading_yes_or_no, choice_of, insert_of, update_of, delete_of, explain_of, audit_statement_of, begin_audit_of, watch_of, console_behind, console_by_keyword, console_of}
+use Rattle.hippo_stmt_reader.proofs.PartTheorem.{end_found, end_complete, number_found, column_defs_found, column_defs_complete, names_then, names_whole, subject_found, subject_complete, with_found, with_complete, retention_found, retention_complete, retention-no_with, settings_found, settings_complete, keys_found, keys_complete, literals_found, literals_complete, name_behind_then, assigned_then, grant_then, disclosure_then}
 
 -- the tokens are a statement of the console up to the end
 abbrev pub IsRead : List TokenKind → Stmt → Type 0
@@ -137,23 +137,19 @@ update_found : (tokens : List TokenKind) (s : Stmt) → update_of tokens ≡ Som
 unfolding update_of
 update_found tokens s e =
     name_then tokens _ _ e (λ table a is_table e.
-    keyword_then KSet a _ _ e (λ b is_set e.
-    found_then (leading_list leading_assignment (after_symbol Comma) b) _ _ e (λ settings settings_is e.
-    keyword_then KWhere settings.1 _ _ e (λ c is_where e.
-    found_then (leading_list leading_assignment (after_keyword KAnd) c) _ _ e (λ keys keys_is e.
-    found_then (end_left keys.1) _ _ e (λ end is_end e.
-    let are_settings : AreSettings b settings.0 (Keyword KWhere ∷ c) = rw is_where at (settings_found b settings.0 settings.1 settings_is) in
-    rw (is_table, is_set) (keys.1, update are_settings (keys_found c keys.0 keys.1 keys_is) (sym (same_Some _ s e)), end_found keys.1 end is_end)))))))
+    assigned_then KSet (after_symbol Comma) a _ _ e (λ b settings c is_set settings_is e.
+    assigned_then KWhere (after_keyword KAnd) c _ _ e (λ d keys rest is_where keys_is e.
+    found_then (end_left rest) _ _ e (λ end is_end e.
+    let are_settings : AreSettings b settings (Keyword KWhere ∷ d) = rw is_where at (settings_found b settings c settings_is) in
+    rw (is_table, is_set) (rest, update are_settings (keys_found d keys rest keys_is) (sym (same_Some _ s e)), end_found rest end is_end)))))
 
 delete_found : (tokens : List TokenKind) (s : Stmt) → delete_of tokens ≡ Some s → IsRead (Keyword KDelete ∷ tokens) s
 unfolding delete_of
 delete_found tokens s e =
-    keyword_then KFrom tokens _ _ e (λ a is_from e.
-    name_then a _ _ e (λ table b is_table e.
-    keyword_then KWhere b _ _ e (λ c is_where e.
-    found_then (leading_list leading_assignment (after_keyword KAnd) c) _ _ e (λ keys keys_is e.
-    found_then (end_left keys.1) _ _ e (λ end is_end e.
-    rw (is_from, is_table, is_where) (keys.1, delete (keys_found c keys.0 keys.1 keys_is) (sym (same_Some _ s e)), end_found keys.1 end is_end))))))
+    name_behind_then KFrom tokens _ _ e (λ table a is_table e.
+    assigned_then KWhere (after_keyword KAnd) a _ _ e (λ b keys rest is_where keys_is e.
+    found_then (end_left rest) _ _ e (λ end is_end e.
+    rw (is_table, is_where) (rest, delete (keys_found b keys rest keys_is) (sym (same_Some _ s e)), end_found rest end is_end))))
 
 explain_found : (tokens : List TokenKind) (s : Stmt) → explain_of tokens ≡ Some s → IsRead (Keyword KExplain ∷ tokens) s
 unfolding explain_of

@@ -6,6 +6,7 @@ use Rattle.hippo_values.specs.Limits.{retention_limit}
 use Rattle.hippo_values.specs.declared.values.Value.{Value}
 use Rattle.hippo_model.specs.declared.schema.Column.{Column}
 use Rattle.hippo_model.specs.declared.schema.ColumnKind.{ColumnKind}
+use Rattle.hippo_values.specs.Options.{◌>>=◌}
 use Rattle.hippo_values.specs.declared.keywords.Keyword as words
 use Rattle.hippo_values.specs.declared.keywords.Keyword.TheVariants.{KAnd, KDate, KFor, KInteger, KNot, KNull, KOn, KSubject, KText, KTo, KWith}
 use Rattle.hippo_lexer.specs.declared.kinds.Symbol.TheVariants.{Comma, Equal, LeftParen, RightParen, Semicolon}
@@ -16,14 +17,14 @@ use Rattle.hippo_spj_reader.specs.ConditionFinder.{begins_with_name}
 use Rattle.hippo_spj_reader.specs.Front.{after_keyword, after_symbol, after_word, leading_name, leading_literal}
 use Rattle.hippo_spj_reader.specs.ListFinder.{leading_list}
 use Rattle.hippo_spj_reader.specs.ListGrammar.{IsListOf, last_part, more_parts}
-use Rattle.hippo_spj_reader.proofs.FrontTheorem.{found_then, keyword_then, symbol_then, word_then, name_then, keyword_choice, symbol_choice, word_choice, after_keyword-some, after_symbol-some, read_as}
+use Rattle.hippo_spj_reader.proofs.FrontTheorem.{found_then, keyword_then, symbol_then, word_then, name_then, keyword_choice, symbol_choice, word_choice, after_keyword-some, after_symbol-some, leading_name-some, read_as}
 use Rattle.hippo_spj_reader.proofs.ListTheorem.{parts_found, list_complete}
 use Rattle.hippo_spj_reader.proofs.NameTheorem.{names_found, names_complete}
 use Rattle.hippo_spj_reader.proofs.OperandTheorem.{literal_found, literal_complete, literal_shorter}
 use Rattle.hippo_stmt_reader.specs.declared.policies.Disclosure.{Disclosure}
 use Rattle.hippo_stmt_reader.specs.declared.policies.Grant.{Grant}
-use Rattle.hippo_stmt_reader.specs.StatementGrammar.{IsColumnKind, integer, text, date, IsColumnDef, nullable, not_null, IsSubject, no_subject, subject, IsWith, no_item, with_item, IsRetention, no_retention, retain, IsAssignment, assignment, AreKeys, AreSettings, AreNames, IsEnd, no_semicolon, semicolon}
-use Rattle.hippo_stmt_reader.specs.StatementFinder.{nothing_left, end_left, column_kind_of, leading_column_kind, leading_column_def, after_column, leading_names, leading_subject, leading_with_item, leading_number, days_of, leading_retention, leading_assignment, leading_grant, leading_disclosure}
+use Rattle.hippo_stmt_reader.specs.StatementGrammar.{IsColumnKind, integer, text, date, IsColumnDef, nullable, not_null, IsSubject, no_subject, subject, IsWith, no_item, with_item, IsRetention, no_retention, retain, IsAssignment, assignment, AreKeys, AreSettings, AreNames, IsEnd, no_semicolon, semicolon, assigned_columns, assigned_values}
+use Rattle.hippo_stmt_reader.specs.StatementFinder.{nothing_left, end_left, column_kind_of, leading_column_kind, leading_column_def, after_column, leading_names, leading_subject, leading_with_item, leading_number, days_of, leading_retention, leading_name_behind, leading_assignment, leading_assigned, leading_grant, leading_disclosure}
 
 -- a list that is found is one of the grammar, where its parts are and what leads to the next is a separator
 list_found : {X : Type 0} (leading : List TokenKind → Option (X × List TokenKind)) (after : List TokenKind → Option (List TokenKind)) (IsPart : List TokenKind → X → List TokenKind → Type 0) (separator : TokenKind) →
@@ -227,18 +228,34 @@ pub literals_complete : (tokens : List TokenKind) (list : List Value) (rest : Li
 literals_complete tokens list rest ds no_comma =
     list_complete leading_literal (after_symbol Comma) IsLiteral (Symbol Comma) (λ _. Unit {0}) (λ tokens v rest l _. literal_complete tokens v rest l) (λ _. tt) (λ _ _ _ _. refl) literal_shorter tokens list rest ds tt no_comma
 
+-- what comes behind a keyword and a name
+pub name_behind_then : {B P : Type 0} (keyword : words.Keyword) (tokens : List TokenKind) (next : List ℕ × List TokenKind → Option B) (y : B) → (leading_name_behind keyword tokens >>= next) ≡ Some y →
+    ((name : List ℕ) (rest : List TokenKind) → tokens ≡ Keyword keyword ∷ Word name ∷ rest → next (name, rest) ≡ Some y → P) → P
+name_behind_then keyword tokens next y e follow =
+    found_then (leading_name_behind keyword tokens) next y e (λ named named_is e.
+    keyword_then keyword tokens leading_name named named_is (λ behind is_keyword is_name.
+    follow named.0 named.1 (rw (is_keyword, leading_name-some behind named.1 named.0 is_name) refl) e))
+
+-- what comes behind a keyword and assignments
+pub assigned_then : {B P : Type 0} (keyword : words.Keyword) (after : List TokenKind → Option (List TokenKind)) (tokens : List TokenKind) (next : (List (List ℕ) × List Value) × List TokenKind → Option B) (y : B) → (leading_assigned keyword after tokens >>= next) ≡ Some y →
+    ((behind : List TokenKind) (list : List (List ℕ × Value)) (rest : List TokenKind) → tokens ≡ Keyword keyword ∷ behind → leading_list leading_assignment after behind ≡ Some (list, rest) → next ((assigned_columns list, assigned_values list), rest) ≡ Some y → P) → P
+assigned_then keyword after tokens next y e follow =
+    found_then (leading_assigned keyword after tokens) next y e (λ assigned assigned_is e.
+    keyword_then keyword tokens _ _ assigned_is (λ behind is_keyword assigned_is.
+    found_then (leading_list leading_assignment after behind) _ _ assigned_is (λ found found_is assigned_is.
+    follow behind found.0 found.1 is_keyword found_is (rw (same_Some _ assigned assigned_is) e))))
+
 -- u FOR p "," r
 pub grant_then : {P : Type 0} (tokens : List TokenKind) (g : Grant) (rest : List TokenKind) → leading_grant tokens ≡ Some (g, rest) →
     (tokens ≡ Word g.user ∷ Keyword KFor ∷ Word g.purpose ∷ Symbol Comma ∷ Word g.recipient ∷ rest → P) → P
 unfolding leading_grant
 grant_then tokens g rest e next =
     name_then tokens _ _ e (λ user a is_user e.
-    keyword_then KFor a _ _ e (λ b is_for e.
-    name_then b _ _ e (λ purpose c is_purpose e.
-    symbol_then Comma c _ _ e (λ d is_comma e.
-    name_then d _ _ e (λ recipient left is_recipient e.
+    name_behind_then KFor a _ _ e (λ purpose b is_purpose e.
+    symbol_then Comma b _ _ e (λ c is_comma e.
+    name_then c _ _ e (λ recipient left is_recipient e.
     let whole = some_pair_parts (record { user = user; purpose = purpose; recipient = recipient }) g left rest e in
-    next (rw (← whole.0, ← whole.1, is_user, is_for, is_purpose, is_comma, is_recipient) refl))))))
+    next (rw (← whole.0, ← whole.1, is_user, is_purpose, is_comma, is_recipient) refl)))))
 
 -- p TO r ON t "(" c {"," c} ")"
 pub disclosure_then : {P : Type 0} (tokens : List TokenKind) (d : Disclosure) (rest : List TokenKind) → leading_disclosure tokens ≡ Some (d, rest) →
@@ -246,11 +263,9 @@ pub disclosure_then : {P : Type 0} (tokens : List TokenKind) (d : Disclosure) (r
 unfolding leading_disclosure
 disclosure_then tokens d rest e next =
     name_then tokens _ _ e (λ purpose a is_purpose e.
-    keyword_then KTo a _ _ e (λ b is_to e.
-    name_then b _ _ e (λ recipient c is_recipient e.
-    keyword_then KOn c _ _ e (λ on is_on e.
-    name_then on _ _ e (λ table listed is_table e.
+    name_behind_then KTo a _ _ e (λ recipient b is_recipient e.
+    name_behind_then KOn b _ _ e (λ table listed is_table e.
     found_then (leading_names listed) _ _ e (λ columns columns_is e.
     names_then listed columns.0 columns.1 columns_is (λ named is_open are_names.
     let whole = some_pair_parts (record { purpose = purpose; recipient = recipient; table = table; columns = columns.0 }) d columns.1 rest e in
-    next named (rw (← whole.0, is_purpose, is_to, is_recipient, is_on, is_table, is_open) refl) (rw (← whole.0, ← whole.1) are_names))))))))
+    next named (rw (← whole.0, is_purpose, is_recipient, is_table, is_open) refl) (rw (← whole.0, ← whole.1) are_names))))))

@@ -177,10 +177,9 @@ create_of tokens =
 unfoldable pub leading_grant : Finder Grant
 leading_grant tokens = do
   user ← leading_name tokens
-  a ← after_keyword KFor user.1
-  purpose ← leading_name a
-  b ← after_symbol Comma purpose.1
-  recipient ← leading_name b
+  purpose ← leading_name_behind KFor user.1
+  behind ← after_symbol Comma purpose.1
+  recipient ← leading_name behind
   Some (record { user = user.0; purpose = purpose.0; recipient = recipient.0 }, recipient.1)
 
 -- behind AUTHORIZE
@@ -199,10 +198,8 @@ deauthorize_of tokens = do
 unfoldable pub leading_disclosure : Finder Disclosure
 leading_disclosure tokens = do
   purpose ← leading_name tokens
-  a ← after_keyword KTo purpose.1
-  recipient ← leading_name a
-  b ← after_keyword KOn recipient.1
-  table ← leading_name b
+  recipient ← leading_name_behind KTo purpose.1
+  table ← leading_name_behind KOn recipient.1
   columns ← leading_names table.1
   Some (
     record {
@@ -258,23 +255,16 @@ insert_of tokens = do
 unfoldable pub update_of : Kinds → Option Stmt
 update_of tokens = do
   table ← leading_name tokens
-  a ← after_keyword KSet table.1
-  settings ← leading_list leading_assignment (after_symbol Comma) a
-  b ← after_keyword KWhere settings.1
-  keys ← leading_list leading_assignment (after_keyword KAnd) b
-  with_end (stmt.Update table.0 (assigned_columns settings.0) (assigned_values settings.0)
-      (assigned_columns keys.0)
-      (assigned_values keys.0))
-      keys.1
+  set ← leading_assigned KSet (after_symbol Comma) table.1
+  keys ← leading_assigned KWhere (after_keyword KAnd) set.1
+  with_end (stmt.Update table.0 set.0.0 set.0.1 keys.0.0 keys.0.1) keys.1
 
 -- behind DELETE
 unfoldable pub delete_of : Kinds → Option Stmt
 delete_of tokens = do
-  a ← after_keyword KFrom tokens
-  table ← leading_name a
-  b ← after_keyword KWhere table.1
-  keys ← leading_list leading_assignment (after_keyword KAnd) b
-  with_end (stmt.Delete table.0 (assigned_columns keys.0) (assigned_values keys.0)) keys.1
+  table ← leading_name_behind KFrom tokens
+  keys ← leading_assigned KWhere (after_keyword KAnd) table.1
+  with_end (stmt.Delete table.0 keys.0.0 keys.0.1) keys.1
 
 -- behind EXPLAIN
 unfoldable pub explain_of : Kinds → Option Stmt

@@ -116,7 +116,7 @@ pub fn insert(alloc: Global, tokens: &[Token]) -> Result<Stmt, SyntaxFault>
 }
 
 /// The statement that the tokens behind UPDATE have to be.
-#[tactic(auto, using(crate::proofs::BehindLemmas::update_parts))]
+#[tactic(auto, unfolding(crate::specs::StatementFinder::update_of))]
 pub fn update(alloc: Global, tokens: &[Token]) -> Result<Stmt, SyntaxFault>
     ensures { Gives (λ s. s) result (update_of (kinds tokens.now)) }
 {
@@ -136,7 +136,7 @@ pub fn update(alloc: Global, tokens: &[Token]) -> Result<Stmt, SyntaxFault>
 }
 
 /// The statement that the tokens behind DELETE have to be.
-#[tactic(auto, using(crate::proofs::BehindLemmas::delete_parts))]
+#[tactic(auto, unfolding(crate::specs::StatementFinder::delete_of))]
 pub fn delete(alloc: Global, tokens: &[Token]) -> Result<Stmt, SyntaxFault>
     ensures { Gives (λ s. s) result (delete_of (kinds tokens.now)) }
 {

@@ -81,7 +81,7 @@ struct Disclosure {
     columns: Names,
 }
 
-#[tactic(auto, using(crate::proofs::BehindLemmas::disclosure_parts))]
+#[tactic(auto, unfolding(crate::specs::StatementFinder::leading_disclosure))]
 fn disclosed(alloc: Global, tokens: &[Token]) -> Result<(Disclosure, &[Token]), SyntaxFault>
     ensures { Reads leading_disclosure tokens.now result }
 {

@@ -2,20 +2,23 @@
 use Rattle.std.proofs.lemmas.Result.{err_from_is_err_and}
 use Rattle.hippo_values.specs.declared.keywords.Keyword.TheVariants.{KAnd, KFrom, KWhere}
 use Rattle.hippo_spj_reader.specs.Front.{kinds, after_keyword}
-use Rattle.hippo_stmt_reader.specs.StatementFinder.{leading_name_behind, leading_assigned}
-use Rattle.hippo_stmt_reader.proofs.BehindLemmas.{delete_parts, fails_first}
+use Rattle.hippo_stmt_reader.specs.StatementFinder.{leading_name_behind, leading_assigned, delete_of}
+use Rattle.hippo_stmt_reader.proofs.BehindLemmas.{fails_first}
 use Rattle.hippo_stmt_reader.proofs.changes.delete.Goals as goal
 
 pub returns-in_err-table : goal.returns-in_err-table
+unfolding delete_of
 returns-in_err-table c =
     let p = err_from_is_err_and c.from_residual.result c.from_residual.ensures.1 in
-    rw (p.1, p.2, delete_parts (kinds c.args.tokens.now)) (fails_first c.in_err-table.field-0.0 (leading_name_behind KFrom (kinds c.args.tokens.now)) _ c.in_err-table.ensures.found)
+    rw (p.1, p.2) (fails_first c.in_err-table.field-0.0 (leading_name_behind KFrom (kinds c.args.tokens.now)) _ c.in_err-table.ensures.found)
 
 pub returns-in_err-key_columns : goal.returns-in_err-key_columns
+unfolding delete_of
 returns-in_err-key_columns c =
     let p = err_from_is_err_and c.from_residual-in_err-key_columns.result c.from_residual-in_err-key_columns.ensures.1 in
-    rw (p.1, p.2, delete_parts (kinds c.args.tokens.now), c.in_ok-table.ensures.found) (fails_first c.in_err-key_columns.field-0.0 (leading_assigned KWhere (after_keyword KAnd) (kinds c.in_ok-table.rest.now)) _ c.in_err-key_columns.ensures.found)
+    rw (p.1, p.2, c.in_ok-table.ensures.found) (fails_first c.in_err-key_columns.field-0.0 (leading_assigned KWhere (after_keyword KAnd) (kinds c.in_ok-table.rest.now)) _ c.in_err-key_columns.ensures.found)
 
 pub returns : goal.returns
+unfolding delete_of
 returns c =
-    rw (delete_parts (kinds c.args.tokens.now), c.in_ok-table.ensures.found, c.in_ok-key_columns.ensures.found) c.with_end.ensures
+    rw (c.in_ok-table.ensures.found, c.in_ok-key_columns.ensures.found) c.with_end.ensures

@@ -3,20 +3,23 @@ use Rattle.std.proofs.lemmas.Result.{err_from_is_err_and}
 use Rattle.hippo_values.specs.declared.keywords.Keyword.TheVariants.{KAnd, KSet, KWhere}
 use Rattle.hippo_lexer.specs.declared.kinds.Symbol.TheVariants.{Comma}
 use Rattle.hippo_spj_reader.specs.Front.{kinds, after_keyword, after_symbol}
-use Rattle.hippo_stmt_reader.specs.StatementFinder.{leading_assigned}
-use Rattle.hippo_stmt_reader.proofs.BehindLemmas.{update_parts, fails_first}
+use Rattle.hippo_stmt_reader.specs.StatementFinder.{leading_assigned, update_of}
+use Rattle.hippo_stmt_reader.proofs.BehindLemmas.{fails_first}
 use Rattle.hippo_stmt_reader.proofs.changes.update.Goals as goal
 
 pub returns-in_err-columns : goal.returns-in_err-columns
+unfolding update_of
 returns-in_err-columns c =
     let p = err_from_is_err_and c.from_residual-in_err-columns.result c.from_residual-in_err-columns.ensures.1 in
-    rw (p.1, p.2, update_parts (kinds c.args.tokens.now), c.in_ok-table.ensures.found) (fails_first c.in_err-columns.field-0.0 (leading_assigned KSet (after_symbol Comma) (kinds c.in_ok-table.rest.now)) _ c.in_err-columns.ensures.found)
+    rw (p.1, p.2, c.in_ok-table.ensures.found) (fails_first c.in_err-columns.field-0.0 (leading_assigned KSet (after_symbol Comma) (kinds c.in_ok-table.rest.now)) _ c.in_err-columns.ensures.found)
 
 pub returns-in_err-key_columns : goal.returns-in_err-key_columns
+unfolding update_of
 returns-in_err-key_columns c =
     let p = err_from_is_err_and c.from_residual-in_err-key_columns.result c.from_residual-in_err-key_columns.ensures.1 in
-    rw (p.1, p.2, update_parts (kinds c.args.tokens.now), c.in_ok-table.ensures.found, c.in_ok-columns.ensures.found) (fails_first c.in_err-key_columns.field-0.0 (leading_assigned KWhere (after_keyword KAnd) (kinds c.in_ok-columns.rest.now)) _ c.in_err-key_columns.ensures.found)
+    rw (p.1, p.2, c.in_ok-table.ensures.found, c.in_ok-columns.ensures.found) (fails_first c.in_err-key_columns.field-0.0 (leading_assigned KWhere (after_keyword KAnd) (kinds c.in_ok-columns.rest.now)) _ c.in_err-key_columns.ensures.found)
 
 pub returns : goal.returns
+unfolding update_of
 returns c =
-    rw (update_parts (kinds c.args.tokens.now), c.in_ok-table.ensures.found, c.in_ok-columns.ensures.found, c.in_ok-key_columns.ensures.found) c.with_end.ensures
+    rw (c.in_ok-table.ensures.found, c.in_ok-columns.ensures.found, c.in_ok-key_columns.ensures.found) c.with_end.ensures
