@@ -66,6 +66,8 @@ fn end(tokens: &[Token]) -> Result<(), SyntaxFault>
 }
 
 /// What was read, where the statement ends behind it.
+// It is a part of its callers, so that a statement, which is large, is not handed in and out.
+#[inline(always)]
 pub fn with_end<T: Drop>(read: T, tokens: &[Token]) -> Result<T, SyntaxFault>
     ensures { Gives (λ x. x) result (with_end read (kinds tokens.now)) }
 {
