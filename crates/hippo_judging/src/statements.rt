@@ -118,7 +118,9 @@ fn judge_watch<W: WorldView>(
     }
 }
 
-// What was found without reading.
+// What was found without reading. It is a part of its callers, so that what was found, which is
+// large, is not handed in and out.
+#[inline(always)]
 pub(crate) fn unread<'t>(found: Result<Deed<'t>, Refusal>) -> Result<Deed<'t>, Unjudged>
     ensures { result ≡ without_reading found.entry }
 {
