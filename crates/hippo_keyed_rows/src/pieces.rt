@@ -1,5 +1,5 @@
 //! A long list in pieces, so that an edit in its middle moves one piece alone.
-ghost use Rattle.std.specs.Prelude.{◌≡◌, ◌+◌, ◌-◌, ◌^◌, ◌<◌, ◌≤◌, [], ◌∷◌, length, map, take, slice_get, slice_set, slice_index_or, option_copied, Some, IsTrue, ◌↔◌, OnOk, OnErr, MatchOption};
+ghost use Rattle.std.specs.Prelude.{◌≡◌, ◌+◌, ◌-◌, ◌^◌, ◌<◌, ◌≤◌, [], ◌∷◌, length, map, take, slice_get, slice_set, slice_index_or, option_copied, Some, IfSome, IsTrue, ◌↔◌, OnOk, OnErr, MatchOption};
 ghost use Rattle.std.specs.List.{insert, remove};
 ghost use Rattle.hippo_keyed_rows.specs.Pieces.{contents, all_members, start_of, IsMarked, AreFull, IsReached, IsCutInTwo};
 
@@ -69,8 +69,10 @@ fn reaching_by_search<T>(pieces: &[Piece<T>], place: usize) -> (usize, usize)
     (index, start(pieces, index))
 }
 
-// The piece that holds the member at a place, and how many stand before it.
-fn reaching<T>(pieces: &[Piece<T>], place: usize) -> (usize, usize)
+// The piece that holds the member at a place, which is tried by its share of the list first, and
+// how many stand before it. A call of its own, so that `reaching` stays short.
+#[inline(never)]
+fn reaching_by_share<T>(pieces: &[Piece<T>], place: usize) -> (usize, usize)
     requires { IsMarked pieces.now }
     ensures { IsReached (contents pieces.now) place result.0 result.1 }
 {
@@ -79,6 +81,37 @@ fn reaching<T>(pieces: &[Piece<T>], place: usize) -> (usize, usize)
     match pieces.get(index) {
         Some(piece) if start <= place && place < piece.end => (index, start),
         _ => reaching_by_search(pieces, place),
+    }
+}
+
+// The piece at an index and how many stand before it, where it holds the member at a place.
+#[inline(always)]
+fn holding<T>(pieces: &[Piece<T>], index: usize, place: usize) -> Option<(usize, usize)>
+    requires { IsMarked pieces.now }
+    ensures { IfSome result (λ held. IsReached (contents pieces.now) place held.0 held.1) }
+{
+    if index >= pieces.len() {
+        return None;
+    }
+    let start = start(pieces, index);
+    if start <= place && place < pieces[index].end {
+        Some((index, start))
+    } else {
+        None
+    }
+}
+
+// The piece that holds the member at a place, and how many stand before it. The one that does where
+// each piece before it is as long as those of a short list may be, as when members came in their
+// order, is tried first, for speed.
+#[inline(always)]
+fn reaching<T>(pieces: &[Piece<T>], place: usize) -> (usize, usize)
+    requires { IsMarked pieces.now }
+    ensures { IsReached (contents pieces.now) place result.0 result.1 }
+{
+    match holding(pieces, place / PIECE_LIMIT, place) {
+        Some(held) => held,
+        None => reaching_by_share(pieces, place),
     }
 }
 
