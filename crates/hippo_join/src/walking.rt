@@ -234,7 +234,7 @@ fn visit_each<'a, C: ChoiceView, V: PlaceVisitor>(
 }
 
 // Visits what counts and has the rows that are chosen, where the row at a place of a stage's table
-// is chosen too, in the place of the one before.
+// is chosen too, in the place of the one before. It is a part of its caller, for speed.
 #[inline(always)]
 #[cycle(walk)]
 fn walk_with<'a, C: ChoiceView, V: PlaceVisitor>(
@@ -325,7 +325,8 @@ fn walk_each<'a, C: ChoiceView, V: PlaceVisitor>(
     Ok(Onward::More)
 }
 
-// Visits what counts and has the rows that are chosen, if some parts of the condition allow it.
+// Visits what counts and has the rows that are chosen, if some parts of the condition allow it. It
+// is a part of its caller, for speed.
 #[inline(always)]
 #[cycle(walk)]
 fn walk_behind<'a, C: ChoiceView, V: PlaceVisitor>(
