@@ -16,11 +16,10 @@ use Rattle.hippo_statements.specs.declared.statement.RawAudit.{RawAudit}
 use Rattle.hippo_statements.specs.declared.statement.RawColumn.{RawColumn}
 use Rattle.hippo_statements.specs.declared.statement.RawOperand.{RawOperand}
 use Rattle.hippo_statements.specs.declared.statement.RawOperand.TheVariants.{Column as WrittenColumn, Literal}
-use Rattle.hippo_model.proofs.ChangedOperands.{changes_of_operands}
+use Rattle.hippo_model.proofs.FoldedConditions.{folded_conditions}
 use Rattle.hippo_catalog.specs.declared.period.Period.{Period}
 use Rattle.hippo_catalog.specs.Catalogs.{KnownNames}
 use Rattle.hippo_catalog.specs.AuditExpressions.{audit_refused, audit_of}
-use Rattle.hippo_catalog.proofs.ComparedOperands.{comparisons_of}
 
 abbrev patient : Name
 patient = codes "patient"
@@ -67,16 +66,16 @@ columns_before_the_period : first_refusal (lasting None None) (over (patient ∷
 columns_before_the_period = refl
 
 kinds_before_the_period : first_refusal (lasting None None) (over (patient ∷ []) [] (bare name ∷ []) (All (Compare Eq (WrittenColumn (bare name)) (Literal (Int (pos 1))) ∷ []))) ≡ Some TypeMismatch
-kinds_before_the_period = simp (comparisons_of, changes_of_operands)
+kinds_before_the_period = simp folded_conditions
 
 parts_before_the_period : first_refusal (lasting None None) (over (patient ∷ []) (replicate 65 (pair (codes "care") (codes "nurse"))) (bare name ∷ []) no_condition) ≡ Some (TooManyParts 64)
-parts_before_the_period = simp (comparisons_of, changes_of_operands)
+parts_before_the_period = simp folded_conditions
 
 no_moment_before_the_order : first_refusal (lasting (Some (pos 5)) None) (over (patient ∷ []) [] (bare name ∷ []) no_condition) ≡ Some BadMoment
-no_moment_before_the_order = simp (comparisons_of, changes_of_operands)
+no_moment_before_the_order = simp folded_conditions
 
 end_before_the_beginning : first_refusal (lasting (Some (pos 5)) (Some (pos 4))) (over (patient ∷ []) [] (bare name ∷ []) no_condition) ≡ Some PeriodBack
-end_before_the_beginning = simp (comparisons_of, changes_of_operands)
+end_before_the_beginning = simp folded_conditions
 
 -- audited columns may stand twice
 columns_may_repeat : audit_of known (lasting (Some (pos 4)) (Some (pos 5))) (over (patient ∷ []) [] (bare name ∷ bare name ∷ []) no_condition)
@@ -89,4 +88,4 @@ columns_may_repeat : audit_of known (lasting (Some (pos 4)) (Some (pos 5))) (ove
       tables = patient ∷ [];
       cond = All [];
     }
-columns_may_repeat = simp changes_of_operands
+columns_may_repeat = simp folded_conditions

@@ -27,8 +27,7 @@ use Rattle.hippo_statements.specs.declared.statement.RawOut.TheVariants as outs
 use Rattle.hippo_statements.specs.declared.statement.RawSelect.{RawSelect}
 use Rattle.hippo_catalog.specs.Catalogs.{KnownNames}
 use Rattle.hippo_catalog.specs.Selects.{select_refused, query_of}
-use Rattle.hippo_catalog.proofs.ComparedOperands.{comparisons_of}
-use Rattle.hippo_model.proofs.ChangedOperands.{changes_of_operands}
+use Rattle.hippo_model.proofs.FoldedConditions.{folded_conditions}
 
 abbrev patient : Name
 patient = codes "patient"
@@ -105,27 +104,27 @@ ambiguous_before_groups = refl
 
 -- SELECT name, day FROM patient, visit GROUP BY name
 shown_but_not_grouped : first_refusal (grouped (outs.Column (bare name) ∷ outs.Column (bare day) ∷ []) (bare name ∷ [])) ≡ Some (NotGrouped day)
-shown_but_not_grouped = simp (comparisons_of, changes_of_operands)
+shown_but_not_grouped = simp folded_conditions
 
 -- SELECT patient.name FROM patient, visit GROUP BY name, day
 grouped_but_not_shown : first_refusal (grouped (outs.Column (of_table patient name) ∷ []) (bare name ∷ bare day ∷ [])) ≡ Some (NotGrouped day)
-grouped_but_not_shown = simp (comparisons_of, changes_of_operands)
+grouped_but_not_shown = simp folded_conditions
 
 -- SELECT pid FROM patient WHERE pid = 'x'
 kinds_differ : first_refusal (plain (items.One (bare pid) ∷ []) (patient ∷ []) (equal (WrittenColumn (bare pid)) (Literal (Text (codes "x"))))) ≡ Some TypeMismatch
-kinds_differ = simp (comparisons_of, changes_of_operands)
+kinds_differ = simp folded_conditions
 
 -- SELECT pid FROM patient WHERE name = 'TAB' AND pid = NULL: NULL has every kind, and a tab may not stand in a text
 null_has_every_kind : first_refusal (plain (items.One (bare pid) ∷ []) (patient ∷ []) (All (Compare Eq (WrittenColumn (bare name)) (Literal (Text (9 ∷ []))) ∷ Compare Eq (WrittenColumn (bare pid)) (Literal Null) ∷ []))) ≡ Some BadText
-null_has_every_kind = simp (comparisons_of, changes_of_operands)
+null_has_every_kind = simp folded_conditions
 
 -- SELECT pid FROM patient WHERE NULL IN (1, 'a'): all operands of IN are compared with one another
 list_is_one_comparison : first_refusal (plain (items.One (bare pid) ∷ []) (patient ∷ []) (All (Among (Literal Null) (Literal (Int (pos 1)) ∷ Literal (Text (codes "a")) ∷ []) ∷ []))) ≡ Some TypeMismatch
-list_is_one_comparison = simp (comparisons_of, changes_of_operands)
+list_is_one_comparison = simp folded_conditions
 
 -- SELECT *, *, .. FROM patient, 129 times
 too_many_items : first_refusal (plain (replicate 129 items.All) (patient ∷ []) no_condition) ≡ Some (TooManyParts 128)
-too_many_items = simp (comparisons_of, changes_of_operands)
+too_many_items = simp folded_conditions
 
 -- SELECT visit.*, name FROM patient, visit WHERE visit.pid = patient.pid
 star_and_join : query_of known (plain (items.AllOf visit ∷ items.One (bare name) ∷ []) (patient ∷ visit ∷ []) (equal (WrittenColumn (of_table visit pid)) (WrittenColumn (of_table patient pid))))
@@ -135,7 +134,7 @@ star_and_join : query_of known (plain (items.AllOf visit ∷ items.One (bare nam
       cond = All (Compare Eq (operands.Column (reference 1 0)) (operands.Column (reference 0 0)) ∷ []);
       form = meant.Plain;
     }
-star_and_join = simp changes_of_operands
+star_and_join = simp folded_conditions
 
 -- SELECT MAX(day), name, MIN(day) FROM patient, visit GROUP BY patient.pid, name: the columns of GROUP BY come first
 groups_and_arguments : query_of known (grouped (outs.Max (bare day) ∷ outs.Column (bare name) ∷ outs.Min (bare day) ∷ []) (of_table patient pid ∷ bare name ∷ []))
@@ -145,4 +144,4 @@ groups_and_arguments : query_of known (grouped (outs.Max (bare day) ∷ outs.Col
       cond = All [];
       form = meant.Grouped (record { keys = 2; outs = shown.Max 2 ∷ shown.Column 1 ∷ shown.Min 3 ∷ [] });
     }
-groups_and_arguments = simp changes_of_operands
+groups_and_arguments = simp folded_conditions

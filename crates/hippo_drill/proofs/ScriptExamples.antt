@@ -6,17 +6,8 @@ use Rattle.hippo_drill.specs.Script.{opening_lines, patient_line, visit_line, ch
 -- the smallest script has one patient
 one_patient_is_asked_for :
     script 2 0
-    ≡ codes "at 2024-01-01T00:00:00Z"
-    ∷ codes "0 CREATE TABLE patient (pid INTEGER, name TEXT, phone TEXT, zip INTEGER, PRIMARY KEY (pid), SUBJECT pid)"
-    ∷ codes "0 CREATE TABLE visit (vno INTEGER, pid INTEGER, ward TEXT, PRIMARY KEY (vno), SUBJECT pid)"
-    ∷ codes "0 CREATE PURPOSE treatment"
-    ∷ codes "0 CREATE RECIPIENT nurse"
-    ∷ codes "0 CREATE ITEM contact OPT OUT"
-    ∷ codes "0 AUTHORIZE ann FOR treatment, nurse"
-    ∷ codes "0 ALLOW treatment TO nurse ON patient (pid, name, zip)"
-    ∷ codes "0 ALLOW treatment TO nurse ON patient (phone) WITH contact"
-    ∷ codes "0 ALLOW treatment TO nurse ON visit (vno, pid, ward)"
-    ∷ codes "0 INSERT INTO patient VALUES (1, 'p1', 't1', 7)"
+    ≡ opening_lines
+    ++ codes "0 INSERT INTO patient VALUES (1, 'p1', 't1', 7)"
     ∷ codes "0 INSERT INTO visit VALUES (1, 1, 'w1')"
     ∷ codes "1 login ann treatment nurse"
     ∷ codes "0 UPDATE patient SET phone = 'u1' WHERE pid = 1"

@@ -34,7 +34,7 @@ use Rattle.hippo_model.specs.Keepable.{question_is_keepable, rule_is_keepable, a
 use Rattle.hippo_entry_forms.specs.Readings.{leading_byte, leading_list, leading_value, stored_column_kind, bool_of}
 use Rattle.hippo_entry_forms.specs.Readings.{item_kind_of, subject_of_byte, leading_stored_column, leading_schema, leading_create}
 use Rattle.hippo_entry_forms.specs.Readings.{change_of, leading_change, leading_new_name, leading_new_item, grant_of}
-use Rattle.hippo_entry_forms.specs.Readings.{leading_stored_grant, leading_stored_item, leading_days, leading_allow, leading_revoke}
+use Rattle.hippo_entry_forms.specs.Readings.{leading_stored_grant, leading_stored_item, leading_days, leading_stored_rule, leading_allow, leading_revoke}
 use Rattle.hippo_entry_forms.specs.Readings.{leading_choice, leading_question, act_of_kind, leading_entry}
 use Rattle.hippo_entry_forms.proofs.Fields.{ReadsAgain, short_again, long_again, signed_again, short_signed_again, text_again}
 use Rattle.hippo_entry_forms.proofs.Fields.{name_again, list_again}
@@ -224,6 +224,19 @@ no_days_again : (rest : List ℕ) → leading_days 1 rest ≡ Some (None, rest)
 unfolding leading_days
 no_days_again rest = refl
 
+rule_again : (p r t : Name) (c : List Place) (rest : List ℕ) → rule_is_keepable p r t c ≡ true
+    → leading_stored_rule (name_bytes p ++ (name_bytes r ++ (name_bytes t ++ (list_bytes place_bytes c ++ rest)))) ≡ Some ((p, r, t, c), rest)
+unfolding leading_stored_rule
+rule_again p r t c rest fits =
+    let names = three_fit p r t (places_are_keepable c) fits in
+    let behind_table : List ℕ = list_bytes place_bytes c ++ rest in
+    rw (
+      name_again p (name_bytes r ++ (name_bytes t ++ behind_table)) names.first,
+      name_again r (name_bytes t ++ behind_table) names.second,
+      name_again t behind_table names.third,
+      places_again c rest names.rest,
+    ) refl
+
 allow_again : (format : ℕ) (p r t : Name) (c : List Place) (i : Option Name) (d : Option ℕ) (rest : List ℕ)
     → (rule_is_keepable p r t c && item_is_keepable i) ≡ true
     → leading_days format (days_bytes d ++ rest) ≡ Some (d, rest)
@@ -233,16 +246,10 @@ allow_again : (format : ℕ) (p r t : Name) (c : List Place) (i : Option Name) (
 unfolding leading_allow
 allow_again format p r t c i d rest fits days =
     let both = and_parts (rule_is_keepable p r t c) (item_is_keepable i) fits in
-    let names = three_fit p r t (places_are_keepable c) both.0 in
-    let behind_columns : List ℕ = item_bytes i ++ (days_bytes d ++ rest) in
-    let behind_table : List ℕ = list_bytes place_bytes c ++ behind_columns in
     ap (leading_allow format)
     (six (name_bytes p) (name_bytes r) (name_bytes t) (list_bytes place_bytes c) (item_bytes i) (days_bytes d) rest)
     ∙ rw (
-      name_again p (name_bytes r ++ (name_bytes t ++ behind_table)) names.first,
-      name_again r (name_bytes t ++ behind_table) names.second,
-      name_again t behind_table names.third,
-      places_again c behind_columns names.rest,
+      rule_again p r t c (item_bytes i ++ (days_bytes d ++ rest)) both.0,
       item_again i (days_bytes d ++ rest) both.1,
       days,
     ) refl
@@ -252,15 +259,8 @@ revoke_again : (p r t : Name) (c : List Place) (rest : List ℕ) → rule_is_kee
     ≡ Some (Revoke p r t c, rest)
 unfolding leading_revoke
 revoke_again p r t c rest fits =
-    let names = three_fit p r t (places_are_keepable c) fits in
-    let behind_table : List ℕ = list_bytes place_bytes c ++ rest in
     ap leading_revoke (four (name_bytes p) (name_bytes r) (name_bytes t) (list_bytes place_bytes c) rest)
-    ∙ rw (
-      name_again p (name_bytes r ++ (name_bytes t ++ behind_table)) names.first,
-      name_again r (name_bytes t ++ behind_table) names.second,
-      name_again t behind_table names.third,
-      places_again c rest names.rest,
-    ) refl
+    ∙ rw (rule_again p r t c rest fits) refl
 
 choice_again : (subject : ℤ) (item : Name) (agreed : Bool) (rest : List ℕ)
     → (is_signed_number subject && is_folded_name item) ≡ true

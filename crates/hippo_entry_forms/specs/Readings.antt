@@ -146,20 +146,11 @@ leading_stored_column bytes = do
 
 unfoldable pub leading_schema : Reading Schema
 leading_schema bytes = do
-  name ← leading_stored_name bytes
-  columns ← leading_list leading_stored_column name.1
-  key ← leading_list leading_byte columns.1
-  subject ← leading_byte key.1
-  Some (
-    record {
-      name = name.0;
-      columns = columns.0;
-      key = key.0;
-      subject = subject_of_byte
-          subject.0;
-    },
-    subject.1,
-  )
+  (name, behind_name) ← leading_stored_name bytes
+  (columns, behind_columns) ← leading_list leading_stored_column behind_name
+  (key, behind_key) ← leading_list leading_byte behind_columns
+  (byte, rest) ← leading_byte behind_key
+  Some (record { name = name; columns = columns; key = key; subject = subject_of_byte byte }, rest)
 
 -- ---- acts
 
@@ -217,23 +208,26 @@ leading_days format bytes =
     if format == 2 then (leading_stored_number w32 bytes >>= λ days. Some (Some days.0, days.1))
     else Some (None, bytes)
 
-unfoldable pub leading_allow : ℕ → Reading Act
-leading_allow format bytes = do
+-- the purpose, the recipient, the table and the columns of a rule
+unfoldable pub leading_stored_rule : Reading (Name × Name × Name × List Place)
+leading_stored_rule bytes = do
   purpose ← leading_stored_name bytes
   recipient ← leading_stored_name purpose.1
   table ← leading_stored_name recipient.1
   columns ← leading_list leading_byte table.1
-  item ← leading_stored_item columns.1
+  Some ((purpose.0, recipient.0, table.0, columns.0), columns.1)
+
+unfoldable pub leading_allow : ℕ → Reading Act
+leading_allow format bytes = do
+  ((purpose, recipient, table, columns), behind) ← leading_stored_rule bytes
+  item ← leading_stored_item behind
   days ← leading_days format item.1
-  Some (Allow purpose.0 recipient.0 table.0 columns.0 item.0 days.0, days.1)
+  Some (Allow purpose recipient table columns item.0 days.0, days.1)
 
 unfoldable pub leading_revoke : Reading Act
 leading_revoke bytes = do
-  purpose ← leading_stored_name bytes
-  recipient ← leading_stored_name purpose.1
-  table ← leading_stored_name recipient.1
-  columns ← leading_list leading_byte table.1
-  Some (Revoke purpose.0 recipient.0 table.0 columns.0, columns.1)
+  ((purpose, recipient, table, columns), behind) ← leading_stored_rule bytes
+  Some (Revoke purpose recipient table columns, behind)
 
 unfoldable pub leading_choice : Reading Act
 leading_choice bytes = do

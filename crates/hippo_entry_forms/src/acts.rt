@@ -2,7 +2,7 @@
 ghost use Rattle.std.specs.Prelude.{◌≡◌};
 ghost use Rattle.hippo_entry_forms.specs.Readings.{GivesReading, ReadsFront, leading_create, change_of, leading_change, leading_new_name};
 ghost use Rattle.hippo_entry_forms.specs.Readings.{leading_new_item, leading_stored_grant, leading_stored_item, leading_days};
-ghost use Rattle.hippo_entry_forms.specs.Readings.{leading_allow, leading_revoke, leading_choice, leading_question};
+ghost use Rattle.hippo_entry_forms.specs.Readings.{leading_stored_rule, leading_allow, leading_revoke, leading_choice, leading_question};
 ghost use Rattle.hippo_entry_forms.specs.Readings.{act_of_kind, moment_of, leading_entry};
 
 use crate::fault::Fault;
@@ -120,22 +120,31 @@ fn read_days(format: u8, bytes: &[u8]) -> Result<(Option<u32>, &[u8]), Fault>
     Ok((Some(days), rest))
 }
 
-#[tactic(auto, unfolding(crate::specs::Readings::leading_allow))]
-fn read_allow(alloc: Global, format: u8, bytes: &[u8]) -> Result<(Act, &[u8]), Fault>
-    ensures { ReadsFront (leading_allow format) bytes.now result }
+// The purpose, the recipient, the table and the columns of a rule.
+#[tactic(auto, unfolding(crate::specs::Readings::leading_stored_rule))]
+fn read_rule(alloc: Global, bytes: &[u8]) -> Result<((Name, Name, Name, Places), &[u8]), Fault>
+    ensures { ReadsFront leading_stored_rule bytes.now result }
 {
     let (purpose, rest) = Name::read(alloc, bytes)?;
     let (recipient, rest) = Name::read(alloc, rest)?;
     let (table, rest) = Name::read(alloc, rest)?;
     let (columns, rest) = Places::read(alloc, rest)?;
+    Ok(((purpose, recipient, table, columns), rest))
+}
+
+#[tactic(auto, unfolding(crate::specs::Readings::leading_allow))]
+fn read_allow(alloc: Global, format: u8, bytes: &[u8]) -> Result<(Act, &[u8]), Fault>
+    ensures { ReadsFront (leading_allow format) bytes.now result }
+{
+    let (rule, rest) = read_rule(alloc, bytes)?;
     let (item, rest) = read_item(alloc, rest)?;
     let (days, rest) = read_days(format, rest)?;
     Ok((
         Act::Allow {
-            purpose,
-            recipient,
-            table,
-            columns,
+            purpose: rule.0,
+            recipient: rule.1,
+            table: rule.2,
+            columns: rule.3,
             item,
             days,
         },
@@ -147,16 +156,13 @@ fn read_allow(alloc: Global, format: u8, bytes: &[u8]) -> Result<(Act, &[u8]), F
 fn read_revoke(alloc: Global, bytes: &[u8]) -> Result<(Act, &[u8]), Fault>
     ensures { ReadsFront leading_revoke bytes.now result }
 {
-    let (purpose, rest) = Name::read(alloc, bytes)?;
-    let (recipient, rest) = Name::read(alloc, rest)?;
-    let (table, rest) = Name::read(alloc, rest)?;
-    let (columns, rest) = Places::read(alloc, rest)?;
+    let (rule, rest) = read_rule(alloc, bytes)?;
     Ok((
         Act::Revoke {
-            purpose,
-            recipient,
-            table,
-            columns,
+            purpose: rule.0,
+            recipient: rule.1,
+            table: rule.2,
+            columns: rule.3,
         },
         rest,
     ))

@@ -1,20 +1,11 @@
 -- What the sources and sinks over std's readers and writers are made of.
 use Rattle.std.specs.Prelude.{ℕ}
-use Rattle.hippo_io.specs.declared.std_source.StdSource.{StdSource}
-use Rattle.hippo_io.specs.declared.std_sink.StdSink.{StdSink}
+use Rattle.hippo_io.specs.declared.std_stream.StdStream.{StdStream}
 
--- the reader of a source
-abbrev pub reader_of : {R : Type 0} → StdSource R → R
-reader_of source = source.inner
+-- the reader of a source, or the writer of a sink
+abbrev pub stream_of : {T : Type 0} → StdStream T → T
+stream_of stream = stream.inner
 
--- how many errors it answered
-abbrev pub read_faults : {R : Type 0} → StdSource R → ℕ
-read_faults source = source.faults
-
--- the writer of a sink
-abbrev pub writer_of : {W : Type 0} → StdSink W → W
-writer_of sink = sink.inner
-
--- how many errors it answered, and how many times it took nothing
-abbrev pub write_faults : {W : Type 0} → StdSink W → ℕ
-write_faults sink = sink.faults
+-- how many errors it answered; for a sink, and how many times it took nothing
+abbrev pub stream_faults : {T : Type 0} → StdStream T → ℕ
+stream_faults stream = stream.faults

@@ -9,6 +9,7 @@ mod sink;
 mod source;
 mod std_sink;
 mod std_source;
+mod std_stream;
 
 pub use lines::{Line, LineFault, LineReader};
 pub use memory_sink::MemorySink;
@@ -17,3 +18,4 @@ pub use sink::{Sink, write_whole};
 pub use source::{Failed, Source};
 pub use std_sink::StdSink;
 pub use std_source::StdSource;
+pub use std_stream::StdStream;

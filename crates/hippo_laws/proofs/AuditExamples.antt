@@ -23,19 +23,11 @@ use Rattle.hippo_model.specs.Hits.{hits}
 use Rattle.hippo_model.proofs.NamedColumns.{named_columns}
 use Rattle.hippo_model.proofs.Truths.{truths}
 use Rattle.hippo_model.proofs.OuterParts.{outer_parts_of}
-use Rattle.hippo_laws.proofs.ExampleHistories.{treatment, nurse, ann, clerk, patient, number_column, text_column, required, entry, clinic, column, equals, select, always, ask, asked}
+use Rattle.hippo_laws.proofs.ExampleHistories.{treatment, nurse, ann, clerk, patient, number_column, text_column, required, entry, clinic, column, equals, select, always, ask, asked, audit_between}
 
 -- who saw a column of the patients on 2024-01-02
 abbrev pub audit : List ℕ → List Ref → CondOf Operand → Audit
-audit table columns condition = record {
-  from = pos 1704153600;
-  to = pos 1704239999;
-  exempt = [];
-  shown = false;
-  columns = columns;
-  tables = table ∷ [];
-  cond = condition;
-}
+audit table columns condition = audit_between (pos 1704153600) (pos 1704239999) columns (table ∷ []) condition
 
 -- every question is this one
 abbrev pub asks : Query → Meaning

@@ -27,7 +27,7 @@ use Rattle.hippo_model.specs.Validity.{damage}
 use Rattle.hippo_model.proofs.NamedColumns.{named_columns}
 use Rattle.hippo_model.proofs.Truths.{truths}
 use Rattle.hippo_model.proofs.OuterParts.{outer_parts_of}
-use Rattle.hippo_laws.proofs.ExampleHistories.{treatment, nurse, ann, billing, clerk, keyed, patient, patients, number_column, text_column, required, column, column_of, nursing, select, always, words_and_texts}
+use Rattle.hippo_laws.proofs.ExampleHistories.{treatment, nurse, ann, billing, clerk, keyed, patient, patients, number_column, text_column, required, column, column_of, nursing, select, always, words_and_texts, audit_between}
 
 abbrev carl : List ℕ
 carl = codes "carl"
@@ -110,15 +110,7 @@ table_without_rules_shows_no_row = refl
 
 -- who saw the name of a patient in the south ward on 2024-03-04
 abbrev names_in_south : Audit
-names_in_south = record {
-  from = pos 1709510400;
-  to = pos 1709596799;
-  exempt = [];
-  shown = false;
-  columns = column_of 0 1 ∷ [];
-  tables = patient ∷ visit ∷ [];
-  cond = in_south;
-}
+names_in_south = audit_between (pos 1709510400) (pos 1709596799) (column_of 0 1 ∷ []) (patient ∷ visit ∷ []) in_south
 
 first_shared_tuple_of_two_tables : shared_tuple meaning day names_in_south ann_asks
     ≡ Some (record { table = patient; key = Int (pos 1) ∷ [] } ∷ record { table = visit; key = Int (pos 12) ∷ [] } ∷ [])

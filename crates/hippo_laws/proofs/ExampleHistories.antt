@@ -10,6 +10,7 @@ use Rattle.hippo_model.specs.declared.schema.Schema.{Schema}
 use Rattle.hippo_model.specs.declared.entry.Entry.{Entry}
 use Rattle.hippo_model.specs.declared.entry.Act.{Act}
 use Rattle.hippo_model.specs.declared.entry.Act.TheVariants.{Create, Purpose, Recipient, Authorize, Allow, Insert, Asked}
+use Rattle.hippo_model.specs.declared.audit.Audit.{Audit}
 use Rattle.hippo_model.specs.declared.query.Operand.{Operand}
 use Rattle.hippo_model.specs.declared.query.CondOf.{CondOf}
 use Rattle.hippo_model.specs.declared.query.CondOf.TheVariants.{All, Compare}
@@ -112,3 +113,15 @@ ask history query = answer history (nursing morning) query
 
 abbrev pub asked : ℕ → Entry
 asked number = entry number (Asked ann treatment nurse (codes "q"))
+
+-- who asked for the columns of some rows from one second to another; nobody is exempt
+abbrev pub audit_between : ℤ → ℤ → List Ref → List (List ℕ) → CondOf Operand → Audit
+audit_between from to columns tables condition = record {
+  from = from;
+  to = to;
+  exempt = [];
+  shown = false;
+  columns = columns;
+  tables = tables;
+  cond = condition;
+}

@@ -1,5 +1,5 @@
 mod AnswerExamples
-mod ExampleHistories
+pub mod ExampleHistories
 mod DayExamples
 mod AuditExamples
 mod DamageExamples

@@ -6,6 +6,7 @@ use Rattle.std.specs.Cmp.{nat_eq_equiv}
 use Rattle.std.proofs.lemmas.Bool.{and_parts, and_from, eqb-true, or_parts}
 use Rattle.std.proofs.lemmas.List.Sums.{sum_by-cons}
 use Rattle.std.proofs.lemmas.List.Folds.{list_all-append}
+use Rattle.hippo_values.proofs.CondLemmas.{on_cond}
 use Rattle.hippo_model.specs.Terms.{ShownRow}
 use Rattle.hippo_model.specs.Bags.{same_row, occurrences, same_bag}
 use Rattle.hippo_model.proofs.SameRows.{same_row-refl}
@@ -33,13 +34,13 @@ module _ {C : Type 0} (row_of : C → ShownRow) (passes is_out : C → Bool) whe
   lost row [] = 0
   lost row (c ∷ combinations) = one_if (is_lost c && same_row row (row_of c)) + lost row combinations
 
-  one_answer : (test : Bool) (c : C) (rest : List C) → map row_of (cond test (c ∷ rest) rest) ≡ cond test (row_of c ∷ map row_of rest) (map row_of rest)
-  one_answer true c rest = refl
-  one_answer false c rest = refl
+  answered-cons : (c : C) (rest : List C) → answered (c ∷ rest) ≡ cond (passes c) (row_of c ∷ answered rest) (answered rest)
+  answered-cons c rest = on_cond (map row_of) (passes c) (c ∷ filter passes rest) (filter passes rest)
 
-  one_left : (out : Bool) (c : C) (rest : List C) → answered (cond (not out) (c ∷ rest) rest) ≡ cond (not out) (answered (c ∷ rest)) (answered rest)
-  one_left true c rest = refl
-  one_left false c rest = refl
+  left-cons : (c : C) (rest : List C) → left (c ∷ rest) ≡ cond (not (is_out c)) (cond (passes c) (row_of c ∷ left rest) (left rest)) (left rest)
+  left-cons c rest =
+      let kept : List C = filter (λ c. not (is_out c)) rest in
+      on_cond answered (not (is_out c)) (c ∷ kept) kept ∙ ap (λ (rows : List ShownRow). cond (not (is_out c)) rows (left rest)) (answered-cons c kept)
 
   counted : (row first : ShownRow) (rest : List ShownRow) → occurrences row (first ∷ rest) ≡ one_if (same_row row first) + occurrences row rest
   counted row first rest = sum_by-cons (λ other. cond (same_row row other) 1 0) first rest
@@ -56,11 +57,7 @@ module _ {C : Type 0} (row_of : C → ShownRow) (passes is_out : C → Bool) whe
   sum_of : (row : ShownRow) (combinations : List C) → occurrences row (answered combinations) ≡ occurrences row (left combinations) + lost row combinations
   sum_of row [] = refl
   sum_of row (c ∷ combinations) =
-      let kept : List C = filter (λ c. not (is_out c)) combinations in
-      let whole : answered (c ∷ combinations) ≡ cond (passes c) (row_of c ∷ answered combinations) (answered combinations) = one_answer (passes c) c (filter passes combinations) in
-      let part : left (c ∷ combinations) ≡ cond (not (is_out c)) (cond (passes c) (row_of c ∷ left combinations) (left combinations)) (left combinations) =
-      one_left (is_out c) c kept ∙ ap (λ (rows : List ShownRow). cond (not (is_out c)) rows (left combinations)) (one_answer (passes c) c (filter passes kept)) in
-      rw (whole, part) (sum_of_one row (is_out c) (passes c) (row_of c) (answered combinations) (left combinations) (lost row combinations) (sum_of row combinations))
+      rw (answered-cons c combinations, left-cons c combinations) (sum_of_one row (is_out c) (passes c) (row_of c) (answered combinations) (left combinations) (lost row combinations) (sum_of row combinations))
 
   -- nothing is lost
   same_if : (out test : Bool) (first : ShownRow) (whole part : List ShownRow) → (out && test) ≡ false → part ≡ whole → cond (not out) (cond test (first ∷ part) part) part ≡ cond test (first ∷ whole) whole
@@ -72,10 +69,9 @@ module _ {C : Type 0} (row_of : C → ShownRow) (passes is_out : C → Bool) whe
   same_if_none : (combinations : List C) → list_any is_lost combinations ≡ false → left combinations ≡ answered combinations
   same_if_none [] none = refl
   same_if_none (c ∷ combinations) none =
-      let kept : List C = filter (λ c. not (is_out c)) combinations in
       let both = or_parts (is_lost c) (list_any is_lost combinations) none in
-      one_left (is_out c) c kept ∙ ap (λ (rows : List ShownRow). cond (not (is_out c)) rows (left combinations)) (one_answer (passes c) c (filter passes kept))
-      ∙ same_if (is_out c) (passes c) (row_of c) (answered combinations) (left combinations) both.0 (same_if_none combinations both.1) ∙ sym (one_answer (passes c) c (filter passes combinations))
+      left-cons c combinations
+      ∙ same_if (is_out c) (passes c) (row_of c) (answered combinations) (left combinations) both.0 (same_if_none combinations both.1) ∙ sym (answered-cons c combinations)
 
   abbrev LostRow : (ShownRow → Bool) → List C → Type 0
   LostRow test combinations = (row : ShownRow) × (test row ≡ true) × (0 < lost row combinations)
@@ -93,9 +89,8 @@ module _ {C : Type 0} (row_of : C → ShownRow) (passes is_out : C → Bool) whe
   lost_row : (test : ShownRow → Bool) (combinations : List C) → list_any is_lost combinations ≡ true → list_all test (answered combinations) ≡ true → LostRow test combinations
   lost_row test [] some all = absurd cc
   lost_row test (c ∷ combinations) some all =
-      let whole : answered (c ∷ combinations) ≡ cond (passes c) (row_of c ∷ answered combinations) (answered combinations) = one_answer (passes c) c (filter passes combinations) in
       lost_here_or_later test (row_of c) (is_out c) (passes c) (list_any is_lost combinations) (answered combinations) (λ row. lost row combinations) (λ later each. lost_row test combinations later each) some
-      (sym (ap (list_all test) whole) ∙ all)
+      (sym (ap (list_all test) (answered-cons c combinations)) ∙ all)
 
   abbrev is_as_often : List C → ShownRow → Bool
   is_as_often combinations row = occurrences row (left combinations) == occurrences row (answered combinations)

@@ -1,44 +1,14 @@
 -- Which day a text writes, found among all days.
-use Rattle.std.proofs.Common.{◌≡◌, ℕ, zero, suc, ◌<◌, ◌≤◌, List, Option, Some, None, IfSome, IfNone, refl, sym, ap, ◌∙◌, inl, inr, arith, ℤ, negsuc, ◌-ℤ◌, unsigned_abs, bytes_eq}
-use Rattle.std.proofs.lemmas.Bool.{cases_Bool, cases_order, both_ways}
-use Rattle.std.proofs.lemmas.Int.{ints}
-use Rattle.std.proofs.lemmas.Slice.Eq.{bytes_eq-Decides}
-use Rattle.hippo_values.specs.Moments.{IsDayNumber}
-use Rattle.hippo_text_forms.specs.Dates.{day_text, IsDayText}
+use Rattle.std.proofs.Common.{◌≡◌, List, ℕ, Option, Some, None, IfSome, IfNone, refl, sym, ap, ℤ}
+use Rattle.hippo_values.specs.Moments.{first_day, last_day, day_count}
+use Rattle.hippo_text_forms.specs.Dates.{day_text, IsDayText, written_among}
 use Rattle.hippo_text_forms.proofs.DateTextLemmas.{IsDayText-unique}
-use Rattle.hippo_lexer.specs.Cutting.{nth_day, day_among, day_of}
-
--- what is found among the first n days is the text's day
-found_day : (n : ℕ) (text : List ℕ) → n ≤ 3652059 → IfSome (day_among n text) (IsDayText text)
-unfolding day_among
-found_day zero text few = tt
-found_day (suc n) text few = elim (cases_Bool (bytes_eq text (day_text (nth_day n)))) [
-  | inl same ↦ rw same ((omega (arith, ints), omega (arith, ints)), (bytes_eq-Decides text (day_text (nth_day n))).0 same)
-  | inr other ↦ rw other (found_day n text (omega arith))
-]
-
--- where none is found, none of them is
-none_among : (n : ℕ) (text : List ℕ) (k : ℕ) → k < n → day_among n text ≡ None → text ≡ day_text (nth_day k) → ⊥
-unfolding day_among
-none_among zero text k small none same = absurd (omega arith)
-none_among (suc n) text k small none same = elim (cases_Bool (bytes_eq text (day_text (nth_day n)))) [
-  | inl passed ↦ let found : Some (nth_day n) ≡ None = rw passed at none in cc
-  | inr other ↦ elim (cases_order k n) [
-    | inl last ↦ both_ways _ other ((bytes_eq-Decides text (day_text (nth_day n))).1 (same ∙ ap (λ j. day_text (nth_day j)) last))
-    | inr (inl below) ↦ none_among n text k below (rw other at none) same
-    | inr (inr above) ↦ absurd (omega arith)
-  ]
-]
-
--- each day is one of them
-place_of : (day : ℤ) → IsDayNumber day → (nth_day (unsigned_abs (day -ℤ negsuc 719161)) ≡ day) × (unsigned_abs (day -ℤ negsuc 719161) < 3652059)
-place_of day h = (grind (arith, ints, h.0), grind (arith, ints, h.0, h.1))
+use Rattle.hippo_text_forms.proofs.WrittenLemmas.{written-found, written-none}
+use Rattle.hippo_lexer.specs.Cutting.{day_of}
 
 -- where none is found among all, the text is no day's
-no_day : (text : List ℕ) → day_among 3652059 text ≡ None → (day : ℤ) → ¬ (IsDayText text day)
-no_day text none day h =
-    let at = place_of day h.0 in
-    none_among 3652059 text (unsigned_abs (day -ℤ negsuc 719161)) at.1 none (h.1 ∙ ap day_text (sym at.0))
+no_day : (text : List ℕ) → written_among day_text first_day day_count text ≡ None → (day : ℤ) → ¬ (IsDayText text day)
+no_day text none = written-none day_text first_day last_day day_count refl text none
 
 if_none : (answer : Option ℤ) (P : Type 0) → (answer ≡ None → P) → IfNone answer P
 if_none (Some day) P h = tt
@@ -55,11 +25,11 @@ agree text None None some_a none_a some_b none_b = refl
 pub day_of-is : (text : List ℕ) (found : Option ℤ) → IfSome found (IsDayText text) → IfNone found ((day : ℤ) → ¬ (IsDayText text day)) → found ≡ day_of text
 unfolding day_of
 day_of-is text found some none =
-    agree text found (day_among 3652059 text) some none (found_day 3652059 text (omega arith)) (if_none _ _ (no_day text))
+    agree text found (written_among day_text first_day day_count text) some none (written-found day_text first_day last_day day_count refl text) (if_none _ _ (no_day text))
 
 pub day_of-found : (text : List ℕ) → IfSome (day_of text) (IsDayText text)
 unfolding day_of
-day_of-found text = found_day 3652059 text (omega arith)
+day_of-found text = written-found day_text first_day last_day day_count refl text
 
 pub day_of-none : (text : List ℕ) → IfNone (day_of text) ((day : ℤ) → ¬ (IsDayText text day))
 unfolding day_of

@@ -1,6 +1,6 @@
 -- How a text is cut into tokens, from the left. What the tokens are is said by the relation
 -- `IsOutcome`, and that `outcome_of` is a text's one outcome by it is proved.
-use Rattle.std.specs.Prelude.{◌≡◌, ℕ, zero, suc, ◌+◌, ◌-◌, ◌<◌, ◌==◌, Bool, true, false, ◌||◌, List, [], ◌∷◌, length, take, drop, bytes_eq, ℤ, pos, neg_ℤ, ◌+ℤ◌, ◌++◌, Option, Some, None, Result, Ok, Err, option_map, ok_or, if◌then◌else◌}
+use Rattle.std.specs.Prelude.{◌≡◌, ℕ, zero, suc, ◌+◌, ◌-◌, ◌<◌, ◌==◌, Bool, true, false, ◌||◌, List, [], ◌∷◌, length, take, drop, ℤ, pos, neg_ℤ, ◌++◌, Option, Some, None, Result, Ok, Err, option_map, ok_or, if◌then◌else◌}
 use Rattle.std.specs.Bool.{then_some}
 use Rattle.std.specs.Option.{option_or, option_map_or}
 use Rattle.std.specs.List.{prefix_len, list_all}
@@ -10,7 +10,7 @@ use Rattle.hippo_values.specs.declared.words.Word.{Word}
 use Rattle.hippo_values.specs.declared.words.Word.TheVariants as words
 use Rattle.hippo_values.specs.Names.{is_word_byte}
 use Rattle.hippo_values.specs.Words.{word_of}
-use Rattle.hippo_text_forms.specs.Dates.{day_text}
+use Rattle.hippo_text_forms.specs.Dates.{day_text, written_among}
 use Rattle.hippo_values.specs.Moments.{first_day, day_count, is_signed_number}
 use Rattle.hippo_values.specs.declared.keywords.Keyword.TheVariants.{KDate}
 use Rattle.hippo_values.specs.Results.{◌>>=◌}
@@ -108,19 +108,9 @@ unfoldable pub quoted_first : List ℕ → Option (List ℕ × ℕ)
 quoted_first [] = None
 quoted_first (byte ∷ rest) = if is_quote byte then onto [] 1 (closing rest) else None
 
--- the n-th day, from the first one on
-abbrev pub nth_day : ℕ → ℤ
-nth_day n = first_day +ℤ pos n
-
--- the day that a text writes, among so many of them
-unfoldable pub day_among : ℕ → List ℕ → Option ℤ
-day_among zero text = None
-day_among (suc n) text =
-    if bytes_eq text (day_text (nth_day n)) then Some (nth_day n) else day_among n text
-
 -- the day that a text writes as YYYY-MM-DD, among all
 unfoldable pub day_of : List ℕ → Option ℤ
-day_of text = day_among day_count text
+day_of text = written_among day_text first_day day_count text
 
 -- whether a word is DATE
 abbrev pub is_date : TokenKind → Bool

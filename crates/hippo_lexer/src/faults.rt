@@ -4,7 +4,6 @@ ghost use Rattle.hippo_lexer.specs.declared.faults.LexFault.TheVariants as lexin
 ghost use Rattle.hippo_lexer.specs.declared.faults.SyntaxFault.TheVariants as syntax;
 
 use hippo_values::Memory;
-use std::alloc::{AllocError, AllocFailed};
 
 /// Why a text has no tokens. A place is that of a byte, counted from 0.
 #[derive(Clone, Copy, Debug, PartialEq, Eq)]
@@ -27,22 +26,6 @@ impl From<Memory> for LexFault {
     }
 }
 
-impl From<AllocError> for LexFault {
-    ghost from_gives = { λ _ fault. fault ≡ lexing.Memory };
-
-    fn from(_refused: AllocError) -> LexFault {
-        LexFault::Memory
-    }
-}
-
-impl<T: Drop> From<AllocFailed<T>> for LexFault {
-    ghost from_gives = { λ _ fault. fault ≡ lexing.Memory };
-
-    fn from(_refused: AllocFailed<T>) -> LexFault {
-        LexFault::Memory
-    }
-}
-
 /// Why tokens are no statement.
 #[derive(Clone, Copy, Debug, PartialEq, Eq)]
 pub enum SyntaxFault {
@@ -60,22 +43,6 @@ impl From<Memory> for SyntaxFault {
     ghost from_gives = { λ _ fault. fault ≡ syntax.Memory };
 
     fn from(_refused: Memory) -> SyntaxFault {
-        SyntaxFault::Memory
-    }
-}
-
-impl From<AllocError> for SyntaxFault {
-    ghost from_gives = { λ _ fault. fault ≡ syntax.Memory };
-
-    fn from(_refused: AllocError) -> SyntaxFault {
-        SyntaxFault::Memory
-    }
-}
-
-impl<T: Drop> From<AllocFailed<T>> for SyntaxFault {
-    ghost from_gives = { λ _ fault. fault ≡ syntax.Memory };
-
-    fn from(_refused: AllocFailed<T>) -> SyntaxFault {
         SyntaxFault::Memory
     }
 }

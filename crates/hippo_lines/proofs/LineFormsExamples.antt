@@ -1,5 +1,5 @@
 -- Lines and their forms. Each table is named by what it shows.
-use Rattle.std.proofs.Common.{◌≡◌, List, [], ◌∷◌, ◌++◌, map, replicate, Option, Some, None, refl, codes}
+use Rattle.std.proofs.Common.{◌≡◌, ℕ, ◌+◌, List, [], ◌∷◌, ◌++◌, map, replicate, Option, Some, None, refl, codes}
 use Rattle.std.specs.Prelude.{⊤}
 use Rattle.hippo_values.specs.Texts.{Txt}
 use Rattle.hippo_values.specs.Names.{keywords, unsupported_words}
@@ -11,6 +11,11 @@ HaveForms rows = map (λ row. line_form row.0) rows ≡ map (λ row. row.1) rows
 
 abbrev HaveNone : List Txt → Type 0
 HaveNone lines = map line_form lines ≡ map (λ line. None) lines
+
+-- each text is a statement in its session, of one digit
+abbrev AreStatements : List (ℕ × Txt) → Type 0
+AreStatements rows =
+    map (λ row. line_form ((48 + row.0) ∷ 32 ∷ row.1)) rows ≡ map (λ row. Some (makes_statement row.0 row.1)) rows
 
 -- what is unfolded to compute words and names
 unfoldable word_lists : ⊤
@@ -105,14 +110,13 @@ a_statement_begins_behind_one_space : HaveForms (
 unfolding word_lists
 a_statement_begins_behind_one_space = refl
 
-a_semicolon_ends_no_form : HaveForms (
-    (codes "1 logout ;", None)
-    ∷ (codes "1 logout;", Some (makes_statement 1 (codes "logout;")))
-    ∷ (codes "0 DROP;", Some (makes_statement 0 (codes "DROP;")))
-    ∷ (codes "0 ;DROP", Some (makes_statement 0 (codes ";DROP")))
-    ∷ [])
+a_semicolon_ends_no_form : HaveNone (codes "1 logout ;" ∷ [])
 unfolding word_lists
 a_semicolon_ends_no_form = refl
+
+a_semicolon_makes_another_word : AreStatements ((1, codes "logout;") ∷ (0, codes "DROP;") ∷ (0, codes ";DROP") ∷ [])
+unfolding word_lists
+a_semicolon_makes_another_word = refl
 
 numbers_have_digits_alone : HaveNone (
     codes "01 logout" ∷ codes "+1 logout" ∷ codes "-0 logout" ∷ codes "1x logout" ∷ codes "1 close 01" ∷ codes "1 close 0x1"
@@ -159,14 +163,14 @@ a_record_is_all_behind_one_space : HaveForms (
 unfolding word_lists
 a_record_is_all_behind_one_space = refl
 
-any_other_text_is_a_statement : HaveForms (
-    (codes "0 INSERT INTO patient VALUES (3, 'x", Some (makes_statement 0 (codes "INSERT INTO patient VALUES (3, 'x")))
-    ∷ (codes "1 SELECT drop FROM t", Some (makes_statement 1 (codes "SELECT drop FROM t")))
-    ∷ (codes "1 SELECT " ++ replicate 100 40, Some (makes_statement 1 (codes "SELECT " ++ replicate 100 40)))
-    ∷ (codes "0 CREATE TABLE select (a INTEGER)", Some (makes_statement 0 (codes "CREATE TABLE select (a INTEGER)")))
-    ∷ (codes "2 at x", Some (makes_statement 2 (codes "at x")))
-    ∷ (codes "0 loads patient 1", Some (makes_statement 0 (codes "loads patient 1")))
-    ∷ (codes "0 #", Some (makes_statement 0 (codes "#")))
+any_other_text_is_a_statement : AreStatements (
+    (0, codes "INSERT INTO patient VALUES (3, 'x")
+    ∷ (1, codes "SELECT drop FROM t")
+    ∷ (1, codes "SELECT " ++ replicate 100 40)
+    ∷ (0, codes "CREATE TABLE select (a INTEGER)")
+    ∷ (2, codes "at x")
+    ∷ (0, codes "loads patient 1")
+    ∷ (0, codes "#")
     ∷ [])
 unfolding word_lists
 any_other_text_is_a_statement = refl

@@ -1,7 +1,7 @@
 //! What a short word asks for, with the words behind it.
 ghost use Rattle.std.specs.Prelude.{◌≡◌, option_map};
 ghost use Rattle.hippo_lines.specs.Words.{words_of};
-ghost use Rattle.hippo_lines.specs.Forms.{login_of, logout_of, one_number, two_numbers, fetch_of, close_of, step_of, drop_of, unwatch_of, load_of, request_by};
+ghost use Rattle.hippo_lines.specs.Forms.{login_of, logout_of, one_number, two_numbers, fetch_of, step_of, load_of, request_by};
 ghost use Rattle.hippo_lines.specs.Lent.{request};
 
 use crate::forms::RequestForm;
@@ -55,32 +55,11 @@ fn fetch_of(arguments: &str) -> Option<RequestForm<'_>>
     Some(RequestForm::Fetch { cursor, count })
 }
 
-fn close_of(arguments: &str) -> Option<RequestForm<'_>>
-    ensures { option_map request result ≡ close_of (words_of arguments.now) }
-{
-    let cursor = one_number(arguments, CURSOR_LIMIT)?;
-    Some(RequestForm::Close { cursor })
-}
-
 fn step_of(arguments: &str) -> Option<RequestForm<'_>>
     ensures { option_map request result ≡ step_of (words_of arguments.now) }
 {
     let (job, count) = two_numbers(arguments, JOB_LIMIT, STEP_LIMIT)?;
     Some(RequestForm::Step { job, count })
-}
-
-fn drop_of(arguments: &str) -> Option<RequestForm<'_>>
-    ensures { option_map request result ≡ drop_of (words_of arguments.now) }
-{
-    let job = one_number(arguments, JOB_LIMIT)?;
-    Some(RequestForm::Drop { job })
-}
-
-fn unwatch_of(arguments: &str) -> Option<RequestForm<'_>>
-    ensures { option_map request result ≡ unwatch_of (words_of arguments.now) }
-{
-    let watch = one_number(arguments, WATCH_LIMIT)?;
-    Some(RequestForm::Unwatch { watch })
 }
 
 fn load_of(text: &str) -> Option<RequestForm<'_>>
@@ -105,10 +84,16 @@ pub fn request_by<'a>(
         ShortWord::Login => login_of(arguments),
         ShortWord::Logout => logout_of(arguments),
         ShortWord::Fetch => fetch_of(arguments),
-        ShortWord::Close => close_of(arguments),
+        ShortWord::Close => Some(RequestForm::Close {
+            cursor: one_number(arguments, CURSOR_LIMIT)?,
+        }),
         ShortWord::Step => step_of(arguments),
-        ShortWord::Drop => drop_of(arguments),
-        ShortWord::Unwatch => unwatch_of(arguments),
+        ShortWord::Drop => Some(RequestForm::Drop {
+            job: one_number(arguments, JOB_LIMIT)?,
+        }),
+        ShortWord::Unwatch => Some(RequestForm::Unwatch {
+            watch: one_number(arguments, WATCH_LIMIT)?,
+        }),
         ShortWord::Load => load_of(text),
     }
 }

@@ -35,13 +35,16 @@ lesser value other = if is_le (value_cmp value other) then value else other
 abbrev pub greater : Value → Value → Value
 greater value other = if is_le (value_cmp value other) then other else value
 
+-- what stays of values, where one of each two does; null where there are none
+abbrev pub staying_value : (Value → Value → Value) → List Value → Value
+staying_value stays [] = Null
+staying_value stays (first ∷ rest) = stays first (staying_value stays rest)
+
 abbrev pub least_value : List Value → Value
-least_value [] = Null
-least_value (first ∷ rest) = lesser first (least_value rest)
+least_value values = staying_value lesser values
 
 abbrev pub greatest_value : List Value → Value
-greatest_value [] = Null
-greatest_value (first ∷ rest) = greater first (greatest_value rest)
+greatest_value values = staying_value greater values
 
 -- the rows whose first cells are these
 abbrev pub members : List ShownRow → ShownRow → Place → List ShownRow

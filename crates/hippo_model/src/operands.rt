@@ -1,6 +1,6 @@
 //! Conditions with their operands changed.
 ghost use Rattle.std.specs.Prelude.{◌≡◌, IfOk, map};
-ghost use Rattle.hippo_model.specs.declared.query.CondOf.TheVariants.{All, Any, Not, Compare, Between, Among, Missing};
+ghost use Rattle.hippo_model.specs.declared.query.CondOf.TheVariants.{Not, Compare, Between, Among, Missing};
 ghost use Rattle.hippo_model.specs.Conditions.{changed_operands};
 
 use crate::query::CondOf;
@@ -26,36 +26,14 @@ pub fn changed_condition<O, P: Drop, C: Change<O, P>>(
     ensures { IfOk result (λ made. made ≡ changed_operands (C.to change.now) condition.now) }
 {
     match condition {
-        CondOf::All(parts) => changed_all(alloc, parts, change),
-        CondOf::Any(parts) => changed_any(alloc, parts, change),
+        CondOf::All(parts) => Ok(CondOf::All(changed_parts(alloc, parts, change)?)),
+        CondOf::Any(parts) => Ok(CondOf::Any(changed_parts(alloc, parts, change)?)),
         CondOf::Not(part) => changed_not(alloc, part, change),
         CondOf::Compare { op, left, right } => changed_comparison(alloc, *op, left, right, change),
         CondOf::Between { value, low, high } => changed_between(alloc, value, low, high, change),
         CondOf::Among { value, list } => changed_among(alloc, value, list, change),
         CondOf::Missing { value } => changed_missing(alloc, value, change),
     }
-}
-
-#[cycle(changed_condition)]
-fn changed_all<O, P: Drop, C: Change<O, P>>(
-    alloc: Global,
-    parts: &Sequence<CondOf<O>>,
-    change: &C,
-) -> Result<CondOf<P>, Memory>
-    ensures { IfOk result (λ made. made ≡ changed_operands (C.to change.now) (All parts.now)) }
-{
-    Ok(CondOf::All(changed_parts(alloc, parts, change)?))
-}
-
-#[cycle(changed_condition)]
-fn changed_any<O, P: Drop, C: Change<O, P>>(
-    alloc: Global,
-    parts: &Sequence<CondOf<O>>,
-    change: &C,
-) -> Result<CondOf<P>, Memory>
-    ensures { IfOk result (λ made. made ≡ changed_operands (C.to change.now) (Any parts.now)) }
-{
-    Ok(CondOf::Any(changed_parts(alloc, parts, change)?))
 }
 
 #[cycle(changed_condition)]

@@ -1,8 +1,4 @@
 //! Why a change of a row cannot be made.
-ghost use Rattle.std.specs.Prelude.{◌≡◌};
-ghost use Rattle.hippo_model.specs.declared.table_fault.TableFault.TheVariants as faults;
-
-use hippo_values::Memory;
 
 /// Why a change does not fit the rows as they are.
 #[derive(Drop)]
@@ -14,12 +10,4 @@ pub enum TableFault {
     KeyMissing,
     /// Want of memory.
     Memory,
-}
-
-impl From<Memory> for TableFault {
-    ghost from_gives = { λ _ fault. fault ≡ faults.Memory };
-
-    fn from(_refused: Memory) -> TableFault {
-        TableFault::Memory
-    }
 }

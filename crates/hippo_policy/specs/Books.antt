@@ -109,20 +109,25 @@ pub record BookAdds (old new : PolicyBook) (number : ℕ) (act : Act) : Type 0 w
       → BookStandsFor old history → BookStandsFor new (history ++ entry ∷ [])
   pub remembers : RemembersMatter new act
 
+-- a book with these rules, users and last matter, and the choices and items of another
+abbrev pub book_with : PolicyBook → LastWords CellKey Rule → LastWords UserKey Authorization
+    → Matter → PolicyBook
+book_with book rules users last =
+    record {
+      rules = rules;
+      choices = book.choices;
+      users = users;
+      items = book.items;
+      last = last;
+    }
+
 -- a book has one word more on a user
 pub record AddsUser (old new : PolicyBook) (number : ℕ) (key : UserKey) (word : Authorization)
     : Type 0 where
   pub users : (other : UserKey) → kept_words same_user new.users other
       ≡ with_word (same_user key other) (record { number = number; word = word })
       (kept_words same_user old.users other)
-  pub others : new
-      ≡ record {
-        rules = old.rules;
-        choices = old.choices;
-        users = new.users;
-        items = old.items;
-        last = User key;
-      }
+  pub others : new ≡ book_with old old.rules new.users (User key)
 
 -- a book has one word more on some cells
 pub record AddsRule (old new : PolicyBook) (number : ℕ) (keys : List CellKey) (word : Rule)
@@ -131,14 +136,7 @@ pub record AddsRule (old new : PolicyBook) (number : ℕ) (keys : List CellKey) 
       ≡ with_word (list_any (λ key. same_cell_key key other) keys)
       (record { number = number; word = word })
       (kept_words same_cell_key old.rules other)
-  pub others : new
-      ≡ record {
-        rules = new.rules;
-        choices = old.choices;
-        users = old.users;
-        items = old.items;
-        last = Cells keys;
-      }
+  pub others : new ≡ book_with old new.rules old.users (Cells keys)
 
 -- a book stands for what it stood for
 pub record BookIsAsBefore (old new : PolicyBook) : Type 0 where

@@ -6,7 +6,7 @@ ghost use Rattle.hippo_model.specs.declared.entry.Act.TheVariants.{Item, Choice}
 ghost use Rattle.hippo_policy.specs.Books.{BookStandsFor, RemembersMatter, BookAdds, AddsUser, AddsRule, BookIsAsBefore, cell_keys, ruled_cells, leaves_book};
 ghost use Rattle.hippo_policy.specs.Rulings.{ruling_in};
 
-use crate::keys::{CellKey, ChoiceKey, KeyName, TableKey, UserKey};
+use crate::keys::{CellKey, ChoiceKey, KeyName, UserKey};
 use crate::last_words::{LastWords, Said};
 use crate::ruling::Ruling;
 use hippo_model::{Act, Authorization, Entry, ItemKind};
@@ -46,11 +46,8 @@ fn cell_keys(
 {
     let mut keys = Sequence::new(alloc);
     for column in columns {
-        let table = TableKey::owned(alloc, purpose, recipient, table)?;
-        keys.push(CellKey {
-            table,
-            column: *column,
-        })?;
+        let key = CellKey::lent(purpose, recipient, table, *column);
+        keys.push(CellKey::owned(alloc, &key)?)?;
     }
     Ok(keys)
 }

@@ -144,13 +144,10 @@ impl<'a> UserKey<'a> {
         ensures { IfOk result (λ made. made
             ≡ record { user = user.now; purpose = purpose.now; recipient = recipient.now }) }
     {
-        let user = KeyName::owned(alloc, user)?;
-        let purpose = KeyName::owned(alloc, purpose)?;
-        let recipient = KeyName::owned(alloc, recipient)?;
         Ok(UserKey {
-            user,
-            purpose,
-            recipient,
+            user: KeyName::owned(alloc, user)?,
+            purpose: KeyName::owned(alloc, purpose)?,
+            recipient: KeyName::owned(alloc, recipient)?,
         })
     }
 }
@@ -161,41 +158,6 @@ pub struct TableKey<'a> {
     pub purpose: KeyName<'a>,
     pub recipient: KeyName<'a>,
     pub table: KeyName<'a>,
-}
-
-impl<'a> TableKey<'a> {
-    pub fn lent(purpose: &'a Name, recipient: &'a Name, table: &'a Name) -> TableKey<'a>
-        ensures { result ≡ record {
-          purpose = purpose.now;
-          recipient = recipient.now;
-          table = table.now;
-        } }
-    {
-        TableKey {
-            purpose: KeyName::lent(purpose),
-            recipient: KeyName::lent(recipient),
-            table: KeyName::lent(table),
-        }
-    }
-
-    pub fn owned(
-        alloc: Global,
-        purpose: &Name,
-        recipient: &Name,
-        table: &Name,
-    ) -> Result<TableKey<'a>, Memory>
-        ensures { IfOk result (λ made. made
-            ≡ record { purpose = purpose.now; recipient = recipient.now; table = table.now }) }
-    {
-        let purpose = KeyName::owned(alloc, purpose)?;
-        let recipient = KeyName::owned(alloc, recipient)?;
-        let table = KeyName::owned(alloc, table)?;
-        Ok(TableKey {
-            purpose,
-            recipient,
-            table,
-        })
-    }
 }
 
 /// A column of a table for a purpose and recipient.
@@ -218,23 +180,31 @@ impl<'a> CellKey<'a> {
         } }
     {
         CellKey {
-            table: TableKey::lent(purpose, recipient, table),
+            table: TableKey {
+                purpose: KeyName::lent(purpose),
+                recipient: KeyName::lent(recipient),
+                table: KeyName::lent(table),
+            },
             column,
         }
+    }
+
+    pub fn owned(alloc: Global, key: &CellKey<'_>) -> Result<CellKey<'a>, Memory>
+        ensures { IfOk result (λ made. made ≡ key.now) }
+    {
+        Ok(CellKey {
+            table: TableKey {
+                purpose: KeyName::owned(alloc, key.table.purpose.name())?,
+                recipient: KeyName::owned(alloc, key.table.recipient.name())?,
+                table: KeyName::owned(alloc, key.table.table.name())?,
+            },
+            column: key.column,
+        })
     }
 }
 
 impl<'a> Duplicate for CellKey<'a> {
     fn copy(&self, alloc: Global) -> Result<CellKey<'a>, Memory> {
-        let table = TableKey::owned(
-            alloc,
-            self.table.purpose.name(),
-            self.table.recipient.name(),
-            self.table.table.name(),
-        )?;
-        Ok(CellKey {
-            table,
-            column: self.column,
-        })
+        CellKey::owned(alloc, self)
     }
 }

@@ -4,3 +4,4 @@ pub mod DatesLemmas
 pub mod MomentTextLemmas
 mod OptionLemmas
 pub mod PrintingLemmas
+pub mod WrittenLemmas

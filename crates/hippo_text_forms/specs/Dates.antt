@@ -1,5 +1,5 @@
 -- The date and the time of day that a day number and a moment stand for, and how they are written.
-use Rattle.std.specs.Prelude.{◌≡◌, ℕ, zero, suc, ◌+◌, ◌/◌, ◌%◌, ◌≤◌, Bool, List, [], ◌∷◌, ◌++◌, codes, ℤ, pos, ◌-ℤ◌, int_le, unsigned_abs, if◌then◌else◌}
+use Rattle.std.specs.Prelude.{◌≡◌, ℕ, zero, suc, ◌+◌, ◌/◌, ◌%◌, ◌≤◌, Bool, List, [], ◌∷◌, ◌++◌, codes, ℤ, pos, ◌+ℤ◌, ◌-ℤ◌, int_le, unsigned_abs, Option, Some, None, bytes_eq, if◌then◌else◌}
 use Rattle.std.specs.Int.{int_div_euclid, int_rem_euclid}
 use Rattle.jiff_core.specs.Calendar.{days_from_civil, IsCivilDate}
 use Rattle.hippo_values.specs.Moments.{day_seconds, IsDayNumber, IsMoment}
@@ -63,6 +63,13 @@ unfoldable pub moment_text : ℤ → List ℕ
 moment_text second =
     day_text (int_div_euclid second (pos day_seconds))
     ++ time_text (unsigned_abs (int_rem_euclid second (pos day_seconds)))
+
+-- the number that a text writes, among so many from the first one on
+unfoldable pub written_among : (ℤ → List ℕ) → ℤ → ℕ → List ℕ → Option ℤ
+written_among text_of first zero text = None
+written_among text_of first (suc n) text =
+    if bytes_eq text (text_of (first +ℤ pos n)) then Some (first +ℤ pos n)
+    else written_among text_of first n text
 
 -- the text is this day as it is written
 abbrev pub IsDayText : List ℕ → ℤ → Type 0

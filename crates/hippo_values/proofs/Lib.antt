@@ -1,4 +1,5 @@
 pub mod AsciiLemmas
+pub mod CondLemmas
 pub mod OptionLemmas
 pub mod KeywordLemmas
-mod NamesLemmas
+pub mod NamesLemmas

@@ -38,12 +38,12 @@ truth_of true = True
 
 -- whether a comparison holds of two values that stand in this order
 abbrev pub is_allowed : CompareOp → Ordering → Bool
-is_allowed Eq order = is_eq order
-is_allowed Ne order = is_ne order
-is_allowed Lt order = is_lt order
-is_allowed Le order = is_le order
-is_allowed Gt order = is_gt order
-is_allowed Ge order = is_ge order
+is_allowed Eq = is_eq
+is_allowed Ne = is_ne
+is_allowed Lt = is_lt
+is_allowed Le = is_le
+is_allowed Gt = is_gt
+is_allowed Ge = is_ge
 
 -- what a comparison of two values says: unknown where one is null or their kinds differ, else by
 -- their order

@@ -160,19 +160,21 @@ const STARTS: [usize; 27] = [
     79, 80, 80,
 ];
 
-fn equals_folded(known: &str, word: &str) -> bool
+/// Whether a word is the known one, in whatever case.
+pub fn equals_folded(known: &str, word: &str) -> bool
     ensures { result ≡ bytes_eq (lower_case known.now) (lower_case word.now) }
 {
     known.eq_ignore_ascii_case(word)
 }
 
-fn find_word(table: &[(&str, Reserved)], word: &str) -> Option<Reserved>
+/// What a table of words says of the word, in whatever case it is written.
+pub fn find_word<T: Copy>(table: &[(&str, T)], word: &str) -> Option<T>
     ensures { result ≡ lookup (λ known. bytes_eq (lower_case known.now) (lower_case word.now))
         table.now }
 {
-    for (known, reserved) in table {
+    for (known, meaning) in table {
         if equals_folded(known, word) {
-            return Some(*reserved);
+            return Some(*meaning);
         }
     }
     None

@@ -45,3 +45,12 @@ impl Duplicate for usize {
         Ok(*self)
     }
 }
+
+impl<T: Duplicate + Drop> Duplicate for Option<T> {
+    fn copy(&self, alloc: Global) -> Result<Option<T>, Memory> {
+        match self {
+            None => Ok(None),
+            Some(value) => Ok(Some(value.copy(alloc)?)),
+        }
+    }
+}

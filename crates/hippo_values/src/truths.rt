@@ -48,7 +48,9 @@ pub fn truth_not(a: Truth) -> Truth
     }
 }
 
-fn is_allowed(op: CompareOp, order: Ordering) -> bool
+/// Whether a comparison holds of two values that stand in this order.
+#[inline]
+pub fn is_allowed(op: CompareOp, order: Ordering) -> bool
     ensures { result ≡ is_allowed op order }
 {
     match op {

@@ -1,0 +1,7 @@
+-- A function of what stands under a test.
+use Rattle.std.proofs.Common.{◌≡◌, Bool, true, false, cond, refl}
+
+-- a function of one of two things is one of its two values
+pub on_cond : {A B : Type 0} (f : A → B) (test : Bool) (x y : A) → f (cond test x y) ≡ cond test (f x) (f y)
+on_cond f true x y = refl
+on_cond f false x y = refl
