@@ -1,6 +1,6 @@
 -- A table's rows as they are kept: in the order of their keys, each with the moment at which it was
 -- born.
-use Rattle.std.specs.Prelude.{◌≡◌, ◌≤◌, List, [], ◌∷◌, length, Option, None, Some, if◌then◌else◌, find, position, slice_get, unwrap_or}
+use Rattle.std.specs.Prelude.{◌≡◌, ◌≤◌, List, [], ◌∷◌, length, Option, None, Some, if◌then◌else◌, find, position, slice_get, unwrap_or, Result, IsOk, OnOk, OnErr}
 use Rattle.std.specs.Option.{IsSome}
 use Rattle.std.specs.List.{insert}
 use Rattle.std.specs.Ordering.{match_ordering}
@@ -8,6 +8,7 @@ use Rattle.std.specs.declared.cmp.Ordering.TheVariants.{Less}
 use Rattle.hippo_model.specs.declared.born_row.BornRow.{BornRow}
 use Rattle.hippo_model.specs.declared.schema.Schema.{Schema}
 use Rattle.hippo_model.specs.Terms.{History, Key, Place, Row}
+use Rattle.hippo_values.specs.declared.memory.Memory.{Memory}
 use Rattle.hippo_values.specs.declared.moments.Moment.{Moment}
 use Rattle.hippo_values.specs.Moments.{first_moment}
 use Rattle.hippo_values.specs.Order.{cells_cmp, same_cells}
@@ -76,6 +77,14 @@ row_at_place rows place = unwrap_or (slice_get rows place) blank
 -- the value in a column of the row at a place; null where there is none
 abbrev pub value_at_place : KeyedRows → Place → Place → Value
 value_at_place set column place = cell_at (row_at_place set.rows place).row column
+
+-- what putting a row in comes to: it stands instead of one with its key; nothing where memory is
+-- short, which it never is over a row with the key
+pub record Puts (kept : BornRow) (old new : KeyedRows) (result : Result (Unit {0}) Memory)
+    : Type 0 where
+  pub ok : OnOk result (new ≡ with_row kept old)
+  pub err : OnErr result (new ≡ old)
+  pub replaces : IsSome (find_row old.key (key_in old.key kept) old.rows) → IsOk result
 
 -- no row of a set has a row's key, and once it is put in, the row stands at a place
 pub record IsFree (set : KeyedRows) (row : Row) (place : Place) : Type 0 where

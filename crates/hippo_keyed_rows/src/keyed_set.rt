@@ -1,5 +1,5 @@
 //! A table's rows in the order of their keys.
-ghost use Rattle.std.specs.Prelude.{◌≡◌, List, ◌∷◌, ◌<◌, ◌≤◌, ◌↔◌, [], true, length, map, option_map, slice_get, Some, IsTrue, OnOk, OnErr, IsOk, IsSome, IfSome, MatchOption};
+ghost use Rattle.std.specs.Prelude.{◌≡◌, List, ◌∷◌, ◌<◌, ◌≤◌, ◌↔◌, [], true, length, map, option_map, slice_get, Some, IsTrue, OnOk, OnErr, IsSome, IfSome, MatchOption};
 ghost use Rattle.std.specs.List.Sorted.{IsSearchInRange, IsBinarySearchResult};
 ghost use Rattle.std.specs.declared.cmp.Ordering.TheVariants.{Equal};
 ghost use Rattle.hippo_values.specs.Order.{value_cmp, cells_cmp};
@@ -8,7 +8,7 @@ ghost use Rattle.hippo_model.specs.Rows.{cell_at, key_of};
 ghost use Rattle.hippo_keyed_rows.specs.Pieces.{begins_low, ends_below, PartsLow};
 ghost use Rattle.hippo_model.specs.Terms.{Place};
 ghost use Rattle.hippo_keyed_rows.specs.Searches.{key_sought, sought_order};
-ghost use Rattle.hippo_keyed_rows.specs.RowSets.{IsAscending, IsFree, key_in, with_row, without_row, find_row};
+ghost use Rattle.hippo_keyed_rows.specs.RowSets.{IsAscending, IsFree, key_in, with_row, without_row, find_row, Puts};
 
 use crate::pieces::{Piece, Pieces, start};
 use hippo_model::{BornRow, Cells, Places};
@@ -303,11 +303,7 @@ impl KeyedSet {
     /// Puts a row at its place in the order of keys, instead of a row with its key. The set is
     /// unchanged where memory is short, which it never is over a row with the key.
     pub fn put(&mut self, row: Cells, born: Moment) -> Result<(), Memory>
-        ensures ok { OnOk result (self.new
-            ≡ with_row (record { row = row; born = born }) self.old) }
-        ensures err { OnErr result (self.new ≡ self.old) }
-        ensures replaces { IsSome (find_row self.old.key (key_of self.old.key row) self.old.rows)
-            → IsOk result }
+        ensures { Puts (record { row = row; born = born }) self.old self.new result }
     {
         let sought = Sought::Row(row.as_slice());
         match search(&self.rows, self.key.as_slice(), &sought) {
@@ -440,13 +436,5 @@ impl KeyedSet {
         ensures { slice_get self.now.rows place ≡ Some result.now }
     {
         self.rows.get(place)
-    }
-
-    /// The moment at which the row at a place was born.
-    pub fn born(&self, place: usize) -> Moment
-        requires { place < length self.now.rows }
-        ensures { option_map (λ kept. kept.born) (slice_get self.now.rows place) ≡ Some result }
-    {
-        self.rows.get(place).born
     }
 }

@@ -61,13 +61,16 @@ module _ (set : KeyedRows) (column : Place) (values : List Value) (places : List
   pub parted-below : IsPartitionedBy (λ own. is_lt (order_of own)) values
   parted-below i j d le within less = lower_less (order_of (slice_index_or values i d)) (order_of (slice_index_or values j d)) (rising_values i j d le within) less
 
+  equal_at : (k : ℕ) (d : Value) → k < length places → order_of (value_of (get_or places k 0)) ≡ Equal → order_of (get_or values k d) ≡ Equal
+  equal_at k d inside equal = ap order_of (at k d inside) ∙ equal
+
   -- a value that is equal is not among those below
   pub from-start : (start : ℕ) → IsPartitionPoint (λ own. is_lt (order_of own) ≡ true) (λ own. is_lt (order_of own) ≡ false) values start
       → (k : ℕ) → k < length places → order_of (value_of (get_or places k 0)) ≡ Equal → start ≤ k
   from-start start point k within equal = elim (cases_lt k start) as (λ _. start ≤ k) [
     | inl below ↦
         let less : is_lt (order_of (get_or values k value)) ≡ true = point.0 k value (omega arith) below in
-        absurd (false≢true (sym (ap is_lt (ap order_of (at k value within) ∙ equal)) ∙ less))
+        absurd (false≢true (sym (ap is_lt (equal_at k value within equal)) ∙ less))
     | inr above ↦ above
   ]
 
@@ -76,10 +79,7 @@ module _ (set : KeyedRows) (column : Place) (values : List Value) (places : List
       → (k : ℕ) → k < length places → order_of (value_of (get_or places k 0)) ≡ Equal → last < k
   behind-below last d within below k inside equal = elim (cases_lt last k) as (λ _. last < k) [
     | inl above ↦ above
-    | inr before ↦
-        let same : order_of (get_or values k d) ≡ Equal = ap order_of (at k d inside) ∙ equal in
-        let lower = rising_values k last d before within in
-        absurd (false≢true (sym (ap is_lt same) ∙ lower_less (order_of (get_or values k d)) (order_of (get_or values last d)) lower below))
+    | inr before ↦ absurd (false≢true (sym (ap is_lt (equal_at k d inside equal)) ∙ lower_less (order_of (get_or values k d)) (order_of (get_or values last d)) (rising_values k last d before within) below))
   ]
 
   -- nor behind one that is above
@@ -88,9 +88,8 @@ module _ (set : KeyedRows) (column : Place) (values : List Value) (places : List
   before-end end d within above k inside equal = elim (cases_lt k end) as (λ _. k < end) [
     | inl below ↦ below
     | inr after ↦
-        let same : order_of (get_or values k d) ≡ Equal = ap order_of (at k d inside) ∙ equal in
         let later = rising_values end k d after (omega (arith, inside, long)) in
-        absurd (false≢true (sym above ∙ lower_within (order_of (get_or values end d)) (order_of (get_or values k d)) later (ap is_le same)))
+        absurd (false≢true (sym above ∙ lower_within (order_of (get_or values end d)) (order_of (get_or values k d)) later (ap is_le (equal_at k d inside equal))))
   ]
 
   pub before-all : (k : ℕ) → k < length places → k < length values

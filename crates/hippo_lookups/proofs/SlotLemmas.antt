@@ -1,9 +1,10 @@
 -- Rows that are chosen, and combinations that agree with them.
-use Rattle.std.proofs.Common.{◌≡◌, ℕ, zero, suc, ◌+◌, ◌≤◌, true, false, ◌&&◌, List, [], ◌∷◌, ◌++◌, map, length, drop, refl, sym, ap, ◌∙◌, arith, Option, Some, None, unwrap_or, add-one, append_assoc, subst, not, nat_lt, int_le}
+use Rattle.std.proofs.Common.{◌≡◌, ℕ, zero, suc, ◌+◌, ◌<◌, ◌≤◌, Bool, true, false, ◌&&◌, List, [], ◌∷◌, ◌++◌, map, length, drop, refl, sym, ap, ◌∙◌, arith, Option, Some, None, unwrap_or, add-one, append_assoc, subst, not, nat_lt, int_le, get_or}
 use Rattle.std.specs.Prelude.{slice_get}
 use Rattle.std.specs.Prelude.{replicate, slice_set}
 use Rattle.std.specs.Option.{option_map_or}
-use Rattle.std.proofs.lemmas.Bool.{and_parts, false≢true}
+use Rattle.std.proofs.lemmas.Bool.{and_parts, and_from, false≢true}
+use Rattle.std.proofs.lemmas.Bool.Decides.{nat_tests}
 use Rattle.std.proofs.Math.Seq.{drop-nil}
 use Rattle.std.proofs.lemmas.List.{append-nil, drop_all, set-set}
 use Rattle.hippo_values.specs.declared.values.Value.TheVariants.{Null as NullValue}
@@ -17,7 +18,7 @@ use Rattle.hippo_keyed_rows.specs.RowSets.{KeyedRows}
 use Rattle.hippo_model.specs.Rows.{cell_at}
 use Rattle.hippo_model.specs.Masking.{Choices, raw_value, is_younger, masked_cell, agrees_by, shown_if}
 use Rattle.hippo_model.specs.Verdicts.{number_in}
-use Rattle.hippo_lookups.specs.Places.{blank, row_at_place, slot_at, rows_at, chosen_rows, Fits, in_range}
+use Rattle.hippo_lookups.specs.Places.{blank, row_at_place, slot_at, rows_at, chosen_rows, Fits, are_there, in_range}
 use Rattle.hippo_lookups.specs.Known.{is_chosen, knows_expr}
 
 -- nothing is chosen: all combinations of the right length fit
@@ -164,3 +165,67 @@ pub rows-renewed : (sets : List KeyedRows) (slots : List (Option Place)) (table 
 rows-renewed sets slots table set rows row at is same =
     sym (set-set rows table blank row) ∙ ap (λ (some : Combination). slice_set some table row) same ∙ set-set (rows_at sets slots) table blank row
     ∙ ap (λ (own : BornRow). slice_set (rows_at sets slots) table own) is ∙ rows-own sets slots table set at
+
+-- the rows, once that at a place of a table is chosen
+pub rows-chosen : (sets : List KeyedRows) (slots : List (Option Place)) (table place : ℕ) (set : KeyedRows) → slice_get sets table ≡ Some set → table < length slots → slice_set (rows_at sets slots) table (row_at_place set.rows place) ≡ rows_at sets (slice_set slots table (Some place))
+rows-chosen [] slots table place set at within = absurd cc
+rows-chosen (first ∷ sets) [] table place set at within = absurd (omega arith)
+rows-chosen (first ∷ sets) (slot ∷ slots) zero place set at within = ap (λ (s : KeyedRows). row_at_place s.rows place ∷ rows_at sets slots) (sym (one at))
+  where
+    one : {A : Type 0} {a b : A} → Some a ≡ Some b → a ≡ b
+    one e = cc
+rows-chosen (first ∷ sets) (slot ∷ slots) (suc table) place set at within = ap (λ (rows : Combination). option_map_or (row_at_place first.rows) slot blank ∷ rows) (rows-chosen sets slots table place set at (omega arith))
+
+-- ---- places that are there
+abbrev slot_there : KeyedRows → Option Place → Bool
+slot_there set slot = option_map_or (λ place. nat_lt place (length set.rows)) slot true
+
+pub there-none : (sets : List KeyedRows) (n : ℕ) → are_there sets (replicate n None) ≡ true
+there-none [] n = refl
+there-none (set ∷ sets) zero = refl
+there-none (set ∷ sets) (suc n) = there-none sets n
+
+-- where each place is chosen, it is whether all are in range
+pub there-whole : (sets : List KeyedRows) (places : List Place) → length places ≡ length sets → are_there sets (map Some places) ≡ in_range sets places
+there-whole [] [] long = refl
+there-whole [] (place ∷ places) long = absurd (omega arith)
+there-whole (set ∷ sets) [] long = absurd (omega arith)
+there-whole (set ∷ sets) (place ∷ places) long = let shorter : length places ≡ length sets = omega arith in ap (λ b. nat_lt place (length set.rows) && b) (there-whole sets places shorter)
+
+-- places of a combination that is there
+pub there-fits : (sets : List KeyedRows) (slots : List (Option Place)) (places : List Place) → Fits slots places → in_range sets places ≡ true → are_there sets slots ≡ true
+there-fits [] slots places fits within = refl
+there-fits (set ∷ sets) [] places fits within = refl
+there-fits (set ∷ sets) (slot ∷ slots) [] fits within = absurd fits
+there-fits (set ∷ sets) (None ∷ slots) (place ∷ places) fits within = there-fits sets slots places fits (and_parts (nat_lt place (length set.rows)) (in_range sets places) within).1
+there-fits (set ∷ sets) (Some fixed ∷ slots) (place ∷ places) fits within =
+    let both = and_parts (nat_lt place (length set.rows)) (in_range sets places) within in
+    and_from (nat_lt fixed (length set.rows)) (are_there sets slots) (ap (λ (p : Place). nat_lt p (length set.rows)) fits.0 ∙ both.0) (there-fits sets slots places fits.1 both.1)
+
+-- one place more that is there
+pub there-set : (sets : List KeyedRows) (slots : List (Option Place)) (table place : ℕ) (set : KeyedRows) → slice_get sets table ≡ Some set → place < length set.rows → are_there sets slots ≡ true → are_there sets (slice_set slots table (Some place)) ≡ true
+there-set [] slots table place set at within there = refl
+there-set (first ∷ sets) [] zero place set at within there = refl
+there-set (first ∷ sets) [] (suc table) place set at within there = refl
+there-set (first ∷ sets) (slot ∷ slots) zero place set at within there =
+    let test : nat_lt place (length set.rows) ≡ true = grind (arith, nat_tests) in
+    and_from (nat_lt place (length first.rows)) (are_there sets slots) (ap (λ (s : KeyedRows). nat_lt place (length s.rows)) (one at) ∙ test) (and_parts (slot_there first slot) (are_there sets slots) there).1
+  where
+    one : {A : Type 0} {a b : A} → Some a ≡ Some b → a ≡ b
+    one e = cc
+there-set (first ∷ sets) (slot ∷ slots) (suc table) place set at within there =
+    let both = and_parts (slot_there first slot) (are_there sets slots) there in
+    and_from (slot_there first slot) (are_there sets (slice_set slots table (Some place))) both.0 (there-set sets slots table place set at within both.1)
+
+-- a loop over the tables
+pub there-more : (sets : List KeyedRows) (slots : List (Option Place)) (i : ℕ) (set : KeyedRows) (slot d : Option Place) → slice_get sets i ≡ Some set → i < length slots → slot ≡ get_or slots i d → are_there (drop i sets) (drop i slots) ≡ (slot_there set slot && are_there (drop (i + 1) sets) (drop (i + 1) slots))
+there-more sets slots i set slot d at within is = rw (add-one i) (stage sets slots i set slot at within is)
+  where
+    one : {A : Type 0} {a b : A} → Some a ≡ Some b → a ≡ b
+    one e = cc
+
+    stage : (sets : List KeyedRows) (slots : List (Option Place)) (i : ℕ) (set : KeyedRows) (slot : Option Place) → slice_get sets i ≡ Some set → i < length slots → slot ≡ get_or slots i d → are_there (drop i sets) (drop i slots) ≡ (slot_there set slot && are_there (drop (suc i) sets) (drop (suc i) slots))
+    stage [] slots i set slot at within is = absurd cc
+    stage (first ∷ sets) [] i set slot at within is = absurd (omega arith)
+    stage (first ∷ sets) (own ∷ slots) zero set slot at within is = λ j. slot_there (one at j) (sym is j) && are_there sets slots
+    stage (first ∷ sets) (own ∷ slots) (suc i) set slot at within is = stage sets slots i set slot at (omega arith) is

@@ -1,6 +1,7 @@
 -- Rows of a table in the order of one of its columns.
-use Rattle.std.specs.Prelude.{◌≡◌, List, map}
+use Rattle.std.specs.Prelude.{◌≡◌, ℕ, ◌<◌, List, get_or, length, map}
 use Rattle.std.specs.List.Sorted.{IsSortedByKey}
+use Rattle.std.specs.declared.cmp.Ordering.TheVariants.{Equal}
 use Rattle.hippo_values.specs.declared.values.Value.{Value}
 use Rattle.hippo_values.specs.Order.{value_cmp}
 use Rattle.hippo_model.specs.Terms.{Place}
@@ -16,3 +17,10 @@ pub record IsIndex (set : KeyedRows) (column : Place) (values : List Value) (pla
     : Type 0 where
   pub are : values ≡ map (value_at_place set column) places
   pub rise : IsByColumn set column places
+
+-- a fact of each place in an index at which a value is equal to another one
+abbrev pub HoldsOfEqual : List Value → Value → (ℕ → Type 0) → Type 0
+HoldsOfEqual values value holds =
+    (set : KeyedRows) (column : Place) (places : List Place) → IsIndex set column values places
+    → (k : ℕ) → k < length places
+    → value_cmp (value_at_place set column (get_or places k 0)) value ≡ Equal → holds k

@@ -39,6 +39,13 @@ in_range [] (place ∷ places) = false
 in_range (set ∷ sets) [] = false
 in_range (set ∷ sets) (place ∷ places) = nat_lt place (length set.rows) && in_range sets places
 
+-- whether each place that is chosen is one of its table's
+abbrev pub are_there : List KeyedRows → List (Option Place) → Bool
+are_there [] slots = true
+are_there (set ∷ sets) [] = true
+are_there (set ∷ sets) (slot ∷ slots) =
+    option_map_or (λ place. nat_lt place (length set.rows)) slot true && are_there sets slots
+
 -- all combinations, by their places
 abbrev pub places_of : List KeyedRows → List (List Place)
 places_of sets = product (map (λ set. range_with_len 0 (length set.rows)) sets)

@@ -99,29 +99,8 @@ fn places_with(
     set.places_within(alloc, column, end, end)
 }
 
-// Adds those that it finds, and answers whether rows are found by the column.
-fn add_with(
-    alloc: Global,
-    set: &RowSet,
-    column: usize,
-    value: &Value,
-    places: &mut Vec<usize>,
-) -> Result<bool, Memory>
-    ensures kept { OnOk result ((place : Place) → Contains places.old.items place
-        → Contains places.new.items place) }
-    ensures added { IfOk result (λ found. found ≡ true → (place : Place)
-        → place < length set.now.rows
-        → value.now ≡ value_at_place set.now column place → Contains places.new.items place) }
-{
-    let found = places_with(alloc, set, column, value)?;
-    let Some(more) = found else {
-        return Ok(false);
-    };
-    places.extend_from_slice(more.as_slice())?;
-    Ok(true)
-}
-
-// Adds the places that are found by an item of a list; none are found by one that is no literal.
+// Adds the places that are found by an item of a list, and answers whether rows are found by it;
+// none are by one that is no literal.
 fn add_item(
     alloc: Global,
     set: &RowSet,
@@ -136,10 +115,15 @@ fn add_item(
         → item.now ≡ Literal (value_at_place set.now column place)
         → Contains places.new.items place) }
 {
-    match item {
-        Expr::Literal(value) => add_with(alloc, set, column, value, places),
-        _ => Ok(false),
-    }
+    let Expr::Literal(value) = item else {
+        return Ok(false);
+    };
+    let found = places_with(alloc, set, column, value)?;
+    let Some(more) = found else {
+        return Ok(false);
+    };
+    places.extend_from_slice(more.as_slice())?;
+    Ok(true)
 }
 
 /// The places of rows that a column finds by the values of a list.

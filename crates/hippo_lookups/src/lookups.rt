@@ -1,5 +1,5 @@
 //! Rows of a table in the order of one of its columns.
-ghost use Rattle.std.specs.Prelude.{◌≡◌, ◌<◌, ◌≤◌, ℕ, List, true, IfOk, MatchOption, get_or, length, map, option_copied, unwrap_or};
+ghost use Rattle.std.specs.Prelude.{◌≡◌, ◌<◌, ◌≤◌, true, IfOk, MatchOption, map, option_copied, unwrap_or};
 ghost use Rattle.std.specs.List.{Contains};
 ghost use Rattle.std.specs.List.Sorted.{IsPermutation, IsSorted};
 ghost use Rattle.std.specs.Ordering.{is_lt, is_le};
@@ -9,7 +9,7 @@ ghost use Rattle.hippo_values.specs.Order.{value_cmp};
 ghost use Rattle.hippo_model.specs.Conditions.{is_null};
 ghost use Rattle.hippo_model.specs.Terms.{Place};
 ghost use Rattle.hippo_keyed_rows.specs.RowSets.{KeyedRows};
-ghost use Rattle.hippo_lookups.specs.Lookups.{value_at_place, IsByColumn, IsIndex};
+ghost use Rattle.hippo_lookups.specs.Lookups.{value_at_place, HoldsOfEqual, IsByColumn, IsIndex};
 
 use hippo_rows::RowSet;
 use hippo_values::{Duplicate, Memory, Value};
@@ -190,22 +190,14 @@ pub fn index_by_column(
 
 // Where those of some values begin, by their order, that are not below one; it is found by halves.
 fn start_with(values: &[Value], value: &Value) -> usize
-    ensures { (set : KeyedRows) (column : Place) (places : List Place)
-        → IsIndex set column values.now places
-        → (k : ℕ) → k < length places → value_cmp (value_at_place set column (get_or places k 0))
-        value.now ≡ Equal
-        → result ≤ k }
+    ensures { HoldsOfEqual values.now value.now (λ k. result ≤ k) }
 {
     values.partition_point(|own| is_below(own, value))
 }
 
 // Whether the value at a place is there and below another one.
 fn is_below_at(values: &[Value], place: usize, value: &Value) -> bool
-    ensures { result ≡ true → (set : KeyedRows) (column : Place) (places : List Place)
-        → IsIndex set column values.now places
-        → (k : ℕ) → k < length places → value_cmp (value_at_place set column (get_or places k 0))
-        value.now ≡ Equal
-        → place < k }
+    ensures { result ≡ true → HoldsOfEqual values.now value.now (λ k. place < k) }
 {
     if place < values.len() {
         is_below(&values[place], value)
@@ -216,11 +208,7 @@ fn is_below_at(values: &[Value], place: usize, value: &Value) -> bool
 
 // Whether the value at a place is above another one, or none is there.
 fn is_above_at(values: &[Value], place: usize, value: &Value) -> bool
-    ensures { result ≡ true → (set : KeyedRows) (column : Place) (places : List Place)
-        → IsIndex set column values.now places
-        → (k : ℕ) → k < length places → value_cmp (value_at_place set column (get_or places k 0))
-        value.now ≡ Equal
-        → k < place }
+    ensures { result ≡ true → HoldsOfEqual values.now value.now (λ k. k < place) }
 {
     if place < values.len() {
         !is_within(&values[place], value)
@@ -231,22 +219,14 @@ fn is_above_at(values: &[Value], place: usize, value: &Value) -> bool
 
 // Whether a place is the first, or the value before it is below another one.
 fn begins_at(values: &[Value], place: usize, value: &Value) -> bool
-    ensures { result ≡ true → (set : KeyedRows) (column : Place) (places : List Place)
-        → IsIndex set column values.now places
-        → (k : ℕ) → k < length places → value_cmp (value_at_place set column (get_or places k 0))
-        value.now ≡ Equal
-        → place ≤ k }
+    ensures { result ≡ true → HoldsOfEqual values.now value.now (λ k. place ≤ k) }
 {
     place == 0 || is_below_at(values, place - 1, value)
 }
 
 // Where they begin, which is tried near a place first, since look-ups often rise.
 fn start_near(values: &[Value], near: usize, value: &Value) -> usize
-    ensures { (set : KeyedRows) (column : Place) (places : List Place)
-        → IsIndex set column values.now places
-        → (k : ℕ) → k < length places → value_cmp (value_at_place set column (get_or places k 0))
-        value.now ≡ Equal
-        → result ≤ k }
+    ensures { HoldsOfEqual values.now value.now (λ k. result ≤ k) }
 {
     if begins_at(values, near, value) && !is_below_at(values, near, value) {
         near
@@ -257,11 +237,7 @@ fn start_near(values: &[Value], near: usize, value: &Value) -> usize
 
 // Where those from a place on end that are not above it.
 fn end_with(values: &[Value], start: usize, value: &Value) -> usize
-    ensures { (set : KeyedRows) (column : Place) (places : List Place)
-        → IsIndex set column values.now places
-        → (k : ℕ) → k < length places → value_cmp (value_at_place set column (get_or places k 0))
-        value.now ≡ Equal
-        → k < result }
+    ensures { HoldsOfEqual values.now value.now (λ k. k < result) }
 {
     for end in start..values.len() {
         if !is_within(&values[end], value) {
@@ -273,11 +249,7 @@ fn end_with(values: &[Value], start: usize, value: &Value) -> usize
 
 // Whether a value is equal to the one at a place alone, of some that rise.
 fn is_only_at(values: &[Value], place: usize, value: &Value) -> bool
-    ensures { result ≡ true → (set : KeyedRows) (column : Place) (places : List Place)
-        → IsIndex set column values.now places
-        → (k : ℕ) → k < length places → value_cmp (value_at_place set column (get_or places k 0))
-        value.now ≡ Equal
-        → k ≡ place }
+    ensures { result ≡ true → HoldsOfEqual values.now value.now (λ k. k ≡ place) }
 {
     if place >= values.len() || !is_same(&values[place], value) {
         return false;

@@ -23,17 +23,10 @@ some_is e = cc
 
 -- ---- the order of keys is that of their first values
 
-low_less : (past : Bool) → is_low past Less ≡ true
-low_less false = refl
-low_less true = refl
-
-low_equal : (past : Bool) → is_low past Equal ≡ past
-low_equal false = refl
-low_equal true = refl
-
-low_greater : (past : Bool) → is_low past Greater ≡ false
-low_greater false = refl
-low_greater true = refl
+-- lesser ones are before an end, greater ones are not, and equal ones are where they are passed
+low_of : (past : Bool) → (is_low past Less ≡ true) × (is_low past Equal ≡ past) × (is_low past Greater ≡ false)
+low_of false = (refl, refl, refl)
+low_of true = (refl, refl, refl)
 
 then_equal : (o : Ordering) → ordering_then o Equal ≡ o
 then_equal Less = refl
@@ -50,9 +43,9 @@ first-low past x y v r s t rest le low =
     ] refl le
   where
     less : value_cmp x y ≡ Less → (o : Ordering) → value_cmp y v ≡ o → is_low past (ordering_then o s) ≡ true → is_low past (ordering_then (value_cmp x v) t) ≡ true
-    less e Less d low = subst (λ (o : Ordering). is_low past (ordering_then o t) ≡ true) (sym (value_total.trans x y v e d)) (low_less past)
-    less e Equal d low = subst (λ (o : Ordering). is_low past (ordering_then o t) ≡ true) (sym (sym (alike_right value_total y v x d) ∙ e)) (low_less past)
-    less e Greater d low = absurd (false≢true (sym (low_greater past) ∙ low))
+    less e Less d low = subst (λ (o : Ordering). is_low past (ordering_then o t) ≡ true) (sym (value_total.trans x y v e d)) (low_of past).0
+    less e Equal d low = subst (λ (o : Ordering). is_low past (ordering_then o t) ≡ true) (sym (sym (alike_right value_total y v x d) ∙ e)) (low_of past).0
+    less e Greater d low = absurd (false≢true (sym ((low_of past).2) ∙ low))
 
     equal : is_le r ≡ true → (o : Ordering) → is_low past (ordering_then o s) ≡ true → is_low past (ordering_then o t) ≡ true
     equal le Less low = low
@@ -153,7 +146,7 @@ low-bounded true true Greater e = absurd (false≢true e)
 
 pub front-edge : (set : KeyedRows) (front : Key) (column : Place) (above : Bool) (edge : Place) → ((place : Place) → place < length set.rows → stands_low set front above place ≡ nat_lt place edge) → IsEdge set front column above None edge
 front-edge set front column above edge splits place within begins keeps =
-    sym (splits place within) ∙ ap (is_low above) (at-front (cell_at (row_at_place set.rows place).row) set.key front begins) ∙ low_equal above
+    sym (splits place within) ∙ ap (is_low above) (at-front (cell_at (row_at_place set.rows place).row) set.key front begins) ∙ (low_of above).1
 
 pub bounded-edge : (set : KeyedRows) (front values : Key) (column : Place) (above : Bool) (bound : Bound) (edge : Place) → slice_get set.key (length front) ≡ Some column → values ≡ front ++ bound.value.now ∷ []
     → ((place : Place) → place < length set.rows → stands_low set values (is_past above bound.strict) place ≡ nat_lt place edge) → IsEdge set front column above (Some bound) edge

@@ -1,6 +1,7 @@
 -- Rows that stand between two ends in the order of their keys, by the first values of the key and
 -- by what bounds the next.
-use Rattle.std.specs.Prelude.{◌≡◌, ◌<◌, Bool, true, false, not, nat_lt, [], ◌∷◌, length, take, Option, IfSome}
+use Rattle.std.specs.Prelude.{◌≡◌, ◌<◌, Bool, true, false, not, if◌then◌else◌, nat_lt, List, [], ◌∷◌, length, take, Option, IfSome}
+use Rattle.std.specs.List.{All, Contains}
 use Rattle.std.specs.Ordering.{is_lt, is_le, ordering_then}
 use Rattle.std.specs.declared.cmp.Ordering.{Ordering}
 use Rattle.std.specs.declared.cmp.Ordering.TheVariants.{Equal}
@@ -42,8 +43,7 @@ bounding true true = Lt
 
 -- whether the values that are equal to a bound stand before the end that it makes
 abbrev pub is_past : Bool → Bool → Bool
-is_past false strict = strict
-is_past true strict = not strict
+is_past above strict = if above then not strict else strict
 
 -- a value within a bound, if there is one
 abbrev pub KeepsBound : Bool → Option Bound → Value → Type 0
@@ -62,3 +62,13 @@ abbrev pub IsEdge : KeyedRows → Key → Place → Bool → Option Bound → Pl
 IsEdge set front column above bound edge =
     (place : Place) → place < length set.rows → HasFront set front place
     → KeepsBound above bound (value_at_place set column place) → nat_lt place edge ≡ above
+
+-- places of rows, among them all whose value in a column is within two bounds
+pub record HasAllWithin
+    (set : KeyedRows) (column : Place) (low high : Option Bound) (places : List Place)
+    : Type 0 where
+  pub range : All (λ place. place < length set.rows) places
+  pub all : (place : Place) → place < length set.rows
+      → KeepsBound false low (value_at_place set column place)
+      → KeepsBound true high (value_at_place set column place)
+      → Contains places place

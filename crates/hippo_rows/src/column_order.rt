@@ -9,8 +9,8 @@ ghost use Rattle.hippo_values.specs.declared.moments.Moment.{Moment};
 ghost use Rattle.hippo_model.specs.declared.born_row.BornRow.{BornRow};
 ghost use Rattle.hippo_model.specs.Terms.{Place};
 ghost use Rattle.hippo_model.specs.Rows.{cell_at, key_of};
-ghost use Rattle.hippo_keyed_rows.specs.RowSets.{KeyedRows, with_row, without_row, find_row, value_at_place};
-ghost use Rattle.hippo_rows.specs.Ranges.{IsEdge, KeepsBound};
+ghost use Rattle.hippo_keyed_rows.specs.RowSets.{KeyedRows, with_row, without_row, find_row};
+ghost use Rattle.hippo_rows.specs.Ranges.{HasAllWithin, IsEdge};
 ghost use Rattle.hippo_rows.specs.ColumnOrders.{order_key, AreOrderKeysOf, AreEntered, AreGathered, IsOrderOf, AreOrdersOf, AreReadyFor, IsReadyFor};
 
 use crate::ranges::{Bound, ends_within};
@@ -302,8 +302,9 @@ fn fill(
 {
     let key = set.key().as_slice();
     for place in places {
-        let row = set.row(*place).as_slice();
-        enter(alloc, column, key, row, set.born(*place), entries)?;
+        let kept = set.born_row(*place);
+        let row = kept.row.as_slice();
+        enter(alloc, column, key, row, kept.born, entries)?;
     }
     Ok(())
 }
@@ -447,12 +448,8 @@ pub(crate) fn places_among(
     high: Option<Bound<'_>>,
 ) -> Result<Vec<usize>, Memory>
     requires { AreOrderKeysOf column set.now entries.now }
-    ensures range { IfOk result (λ places. All
-        (λ place. place < length set.now.rows) places.items) }
-    ensures all { IfOk result (λ places. (place : Place) → place < length set.now.rows
-        → KeepsBound false low.entry (value_at_place set.now column place)
-        → KeepsBound true high.entry (value_at_place set.now column place)
-        → Contains places.items place) }
+    ensures { IfOk result (λ places. HasAllWithin set.now column low.entry high.entry
+        places.items) }
 {
     let mut places = Vec::new(alloc);
     if set.is_empty() {

@@ -4,8 +4,7 @@ ghost use Rattle.std.specs.Prelude.{◌≡◌, ◌<◌, ◌≤◌, [], true, fal
 ghost use Rattle.std.specs.List.{All, Contains};
 ghost use Rattle.hippo_model.specs.Terms.{Place};
 ghost use Rattle.hippo_model.specs.Rows.{key_of};
-ghost use Rattle.hippo_keyed_rows.specs.RowSets.{value_at_place};
-ghost use Rattle.hippo_rows.specs.Ranges.{front_cmp, is_low, is_past, stands_low, IsEdge, KeepsBound};
+ghost use Rattle.hippo_rows.specs.Ranges.{front_cmp, is_low, is_past, stands_low, HasAllWithin, IsEdge};
 
 use hippo_keyed_rows::{KeyedSet, cell_order};
 use hippo_values::{Memory, Value};
@@ -166,12 +165,8 @@ pub(crate) fn own_places(
     high: Option<Bound<'_>>,
 ) -> Result<Vec<usize>, Memory>
     requires { slice_get set.now.key 0 ≡ Some column }
-    ensures range { IfOk result (λ places. All
-        (λ place. place < length set.now.rows) places.items) }
-    ensures all { IfOk result (λ places. (place : Place) → place < length set.now.rows
-        → KeepsBound false low.entry (value_at_place set.now column place)
-        → KeepsBound true high.entry (value_at_place set.now column place)
-        → Contains places.items place) }
+    ensures { IfOk result (λ places. HasAllWithin set.now column low.entry high.entry
+        places.items) }
 {
     let (start, end) = ends_within(set, column, low, high);
     let places = places_between(alloc, set, start, end)?;

@@ -1,10 +1,10 @@
 //! A table's rows in the order of their keys, with orders of them by other columns.
-ghost use Rattle.std.specs.Prelude.{◌≡◌, ◌<◌, ◌≤◌, ◌↔◌, [], true, false, length, map, nat_lt, option_map, slice_get, Some, IsTrue, OnOk, OnErr, IsOk, IsSome, IfOk, IfSome};
+ghost use Rattle.std.specs.Prelude.{◌≡◌, ◌<◌, ◌≤◌, ◌↔◌, [], true, false, length, map, nat_lt, option_map, slice_get, Some, IsTrue, OnErr, IfOk, IfSome};
 ghost use Rattle.std.specs.List.{All, Contains};
 ghost use Rattle.hippo_model.specs.Terms.{Place};
 ghost use Rattle.hippo_model.specs.Rows.{key_of};
 ghost use Rattle.hippo_rows.specs.Ranges.{stands_low, KeepsBound};
-ghost use Rattle.hippo_keyed_rows.specs.RowSets.{IsAscending, key_in, Inserts, with_row, without_row, find_row, value_at_place};
+ghost use Rattle.hippo_keyed_rows.specs.RowSets.{IsAscending, key_in, Inserts, Puts, with_row, without_row, find_row, value_at_place};
 
 use crate::column_order::{
     ColumnOrder, add_order, count_among, entries_by, entries_of, forget_in_orders, free_place,
@@ -56,11 +56,7 @@ impl RowSet {
     /// Puts a row at its place in the order of keys, instead of a row with its key. The set is
     /// unchanged where memory is short, which it never is over a row with the key.
     pub fn put(&mut self, row: Cells, born: Moment) -> Result<(), Memory>
-        ensures ok { OnOk result (self.new
-            ≡ with_row (record { row = row; born = born }) self.old) }
-        ensures err { OnErr result (self.new ≡ self.old) }
-        ensures replaces { IsSome (find_row self.old.key (key_of self.old.key row) self.old.rows)
-            → IsOk result }
+        ensures { Puts (record { row = row; born = born }) self.old self.new result }
     {
         let alloc = *self.orders.allocator();
         prepare_orders(alloc, &self.set, &row, born, self.orders.as_mut_slice());
@@ -245,7 +241,7 @@ impl RowSet {
         requires { place < length self.now.rows }
         ensures { option_map (λ kept. kept.born) (slice_get self.now.rows place) ≡ Some result }
     {
-        self.set.born(place)
+        self.born_row(place).born
     }
 }
 

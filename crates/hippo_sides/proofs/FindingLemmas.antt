@@ -28,19 +28,6 @@ use Rattle.hippo_sides.specs.Finding.{has_places, Covers, HasOnePlaceMore, AreFo
 use Rattle.hippo_sides.proofs.FoundLemmas.{has-both, or-cases}
 use Rattle.hippo_lookups.proofs.PlaceSteps.{map_push}
 
--- a test of places, one table after the other
-pub in_range-drop : (sets : List KeyedRows) (places : List Place) (i : ℕ) (set : KeyedRows) (place : Place) → slice_get sets i ≡ Some set → slice_get places i ≡ Some place → in_range (drop i sets) (drop i places) ≡ (nat_lt place (length set.rows) && in_range (drop (i + 1) sets) (drop (i + 1) places))
-in_range-drop sets places i set place at here = rw (add-one i) (stage sets places i set place at here)
-  where
-    some_is : {A : Type 0} {a b : A} → Some a ≡ Some b → a ≡ b
-    some_is e = cc
-
-    stage : (sets : List KeyedRows) (places : List Place) (i : ℕ) (set : KeyedRows) (place : Place) → slice_get sets i ≡ Some set → slice_get places i ≡ Some place → in_range (drop i sets) (drop i places) ≡ (nat_lt place (length set.rows) && in_range (drop (suc i) sets) (drop (suc i) places))
-    stage [] places i set place at here = absurd cc
-    stage (first ∷ sets) [] i set place at here = absurd cc
-    stage (first ∷ sets) (p ∷ places) zero set place at here = λ j. nat_lt (some_is here j) (length ((some_is at j).rows)) && in_range sets places
-    stage (first ∷ sets) (p ∷ places) (suc i) set place at here = stage sets places i set place at here
-
 or_cond : (a b : Bool) → cond a true b ≡ (a || b)
 or_cond true b = refl
 or_cond false b = refl
@@ -50,25 +37,6 @@ pub one-more : (places : List Place) (before after : List (List Place)) → ((ot
 one-more places before after updated other =
     updated other ∙ or_cond (is_eq (slice_cmp nat_cmp places other)) (has_places other before)
     ∙ ap (λ b. b || has_places other before) ((eq_by_cmp_equiv nat_list_cmp_total).symm places other)
-
-pub out-of-range : (sets : List KeyedRows) (places : List Place) (i : ℕ) (set : KeyedRows) → slice_get sets i ≡ Some set → i < length places → length set.rows ≤ get_or places i 0 → in_range (drop i sets) (drop i places) ≡ false
-out-of-range sets places i set at within above =
-    let test : nat_lt (get_or places i 0) (length set.rows) ≡ false = grind (arith, nat_tests) in
-    in_range-drop sets places i set (get_or places i 0) at (slice_get-get_or places i 0 within) ∙ ap (λ b. b && in_range (drop (i + 1) sets) (drop (i + 1) places)) test
-
-pub in-range-more : (sets : List KeyedRows) (places : List Place) (i : ℕ) (set : KeyedRows) → slice_get sets i ≡ Some set → i < length places → get_or places i 0 < length set.rows → in_range (drop i sets) (drop i places) ≡ in_range (drop (i + 1) sets) (drop (i + 1) places)
-in-range-more sets places i set at within below =
-    let test : nat_lt (get_or places i 0) (length set.rows) ≡ true = grind (arith, nat_tests) in
-    in_range-drop sets places i set (get_or places i 0) at (slice_get-get_or places i 0 within) ∙ ap (λ b. b && in_range (drop (i + 1) sets) (drop (i + 1) places)) test
-
--- a place that is chosen, where all are
-pub chosen_rows-place : (slots : List (Option Place)) (places : List Place) (i : ℕ) (d : Option Place) → slots ≡ map Some places → i < length slots → unwrap_or (get_or slots i d) 0 ≡ get_or places i 0
-chosen_rows-place slots places i d whole within = ap (λ (s : List (Option Place)). unwrap_or (get_or s i d) 0) whole ∙ at places i (omega (arith, within, ap length whole, length-map places Some))
-  where
-    at : (places : List Place) (i : ℕ) → i < length places → unwrap_or (get_or (map Some places) i d) 0 ≡ get_or places i 0
-    at [] i within = absurd (omega arith)
-    at (place ∷ places) zero within = refl
-    at (place ∷ places) (suc i) within = at places i (omega arith)
 
 pub counts-is : (choices : Choices) (query : Masked) (sets : List KeyedRows) (places : List Place) (rows : Combination) (result : Bool) → in_range sets places ≡ true → rows ≡ chosen_rows sets places → result ≡ (is_guarded choices query rows && masked_passes choices query rows)
     → result ≡ stands choices query sets places

@@ -11,6 +11,7 @@ use Rattle.hippo_values.specs.declared.values.Value.TheVariants.{Null as NullVal
 use Rattle.hippo_values.specs.declared.truths.CompareOp.TheVariants.{Eq}
 use Rattle.hippo_values.specs.Order.{cells_cmp}
 use Rattle.hippo_model.specs.declared.born_row.BornRow.{BornRow}
+use Rattle.hippo_model.specs.declared.query.CondOf.{CondOf}
 use Rattle.hippo_model.specs.declared.query.CondOf.TheVariants as conditions
 use Rattle.hippo_model.specs.declared.query.Expr.{Expr}
 use Rattle.hippo_model.specs.declared.query.Masked.{Masked}
@@ -29,9 +30,17 @@ use Rattle.hippo_lookups.specs.Places.{blank, row_at_place, slot_at, chosen_rows
 use Rattle.hippo_lookups.specs.Lookups.{value_at_place}
 use Rattle.hippo_lookups.specs.Ties.{shown_column, holds}
 use Rattle.hippo_sides.specs.Keys.{IsShownAs, IsToldBy, IsKeyTold, IsWithin}
-use Rattle.hippo_lookups.proofs.PartLemmas.{equal-values, column-value}
+use Rattle.hippo_lookups.proofs.PartLemmas.{equal-values, column-value, tie-of-part}
 use Rattle.hippo_lookups.proofs.PruneLemmas.{below-rows, in-range, all-hold, long-enough}
 use Rattle.hippo_lookups.proofs.SlotLemmas.{Fits-at, Fits-open, raw-at}
+
+-- what is so wherever one part holds is so wherever all do
+pub of-all-parts : (choices : Choices) (sets : List KeyedRows) (slots : List (Option Place)) (parts items : List (CondOf Expr)) (i : ℕ) (part : CondOf Expr) (P : List Place → Type 0) → items ≡ parts → i < length items → part ≡ get_or items i part
+    → ((places : List Place) → Fits slots places → list_all (holds choices (chosen_rows sets places)) (part ∷ []) ≡ true → P places)
+    → (places : List Place) → Fits slots places → list_all (holds choices (chosen_rows sets places)) parts ≡ true → P places
+of-all-parts choices sets slots parts items i part P same within at told places fits all =
+    let rows = chosen_rows sets places in
+    told places fits (tie-of-part items i part within (sym at) choices rows (ap (list_all (holds choices rows)) same ∙ all))
 
 -- the row that has a key stands where the search finds it
 pub found-at : (set : KeyedRows) (key : Key) (place : Place) → IsAscending (map (key_in set.key) set.rows) → place < length set.rows → key_of set.key (row_at_place set.rows place).row ≡ key → find_row set.key key set.rows ≡ Some place

@@ -7,6 +7,7 @@ use Rattle.std.specs.declared.cmp.Ordering.{Ordering}
 use Rattle.std.specs.declared.cmp.Ordering.TheVariants.{Less, Equal, Greater}
 use Rattle.std.proofs.lemmas.Bool.{and_parts, and_from, false≢true}
 use Rattle.std.proofs.lemmas.Cmp.{tied_itself}
+use Rattle.std.proofs.lemmas.Option.{IfSome_then}
 use Rattle.hippo_values.specs.declared.values.Value.{Value}
 use Rattle.hippo_values.specs.declared.values.Value.TheVariants.{Null, Int, Text, Day}
 use Rattle.hippo_values.specs.declared.truths.Truth.{Truth}
@@ -33,7 +34,7 @@ use Rattle.hippo_lookups.specs.Places.{chosen_rows, Fits, stands}
 use Rattle.hippo_lookups.specs.Lookups.{value_at_place}
 use Rattle.hippo_lookups.specs.Ties.{shown_column, holds}
 use Rattle.hippo_sides.specs.Keys.{IsShownAs, IsToldBy, IsKeyTold, IsWithin}
-use Rattle.hippo_sides.specs.Ranges.{bounding, flipped_operator, IsBoundedBy, KeepsBound, HasFront, IsEdge}
+use Rattle.hippo_sides.specs.Ranges.{bounding, flipped_operator, IsBoundedBy, KeepsBound, HasFront, IsEdge, TellsBound}
 use Rattle.hippo_sides.proofs.KeyLemmas.{key-at}
 use Rattle.hippo_lookups.proofs.PartLemmas.{column-value}
 use Rattle.hippo_lookups.proofs.PruneLemmas.{below-rows, in-range, all-hold}
@@ -172,3 +173,9 @@ module _ (choices : Choices) (sets : List KeyedRows) (slots : List (Option Place
         ltb-false _ _ (start place within begins (keeps query table set column false low at_set of_low places fits counts place at)),
         ltb-true _ _ (end place within begins (keeps query table set column true high at_set of_high places fits counts place at)),
       )
+
+-- a bound that some parts tell is told by a part that says them
+pub tells-from : (choices : Choices) (sets : List KeyedRows) (slots : List (Option Place)) (part form : CondOf Expr) (parts : List (CondOf Expr)) (column : Ref) (above : Bool) (told : Option Bound) → part ≡ form → ((rows : Combination) → list_all (holds choices rows) (form ∷ []) ≡ true → list_all (holds choices rows) parts ≡ true)
+    → TellsBound choices sets slots parts column above told → TellsBound choices sets slots (part ∷ []) column above told
+tells-from choices sets slots part form parts column above told is say tells = IfSome_then told tells (λ bound bounded places fits all.
+    bounded places fits (say (chosen_rows sets places) (subst (λ (one : CondOf Expr). list_all (holds choices (chosen_rows sets places)) (one ∷ []) ≡ true) is all)))

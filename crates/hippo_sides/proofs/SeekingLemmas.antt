@@ -1,7 +1,8 @@
 -- Rows that are found by a column.
 use Rattle.std.proofs.Common.{◌≡◌, ◌<◌, true, false, List, length, sym, subst, Option, Some, None}
-use Rattle.std.specs.Prelude.{slice_get, replicate, IfSome}
+use Rattle.std.specs.Prelude.{slice_get, replicate, IfOk, IfSome, Result}
 use Rattle.std.specs.List.{Contains}
+use Rattle.std.proofs.lemmas.Option.{IfSome_then}
 use Rattle.hippo_values.specs.declared.values.Value.{Value}
 use Rattle.hippo_model.specs.declared.query.Expr.{Expr}
 use Rattle.hippo_model.specs.declared.query.Expr.TheVariants.{Literal}
@@ -16,9 +17,14 @@ use Rattle.hippo_lookups.specs.Lookups.{value_at_place}
 use Rattle.hippo_lookups.specs.Lists.{IsListedBy}
 use Rattle.hippo_sides.specs.Ranges.{bounding, IsBoundedBy, KeepsBound}
 use Rattle.hippo_sides.specs.Stages.{Reaches, ReachesFrom}
+use Rattle.hippo_lookups.proofs.PlaceSteps.{ok-then}
 use Rattle.hippo_lookups.proofs.PruneLemmas.{below-rows, in-range, all-hold, long-enough}
 use Rattle.hippo_sides.proofs.RangeLemmas.{keeps}
 use Rattle.hippo_lookups.proofs.SlotLemmas.{Fits-open, raw-at}
+
+-- what is found, if it is, with another fact of it
+pub found-then : {T E : Type 0} (P Q : T → Type 0) (r : Result (Option T) E) → ((x : T) → P x → Q x) → IfOk r (λ found. IfSome found P) → IfOk r (λ found. IfSome found Q)
+found-then P Q r then holds = ok-then (λ found. IfSome found P) (λ found. IfSome found Q) r holds (λ found has. IfSome_then found has then)
 
 module _ (choices : Choices) (query : Masked) (sets : List KeyedRows) where
   module _ (slots : List (Option Place)) (table column : Place) (set : KeyedRows) (some : List Place) (at_set : slice_get sets table ≡ Some set) where

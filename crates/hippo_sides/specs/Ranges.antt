@@ -1,5 +1,5 @@
 -- What bounds the values of a column, as conditions say it.
-use Rattle.std.specs.Prelude.{◌≡◌, true, false, List, Option}
+use Rattle.std.specs.Prelude.{◌≡◌, Bool, true, false, List, Option, IfSome}
 use Rattle.std.specs.List.{list_all}
 use Rattle.hippo_values.specs.Order.{value_cmp}
 use Rattle.hippo_values.specs.Truths.{is_allowed}
@@ -9,6 +9,7 @@ use Rattle.hippo_values.specs.declared.values.Value.{Value}
 use Rattle.hippo_model.specs.declared.query.CondOf.{CondOf}
 use Rattle.hippo_model.specs.declared.query.Expr.{Expr}
 use Rattle.hippo_model.specs.declared.query.Ref.{Ref}
+use Rattle.hippo_rows.specs.declared.ranges.Bound.{Bound}
 use Rattle.hippo_model.specs.Terms.{Place}
 use Rattle.hippo_keyed_rows.specs.RowSets.{KeyedRows}
 use Rattle.hippo_model.specs.Conditions.{is_null}
@@ -36,3 +37,12 @@ IsBoundedBy choices sets slots parts column op value =
     → list_all (holds choices (chosen_rows sets places)) parts ≡ true
     → (is_allowed op (value_cmp (raw_value (chosen_rows sets places) column) value) ≡ true)
     × (is_null (raw_value (chosen_rows sets places) column) ≡ false)
+
+-- with the rows that are chosen, a column is within a bound from below, or from above, wherever some
+-- parts hold, if one is told
+abbrev pub TellsBound :
+    Choices → List KeyedRows → List (Option Place) → List (CondOf Expr) → Ref → Bool → Option Bound
+    → Type 0
+TellsBound choices sets slots parts column above told =
+    IfSome told (λ bound. IsBoundedBy choices sets slots parts column
+    (bounding above bound.strict) bound.value.now)

@@ -4,11 +4,11 @@ ghost use Rattle.hippo_values.specs.Order.{value_cmp};
 ghost use Rattle.hippo_values.specs.Truths.{is_allowed};
 ghost use Rattle.hippo_values.specs.declared.values.Value.{Value as AnyValue};
 ghost use Rattle.hippo_values.specs.declared.values.Value.TheVariants.{Null};
-ghost use Rattle.hippo_model.specs.declared.query.CondOf.TheVariants.{Compare, Between};
+ghost use Rattle.hippo_model.specs.declared.query.CondOf.TheVariants.{Compare};
 ghost use Rattle.hippo_model.specs.Conditions.{outer_parts, is_null};
 ghost use Rattle.hippo_keyed_rows.specs.RowSets.{KeyedRows};
 ghost use Rattle.hippo_sides.specs.Keys.{IsKeyTold, IsWithin};
-ghost use Rattle.hippo_sides.specs.Ranges.{bounding, flipped_operator, IsBoundedBy, IsEdge};
+ghost use Rattle.hippo_sides.specs.Ranges.{bounding, flipped_operator, IsEdge, TellsBound};
 
 use crate::keys::Span;
 use crate::sides::Side;
@@ -128,10 +128,8 @@ impl<'a, C: ChoiceView> Side<'a, C> {
         above: bool,
         slots: &[Option<usize>],
     ) -> Option<Bound<'a>>
-        ensures { IfSome result (λ bound. IsBoundedBy (C.choices self.now.choices.now)
-            self.now.sets.now slots.now
-            (Compare op left.now right.now ∷ []) column (bounding above bound.strict)
-            bound.value.now) }
+        ensures { TellsBound (C.choices self.now.choices.now) self.now.sets.now slots.now
+            (Compare op left.now right.now ∷ []) column above result }
     {
         if !shows_column(left, column) {
             return None;
@@ -141,49 +139,8 @@ impl<'a, C: ChoiceView> Side<'a, C> {
         Some(Bound { value, strict })
     }
 
-    // The bound of a column that stands on either side of a comparison.
-    fn bound_by_compare(
-        &self,
-        column: Ref,
-        op: CompareOp,
-        left: &'a Expr,
-        right: &'a Expr,
-        above: bool,
-        slots: &[Option<usize>],
-    ) -> Option<Bound<'a>>
-        ensures { IfSome result (λ bound. IsBoundedBy (C.choices self.now.choices.now)
-            self.now.sets.now slots.now
-            (Compare op left.now right.now ∷ []) column (bounding above bound.strict)
-            bound.value.now) }
-    {
-        match self.bound_beside(column, op, left, right, above, slots) {
-            Some(bound) => Some(bound),
-            None => self.bound_beside(column, flipped(op), right, left, above, slots),
-        }
-    }
-
-    // The bound of a column that is to be between two values.
-    fn bound_by_between(
-        &self,
-        column: Ref,
-        value: &'a Expr,
-        low: &'a Expr,
-        high: &'a Expr,
-        above: bool,
-        slots: &[Option<usize>],
-    ) -> Option<Bound<'a>>
-        ensures { IfSome result (λ bound. IsBoundedBy (C.choices self.now.choices.now)
-            self.now.sets.now slots.now
-            (Between value.now low.now high.now ∷ []) column (bounding above bound.strict)
-            bound.value.now) }
-    {
-        if above {
-            self.bound_beside(column, CompareOp::Le, value, high, above, slots)
-        } else {
-            self.bound_beside(column, CompareOp::Ge, value, low, above, slots)
-        }
-    }
-
+    // The bound of a column that a part of the condition tells: one that stands on either side of a
+    // comparison, or is to be between two values.
     fn bound_by_part(
         &self,
         column: Ref,
@@ -191,16 +148,22 @@ impl<'a, C: ChoiceView> Side<'a, C> {
         above: bool,
         slots: &[Option<usize>],
     ) -> Option<Bound<'a>>
-        ensures { IfSome result (λ bound. IsBoundedBy (C.choices self.now.choices.now)
-            self.now.sets.now slots.now
-            (part.now ∷ []) column (bounding above bound.strict) bound.value.now) }
+        ensures { TellsBound (C.choices self.now.choices.now) self.now.sets.now slots.now
+            (part.now ∷ []) column above result }
     {
         match part {
             CondOf::Compare { op, left, right } => {
-                self.bound_by_compare(column, *op, left, right, above, slots)
+                match self.bound_beside(column, *op, left, right, above, slots) {
+                    Some(bound) => Some(bound),
+                    None => self.bound_beside(column, flipped(*op), right, left, above, slots),
+                }
             }
             CondOf::Between { value, low, high } => {
-                self.bound_by_between(column, value, low, high, above, slots)
+                if above {
+                    self.bound_beside(column, CompareOp::Le, value, high, above, slots)
+                } else {
+                    self.bound_beside(column, CompareOp::Ge, value, low, above, slots)
+                }
             }
             _ => None,
         }
@@ -209,10 +172,8 @@ impl<'a, C: ChoiceView> Side<'a, C> {
     // A bound of a column from below or from above, if the condition says one: by a literal, or by
     // a row that is chosen.
     fn told_bound(&self, column: Ref, above: bool, slots: &[Option<usize>]) -> Option<Bound<'a>>
-        ensures { IfSome result (λ bound. IsBoundedBy (C.choices self.now.choices.now)
-            self.now.sets.now slots.now
-            (outer_parts self.now.query.now.cond) column (bounding above bound.strict)
-            bound.value.now) }
+        ensures { TellsBound (C.choices self.now.choices.now) self.now.sets.now slots.now
+            (outer_parts self.now.query.now.cond) column above result }
     {
         for part in outer_parts(&self.query.cond) {
             if let Some(bound) = self.bound_by_part(column, part, above, slots) {
@@ -229,10 +190,8 @@ impl<'a, C: ChoiceView> Side<'a, C> {
         above: bool,
         slots: &[Option<usize>],
     ) -> Option<Bound<'a>>
-        ensures { IfSome result (λ bound. IsBoundedBy (C.choices self.now.choices.now)
-            self.now.sets.now slots.now
-            (outer_parts self.now.query.now.cond) column (bounding above bound.strict)
-            bound.value.now) }
+        ensures { TellsBound (C.choices self.now.choices.now) self.now.sets.now slots.now
+            (outer_parts self.now.query.now.cond) column above result }
     {
         match self.told_value(column, slots) {
             Some(value) => Some(Bound {
@@ -240,25 +199,6 @@ impl<'a, C: ChoiceView> Side<'a, C> {
                 strict: false,
             }),
             None => self.told_bound(column, above, slots),
-        }
-    }
-
-    // The bound that no null meets, where the condition bounds a column from above.
-    fn lowest_below<'b>(
-        &'b self,
-        column: Ref,
-        slots: &[Option<usize>],
-        null: &'b Value,
-    ) -> Option<Bound<'b>>
-        requires { null.now ≡ Null }
-        ensures { IfSome result (λ bound. IsBoundedBy (C.choices self.now.choices.now)
-            self.now.sets.now slots.now
-            (outer_parts self.now.query.now.cond) column (bounding false bound.strict)
-            bound.value.now) }
-    {
-        match self.told_end(column, true, slots) {
-            Some(_) => Some(over_null(null)),
-            None => None,
         }
     }
 
@@ -271,14 +211,15 @@ impl<'a, C: ChoiceView> Side<'a, C> {
         null: &'b Value,
     ) -> Option<Bound<'b>>
         requires { null.now ≡ Null }
-        ensures { IfSome result (λ bound. IsBoundedBy (C.choices self.now.choices.now)
-            self.now.sets.now slots.now
-            (outer_parts self.now.query.now.cond) column (bounding false bound.strict)
-            bound.value.now) }
+        ensures { TellsBound (C.choices self.now.choices.now) self.now.sets.now slots.now
+            (outer_parts self.now.query.now.cond) column false result }
     {
         match self.told_end(column, false, slots) {
             Some(bound) => Some(above_null(bound, null)),
-            None => self.lowest_below(column, slots, null),
+            None => match self.told_end(column, true, slots) {
+                Some(_) => Some(over_null(null)),
+                None => None,
+            },
         }
     }
 

@@ -165,13 +165,13 @@ impl<'a, C: ChoiceView> Side<'a, C> {
         best
     }
 
-    // The places of a table's rows that are within the bounds which the condition says of a column,
-    // if rows are found by it.
-    fn bounded_places(
+    // The places of a table's rows that an access finds: those within the bounds which the condition
+    // says of a column, or with a value of a list which it says of it, if rows are found by it.
+    fn places_by(
         &self,
         alloc: Global,
         table: usize,
-        column: usize,
+        access: Access,
         slots: &[Option<usize>],
     ) -> Result<Option<Vec<usize>>, Memory>
         requires { table < length self.now.sets.now }
@@ -179,36 +179,25 @@ impl<'a, C: ChoiceView> Side<'a, C> {
             (C.choices self.now.choices.now) self.now.query.now self.now.sets.now slots.now table
             places.items)) }
     {
-        let null = Value::Null;
-        let own = Ref { table, column };
-        let Some(low) = self.lowest(own, slots, &null) else {
-            return Ok(None);
-        };
-        let high = self.told_end(own, true, slots);
-        self.sets
-            .get(table)
-            .places_within(alloc, column, Some(low), high)
-    }
-
-    // The places of a table's rows that have a value of a list which the condition says of a
-    // column, if rows are found by it.
-    fn listed_places(
-        &self,
-        alloc: Global,
-        table: usize,
-        column: usize,
-        slots: &[Option<usize>],
-    ) -> Result<Option<Vec<usize>>, Memory>
-        requires { table < length self.now.sets.now }
-        ensures { IfOk result (λ found. IfSome found (λ places. ReachesFrom
-            (C.choices self.now.choices.now) self.now.query.now self.now.sets.now slots.now table
-            places.items)) }
-    {
-        let own = Ref { table, column };
-        let Some(list) = find_list(outer_parts(&self.query.cond), own) else {
-            return Ok(None);
-        };
-        places_listed(alloc, self.sets.get(table), column, list)
+        let set = self.sets.get(table);
+        match access {
+            Access::Bounds(column) => {
+                let null = Value::Null;
+                let own = Ref { table, column };
+                let Some(low) = self.lowest(own, slots, &null) else {
+                    return Ok(None);
+                };
+                let high = self.told_end(own, true, slots);
+                set.places_within(alloc, column, Some(low), high)
+            }
+            Access::List(column) => {
+                let own = Ref { table, column };
+                let Some(list) = find_list(outer_parts(&self.query.cond), own) else {
+                    return Ok(None);
+                };
+                places_listed(alloc, set, column, list)
+            }
+        }
     }
 
     // The places of a table's rows that the best access finds, where one finds fewer than so many.
@@ -226,8 +215,7 @@ impl<'a, C: ChoiceView> Side<'a, C> {
     {
         match self.best_access(table, slots, most) {
             None => Ok(None),
-            Some(Access::Bounds(column)) => self.bounded_places(alloc, table, column, slots),
-            Some(Access::List(column)) => self.listed_places(alloc, table, column, slots),
+            Some(access) => self.places_by(alloc, table, access, slots),
         }
     }
 

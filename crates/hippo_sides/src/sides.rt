@@ -59,8 +59,8 @@ impl<'a, C: ChoiceView> Side<'a, C> {
         Ok(rows)
     }
 
-    /// Puts the row that is chosen in a table, or a blank one, in the place of the one before.
-    pub fn renew(&self, rows: &mut Combo<'a>, slots: &[Option<usize>], table: usize)
+    // Puts the row that is chosen in a table, or a blank one, in the place of the one before.
+    pub(crate) fn renew(&self, rows: &mut Combo<'a>, slots: &[Option<usize>], table: usize)
         requires long { length slots.now ≡ length self.now.sets.now }
         requires table { table < length slots.now }
         requires rows { slice_set rows.old table blank_row

@@ -1,9 +1,0 @@
--- What has a bound is not null.
-use Rattle.hippo_model.specs.Masking.{raw_value}
-use Rattle.hippo_lookups.specs.Places.{chosen_rows}
-use Rattle.hippo_sides.proofs.sides.Side.lowest_below.Goals as goal
-
-pub returns-in-Some : goal.returns-in-Some
-returns-in-Some g c = λ places fits all.
-    let own = c.in-Some.ensures places fits all in
-    (c.over_null.ensures (raw_value (chosen_rows c.args.self.now.sets.now places) c.args.column) own.1, own.1)
