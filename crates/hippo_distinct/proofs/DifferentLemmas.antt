@@ -4,10 +4,11 @@ use Rattle.std.specs.Prelude.{filter}
 use Rattle.std.specs.Ordering.{is_eq, ordering_then}
 use Rattle.std.specs.declared.cmp.Ordering.{Ordering}
 use Rattle.std.specs.declared.cmp.Ordering.TheVariants.{Less, Equal, Greater}
-use Rattle.std.proofs.lemmas.Bool.{and_parts, eqb-true}
+use Rattle.std.proofs.lemmas.Bool.{eqb-true}
 use Rattle.std.proofs.lemmas.List.{append-nil}
 use Rattle.std.proofs.lemmas.List.Elements.{filter-append}
 use Rattle.std.proofs.lemmas.List.Folds.{list_any-append}
+use Rattle.std.proofs.lemmas.Slice.Eq.{slice_eq-Decides}
 use Rattle.std.proofs.Math.Bool.{or-false}
 use Rattle.hippo_values.specs.Order.{value_cmp}
 use Rattle.hippo_model.specs.declared.cells.Cell.{Cell}
@@ -15,6 +16,7 @@ use Rattle.hippo_model.specs.declared.cells.Cell.TheVariants.{Shown, Denied}
 use Rattle.hippo_model.specs.Terms.{ShownRow}
 use Rattle.hippo_model.specs.Bags.{same_cell, same_row}
 use Rattle.hippo_model.specs.Forms.{different_rows}
+use Rattle.hippo_model.proofs.SameRows.{same_cell-refl}
 use Rattle.hippo_keyed_rows.proofs.Orders.{same_exact}
 use Rattle.hippo_distinct.specs.DistinctRows.{stands_in}
 use Rattle.hippo_values.specs.declared.values.Value.{Value}
@@ -55,12 +57,7 @@ same_cell-exact (Shown a) (Denied b) same = absurd cc
 same_cell-exact (Denied a) (Shown b) same = absurd cc
 
 pub same_row-exact : (a b : ShownRow) → same_row a b ≡ true → a ≡ b
-same_row-exact [] [] same = refl
-same_row-exact [] (b ∷ bs) same = absurd cc
-same_row-exact (a ∷ as_) [] same = absurd cc
-same_row-exact (a ∷ rest) (b ∷ others) same =
-    let both = and_parts (same_cell a b) (same_row rest others) same in
-    λ i. same_cell-exact a b both.0 i ∷ same_row-exact rest others both.1 i
+same_row-exact a b same = (slice_eq-Decides (λ one other. (same_cell-exact one other, λ is. ap (same_cell one) (sym is) ∙ same_cell-refl one)) a b true (sym same)).0 refl
 
 -- the different rows of a front come first
 pub different_rows-append : (more rows : List ShownRow) → (rest : List ShownRow) × (different_rows (rows ++ more) ≡ different_rows rows ++ rest)

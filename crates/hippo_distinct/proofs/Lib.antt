@@ -5,3 +5,4 @@ pub mod CellOrder
 pub mod BagLemmas
 pub mod BestValues
 pub mod NeededGroups
+pub mod NeededForms

@@ -122,6 +122,10 @@ not_all p (row ∷ rows) = by (p row) ∙ ap (λ (test : Bool). not (p row) || t
     by true = refl
     by false = refl
 
+either : {A B : Type 0} (f : A → B) (test : Bool) (one other : A) → f (cond test one other) ≡ cond test (f one) (f other)
+either f true one other = refl
+either f false one other = refl
+
 module _ {C : Type 0} (row_of : C → ShownRow) (passes is_out : C → Bool) where
   abbrev pub answered : List C → List ShownRow
   answered combinations = map row_of (filter passes combinations)
@@ -133,18 +137,10 @@ module _ {C : Type 0} (row_of : C → ShownRow) (passes is_out : C → Bool) whe
   abbrev pub alone : List C → ShownRow → Bool
   alone combinations row = list_all (λ c. not (passes c && same_row row (row_of c)) || is_out c) combinations
 
-  one_answer : (test : Bool) (c : C) (rest : List C) → map row_of (cond test (c ∷ rest) rest) ≡ cond test (row_of c ∷ map row_of rest) (map row_of rest)
-  one_answer true c rest = refl
-  one_answer false c rest = refl
-
-  one_left : (out : Bool) (c : C) (rest : List C) → answered (cond (not out) (c ∷ rest) rest) ≡ cond (not out) (answered (c ∷ rest)) (answered rest)
-  one_left true c rest = refl
-  one_left false c rest = refl
-
   left-cons : (c : C) (rest : List C) → left (c ∷ rest) ≡ cond (not (is_out c)) (cond (passes c) (row_of c ∷ left rest) (left rest)) (left rest)
   left-cons c rest =
       let kept : List C = filter (λ c. not (is_out c)) rest in
-      one_left (is_out c) c kept ∙ ap (λ (rows : List ShownRow). cond (not (is_out c)) rows (left rest)) (one_answer (passes c) c (filter passes kept))
+      either answered (not (is_out c)) (c ∷ kept) kept ∙ ap (λ (rows : List ShownRow). cond (not (is_out c)) rows (left rest)) (either (map row_of) (passes c) (c ∷ filter passes kept) (filter passes kept))
 
   alone_with_one : (out pass same : Bool) (first row : ShownRow) (rows : List ShownRow) → same_row row first ≡ same
       → ((not (pass && same) || out) && not (is_among rows row)) ≡ not (is_among (cond (not out) (cond pass (first ∷ rows) rows) rows) row)
@@ -177,7 +173,7 @@ module _ {C : Type 0} (row_of : C → ShownRow) (passes is_out : C → Bool) whe
   left_within [] = refl
   left_within (c ∷ rest) =
       let step = within_one (is_out c) (passes c) (row_of c) (left rest) (answered rest) (left_within rest) in
-      (λ i. list_all (is_among (one_answer (passes c) c (filter passes rest) i)) (left-cons c rest i)) ∙ step
+      (λ i. list_all (is_among (either (map row_of) (passes c) (c ∷ filter passes rest) (filter passes rest) i)) (left-cons c rest i)) ∙ step
 
   -- the different rows become another bag exactly where some row comes from what is taken out alone
   pub needs_what_comes_alone : (combinations : List C) → not (same_bag (different_rows (left combinations)) (different_rows (answered combinations))) ≡ list_any (alone combinations) (answered combinations)

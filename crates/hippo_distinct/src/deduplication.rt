@@ -6,8 +6,8 @@ ghost use Rattle.hippo_model.specs.Masking.{masked_answer};
 ghost use Rattle.hippo_eval.specs.Answering.{IsAnswered};
 ghost use Rattle.hippo_eval.specs.Walks.{rows_of};
 
-use crate::gathering::{ComboGatherer, gather_combos, refill};
-use hippo_eval::{ANSWER_LIMIT, EvalFault};
+use hippo_eval::{ANSWER_LIMIT, EvalFault, Gatherer, refill};
+use hippo_join::gather_joined;
 use hippo_model::{Answer, CellRow, ChoiceView, Combo, Masked};
 use hippo_rows::Sets;
 use hippo_values::{Memory, Sequence};
@@ -51,7 +51,7 @@ fn listed(alloc: Global, rows: IndexSet<CellRow>) -> Result<Vec<CellRow>, Memory
 #[derive(Drop)]
 struct Different;
 
-impl ComboGatherer for Different {
+impl Gatherer for Different {
     ghost use Rattle.std.specs.Prelude.{◌≡◌};
     ghost use Rattle.hippo_model.specs.Forms.{different_rows};
 
@@ -104,5 +104,5 @@ pub fn distinct<C: ChoiceView>(
     ensures { let rows = masked_answer (C.choices choices.now) query.now (rows_of sets.now) in
         IsAnswered ANSWER_LIMIT (different_rows rows) result }
 {
-    gather_combos(alloc, query, sets, choices, &Different, ANSWER_LIMIT)
+    gather_joined(alloc, query, sets, choices, &Different, ANSWER_LIMIT)
 }

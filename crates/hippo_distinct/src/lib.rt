@@ -2,8 +2,6 @@
 #![tactic(auto)]
 
 mod deduplication;
-mod gathering;
 pub mod laws;
 
 pub use deduplication::distinct;
-pub use gathering::{ComboGatherer, gather_combos, refill};

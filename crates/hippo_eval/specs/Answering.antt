@@ -6,12 +6,15 @@ use Rattle.hippo_model.specs.Masking.{Choices, is_guarded, masked_passes, masked
 use Rattle.hippo_eval.specs.declared.answers.EvalFault.{EvalFault}
 use Rattle.hippo_eval.specs.declared.answers.EvalFault.TheVariants.{TooManyRows, Memory}
 
+-- the combinations of which a query makes a row
+abbrev pub making_rows : Choices → Masked → List Combination → List Combination
+making_rows choices query combinations =
+    filter (λ rows. is_guarded choices query rows && masked_passes choices query rows) combinations
+
 -- the rows that a query makes of some combinations
 abbrev pub masked_rows : Choices → Masked → List Combination → List ShownRow
 masked_rows choices query combinations =
-    map (masked_items choices query)
-    (filter (λ rows. is_guarded choices query rows && masked_passes choices query rows)
-    combinations)
+    map (masked_items choices query) (making_rows choices query combinations)
 
 -- what is answered where these are the rows: them, or that they are too many; or want of memory
 abbrev pub IsAnswered : ℕ → List ShownRow → Result (List ShownRow) EvalFault → Type 0

@@ -1,4 +1,5 @@
 pub mod LentCells
+pub mod PartTruths
 pub mod Answering
 pub mod Gathering
 pub mod Walks

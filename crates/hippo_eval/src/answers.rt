@@ -5,8 +5,10 @@ ghost use Rattle.hippo_eval.specs.declared.answers.EvalFault.TheVariants as eval
 ghost use Rattle.hippo_eval.specs.Walks.{rows_of};
 ghost use Rattle.hippo_eval.specs.Answering.{IsAnswered};
 
-use crate::gathering::{Gatherer, gather};
-use hippo_model::{Answer, CellRow, ChoiceView, Masked};
+use crate::gathering::{Gatherer, RowFinder};
+use crate::queries::{passes, project};
+use crate::walks::{Onward, Visitor, walk};
+use hippo_model::{Answer, ChoiceView, Combo, Masked};
 use hippo_rows::Sets;
 use hippo_values::{Memory, Sequence};
 use std::alloc::Global;
@@ -51,12 +53,49 @@ impl Gatherer for Every {
         rows.len()
     }
 
-    fn add(&self, _alloc: Global, rows: &mut Answer, row: CellRow) -> Result<(), Memory> {
-        rows.push(row)
+    fn add<C: ChoiceView>(
+        &self,
+        alloc: Global,
+        rows: &mut Answer,
+        query: &Masked,
+        combo: &Combo<'_>,
+        choices: &C,
+    ) -> Result<(), Memory> {
+        rows.push(project(alloc, query, combo, choices)?)
     }
 
     fn finish(&self, _alloc: Global, rows: Answer) -> Result<Answer, Memory> {
         Ok(rows)
+    }
+}
+
+// Tests each combination, and tells a visitor of those that count.
+#[derive(Drop)]
+struct Tester<'a, C, V> {
+    query: &'a Masked,
+    choices: &'a C,
+    visitor: &'a V,
+}
+
+impl<'a, C: ChoiceView, V: Visitor> Visitor for Tester<'a, C, V> {
+    ghost use Rattle.hippo_eval.specs.Answering.{making_rows};
+
+    type State = V::State;
+
+    ghost Keeps = { λ tester combinations state. V.Keeps tester.visitor.now
+        (making_rows (C.choices tester.choices.now) tester.query.now combinations) state };
+
+    fn visit(
+        &self,
+        alloc: Global,
+        state: &mut V::State,
+        combo: &Combo<'_>,
+    ) -> Result<Onward, Memory> {
+        if passes(self.query, combo, self.choices) {
+            self.visitor.visit(alloc, state, combo)
+        } else {
+            Ok(Onward::More)
+        }
     }
 }
 
@@ -73,5 +112,18 @@ pub fn evaluate<C: ChoiceView>(
     ensures { IsAnswered ANSWER_LIMIT (masked_answer (C.choices choices.now) query.now
         (rows_of sets.now)) result }
 {
-    gather(alloc, query, sets, choices, &Every, ANSWER_LIMIT)
+    let finder = RowFinder {
+        query,
+        choices,
+        limit: ANSWER_LIMIT,
+        gatherer: &Every,
+    };
+    let tester = Tester {
+        query: &*query,
+        choices: &*choices,
+        visitor: &finder,
+    };
+    let mut rows = Every.start(alloc);
+    walk(alloc, sets, &tester, &mut rows)?;
+    finder.answered(alloc, rows)
 }

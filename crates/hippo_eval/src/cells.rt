@@ -97,7 +97,7 @@ fn shown_if<'a>(test: bool, value: Option<&'a Value>, rule: u64) -> LentCell<'a>
 // The cell of any expression. It stays a call, so that `cell` lends what no rule masks in few
 // instructions.
 #[inline(never)]
-fn cell_by_rule<'a, C: ChoiceView>(
+pub(crate) fn cell_by_rule<'a, C: ChoiceView>(
     expr: &'a Expr,
     combo: &'a Combo<'_>,
     choices: &C,

@@ -1,15 +1,16 @@
 //! The truth of a condition in a combination of rows.
-ghost use Rattle.std.specs.Prelude.{◌≡◌, ◌↔◌, map, IsTrue};
+ghost use Rattle.std.specs.Prelude.{◌≡◌, ◌↔◌, [], map, IsTrue};
 ghost use Rattle.hippo_values.specs.declared.truths.CompareOp.TheVariants.{Eq as Equal, Le as AtMost, Ge as AtLeast};
 ghost use Rattle.hippo_values.specs.declared.truths.Truth.TheVariants.{False as Untrue, True as Truly};
 ghost use Rattle.hippo_values.specs.declared.values.Value.TheVariants.{Int};
 ghost use Rattle.hippo_values.specs.Truths.{truth_and, truth_of, is_allowed, comparison};
-ghost use Rattle.hippo_model.specs.Conditions.{least, greatest, is_null};
+ghost use Rattle.hippo_model.specs.Conditions.{greatest, is_null};
 ghost use Rattle.hippo_model.specs.Forms.{value_in};
 ghost use Rattle.hippo_eval.specs.LentCells.{lent_cell};
+ghost use Rattle.hippo_eval.specs.PartTruths.{truth_of_both, truth_of_all};
 ghost use Rattle.hippo_model.specs.MaskedTruth.{masked_value, masked_truth};
 
-use crate::cells::{LentCell, cell, plain_value};
+use crate::cells::{LentCell, cell, cell_by_rule, plain_value};
 use hippo_model::{ChoiceView, Combo, CondOf, Expr, Exprs};
 use hippo_values::{CompareOp, Sequence, Truth, Value, compare, truth_and, truth_not, truth_or};
 use std::cmp::Ordering;
@@ -73,7 +74,9 @@ fn compared(op: CompareOp, left: &LentCell<'_>, right: &LentCell<'_>) -> Truth
     compared_values(op, left, right.value().unwrap_or(&Value::Null))
 }
 
-// What a comparison of a cell with an expression says.
+// What a comparison of a cell with an expression says. It stays a call, so that `compared_exprs`
+// compares what no rule masks in few instructions.
+#[inline(never)]
 fn compared_with<C: ChoiceView>(
     op: CompareOp,
     left: &LentCell<'_>,
@@ -85,22 +88,6 @@ fn compared_with<C: ChoiceView>(
         (masked_value (C.choices choices.now) combo.now right.now) }
 {
     compared(op, left, &cell(right, combo, choices))
-}
-
-// What a comparison of any two expressions says. It stays a call, so that `compared_exprs` compares
-// what no rule masks in few instructions.
-#[inline(never)]
-fn compared_cells<C: ChoiceView>(
-    op: CompareOp,
-    left: &Expr,
-    right: &Expr,
-    combo: &Combo<'_>,
-    choices: &C,
-) -> Truth
-    ensures { let value_of = masked_value (C.choices choices.now) combo.now in
-        result ≡ comparison op (value_of left.now) (value_of right.now) }
-{
-    compared_with(op, &cell(left, combo, choices), right, combo, choices)
 }
 
 // What a comparison of two expressions says.
@@ -117,26 +104,28 @@ fn compared_exprs<C: ChoiceView>(
 {
     match (plain_value(left, combo), plain_value(right, combo)) {
         (Some(left), Some(right)) => compared_values(op, left, right),
-        _ => compared_cells(op, left, right, combo, choices),
+        _ => {
+            let left = cell_by_rule(left, combo, choices);
+            compared_with(op, &left, right, combo, choices)
+        }
     }
 }
 
 fn is_between<C: ChoiceView>(
-    value: &Expr,
+    value: &LentCell<'_>,
     low: &Expr,
     high: &Expr,
     combo: &Combo<'_>,
     choices: &C,
 ) -> Truth
-    ensures { let value_of = masked_value (C.choices choices.now) combo.now in
-        result ≡ truth_and (comparison AtLeast (value_of value.now) (value_of low.now))
-        (comparison AtMost (value_of value.now) (value_of high.now)) }
+    ensures { let value = value_in (lent_cell value.now) in
+        result ≡ truth_and
+        (comparison AtLeast value (masked_value (C.choices choices.now) combo.now low.now))
+        (comparison AtMost value (masked_value (C.choices choices.now) combo.now high.now)) }
 {
-    let value = cell(value, combo, choices);
-    let above = compared_with(CompareOp::Ge, &value, low, combo, choices);
     truth_and(
-        above,
-        compared_with(CompareOp::Le, &value, high, combo, choices),
+        compared_with(CompareOp::Ge, value, low, combo, choices),
+        compared_with(CompareOp::Le, value, high, combo, choices),
     )
 }
 
@@ -183,28 +172,50 @@ pub(crate) fn part_truth<C: ChoiceView>(
     }
 }
 
-#[cycle(truth)]
-fn least<C: ChoiceView>(parts: &Sequence<CondOf<Expr>>, combo: &Combo<'_>, choices: &C) -> Truth
-    ensures { result ≡ least (map (masked_truth (C.choices choices.now) combo.now) parts.now) }
+// The least of two truths where all are wanted, else the greatest.
+#[inline(always)]
+fn truth_of_both(all: bool, left: Truth, right: Truth) -> Truth
+    ensures { result ≡ truth_of_both all left right }
 {
-    let mut so_far = Truth::True;
-    for part in parts.as_slice() {
-        so_far = truth_and(so_far, part_truth(part, combo, choices));
-        if is_false(so_far) {
-            return so_far;
-        }
+    if all {
+        truth_and(left, right)
+    } else {
+        truth_or(left, right)
     }
-    so_far
 }
 
-#[cycle(truth)]
-fn greatest<C: ChoiceView>(parts: &Sequence<CondOf<Expr>>, combo: &Combo<'_>, choices: &C) -> Truth
-    ensures { result ≡ greatest (map (masked_truth (C.choices choices.now) combo.now) parts.now) }
+// The truth of no parts.
+#[inline(always)]
+fn truth_of_none(all: bool) -> Truth
+    ensures { result ≡ truth_of_all all [] }
 {
-    let mut so_far = Truth::False;
+    if all { Truth::True } else { Truth::False }
+}
+
+// Whether no further part changes this truth.
+#[inline(always)]
+fn is_settled(all: bool, truth: Truth) -> bool
+    ensures { IsTrue result → (other : _) → truth_of_both all truth other ≡ truth }
+{
+    if all { is_false(truth) } else { is_true(truth) }
+}
+
+// The least of the parts' truths where all are wanted, else the greatest.
+#[inline(always)]
+#[cycle(truth)]
+fn truth_of_all<C: ChoiceView>(
+    all: bool,
+    parts: &Sequence<CondOf<Expr>>,
+    combo: &Combo<'_>,
+    choices: &C,
+) -> Truth
+    ensures { result
+        ≡ truth_of_all all (map (masked_truth (C.choices choices.now) combo.now) parts.now) }
+{
+    let mut so_far = truth_of_none(all);
     for part in parts.as_slice() {
-        so_far = truth_or(so_far, part_truth(part, combo, choices));
-        if is_true(so_far) {
+        so_far = truth_of_both(all, so_far, part_truth(part, combo, choices));
+        if is_settled(all, so_far) {
             return so_far;
         }
     }
@@ -218,11 +229,14 @@ pub fn test<C: ChoiceView>(cond: &CondOf<Expr>, combo: &Combo<'_>, choices: &C) 
     ensures { result ≡ masked_truth (C.choices choices.now) combo.now cond.now }
 {
     match cond {
-        CondOf::All(parts) => least(parts, combo, choices),
-        CondOf::Any(parts) => greatest(parts, combo, choices),
+        CondOf::All(parts) => truth_of_all(true, parts, combo, choices),
+        CondOf::Any(parts) => truth_of_all(false, parts, combo, choices),
         CondOf::Not(part) => truth_not(test(part.get(), combo, choices)),
         CondOf::Compare { op, left, right } => { compared_exprs(*op, left, right, combo, choices) }
-        CondOf::Between { value, low, high } => is_between(value, low, high, combo, choices),
+        CondOf::Between { value, low, high } => {
+            let value = cell(&*value, &*combo, &*choices);
+            is_between(&value, low, high, combo, choices)
+        }
         CondOf::Among { value, list } => is_among(value, list, combo, choices),
         CondOf::Missing { value } => is_missing(value, combo, choices),
     }

@@ -1,23 +1,21 @@
-//! The rows of an answer, gathered while combinations of rows are visited, and one at most beyond a
-//! limit.
+//! The rows of an answer, gathered while the combinations that count are visited, and one at most
+//! beyond a limit.
 ghost use Rattle.std.specs.Prelude.{◌≡◌, ◌<◌, ◌≤◌, List, length};
 ghost use Rattle.hippo_model.specs.Terms.{ShownRow};
-ghost use Rattle.hippo_model.specs.Masking.{masked_answer};
-ghost use Rattle.hippo_eval.specs.Walks.{rows_of};
 ghost use Rattle.hippo_eval.specs.Answering.{IsAnswered};
 
 use crate::answers::EvalFault;
-use crate::queries::{passes, project};
-use crate::walks::{Onward, Visitor, walk};
-use hippo_model::{Answer, CellRow, ChoiceView, Combo, Masked};
-use hippo_rows::Sets;
+use crate::walks::{Onward, Visitor};
+use hippo_model::{Answer, ChoiceView, Combo, Masked};
 use hippo_values::Memory;
 use std::alloc::Global;
 
-/// How the rows that are found for an answer are gathered, one after the other.
+/// How the rows that combinations make for an answer are gathered, one after the other. What
+/// gathers them makes each row itself, and so may use the memory of another.
 pub trait Gatherer {
     ghost use Rattle.std.specs.Prelude.{◌≡◌, [], ◌∷◌, ◌++◌, List, IfOk, OnOk, length};
     ghost use Rattle.hippo_model.specs.Terms.{ShownRow};
+    ghost use Rattle.hippo_model.specs.Masking.{masked_items};
     ghost use Rattle.hippo_eval.specs.Gathering.{IsFinished};
 
     /// What is gathered.
@@ -37,10 +35,19 @@ pub trait Gatherer {
         ensures { (found : List ShownRow) → Holds self.now found rows.now
             → result ≡ length (answer self.now found) };
 
-    /// Takes in one row more.
-    fn add(&self, alloc: Global, rows: &mut Self::Rows, row: CellRow) -> Result<(), Memory>
+    /// Takes in one row more, that which a combination of rows makes.
+    fn add<C: ChoiceView>(
+        &self,
+        alloc: Global,
+        rows: &mut Self::Rows,
+        query: &Masked,
+        combo: &Combo<'_>,
+        choices: &C,
+    ) -> Result<(), Memory>
         ensures { (found : List ShownRow) → Holds self.now found rows.old
-            → OnOk result (Holds self.now (found ++ row ∷ []) rows.new) };
+            → OnOk result (Holds self.now
+            (found ++ masked_items (C.choices choices.now) query.now combo.now ∷ [])
+            rows.new) };
 
     /// The rows that are answered. Where more are found, they do not get fewer.
     fn finish(&self, alloc: Global, rows: Self::Rows) -> Result<Answer, Memory>
@@ -48,25 +55,26 @@ pub trait Gatherer {
             → IfOk result (IsFinished (answer self.now) found) };
 }
 
-// Gathers the rows of a query, and one at most beyond the limit.
+/// Gathers the rows of combinations that count, and one at most beyond the limit.
 #[derive(Drop)]
-struct Finder<'a, C, G> {
-    query: &'a Masked,
-    choices: &'a C,
-    limit: usize,
-    gatherer: &'a G,
+pub struct RowFinder<'a, C, G> {
+    pub query: &'a Masked,
+    pub choices: &'a C,
+    pub limit: usize,
+    pub gatherer: &'a G,
 }
 
-impl<'a, C: ChoiceView, G: Gatherer> Visitor for Finder<'a, C, G> {
-    ghost use Rattle.hippo_eval.specs.Answering.{masked_rows};
+impl<'a, C: ChoiceView, G: Gatherer> Visitor for RowFinder<'a, C, G> {
+    ghost use Rattle.std.specs.Prelude.{map};
+    ghost use Rattle.hippo_model.specs.Masking.{masked_items};
     ghost use Rattle.hippo_eval.specs.Gathering.{IsGathered};
 
     type State = G::Rows;
 
     ghost Keeps = { λ finder combinations rows. IsGathered (G.Holds finder.gatherer.now)
         (G.answer finder.gatherer.now)
-        finder.limit (masked_rows (C.choices finder.choices.now) finder.query.now combinations)
-        rows };
+        finder.limit (map (masked_items (C.choices finder.choices.now) finder.query.now)
+        combinations) rows };
 
     fn visit(
         &self,
@@ -77,16 +85,14 @@ impl<'a, C: ChoiceView, G: Gatherer> Visitor for Finder<'a, C, G> {
         if self.gatherer.len(state) > self.limit {
             return Ok(Onward::Enough);
         }
-        if passes(self.query, combo, self.choices) {
-            let row = project(alloc, self.query, combo, self.choices)?;
-            self.gatherer.add(alloc, state, row)?;
-        }
+        self.gatherer
+            .add(alloc, state, self.query, combo, self.choices)?;
         Ok(Onward::More)
     }
 }
 
-/// These rows as an answer, unless they are more than the limit.
-pub fn limited(rows: Answer, limit: usize) -> Result<Answer, EvalFault>
+// These rows as an answer, unless they are more than the limit.
+fn limited(rows: Answer, limit: usize) -> Result<Answer, EvalFault>
     ensures { (whole : List ShownRow) → (length rows ≤ limit → rows ≡ whole)
         → (limit < length rows → limit < length whole)
         → IsAnswered limit whole result }
@@ -98,28 +104,20 @@ pub fn limited(rows: Answer, limit: usize) -> Result<Answer, EvalFault>
     }
 }
 
-/// What is answered of the rows that a query with the policy written into it makes, over unmasked
-/// rows and patients' choices. TooManyRows exactly where these are more than the limit.
-pub fn gather<C: ChoiceView, G: Gatherer>(
-    alloc: Global,
-    query: &Masked,
-    sets: &Sets<'_>,
-    choices: &C,
-    gatherer: &G,
-    limit: usize,
-) -> Result<Answer, EvalFault>
-    ensures { let found = masked_answer (C.choices choices.now) query.now (rows_of sets.now) in
-        IsAnswered limit (G.answer gatherer.now found) result }
-{
-    let finder = Finder {
-        query,
-        choices,
-        limit,
-        gatherer,
-    };
-    let mut rows = gatherer.start(alloc);
-    match walk(alloc, sets, &finder, &mut rows) {
-        Ok(()) => limited(gatherer.finish(alloc, rows)?, limit),
-        Err(Memory) => Err(EvalFault::Memory),
+impl<'a, C, G: Gatherer> RowFinder<'a, C, G> {
+    ghost use Rattle.std.specs.Prelude.{List};
+    ghost use Rattle.hippo_model.specs.Terms.{ShownRow};
+    ghost use Rattle.hippo_eval.specs.Answering.{IsAnswered};
+    ghost use Rattle.hippo_eval.specs.Gathering.{IsGathered};
+
+    /// What is answered of the rows that are gathered. TooManyRows exactly where it is more than
+    /// the limit.
+    pub fn answered(&self, alloc: Global, rows: G::Rows) -> Result<Answer, EvalFault>
+        ensures { (found : List ShownRow) → IsGathered (G.Holds self.now.gatherer.now)
+            (G.answer self.now.gatherer.now)
+            self.now.limit found rows
+            → IsAnswered self.now.limit (G.answer self.now.gatherer.now found) result }
+    {
+        limited(self.gatherer.finish(alloc, rows)?, self.limit)
     }
 }

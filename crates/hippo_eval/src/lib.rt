@@ -14,6 +14,6 @@ pub use answers::{ANSWER_LIMIT, EvalFault, Every, evaluate};
 pub use audit_conditions::unmasked_condition;
 pub use cells::{LentCell, cell};
 pub use conditions::test;
-pub use gathering::{Gatherer, gather, limited};
-pub use queries::{is_shown, passes, project};
+pub use gathering::{Gatherer, RowFinder};
+pub use queries::{is_shown, passes, project, refill};
 pub use walks::{Onward, Visitor, walk};

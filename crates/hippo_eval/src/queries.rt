@@ -1,5 +1,5 @@
 //! The guards, the condition and the items of a query in one combination of rows.
-ghost use Rattle.std.specs.Prelude.{◌≡◌, ◌&&◌, IfOk};
+ghost use Rattle.std.specs.Prelude.{◌≡◌, ◌&&◌, map, IfOk, OnOk};
 ghost use Rattle.hippo_model.specs.Conditions.{is_true};
 ghost use Rattle.hippo_model.specs.Masking.{masked_cell, is_shown_cell, is_guarded, masked_passes, masked_items};
 
@@ -51,6 +51,25 @@ pub fn passes<C: ChoiceView>(query: &Masked, combo: &Combo<'_>, choices: &C) -> 
     is_guarded(query, combo, choices) && is_true(part_truth(&query.cond, combo, choices))
 }
 
+/// Puts the cells that items stand for in a combination of rows in the place of a row's own. They
+/// take the row's memory: where it has room, only long texts take more.
+pub fn refill<C: ChoiceView>(
+    alloc: Global,
+    items: &[Expr],
+    combo: &Combo<'_>,
+    choices: &C,
+    row: &mut CellRow,
+) -> Result<(), Memory>
+    ensures { OnOk result (row.new
+        ≡ map (masked_cell (C.choices choices.now) combo.now) items.now) }
+{
+    row.clear();
+    for item in items {
+        row.push(cell(item, combo, choices).copy(alloc)?)?;
+    }
+    Ok(())
+}
+
 /// The row of a query's answer that a combination of rows makes.
 pub fn project<C: ChoiceView>(
     alloc: Global,
@@ -60,9 +79,7 @@ pub fn project<C: ChoiceView>(
 ) -> Result<CellRow, Memory>
     ensures { IfOk result (λ row. row ≡ masked_items (C.choices choices.now) query.now combo.now) }
 {
-    let mut cells = Vec::with_capacity(alloc, query.items.len())?;
-    for item in query.items.as_slice() {
-        cells.push(cell(item, combo, choices).copy(alloc)?)?;
-    }
-    Ok(Sequence::from_vec(cells))
+    let mut row = Sequence::with_capacity(alloc, query.items.len())?;
+    refill(alloc, query.items.as_slice(), combo, choices, &mut row)?;
+    Ok(row)
 }

@@ -53,8 +53,8 @@ fn shown(alloc: Global, value: &Value) -> Result<Cell, Memory>
     Ok(Cell::Shown(value.copy(alloc)?))
 }
 
-// Takes one value more into the least of some.
-fn lower(alloc: Global, least: &mut Cell, value: &Value) -> Result<(), Memory>
+/// Takes one value more into the least of some.
+pub fn lower(alloc: Global, least: &mut Cell, value: &Value) -> Result<(), Memory>
     ensures { (before : values.Value) → least.old ≡ Shown before
         → OnOk result (least.new ≡ Shown (lesser before value.now)) }
 {
@@ -64,8 +64,8 @@ fn lower(alloc: Global, least: &mut Cell, value: &Value) -> Result<(), Memory>
     Ok(())
 }
 
-// Takes one value more into the greatest of some.
-fn raise(alloc: Global, greatest: &mut Cell, value: &Value) -> Result<(), Memory>
+/// Takes one value more into the greatest of some.
+pub fn raise(alloc: Global, greatest: &mut Cell, value: &Value) -> Result<(), Memory>
     ensures { (before : values.Value) → greatest.old ≡ Shown before
         → OnOk result (greatest.new ≡ Shown (greater before value.now)) }
 {
@@ -73,31 +73,4 @@ fn raise(alloc: Global, greatest: &mut Cell, value: &Value) -> Result<(), Memory
         *greatest = shown(alloc, value)?;
     }
     Ok(())
-}
-
-/// Takes the value at a place of one row more into the least of some.
-pub fn lower_by(alloc: Global, least: &mut Cell, row: &CellRow, place: usize) -> Result<(), Memory>
-    ensures { (before : values.Value) → least.old ≡ Shown before
-        → OnOk result (least.new ≡ Shown
-        (lesser before (value_in (slice_index_or row.now place (Denied 0))))) }
-{
-    lower(alloc, least, value_at(row, place).unwrap_or(&Value::Null))
-}
-
-/// Takes the value at a place of one row more into the greatest of some.
-pub fn raise_by(
-    alloc: Global,
-    greatest: &mut Cell,
-    row: &CellRow,
-    place: usize,
-) -> Result<(), Memory>
-    ensures { (before : values.Value) → greatest.old ≡ Shown before
-        → OnOk result (greatest.new ≡ Shown
-        (greater before (value_in (slice_index_or row.now place (Denied 0))))) }
-{
-    raise(
-        alloc,
-        greatest,
-        value_at(row, place).unwrap_or(&Value::Null),
-    )
 }

@@ -1,11 +1,13 @@
 //! The row of a group, one member after the other.
 ghost use Rattle.std.specs.Prelude.{◌≡◌, ◌+◌, ◌<◌, [], ◌∷◌, ◌++◌, List, length, map, slice_index_or, IfOk, OnOk};
+ghost use Rattle.hippo_values.specs.declared.values.Value.TheVariants.{Null};
 ghost use Rattle.hippo_model.specs.declared.cells.Cell.TheVariants.{Denied};
 ghost use Rattle.hippo_model.specs.Terms.{ShownRow};
-ghost use Rattle.hippo_model.specs.Forms.{group_cell};
+ghost use Rattle.hippo_model.specs.Forms.{value_in, group_cell};
 ghost use Rattle.hippo_groups.specs.GroupCells.{IsJoined};
 
-use crate::best_values::{lower_by, raise_by};
+use crate::best_values::{lower, raise};
+use crate::members::LentRow;
 use hippo_model::{Cell, CellRow, Out, Outs};
 use hippo_values::{Duplicate, Memory, Sequence, Value};
 use std::alloc::Global;
@@ -42,30 +44,38 @@ fn first_row(alloc: Global, outs: &Outs, key: &[Cell]) -> Result<CellRow, Memory
     Ok(Sequence::from_vec(cells))
 }
 
+// The value at a place of a row.
+fn value_of<'b, R: LentRow>(row: &'b R, place: usize, null: &'b Value) -> &'b Value
+    requires { null.now ≡ Null }
+    ensures { result.now ≡ value_in (slice_index_or (R.cells row.now) place (Denied 0)) }
+{
+    row.value(place).unwrap_or(null)
+}
+
 // Takes one member more into a cell of its group's row.
-fn join_cell(alloc: Global, out: Out, cell: &mut Cell, row: &CellRow) -> Result<(), Memory>
+fn join_cell<R: LentRow>(alloc: Global, out: Out, cell: &mut Cell, row: &R) -> Result<(), Memory>
     ensures { (key : ShownRow) (members : List ShownRow) → cell.old ≡ group_cell key members out
-        → OnOk result (cell.new ≡ group_cell key (members ++ row.now ∷ []) out) }
+        → OnOk result (cell.new ≡ group_cell key (members ++ R.cells row.now ∷ []) out) }
 {
     match out {
         Out::Column(_) => Ok(()),
-        Out::Min(place) => lower_by(alloc, cell, row, place),
-        Out::Max(place) => raise_by(alloc, cell, row, place),
+        Out::Min(place) => lower(alloc, cell, value_of(row, place, &Value::Null)),
+        Out::Max(place) => raise(alloc, cell, value_of(row, place, &Value::Null)),
     }
 }
 
 // Takes one member more into the cell at a place, where those before have it.
-fn join_place(
+fn join_place<R: LentRow>(
     alloc: Global,
     outs: &Outs,
     cells: &mut [Cell],
     place: usize,
-    row: &CellRow,
+    row: &R,
 ) -> Result<(), Memory>
     requires { place < length outs.now }
     ensures { (key : ShownRow) (members : List ShownRow)
-        → IsJoined key members (members ++ row.now ∷ []) outs.now place cells.old
-        → OnOk result (IsJoined key members (members ++ row.now ∷ []) outs.now (place + 1)
+        → IsJoined key members (members ++ R.cells row.now ∷ []) outs.now place cells.old
+        → OnOk result (IsJoined key members (members ++ R.cells row.now ∷ []) outs.now (place + 1)
         cells.new) }
 {
     if place >= cells.len() {
@@ -75,10 +85,10 @@ fn join_place(
 }
 
 // Takes one member more into its group's row.
-fn join(alloc: Global, outs: &Outs, cells: &mut [Cell], row: &CellRow) -> Result<(), Memory>
+fn join<R: LentRow>(alloc: Global, outs: &Outs, cells: &mut [Cell], row: &R) -> Result<(), Memory>
     ensures { (key : ShownRow) (members : List ShownRow)
         → cells.old ≡ map (group_cell key members) outs.now
-        → OnOk result (cells.new ≡ map (group_cell key (members ++ row.now ∷ [])) outs.now) }
+        → OnOk result (cells.new ≡ map (group_cell key (members ++ R.cells row.now ∷ [])) outs.now) }
 {
     for place in 0..outs.len() {
         join_place(alloc, outs, cells, place, row)?;
@@ -87,10 +97,15 @@ fn join(alloc: Global, outs: &Outs, cells: &mut [Cell], row: &CellRow) -> Result
 }
 
 // The row of a group with one member more.
-fn joined(alloc: Global, outs: &Outs, cells: CellRow, row: &CellRow) -> Result<CellRow, Memory>
+fn joined<R: LentRow>(
+    alloc: Global,
+    outs: &Outs,
+    cells: CellRow,
+    row: &R,
+) -> Result<CellRow, Memory>
     ensures { (key : ShownRow) (members : List ShownRow)
         → cells ≡ map (group_cell key members) outs.now
-        → IfOk result (λ new. new ≡ map (group_cell key (members ++ row.now ∷ [])) outs.now) }
+        → IfOk result (λ new. new ≡ map (group_cell key (members ++ R.cells row.now ∷ [])) outs.now) }
 {
     let mut cells = cells.into_vec();
     join(alloc, outs, &mut cells, row)?;
@@ -98,29 +113,29 @@ fn joined(alloc: Global, outs: &Outs, cells: CellRow, row: &CellRow) -> Result<C
 }
 
 /// The row of a group that has one member.
-pub fn row_of_first(
+pub fn row_of_first<R: LentRow>(
     alloc: Global,
     outs: &Outs,
     key: &[Cell],
-    row: &CellRow,
+    row: &R,
 ) -> Result<CellRow, Memory>
-    ensures { IfOk result (λ cells. cells ≡ map (group_cell key.now (row.now ∷ [])) outs.now) }
+    ensures { IfOk result (λ cells. cells ≡ map (group_cell key.now (R.cells row.now ∷ [])) outs.now) }
 {
     let first = first_row(alloc, outs, key)?;
     joined(alloc, outs, first, row)
 }
 
 /// Takes one member more into the row of the group at a place.
-pub fn join_at(
+pub fn join_at<R: LentRow>(
     alloc: Global,
     outs: &Outs,
     rows: &mut [CellRow],
     place: usize,
-    row: &CellRow,
+    row: &R,
 ) -> Result<(), Memory>
     ensures { (front back : List ShownRow) (key : ShownRow) (members : List ShownRow)
         → rows.old ≡ front ++ map (group_cell key members) outs.now ∷ back → place ≡ length front
-        → OnOk result (rows.new ≡ front ++ map (group_cell key (members ++ row.now ∷ [])) outs.now
+        → OnOk result (rows.new ≡ front ++ map (group_cell key (members ++ R.cells row.now ∷ [])) outs.now
         ∷ back) }
 {
     if place >= rows.len() {

@@ -9,8 +9,9 @@ ghost use Rattle.hippo_eval.specs.Walks.{rows_of};
 ghost use Rattle.hippo_groups.specs.KeptGroups.{AreGroups};
 
 use crate::group_rows::{join_at, row_of_first};
-use hippo_distinct::{ComboGatherer, gather_combos, refill};
-use hippo_eval::{ANSWER_LIMIT, EvalFault};
+use crate::members::{LentRow, Member};
+use hippo_eval::{ANSWER_LIMIT, EvalFault, Gatherer, refill};
+use hippo_join::gather_joined;
 use hippo_model::{Answer, Cell, CellRow, ChoiceView, Combo, Masked, Shape};
 use hippo_rows::Sets;
 use hippo_values::{Memory, Sequence};
@@ -19,21 +20,25 @@ use std::alloc::Global;
 use std::mem;
 
 // The keys of the groups, in the order of their first members, and their rows at the same places;
-// and the memory of the row at hand: for speed alone, since a further member of a group then takes
-// no memory.
+// and the key at hand: for speed alone, since a further member of a group then takes no memory.
 #[derive(Drop)]
 struct Groups {
     keys: IndexSet<Vec<Cell>>,
     rows: Vec<CellRow>,
-    at_hand: CellRow,
+    key: CellRow,
+}
+
+fn first_of<T>(members: &[T], count: usize) -> &[T]
+    ensures { result.now ≡ take count members.now }
+{
+    &members[..count.min(members.len())]
 }
 
 /// The first cells of a row, so many; all, where it has fewer.
 pub fn front(row: &CellRow, keys: usize) -> &[Cell]
     ensures { result.now ≡ take keys row.now }
 {
-    let cells = row.as_slice();
-    &cells[..keys.min(cells.len())]
+    first_of(row.as_slice(), keys)
 }
 
 /// The first cells of a row, so many, in the row's own memory.
@@ -52,22 +57,24 @@ impl Groups {
         Groups {
             keys: IndexSet::new(alloc),
             rows: Vec::new(alloc),
-            at_hand: Sequence::new(alloc),
+            key: Sequence::new(alloc),
         }
     }
 
-    // Takes in the row at hand, in its own group or as the first of a new one.
-    fn add(&mut self, alloc: Global, shape: &Shape) -> Result<(), Memory>
+    // Takes in a row that has the key at hand, in its own group or as the first of a new one.
+    fn add<R: LentRow>(&mut self, alloc: Global, shape: &Shape, row: &R) -> Result<(), Memory>
         ensures { (found : List ShownRow) → AreGroups shape.now found self.old
-            → OnOk result (AreGroups shape.now (found ++ self.old.at_hand ∷ []) self.new) }
+            → self.old.key ≡ take shape.now.keys (R.cells row.now)
+            → OnOk result (AreGroups shape.now (found ++ R.cells row.now ∷ []) self.new) }
     {
-        let key = front(&self.at_hand, shape.keys);
+        let key = self.key.as_slice();
         if let Some(place) = self.keys.get_index_of(key) {
-            return join_at(alloc, &shape.outs, &mut self.rows, place, &self.at_hand);
+            return join_at(alloc, &shape.outs, &mut self.rows, place, row);
         }
-        let first = row_of_first(alloc, &shape.outs, key, &self.at_hand)?;
-        let row = mem::replace(&mut self.at_hand, Sequence::new(alloc));
-        self.keys.insert(into_front(row, shape.keys))?;
+        let first = row_of_first(alloc, &shape.outs, key, row)?;
+        let next = Sequence::with_capacity(alloc, self.key.len())?;
+        let key = mem::replace(&mut self.key, next);
+        self.keys.insert(key.into_vec())?;
         self.rows.push(first)?;
         Ok(())
     }
@@ -79,7 +86,7 @@ struct ByShape<'a> {
     shape: &'a Shape,
 }
 
-impl<'a> ComboGatherer for ByShape<'a> {
+impl<'a> Gatherer for ByShape<'a> {
     ghost use Rattle.hippo_model.specs.Forms.{grouped_rows};
     ghost use Rattle.hippo_groups.specs.KeptGroups.{AreGroups};
 
@@ -106,8 +113,14 @@ impl<'a> ComboGatherer for ByShape<'a> {
         choices: &C,
     ) -> Result<(), Memory> {
         let items = query.items.as_slice();
-        refill(alloc, items, combo, choices, &mut groups.at_hand)?;
-        groups.add(alloc, self.shape)
+        let keys = first_of(items, self.shape.keys);
+        refill(alloc, keys, combo, choices, &mut groups.key)?;
+        let member = Member {
+            items: &*items,
+            combo: &*combo,
+            choices: &*choices,
+        };
+        groups.add(alloc, self.shape, &member)
     }
 
     fn finish(&self, _alloc: Global, groups: Groups) -> Result<Answer, Memory> {
@@ -132,7 +145,7 @@ pub fn grouped<C: ChoiceView>(
     ensures { let rows = masked_answer (C.choices choices.now) query.now (rows_of sets.now) in
         IsAnswered ANSWER_LIMIT (grouped_rows shape.now rows) result }
 {
-    gather_combos(
+    gather_joined(
         alloc,
         query,
         sets,

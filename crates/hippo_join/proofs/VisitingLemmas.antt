@@ -1,7 +1,7 @@
 -- What is visited of the combinations that count, place by place.
-use Rattle.std.proofs.Common.{◌≡◌, ℕ, zero, suc, ◌+◌, ◌<◌, ◌≤◌, Bool, true, false, ◌&&◌, ◌||◌, cond, not, List, [], ◌∷◌, ◌++◌, map, length, get_or, refl, sym, ap, subst, ◌∙◌, append_assoc, arith, Option, Some, None, inl, inr, ◌⊎◌, nat_eq, replicate, zero-add}
+use Rattle.std.proofs.Common.{◌≡◌, ℕ, zero, suc, ◌+◌, ◌<◌, ◌≤◌, Bool, true, false, ◌&&◌, ◌||◌, cond, not, List, [], ◌∷◌, ◌++◌, map, length, get_or, refl, sym, ap, subst, ◌∙◌, append_assoc, arith, Option, Some, None, inl, inr, ◌⊎◌, nat_eq, replicate, zero-add, unwrap_or}
 use Rattle.std.proofs.Math.Dec.{eqb, eqb-suc-zero}
-use Rattle.std.specs.Prelude.{filter, slice_get, slice_set, Result, Ok, Err, IfOk}
+use Rattle.std.specs.Prelude.{filter, slice_get, slice_set, Result, Ok, Err, IfOk, OnOk}
 use Rattle.std.specs.List.{All, AllByRecursion, Contains, range_with_len}
 use Rattle.std.specs.List.Sorted.{IsStrictlyIncreasing, IsStrictlySortedBy}
 use Rattle.std.specs.Option.{option_map_or}
@@ -10,19 +10,20 @@ use Rattle.std.specs.Cmp.Lexicographic.{slice_cmp}
 use Rattle.std.specs.declared.cmp.Ordering.TheVariants.{Less}
 use Rattle.std.proofs.lemmas.Bool.{and_parts, false≢true, or_left, or_right}
 use Rattle.std.proofs.lemmas.Bool.Decides.{nat_tests}
-use Rattle.std.proofs.lemmas.List.{append-nil, map-append, set-set}
+use Rattle.std.proofs.lemmas.List.{append-nil, length-map, map-append, set-set}
 use Rattle.std.proofs.lemmas.List.FromFn.{get_or-range_with_len, length-range_with_len}
 use Rattle.std.proofs.lemmas.List.Kept.{AllPairs-from_increasing, IsStrictlySortedBy-filter}
 use Rattle.std.proofs.lemmas.Option.{slice_get-get_or}
 use Rattle.hippo_model.specs.declared.query.Masked.{Masked}
 use Rattle.hippo_model.specs.Terms.{Combination, Place}
 use Rattle.hippo_keyed_rows.specs.RowSets.{KeyedRows}
-use Rattle.hippo_model.specs.Masking.{Choices}
+use Rattle.hippo_model.specs.declared.born_row.BornRow.{BornRow}
+use Rattle.hippo_model.specs.Masking.{Choices, is_guarded, masked_passes}
 use Rattle.hippo_values.specs.declared.memory.Memory.{Memory}
 use Rattle.hippo_eval.specs.Walks.{KeptAfter}
 use Rattle.hippo_eval.specs.declared.walks.Onward.{Onward}
 use Rattle.hippo_eval.specs.declared.walks.Onward.TheVariants.{More, Enough}
-use Rattle.hippo_lookups.specs.Places.{Fits, blank, chosen_rows, in_range, places_of, row_at_place, rows_at, stands}
+use Rattle.hippo_lookups.specs.Places.{Fits, are_there, blank, chosen_rows, in_range, places_of, row_at_place, rows_at, stands}
 use Rattle.hippo_lookups.specs.Known.{is_chosen, is_open}
 use Rattle.hippo_sides.specs.Finding.{has_places, IsRising}
 use Rattle.hippo_sides.specs.Stages.{ReachesFrom}
@@ -30,12 +31,13 @@ use Rattle.hippo_sides.specs.Walking.{CanWalk}
 use Rattle.hippo_sides.specs.declared.stages.Stage.{Stage}
 use Rattle.hippo_sides.specs.Visiting.{Completes, KeptOn, AreAll, Visited}
 use Rattle.hippo_lookups.proofs.PlaceSteps.{below_or_at, get_or_default, rises-range}
-use Rattle.hippo_join.proofs.ExistenceLemmas.{Fits-unset, fits-itself}
-use Rattle.hippo_sides.proofs.FindingLemmas.{before-chosen_rows, open-unchosen, open-within}
+use Rattle.hippo_join.proofs.ExistenceLemmas.{Fits-unset, all-chosen_rows, fits-itself}
+use Rattle.hippo_sides.proofs.FindingLemmas.{before-chosen_rows, counts-is, open-unchosen, open-within, walk-again, walk-chosen_rows, walk-closed}
 use Rattle.hippo_sides.proofs.FoundLemmas.{has-both, has-filter, has-first, or-cases, same_places}
 use Rattle.hippo_sides.proofs.ProductLemmas.{Below, rising-append, same-first, has-places_of, rising-places_of}
-use Rattle.hippo_lookups.proofs.PruneLemmas.{in-range, long-enough}
-use Rattle.hippo_lookups.proofs.SlotLemmas.{Fits-open, Fits-set, Fits-whole}
+use Rattle.hippo_lookups.proofs.PruneLemmas.{below-rows, in-range, long-enough}
+use Rattle.hippo_lookups.proofs.SlotLemmas.{Fits-open, Fits-set, Fits-whole, rows-chosen, there-set, there-whole}
+use Rattle.hippo_join.specs.Walked.{Join, CanGoOn, StandAt}
 
 not_true : (b : Bool) → ¬ (b ≡ true) → b ≡ false
 not_true true no_way = absurd (no_way refl)
@@ -49,6 +51,10 @@ module _ {A : Type 0} where
   pub none-left : (xs : List A) → eqb (length xs) 0 ≡ true → xs ≡ []
   none-left [] none = refl
   none-left (x ∷ xs) none = absurd (false≢true (sym (eqb-suc-zero (length xs)) ∙ none))
+
+  pub none-counted : (xs : List A) → length xs ≡ 0 → xs ≡ []
+  none-counted [] none = refl
+  none-counted (x ∷ xs) none = absurd (omega (arith, none))
 
   -- where one test implies another, it is enough to make the narrower one
   pub filter-implied : (wide narrow : A → Bool) → ((x : A) → narrow x ≡ true → wide x ≡ true) → (xs : List A) → filter narrow (filter wide xs) ≡ filter narrow xs
@@ -379,3 +385,64 @@ module _ {S : Type 0} (keeps : List Combination → S → Type 0) (sets : List K
 -- ---- all combinations
 pub completes-open : (choices : Choices) (query : Masked) (sets : List KeyedRows) (slots : List (Option Place)) → slots ≡ replicate (length sets) None → (places : List Place) → stands choices query sets places ≡ true → Completes choices query sets slots places
 completes-open choices query sets slots none places counts = (subst (λ (s : List (Option Place)). Fits s places) (sym none) (Fits-open places (length sets) (long-enough choices query sets places counts)), counts)
+
+-- ---- a walk
+-- what holds anyhow holds where a call is Ok
+pub on-ok : {T E : Type 0} (fact : Type 0) (result : Result T E) → fact → OnOk result fact
+on-ok fact (Ok x) holds = holds
+on-ok fact (Err e) holds = tt
+
+-- no combination that counts has a place past the end of a table
+pub none-there : (choices : Choices) (query : Masked) (sets : List KeyedRows) (slots : List (Option Place)) (table place : Place) (set : KeyedRows) → table < length slots → slice_get sets table ≡ Some set → length set.rows ≤ place → (places : List Place) → ¬ Completes choices query sets (slice_set slots table (Some place)) places
+none-there choices query sets slots table place set within at past places is =
+    let below = below-rows sets places table set place (in-range choices query sets places is.1) at (at_place slots places table place within is.0) in
+    omega (arith, below, past)
+
+-- where no stage is left, the rows are those of one combination, of which a test says whether it counts
+pub record IsWhole (join : Join) (slots : List (Option Place)) (rows : Combination) (test : Bool) : Type 0 where
+  pub places : List Place
+  pub whole : slots ≡ map Some places
+  pub are : rows ≡ chosen_rows join.sets places
+  pub counts : test ≡ stands join.choices join.query join.sets places
+
+module _ (join : Join) where
+  pub is-whole : (slots : List (Option Place)) (rows : Combination) (test : Bool) → CanGoOn join [] slots rows → test ≡ (is_guarded join.choices join.query rows && masked_passes join.choices join.query rows) → IsWhole join slots rows test
+  is-whole slots rows test can is =
+      let places : List Place = map (λ slot. unwrap_or slot 0) slots in
+      let whole : slots ≡ map Some places = all-chosen_rows slots places can.can.covers refl in
+      let long : length places ≡ length join.sets = sym (length-map places Some) ∙ sym (ap length whole) ∙ can.can.long in
+      let are : rows ≡ chosen_rows join.sets places = can.stand.are ∙ ap (rows_at join.sets) whole in
+      record {
+        places = places;
+        whole = whole;
+        are = are;
+        counts = counts-is join.choices join.query join.sets places rows test (sym (there-whole join.sets places long) ∙ sym (ap (are_there join.sets) whole) ∙ can.stand.there) are is;
+      }
+
+  module _ (stage : Stage) (rest : List Stage) (slots : List (Option Place)) (rows : Combination) (can : CanGoOn join (stage ∷ rest) slots rows) where
+    -- on with the row at a place of the first stage's table
+    pub on-with : (place : Place) (set : KeyedRows) (kept : BornRow) (now : Combination) → stage.table < length slots → slice_get join.sets stage.table ≡ Some set → place < length set.rows → slice_get set.rows place ≡ Some kept → now ≡ slice_set rows stage.table kept
+        → CanGoOn join rest (slice_set slots stage.table (Some place)) now
+    on-with place set kept now within at below has put = record {
+      can = walk-chosen_rows join.choices join.query join.sets join.in_order stage rest slots place can.can within;
+      stand = record {
+        there = there-set join.sets slots stage.table place set at below can.stand.there;
+        are =
+            put ∙ ap (λ (own : BornRow). slice_set rows stage.table own) (sym (ap (λ (found : Option BornRow). unwrap_or found blank) has))
+            ∙ ap (λ (some : Combination). slice_set some stage.table (row_at_place set.rows place)) can.stand.are ∙ rows-chosen join.sets slots stage.table place set at within;
+      };
+    }
+
+    -- again with another row of its table, or none
+    pub on-again : (left : List (Option Place)) (now : Combination) → slice_set left stage.table None ≡ slots → StandAt join.sets left now → CanGoOn join (stage ∷ rest) left now
+    on-again left now same stand = record { can = walk-again join.choices join.query join.sets join.in_order stage rest slots left can.can same; stand = stand }
+
+    pub next-on : (some : List Place) → is_open slots stage.table ≡ true → ReachesFrom join.choices join.query join.sets slots stage.table some → (join.in_order ≡ true → IsStrictlyIncreasing some) → IsNext join.choices join.query join.sets join.in_order slots stage.table some
+    next-on some still reaches rises = is-next join.choices join.query join.sets join.in_order (stage ∷ rest) stage rest slots some can.can refl still reaches rises
+
+  -- on along the other stages, where the row of the first one's table is chosen already; and along all
+  pub on-closed : (stages : List Stage) (stage : Stage) (rest : List Stage) (slots : List (Option Place)) (rows : Combination) → CanGoOn join stages slots rows → stages ≡ stage ∷ rest → is_open slots stage.table ≡ false → CanGoOn join rest slots rows
+  on-closed stages stage rest slots rows can first closed = record { can = walk-closed join.choices join.query join.sets join.in_order stages stage rest slots can.can first closed; stand = can.stand }
+
+  pub on-same : (stages others : List Stage) (slots : List (Option Place)) (rows : Combination) → CanGoOn join stages slots rows → stages ≡ others → CanGoOn join others slots rows
+  on-same stages others slots rows can same = let P : List Stage → Type 0 = λ l. CanGoOn join l slots rows in subst P same can

@@ -1,3 +1,4 @@
 pub mod Existence
 pub mod Settling
 pub mod Plans
+pub mod Walked

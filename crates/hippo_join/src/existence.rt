@@ -7,7 +7,7 @@ ghost use Rattle.hippo_sides.specs.Stages.{IsStage};
 ghost use Rattle.hippo_sides.specs.Walking.{CanWalk};
 ghost use Rattle.hippo_join.specs.Existence.{are_shown, HasOne, Decides};
 
-use crate::walking::{PlaceVisitor, walk};
+use crate::walking::{PlaceVisitor, Walk, are_there};
 use hippo_eval::{Onward, cell};
 use hippo_model::{ChoiceView, Combo, Expr};
 use hippo_sides::{Side, Stage};
@@ -88,18 +88,18 @@ pub(crate) fn has_along<C: ChoiceView>(
         choices: side.choices,
         seen,
     };
+    if !are_there(side, slots) {
+        return Ok(false);
+    }
     let mut rows = side.rows(alloc, slots)?;
     let mut is_found = false;
-    let _onward = walk(
+    let walk = Walk {
         side,
         alloc,
-        stages,
-        false,
-        slots,
-        &mut rows,
-        &seeker,
-        &mut is_found,
-    )?;
+        in_order: false,
+        visitor: &seeker,
+    };
+    let _onward = walk.walk(stages, slots, &mut rows, &mut is_found)?;
     Ok(is_found)
 }
 

@@ -35,6 +35,26 @@ pub fn blank_row(alloc: Global) -> Result<BornRow, Memory>
     }
 }
 
+// A query over tables, with what stands for rows that are not chosen.
+pub(crate) fn side_of<'s, C: ChoiceView>(
+    query: &'s Masked,
+    sets: &'s Sets<'_>,
+    choices: &'s C,
+    unchosen: &'s BornRow,
+) -> Side<'s, C>
+    requires { unchosen.now ≡ blank }
+    ensures query { result.query.now ≡ query.now }
+    ensures sets { result.sets.now ≡ sets.now }
+    ensures choices { result.choices.now ≡ choices.now }
+{
+    Side {
+        query: &*query,
+        sets: &*sets,
+        choices: &*choices,
+        blank: &*unchosen,
+    }
+}
+
 // The combinations that were found, in the order of the product.
 fn in_order(alloc: Global, found: BTreeSet<Places>) -> Result<Vec<Places>, Memory>
     ensures { IfOk result (λ listed. listed.items ≡ found.keys) }
@@ -138,36 +158,6 @@ fn answer<C: ChoiceView>(
     }
 }
 
-// The same by the places of all combinations that count, whatever the order.
-fn run_by_places<C: ChoiceView>(
-    alloc: Global,
-    plan: &Plan,
-    query: &Masked,
-    sets: &Sets<'_>,
-    choices: &C,
-) -> Result<Answer, EvalFault>
-    requires sets { length sets.now ≡ length query.now.tables }
-    requires plan { IsPlanOf query.now plan.now }
-    ensures { IsAnswered ANSWER_LIMIT (masked_answer (C.choices choices.now) query.now
-        (rows_of sets.now)) result }
-{
-    let blank = blank_row(alloc)?;
-    let side = Side {
-        query,
-        sets,
-        choices,
-        blank: &blank,
-    };
-    let answer = answer(&side, alloc, plan.order.as_slice());
-    let Side {
-        query: _,
-        sets: _,
-        choices: _,
-        blank: _,
-    } = side;
-    answer
-}
-
 /// The answer of a query with the policy written into it, by joins of its tables in a plan's order:
 /// the same as that of `evaluate`, whatever the plan. Wants a plan of the query, and the rows of
 /// each of its tables. TooManyRows exactly where the answer has more than 100,000 rows. Where the
@@ -189,8 +179,9 @@ pub fn run<C: ChoiceView>(
         (rows_of sets.now)) result }
 {
     if is_in_order(plan) {
-        gather_joined(alloc, query, sets, choices, &Every, ANSWER_LIMIT)
-    } else {
-        run_by_places(alloc, plan, query, sets, choices)
+        return gather_joined(alloc, query, sets, choices, &Every, ANSWER_LIMIT);
     }
+    let blank = blank_row(alloc)?;
+    let side = side_of(query, sets, choices, &blank);
+    answer(&side, alloc, plan.order.as_slice())
 }

@@ -49,7 +49,8 @@ fn still_open(alloc: Global, order: &[usize], slots: &[Option<usize>]) -> Result
     Ok(left)
 }
 
-// The place of a table's row, where one at most may follow those that are chosen.
+// The place of a table's row, where it is not chosen yet and one at most may follow those that are
+// chosen.
 fn only_place<C: ChoiceView>(
     side: &Side<'_, C>,
     alloc: Global,
@@ -62,11 +63,14 @@ fn only_place<C: ChoiceView>(
         side.now.query.now side.now.sets.now slots.now
         (slice_set slots.now table (Some first)))) }
 {
+    if !is_open(slots, table) {
+        return Ok(None);
+    }
     let following = side.candidates(alloc, table, slots, 1)?;
     Ok(only_of(&following))
 }
 
-// Chooses a table's row, where one at most may follow those that are chosen.
+// Chooses a table's row, where it is not chosen yet and one at most may follow.
 #[tactic(auto, using(crate::proofs::SettlingLemmas::Settles_refl))]
 fn settle_table<C: ChoiceView>(
     side: &Side<'_, C>,
@@ -87,27 +91,6 @@ fn settle_table<C: ChoiceView>(
     Ok(())
 }
 
-// Chooses it, where it is not chosen yet and one at most may follow.
-#[tactic(auto, using(crate::proofs::SettlingLemmas::Settles_refl))]
-fn settle_open<C: ChoiceView>(
-    side: &Side<'_, C>,
-    alloc: Global,
-    table: usize,
-    slots: &mut [Option<usize>],
-) -> Result<(), Memory>
-    requires sets { table < length side.now.sets.now }
-    requires slots { table < length slots.old }
-    ensures { OnOk result (Settles
-        (C.choices side.now.choices.now) side.now.query.now side.now.sets.now slots.old
-        slots.new) }
-{
-    if is_open(slots, table) {
-        settle_table(side, alloc, table, slots)
-    } else {
-        Ok(())
-    }
-}
-
 // Chooses the row of each table, one after the other, where one at most may follow those that are
 // chosen.
 fn settle_each<C: ChoiceView>(
@@ -121,25 +104,7 @@ fn settle_each<C: ChoiceView>(
         slots.new) }
 {
     for table in 0..side.sets.len() {
-        settle_open(side, alloc, table, slots)?;
-    }
-    Ok(())
-}
-
-// Chooses rows of tables, where one at most may follow those that are chosen, until no more are
-// found.
-fn settle<C: ChoiceView>(
-    side: &Side<'_, C>,
-    alloc: Global,
-    slots: &mut [Option<usize>],
-) -> Result<(), Memory>
-    requires { length slots.old ≡ length side.now.sets.now }
-    ensures { OnOk result (Settles
-        (C.choices side.now.choices.now) side.now.query.now side.now.sets.now slots.old
-        slots.new) }
-{
-    for _pass in 0..side.sets.len() {
-        settle_each(side, alloc, slots)?;
+        settle_table(side, alloc, table, slots)?;
     }
     Ok(())
 }
@@ -156,7 +121,9 @@ pub fn settled<C: ChoiceView>(
         side.now.query.now side.now.sets.now places ≡ true → Fits slots.items places) }
 {
     let mut slots = open_slots(alloc, side.sets.len())?;
-    settle(side, alloc, &mut slots)?;
+    for _pass in 0..side.sets.len() {
+        settle_each(side, alloc, &mut slots)?;
+    }
     Ok(slots)
 }
 

@@ -5,7 +5,7 @@ ghost use Rattle.hippo_model.specs.Answers.{product};
 ghost use Rattle.hippo_eval.specs.Walks.{rows_of};
 ghost use Rattle.hippo_sides.specs.Visiting.{counting};
 
-use crate::joins::blank_row;
+use crate::joins::{blank_row, side_of};
 use crate::orders::tables_below;
 use crate::walking::{PlaceVisitor, walk_all};
 use hippo_eval::{Onward, Visitor};
@@ -79,18 +79,6 @@ pub fn walk_joined<C: ChoiceView, V: Visitor>(
         (product (rows_of sets.now))) state.new) }
 {
     let blank = blank_row(alloc)?;
-    let side = Side {
-        query,
-        sets,
-        choices,
-        blank: &blank,
-    };
-    let result = visit_all(&side, alloc, visitor, state);
-    let Side {
-        query: _,
-        sets: _,
-        choices: _,
-        blank: _,
-    } = side;
-    result
+    let side = side_of(query, sets, choices, &blank);
+    visit_all(&side, alloc, visitor, state)
 }

@@ -1,17 +1,12 @@
-use Rattle.std.proofs.Common.{not, List, ap, ◌∙◌}
-use Rattle.std.specs.Prelude.{filter}
-use Rattle.hippo_model.specs.declared.query.Form.{Form}
-use Rattle.hippo_model.specs.Terms.{ShownRow}
-use Rattle.hippo_model.specs.Bags.{same_bag}
-use Rattle.hippo_model.specs.Forms.{rows_by_form}
-use Rattle.hippo_model.specs.Answers.{selected_cells, passes, answer_of, seen_combinations}
+use Rattle.std.proofs.Common.{◌∙◌}
+use Rattle.hippo_model.specs.declared.query.Form.TheVariants.{Grouped}
+use Rattle.hippo_model.specs.Answers.{selected_cells, passes, seen_combinations}
 use Rattle.hippo_model.specs.Audits.{has_tuple}
+use Rattle.hippo_distinct.proofs.NeededForms.{needs_by_form}
 use Rattle.hippo_distinct.proofs.NeededGroups.{needs_what_changes_groups}
 use Rattle.hippo_distinct.proofs.laws.grouped_query_needs.Goals as goal
 
 pub returns : goal.returns
 returns c = λ history context query shape tuple is_grouped.
-    let rows : List (List ShownRow) = seen_combinations history context query in
-    let left : List (List ShownRow) = filter (λ combination. not (has_tuple history query.tables tuple combination)) rows in
-    ap (λ (form : Form). not (same_bag (rows_by_form form (answer_of query.items query.cond left)) (rows_by_form form (answer_of query.items query.cond rows)))) is_grouped
-    ∙ needs_what_changes_groups (selected_cells query.items) (passes query.cond) (has_tuple history query.tables tuple) shape rows
+    needs_by_form history context query tuple (Grouped shape) is_grouped
+    ∙ needs_what_changes_groups (selected_cells query.items) (passes query.cond) (has_tuple history query.tables tuple) shape (seen_combinations history context query)

@@ -5,6 +5,6 @@ use Rattle.hippo_groups.proofs.JoinLemmas.{all_changed}
 use Rattle.hippo_groups.proofs.group_rows.join.Goals as goal
 
 pub returns : goal.returns
-returns c = λ key members was.
-    all_changed (group_cell key members) (group_cell key (members ++ c.args.row.now ∷ [])) c.args.outs.now c.loop-place.place
+returns g c = λ key members was.
+    all_changed (group_cell key members) (group_cell key (members ++ g.R.LentRow.cells c.args.row.now ∷ [])) c.args.outs.now c.loop-place.place
     (omega (arith, c.len-place-end.ensures)) c.loop-place.cells (c.loop-place.invariant key members was)

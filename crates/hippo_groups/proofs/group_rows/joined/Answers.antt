@@ -4,7 +4,7 @@ use Rattle.std.proofs.lemmas.List.{with_items_is}
 use Rattle.hippo_groups.proofs.group_rows.joined.Goals as goal
 
 pub returns : goal.returns
-returns c = λ key members was.
+returns g c = λ key members was.
     c.from_vec.ensures
     ∙ with_items_is c.into_vec-cells.result c.join.new.cells (omega (arith, c.join.auto.cells, c.deref_mut.ensures.len))
     ∙ c.in_ok-join.ensures key members (c.deref_mut.ensures.value ∙ c.into_vec-cells.ensures ∙ was)

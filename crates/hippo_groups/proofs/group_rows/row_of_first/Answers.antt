@@ -3,4 +3,4 @@ use Rattle.std.proofs.Common.{[]}
 use Rattle.hippo_groups.proofs.group_rows.row_of_first.Goals as goal
 
 pub returns : goal.returns
-returns c = c.joined.ensures c.args.key.now [] c.in_ok-first.ensures
+returns g c = c.joined.ensures c.args.key.now [] c.in_ok-first.ensures

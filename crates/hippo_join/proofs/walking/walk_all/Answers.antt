@@ -1,19 +1,22 @@
 -- At the beginning no row is chosen.
-use Rattle.std.proofs.Common.{◌≡◌, true, replicate, None, ap, ◌∙◌, sym}
-use Rattle.hippo_lookups.specs.Places.{rows_at, stands}
+use Rattle.std.proofs.Common.{◌≡◌, true, length, replicate, None, ap, ◌∙◌, sym}
+use Rattle.hippo_lookups.specs.Places.{are_there, rows_at, stands}
+use Rattle.hippo_lookups.proofs.SlotLemmas.{there-none}
 use Rattle.hippo_sides.specs.Visiting.{Completes}
 use Rattle.hippo_sides.proofs.FindingLemmas.{walk-all}
 use Rattle.hippo_sides.proofs.ReachLemmas.{length-unchosen}
 use Rattle.hippo_join.proofs.VisitingLemmas.{visited-as, completes-open}
 use Rattle.hippo_join.proofs.walking.walk_all.Goals as goal
 
-pub walk-requires-clause-walk : goal.walk-requires-clause-walk
-walk-requires-clause-walk g c =
-    walk-all (g.C.ChoiceView.choices c.args.side.now.choices.now) c.args.side.now.query.now c.args.side.now.sets.now c.args.in_order c.args.order.now c.in_ok-stages.stages.items c.deref-2.result.now c.deref_mut.result.now c.in_ok-stages.ensures c.deref-2.ensures.value
-    (length-unchosen c.deref_mut.result.now c.len.result _ (c.deref_mut.ensures.value ∙ c.in_ok-slots.ensures) c.len.ensures) c.requires.whole c.requires.rises
-
-pub walk-requires-clause-rows : goal.walk-requires-clause-rows
-walk-requires-clause-rows g c = c.in_ok-rows.ensures ∙ ap (rows_at c.args.side.now.sets.now) (c.deref.ensures.value ∙ sym c.deref_mut.ensures.value)
+pub walk-requires : goal.walk-requires
+walk-requires g c =
+    let sets = c.args.side.now.sets.now in
+    let none : c.deref_mut.result.now ≡ replicate (length sets) None = c.deref_mut.ensures.value ∙ c.in_ok-slots.ensures ∙ ap (λ n. replicate n None) c.len.ensures in
+    record {
+      can = walk-all (g.C.ChoiceView.choices c.args.side.now.choices.now) c.args.side.now.query.now sets c.args.in_order c.args.order.now c.in_ok-stages.stages.items c.deref-2.result.now c.deref_mut.result.now c.in_ok-stages.ensures c.deref-2.ensures.value
+          (length-unchosen c.deref_mut.result.now c.len.result _ (c.deref_mut.ensures.value ∙ c.in_ok-slots.ensures) c.len.ensures) c.requires.whole c.requires.rises;
+      stand = record { there = ap (are_there sets) none ∙ there-none sets (length sets); are = c.in_ok-rows.ensures ∙ ap (rows_at sets) (c.deref.ensures.value ∙ sym c.deref_mut.ensures.value) };
+    }
 
 pub returns : goal.returns
 returns g c front before kept =

@@ -1,5 +1,0 @@
--- No group is kept of no rows.
-use Rattle.hippo_groups.proofs.grouping.ByShapeComboGatherer.start.Goals as goal
-
-pub returns : goal.returns
-returns c = c.new.ensures c.args.self.now.shape.now

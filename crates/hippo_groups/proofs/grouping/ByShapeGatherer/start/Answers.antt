@@ -1,0 +1,5 @@
+-- No group is kept of no rows.
+use Rattle.hippo_groups.proofs.grouping.ByShapeGatherer.start.Goals as goal
+
+pub returns : goal.returns
+returns c = c.new.ensures c.args.self.now.shape.now

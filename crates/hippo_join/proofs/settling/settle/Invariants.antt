@@ -1,6 +1,0 @@
--- What was chosen so far is what each combination has.
-use Rattle.hippo_join.specs.Settling.{Settles}
-use Rattle.hippo_join.proofs.settling.settle.Given as goal
-
-abbrev pub invariant-loop-pass : goal.invariant-loop-pass
-invariant-loop-pass g l = Settles (g.C.ChoiceView.choices l.side.choices.now) l.side.query.now l.side.sets.now l.initial.slots l.slots

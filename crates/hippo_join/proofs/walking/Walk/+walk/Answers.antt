@@ -1,0 +1,186 @@
+-- What counts is visited stage by stage and place by place.
+use Rattle.std.proofs.Common.{◌≡◌, suc, List, [], ◌++◌, length, length-set, Option, Some, None, refl, sym, ap, ◌∙◌, arith}
+use Rattle.std.specs.Prelude.{slice_set}
+use Rattle.std.proofs.lemmas.Bool.{false≢true}
+use Rattle.std.proofs.lemmas.List.{set-set}
+use Rattle.hippo_model.specs.Terms.{Place}
+use Rattle.hippo_lookups.specs.Places.{are_there}
+use Rattle.hippo_lookups.proofs.SlotLemmas.{length-rows_at}
+use Rattle.hippo_sides.specs.Visiting.{Completes}
+use Rattle.hippo_sides.specs.Walking.{following_places, IsWalkable}
+use Rattle.hippo_sides.proofs.FindingLemmas.{all-first, open-within, still-open, within-set}
+use Rattle.hippo_join.specs.Walked.{join_of}
+use Rattle.hippo_join.proofs.VisitingLemmas.{Tried, none-counted, none-left, none-there, next-on, on-again, on-closed, on-same, on-with, visited-none, visited-more, visited-all, visited-enough}
+use Rattle.hippo_join.proofs.walking.Walk.+walk.Goals as goal
+
+pub walk-visit_whole-requires : goal.walk-visit_whole-requires
+walk-visit_whole-requires g t c = on-same _ c.args.stages.now [] _ _ c.requires (none-counted c.args.stages.now c.in_default.ensures.cases)
+
+pub walk-walk-requires : goal.walk-walk-requires
+walk-walk-requires g t c κs within =
+    let shorter : length c.args.stages.now ≡ suc (length c.in-Some.rest.now) = ap length c.in-Some.ensures.cases.0 in
+    (omega arith, (within.0, (within.1.0, (within.1.1, on-closed _ _ c.in-Some.stage.now _ _ _ c.requires c.in-Some.ensures.cases.0 (sym c.is_open.ensures ∙ c.if-not-is_open.true)))))
+
+pub walk-following-requires-clause-table : goal.walk-following-requires-clause-table
+walk-following-requires-clause-table g t c =
+    let within = open-within c.args.slots.now c.in-Some.stage.now.table (sym c.is_open.ensures ∙ c.if-not-is_open.false) in
+    let long = c.requires.can.long in
+    omega (arith, within, long)
+
+pub walk-following-requires-clause-stage : goal.walk-following-requires-clause-stage
+walk-following-requires-clause-stage g t c =
+    all-first (IsWalkable (g.C.ChoiceView.choices c.args.self.now.side.now.choices.now) c.args.self.now.side.now.query.now c.args.self.now.side.now.sets.now) c.args.stages.now c.in-Some.stage.now c.in-Some.rest.now c.requires.can.walkable c.in-Some.ensures.cases.0
+
+pub walk-walk_each-requires : goal.walk-walk_each-requires
+walk-walk_each-requires g t c κs within =
+    let shorter : length c.args.stages.now ≡ suc (length c.in-Some.rest.now) = ap length c.in-Some.ensures.cases.0 in
+    let still = sym c.is_open.ensures ∙ c.if-not-is_open.false in
+    (omega arith, (within.0, (within.1.0, (within.1.1, (still, (on-same _ _ _ _ _ c.requires c.in-Some.ensures.cases.0, (c.in_ok-places.ensures.reaches, c.in_ok-places.ensures.order)))))))
+
+pub walk-leave-requires-clause-long : goal.walk-leave-requires-clause-long
+walk-leave-requires-clause-long g t c =
+    let long = c.requires.can.long in
+    omega (arith, ap length c.in_ok-onward.ensures.slots, length-set c.walk_each.new.slots c.in-Some.stage.now.table None, length-set c.args.slots.now c.in-Some.stage.now.table None, long)
+
+pub walk-leave-requires-clause-table : goal.walk-leave-requires-clause-table
+walk-leave-requires-clause-table g t c =
+    let within = open-within c.args.slots.now c.in-Some.stage.now.table (sym c.is_open.ensures ∙ c.if-not-is_open.false) in
+    omega (arith, within, ap length c.in_ok-onward.ensures.slots, length-set c.walk_each.new.slots c.in-Some.stage.now.table None, length-set c.args.slots.now c.in-Some.stage.now.table None)
+
+pub walk-leave-requires-clause-rows : goal.walk-leave-requires-clause-rows
+walk-leave-requires-clause-rows g t c = c.in_ok-onward.ensures.stand.are
+
+pub walk-returns : goal.walk-returns
+walk-returns g t c = record {
+  slots = c.leave.ensures.slots ∙ c.in_ok-onward.ensures.slots ∙ still-open c.args.slots.now c.in-Some.stage.now.table (sym c.is_open.ensures ∙ c.if-not-is_open.false);
+  rows = c.leave.ensures.rows;
+  kept = c.in_ok-onward.ensures.kept;
+}
+
+pub walk_each-walk_with-requires : goal.walk_each-walk_with-requires
+walk_each-walk_with-requires g t c κs within =
+    let same = c.loop-index.invariant.same in
+    let inside = within-set c.args.slots.now c.loop-index.slots c.args.stage.now.table (open-within c.args.slots.now c.args.stage.now.table c.requires.still) same in
+    (omega arith, (within.0, (within.1.0, (within.1.1, (inside, on-again _ c.args.stage.now c.args.rest.now c.args.slots.now c.args.rows.now c.requires.can c.loop-index.slots c.loop-index.rows same c.loop-index.invariant.stand)))))
+
+pub walk_each-loop-index-init : goal.walk_each-loop-index-init
+walk_each-loop-index-init g t c =
+    let join = join_of g.C.ChoiceView.choices c.args.self.now in
+    record {
+      same = still-open c.args.slots.now c.args.stage.now.table c.requires.still;
+      stand = c.requires.can.stand;
+      so_far = λ front before kept.
+          visited-none (g.V.PlaceVisitor.Keeps c.args.self.now.visitor.now join.sets front) join.in_order (Tried join.choices join.query join.sets c.args.slots.now c.args.stage.now.table (following_places c.args.following.now) 0) before c.args.state.now
+          (λ places tried. absurd (omega (arith, tried.lower))) kept;
+    }
+
+pub walk_each-loop-index-preserved : goal.walk_each-loop-index-preserved
+walk_each-loop-index-preserved g t c =
+    let join = join_of g.C.ChoiceView.choices c.args.self.now in
+    let next = next-on join c.args.stage.now c.args.rest.now c.args.slots.now c.args.rows.now c.requires.can (following_places c.args.following.now) c.requires.still c.requires.reaches c.requires.order in
+    record {
+      same = c.in_ok-onward.ensures.slots ∙ c.loop-index.invariant.same;
+      stand = c.in_ok-onward.ensures.stand;
+      so_far = λ front before kept.
+          let so_far = c.loop-index.invariant.so_far front before kept in
+          visited-more (g.V.PlaceVisitor.Keeps c.args.self.now.visitor.now join.sets front) join.in_order join.choices join.query join.sets c.args.slots.now c.args.stage.now.table (following_places c.args.following.now) next
+          c.loop-index.index before c.loop-index.state so_far (omega (arith, c.loop-index-test.true, c.len-index-end.ensures)) c.loop-index.slots c.place-place.result c.loop-index.invariant.same c.place-place.ensures
+          c.in_ok-onward.onward c.walk_with.new.state (c.in_ok-onward.ensures.kept front (before ++ so_far.all) so_far.kept);
+    }
+
+pub walk_each-returns-in-Enough : goal.walk_each-returns-in-Enough
+walk_each-returns-in-Enough g t c =
+    let join = join_of g.C.ChoiceView.choices c.args.self.now in
+    let next = next-on join c.args.stage.now c.args.rest.now c.args.slots.now c.args.rows.now c.requires.can (following_places c.args.following.now) c.requires.still c.requires.reaches c.requires.order in
+    record {
+      slots = c.in_ok-onward.ensures.slots ∙ c.loop-index.invariant.same ∙ sym (still-open c.args.slots.now c.args.stage.now.table c.requires.still);
+      stand = c.in_ok-onward.ensures.stand;
+      kept = λ front before kept.
+          let so_far = c.loop-index.invariant.so_far front before kept in
+          visited-enough (g.V.PlaceVisitor.Keeps c.args.self.now.visitor.now join.sets front) join.in_order join.choices join.query join.sets c.args.slots.now c.args.stage.now.table (following_places c.args.following.now) next
+          c.loop-index.index before c.loop-index.state so_far (omega (arith, c.loop-index-test.true, c.len-index-end.ensures)) c.loop-index.slots c.place-place.result c.loop-index.invariant.same c.place-place.ensures
+          c.in_ok-onward.onward c.walk_with.new.state (c.in_ok-onward.ensures.kept front (before ++ so_far.all) so_far.kept) c.in-Enough.is;
+    }
+
+pub walk_each-returns : goal.walk_each-returns
+walk_each-returns g t c =
+    let join = join_of g.C.ChoiceView.choices c.args.self.now in
+    let next = next-on join c.args.stage.now c.args.rest.now c.args.slots.now c.args.rows.now c.requires.can (following_places c.args.following.now) c.requires.still c.requires.reaches c.requires.order in
+    record {
+      slots = c.loop-index.invariant.same ∙ sym (still-open c.args.slots.now c.args.stage.now.table c.requires.still);
+      stand = c.loop-index.invariant.stand;
+      kept = λ front before kept.
+          visited-all (g.V.PlaceVisitor.Keeps c.args.self.now.visitor.now join.sets front) join.in_order join.choices join.query join.sets c.args.slots.now c.args.stage.now.table (following_places c.args.following.now) next
+          c.loop-index.index before c.loop-index.state (c.loop-index.invariant.so_far front before kept) (omega (arith, c.loop-index-test.false, c.len-index-end.ensures));
+    }
+
+pub walk_with-get-set-requires : goal.walk_with-get-set-requires
+walk_with-get-set-requires g t c =
+    let long = c.requires.can.can.long in
+    omega (arith, c.requires.table, long)
+
+-- no row stands there
+pub walk_with-returns-then-place-len : goal.walk_with-returns-then-place-len
+walk_with-returns-then-place-len g t c =
+    let join = join_of g.C.ChoiceView.choices c.args.self.now in
+    let slots = c.args.slots.now in
+    let table = c.args.stage.now.table in
+    record {
+      slots = refl;
+      stand = c.requires.can.stand;
+      kept = λ front before kept.
+          visited-none (g.V.PlaceVisitor.Keeps c.args.self.now.visitor.now join.sets front) join.in_order (Completes join.choices join.query join.sets (slice_set slots table (Some c.args.place))) before c.args.state.now
+          (none-there join.choices join.query join.sets slots table c.args.place c.get-set.result.now c.requires.table c.get-set.ensures (omega (arith, c.if-place-len.true, c.len.ensures.rows))) kept;
+    }
+
+pub walk_with-set-requires : goal.walk_with-set-requires
+walk_with-set-requires g t c =
+    let sets = c.args.self.now.side.now.sets.now in
+    let long = c.requires.can.can.long in
+    omega (arith, c.requires.table, long, ap length c.requires.can.stand.are, length-rows_at sets c.args.slots.now)
+
+-- the row is chosen: on along the other stages
+pub walk_with-visit_whole-requires : goal.walk_with-visit_whole-requires
+walk_with-visit_whole-requires g t c =
+    let on = on-with (join_of g.C.ChoiceView.choices c.args.self.now) c.args.stage.now c.args.rest.now c.args.slots.now c.args.rows.now c.requires.can c.args.place c.get-set.result.now c.born_row-kept.result.now c.set.new.self c.requires.table c.get-set.ensures (omega (arith, c.if-place-len.false, c.len.ensures.rows)) c.born_row-kept.ensures c.set.ensures in
+    on-same _ c.args.rest.now [] _ _ on (none-left c.args.rest.now (sym c.is_empty.ensures ∙ c.if-is_empty.true))
+
+pub walk_with-returns-then-is_empty : goal.walk_with-returns-then-is_empty
+walk_with-returns-then-is_empty g t c =
+    let on = on-with (join_of g.C.ChoiceView.choices c.args.self.now) c.args.stage.now c.args.rest.now c.args.slots.now c.args.rows.now c.requires.can c.args.place c.get-set.result.now c.born_row-kept.result.now c.set.new.self c.requires.table c.get-set.ensures (omega (arith, c.if-place-len.false, c.len.ensures.rows)) c.born_row-kept.ensures c.set.ensures in
+    record {
+      slots = set-set c.args.slots.now c.args.stage.now.table (Some c.args.place) None;
+      stand = on.stand;
+      kept = c.in_ok-whole.ensures.kept;
+    }
+
+pub walk_with-tests_hold-requires : goal.walk_with-tests_hold-requires
+walk_with-tests_hold-requires g t c =
+    let on = on-with (join_of g.C.ChoiceView.choices c.args.self.now) c.args.stage.now c.args.rest.now c.args.slots.now c.args.rows.now c.requires.can c.args.place c.get-set.result.now c.born_row-kept.result.now c.set.new.self c.requires.table c.get-set.ensures (omega (arith, c.if-place-len.false, c.len.ensures.rows)) c.born_row-kept.ensures c.set.ensures in
+    on.stand.are
+
+pub walk_with-returns-then-not-tests_hold : goal.walk_with-returns-then-not-tests_hold
+walk_with-returns-then-not-tests_hold g t c =
+    let join = join_of g.C.ChoiceView.choices c.args.self.now in
+    let on = on-with (join_of g.C.ChoiceView.choices c.args.self.now) c.args.stage.now c.args.rest.now c.args.slots.now c.args.rows.now c.requires.can c.args.place c.get-set.result.now c.born_row-kept.result.now c.set.new.self c.requires.table c.get-set.ensures (omega (arith, c.if-place-len.false, c.len.ensures.rows)) c.born_row-kept.ensures c.set.ensures in
+    record {
+      slots = set-set c.args.slots.now c.args.stage.now.table (Some c.args.place) None;
+      stand = on.stand;
+      kept = λ front before kept.
+          visited-none (g.V.PlaceVisitor.Keeps c.args.self.now.visitor.now join.sets front) join.in_order (Completes join.choices join.query join.sets (slice_set c.args.slots.now c.args.stage.now.table (Some c.args.place))) before c.args.state.now
+          (λ places is. false≢true (sym c.if-not-tests_hold.true ∙ c.tests_hold.ensures places is.0 is.1)) kept;
+    }
+
+pub walk_with-walk-requires : goal.walk_with-walk-requires
+walk_with-walk-requires g t c κs within =
+    let on = on-with (join_of g.C.ChoiceView.choices c.args.self.now) c.args.stage.now c.args.rest.now c.args.slots.now c.args.rows.now c.requires.can c.args.place c.get-set.result.now c.born_row-kept.result.now c.set.new.self c.requires.table c.get-set.ensures (omega (arith, c.if-place-len.false, c.len.ensures.rows)) c.born_row-kept.ensures c.set.ensures in
+    (omega arith, (within.0, (within.1.0, (within.1.1, on))))
+
+pub walk_with-returns : goal.walk_with-returns
+walk_with-returns g t c =
+    let on = on-with (join_of g.C.ChoiceView.choices c.args.self.now) c.args.stage.now c.args.rest.now c.args.slots.now c.args.rows.now c.requires.can c.args.place c.get-set.result.now c.born_row-kept.result.now c.set.new.self c.requires.table c.get-set.ensures (omega (arith, c.if-place-len.false, c.len.ensures.rows)) c.born_row-kept.ensures c.set.ensures in
+    record {
+      slots = ap (λ (slots : List (Option Place)). slice_set slots c.args.stage.now.table None) c.in_ok-onward.ensures.slots ∙ set-set c.args.slots.now c.args.stage.now.table (Some c.args.place) None;
+      stand = record { there = ap (are_there c.args.self.now.side.now.sets.now) c.in_ok-onward.ensures.slots ∙ on.stand.there; are = c.in_ok-onward.ensures.rows };
+      kept = c.in_ok-onward.ensures.kept;
+    }

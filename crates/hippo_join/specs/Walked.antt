@@ -1,0 +1,64 @@
+-- A walk over the combinations of a join that count.
+use Rattle.std.specs.Prelude.{◌≡◌, Bool, true, None, List, Option, OnOk, Result, slice_set}
+use Rattle.hippo_values.specs.declared.memory.Memory.{Memory}
+use Rattle.hippo_model.specs.declared.query.Masked.{Masked}
+use Rattle.hippo_model.specs.Terms.{Combination, Place}
+use Rattle.hippo_model.specs.Masking.{Choices}
+use Rattle.hippo_keyed_rows.specs.RowSets.{KeyedRows}
+use Rattle.hippo_eval.specs.declared.walks.Onward.{Onward}
+use Rattle.hippo_lookups.specs.Places.{are_there, rows_at}
+use Rattle.hippo_sides.specs.declared.stages.Stage.{Stage}
+use Rattle.hippo_sides.specs.Visiting.{Completes, Visits}
+use Rattle.hippo_sides.specs.Walking.{CanWalk}
+use Rattle.hippo_join.specs.declared.walking.Walk.{Walk}
+
+-- what is joined, and whether it is visited in the order of the product
+pub record Join : Type 0 where
+  pub choices : Choices
+  pub query : Masked
+  pub sets : List KeyedRows
+  pub in_order : Bool
+
+abbrev pub join_of : {C V : Type 0} → (C → Choices) → Walk C V → Join
+join_of choices_of walk = record {
+  choices = choices_of walk.side.now.choices.now;
+  query = walk.side.now.query.now;
+  sets = walk.side.now.sets.now;
+  in_order = walk.in_order;
+}
+
+-- each row that is chosen is there, and rows are those that are chosen
+pub record StandAt (sets : List KeyedRows) (slots : List (Option Place)) (rows : Combination)
+    : Type 0 where
+  pub there : are_there sets slots ≡ true
+  pub are : rows ≡ rows_at sets slots
+
+-- a walk may go on along some stages from the rows that are chosen
+pub record CanGoOn
+    (join : Join) (stages : List Stage) (slots : List (Option Place)) (rows : Combination)
+    : Type 0 where
+  pub can : CanWalk join.choices join.query join.sets join.in_order stages slots
+  pub stand : StandAt join.sets slots rows
+
+-- what a visitor keeps of a join's combinations, behind those of its front
+abbrev pub Keeping : Type 0 → Type 1
+Keeping S = List KeyedRows → List Combination → List (List Place) → S → Type 0
+
+-- what counts with the rows that are chosen was visited, and they are chosen again
+pub record HasGoneOn {S : Type 0}
+    (join : Join) (keeps : Keeping S) (chosen left : List (Option Place)) (now : Combination)
+    (result : Result Onward Memory) (old new : S) : Type 0 where
+  pub slots : OnOk result (left ≡ chosen)
+  pub rows : OnOk result (now ≡ rows_at join.sets left)
+  pub kept : Visits (Completes join.choices join.query join.sets chosen) join.in_order
+      (keeps join.sets) result old new
+
+-- what counts with the rows that are chosen was visited, and those of the other tables than one
+-- are chosen as before
+pub record HasWalked {S : Type 0}
+    (join : Join) (keeps : Keeping S) (table : Place) (chosen before left : List (Option Place))
+    (now : Combination) (result : Result Onward Memory) (old new : S) : Type 0 where
+  pub slots : OnOk result (slice_set left table None ≡ slice_set before table None)
+  pub stand : OnOk result (StandAt join.sets left now)
+  pub kept : Visits (Completes join.choices join.query join.sets chosen) join.in_order
+      (keeps join.sets) result old new
