@@ -22,7 +22,7 @@ use Rattle.hippo_spj_reader.proofs.SelectTheorem.{where_found, where_complete}
 use Rattle.hippo_spj_reader.proofs.ConditionTheorem.{Ends}
 use Rattle.hippo_audit_reader.specs.declared.audits.Period.{Period}
 use Rattle.hippo_audit_reader.specs.AuditGrammar.{IsPair, pair, AreExempt, none_exempt, otherthan, IsShown, all_cells, shown_cells, IsAudit, audit_expression}
-use Rattle.hippo_audit_reader.specs.AuditFinder.{leading_quoted, leading_pair, leading_exempt, period_of, leading_period, leading_shown, leading_audit}
+use Rattle.hippo_audit_reader.specs.AuditFinder.{leading_quoted, leading_pair, leading_exempt, period_of, leading_period, leading_shown, audit_with, leading_audit}
 
 leading_quoted-some : (tokens rest : List TokenKind) (text : List ℕ) → leading_quoted tokens ≡ Some (text, rest) → tokens ≡ Quoted text ∷ rest
 leading_quoted-some (Quoted first ∷ behind) rest text e = let p = some_pair_parts first text behind rest e in rw (p.0, p.1) refl
@@ -105,7 +105,7 @@ found tokens a rest e =
     let are_exempt : AreExempt period.1 exempt.0 (Keyword KAudit ∷ audited) = rw is_audit at (exempt_found period.1 exempt.0 exempt.1 exempt_is) in
     let are_columns : IsListOf IsColumn (Symbol Comma) shown.1 columns.0 (Keyword KFrom ∷ named) = rw is_from at (columns_found shown.1 columns.0 columns.1 columns_is) in
     rw is_during (read_as IsAudit _ _ _ _ _ e
-    (audit_expression are_exempt (shown_found audited shown.0 shown.1 shown_is) are_columns (names_found named tables.0 tables.1 tables_is) (where_found tables.1 last.0 last.1 last_is) refl)))))))))))
+    (audit_expression {audit = audit_with period.0 exempt.0 shown.0 columns.0 tables.0 last.0} are_exempt (shown_found audited shown.0 shown.1 shown_is) are_columns (names_found named tables.0 tables.1 tables_is) (where_found tables.1 last.0 last.1 last_is) refl)))))))))))
 
 -- what a whole audit expression is not followed by
 pub record AuditEnds (rest : List TokenKind) : Type 0 where
@@ -127,13 +127,13 @@ ends-semicolon rest = record { condition_ends = record { no_dot = refl; no_and =
 -- the audit expression is found, whole, where nothing behind it goes on with it
 pub complete : (tokens : List TokenKind) (a : RawAudit) (rest : List TokenKind) → IsAudit tokens a rest → AuditEnds rest → leading_audit tokens ≡ Some (a, rest)
 unfolding leading_audit leading_period
-complete _ _ rest (audit_expression {exempt = exempt} {shown = shown} {columns = columns} {tables = tables} {last = last} {tokens = tokens} {audited = audited} {listed = listed} {named = named} {behind = behind}
+complete _ _ rest (audit_expression {audit = audit} {last = last} {tokens = tokens} {audited = audited} {listed = listed} {named = named} {behind = behind}
     are_exempt is_shown are_columns are_tables is_where is_whole) ends =
     rw (
-      exempt_complete tokens exempt (Keyword KAudit ∷ audited) are_exempt refl refl,
-      shown_complete audited shown listed is_shown (columns-no_shown listed columns (Keyword KFrom ∷ named) are_columns),
-      columns_complete listed columns (Keyword KFrom ∷ named) are_columns refl refl,
-      names_complete named tables behind are_tables (where-no_comma behind last rest is_where ends.no_comma),
+      exempt_complete tokens audit.exempt (Keyword KAudit ∷ audited) are_exempt refl refl,
+      shown_complete audited audit.shown listed is_shown (columns-no_shown listed audit.columns (Keyword KFrom ∷ named) are_columns),
+      columns_complete listed audit.columns (Keyword KFrom ∷ named) are_columns refl refl,
+      names_complete named audit.tables behind are_tables (where-no_comma behind last rest is_where ends.no_comma),
       where_complete behind last rest is_where ends.condition_ends ends.no_where,
-      is_whole,
+      ← is_whole,
     ) refl

@@ -2,10 +2,8 @@
 -- it reads, and what follows it.
 use Rattle.std.specs.Prelude.{◌≡◌, Bool, true, false, List, [], ◌∷◌, Option, option_to_list}
 use Rattle.hippo_values.specs.declared.names.Name.{Name}
-use Rattle.hippo_values.specs.Texts.{Txt}
 use Rattle.hippo_model.specs.declared.audit.Pair.{Pair}
 use Rattle.hippo_statements.specs.declared.statement.RawAudit.{RawAudit}
-use Rattle.hippo_statements.specs.declared.statement.RawColumn.{RawColumn}
 use Rattle.hippo_values.specs.declared.keywords.Keyword.TheVariants.{KAudit, KDuring, KFrom, KOtherthan, KShown, KTo}
 use Rattle.hippo_lexer.specs.declared.kinds.Symbol.TheVariants.{Comma, LeftParen, RightParen}
 use Rattle.hippo_lexer.specs.declared.kinds.TokenKind.TheVariants.{Word, Keyword, Quoted, Symbol}
@@ -36,21 +34,13 @@ pub data IsShown : Kinds → Bool → Kinds → Type 0 where
 -- audit = DURING quoted TO quoted [OTHERTHAN pair {"," pair}]
 --         AUDIT [SHOWN] column {"," column} FROM t {"," t} [WHERE cond]
 pub data IsAudit : Kinds → RawAudit → Kinds → Type 0 where
-  audit_expression : {start end : Txt} {exempt : List Pair} {shown : Bool}
-      {columns : List RawColumn} {tables : List Name}
-      {whole : RawCond} {last : Option RawCond} {tokens audited listed named behind rest : Kinds} →
-      AreExempt tokens exempt (Keyword KAudit ∷ audited) →
-      IsShown audited shown listed →
-      IsListOf IsColumn (Symbol Comma) listed columns (Keyword KFrom ∷ named) →
-      IsListOf IsName (Symbol Comma) named tables behind →
+  audit_expression : {audit : RawAudit} {last : Option RawCond}
+      {tokens audited listed named behind rest : Kinds} →
+      AreExempt tokens audit.exempt (Keyword KAudit ∷ audited) →
+      IsShown audited audit.shown listed →
+      IsListOf IsColumn (Symbol Comma) listed audit.columns (Keyword KFrom ∷ named) →
+      IsListOf IsName (Symbol Comma) named audit.tables behind →
       IsWhere behind last rest →
-      whole ≡ whole_condition (option_to_list last) →
-      IsAudit (Keyword KDuring ∷ Quoted start ∷ Keyword KTo ∷ Quoted end ∷ tokens) (record {
-        from = start;
-        to = end;
-        exempt = exempt;
-        shown = shown;
-        columns = columns;
-        tables = tables;
-        cond = whole;
-      }) rest
+      audit.cond ≡ whole_condition (option_to_list last) →
+      IsAudit (Keyword KDuring ∷ Quoted audit.from ∷ Keyword KTo ∷ Quoted audit.to ∷ tokens) audit
+      rest

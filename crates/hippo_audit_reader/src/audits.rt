@@ -1,8 +1,7 @@
 //! Audit expressions.
 
-ghost use Rattle.std.specs.Prelude.{◌≡◌, ◌≤◌, length, option_to_list, slice_range, IfOk, Some};
-ghost use Rattle.hippo_lexer.specs.Words.{words_check};
-ghost use Rattle.hippo_spj_reader.specs.Promises.{Reads, ReadsAll};
+ghost use Rattle.std.specs.Prelude.{◌≡◌, ◌≤◌, length, option_to_list, IfOk, Some};
+ghost use Rattle.hippo_spj_reader.specs.Promises.{CanBeRead, Reads, ReadsAll};
 ghost use Rattle.hippo_spj_reader.specs.Front.{kinds, kinds_between};
 ghost use Rattle.hippo_spj_reader.specs.SelectGrammar.{whole_condition};
 ghost use Rattle.hippo_audit_reader.specs.AuditGrammar.{IsAudit};
@@ -158,9 +157,7 @@ pub fn read_audit(
     first: usize,
     last: usize,
 ) -> Result<RawAudit, SyntaxFault>
-    requires order { first ≤ last }
-    requires within { last ≤ length t.now }
-    requires words { words_check (slice_range t.now first last) ≡ Ok tt }
+    requires { CanBeRead t.now first last }
     ensures { ReadsAll IsAudit (kinds_between t.now first last) result }
 {
     whole::<AuditPart>(alloc, &t.as_slice()[first..last])

@@ -45,16 +45,12 @@ fn allow(
     ensures { IfOk result (λ made. made ≡ Ready
         (acts.Allow purpose.now recipient.now table.now columns item.now days)) }
 {
-    let purpose = purpose.copy(alloc)?;
-    let recipient = recipient.copy(alloc)?;
-    let table = table.copy(alloc)?;
-    let item = copied_if_any(alloc, item)?;
     Ok(Wanted::Ready(Act::Allow {
-        purpose,
-        recipient,
-        table,
+        purpose: purpose.copy(alloc)?,
+        recipient: recipient.copy(alloc)?,
+        table: table.copy(alloc)?,
         columns,
-        item,
+        item: copied_if_any(alloc, item)?,
         days,
     }))
 }
@@ -69,13 +65,10 @@ fn revoke(
     ensures { IfOk result (λ made. made ≡ Ready
         (acts.Revoke purpose.now recipient.now table.now columns)) }
 {
-    let purpose = purpose.copy(alloc)?;
-    let recipient = recipient.copy(alloc)?;
-    let table = table.copy(alloc)?;
     Ok(Wanted::Ready(Act::Revoke {
-        purpose,
-        recipient,
-        table,
+        purpose: purpose.copy(alloc)?,
+        recipient: recipient.copy(alloc)?,
+        table: table.copy(alloc)?,
         columns,
     }))
 }

@@ -1,9 +1,10 @@
 //! Rows of an answer as records.
-ghost use Rattle.std.specs.Prelude.{◌≡◌, ◌++◌, ◌∷◌, [], map, flat_map, codes, decimal, OnOk, OnErr};
+ghost use Rattle.std.specs.Prelude.{◌≡◌, ◌++◌, ◌∷◌, [], map, flat_map, codes, decimal, OnOk};
 ghost use Rattle.csv.specs.Records.{fields_of};
 ghost use Rattle.csv.specs.Writing.{default_writer, row_text, writer_under};
 ghost use Rattle.hippo_text_forms.specs.Printing.{AddsText};
 ghost use Rattle.hippo_model.specs.declared.cells.Cell.TheVariants.{Shown, Denied};
+ghost use Rattle.hippo_report.specs.Adding.{AddsWhole};
 ghost use Rattle.hippo_report.specs.Cells.{cell_text};
 ghost use Rattle.hippo_csv.specs.Records.{cell_field, extract_line};
 ghost use Rattle.hippo_csv.specs.Extracting.{IsBetween};
@@ -188,8 +189,7 @@ pub fn extract_lines<const ROOM: usize>(
     rows: &[CellRow],
     out: &mut RoomyTxt<ROOM>,
 ) -> Result<(), Memory>
-    ensures ok { OnOk result (out.new ≡ out.old ++ flat_map (extract_line session) rows.now) }
-    ensures err { OnErr result (out.new ≡ out.old) }
+    ensures { AddsWhole (flat_map (extract_line session) rows.now) result out.old out.new }
 {
     let length = out.as_str().len();
     let written = append_answer(alloc, session, rows, out);
@@ -207,8 +207,7 @@ pub fn extract_line<const ROOM: usize>(
     row: &CellRow,
     out: &mut RoomyTxt<ROOM>,
 ) -> Result<(), Memory>
-    ensures ok { OnOk result (out.new ≡ out.old ++ extract_line session row.now) }
-    ensures err { OnErr result (out.new ≡ out.old) }
+    ensures { AddsWhole (extract_line session row.now) result out.old out.new }
 {
     extract_lines(alloc, session, slice::from_ref(row), out)
 }

@@ -3,12 +3,13 @@ ghost use Rattle.std.specs.Prelude.{◌≡◌, ◌++◌, codes, OnOk, OnErr};
 ghost use Rattle.csv.specs.Writing.{default_writer, row_text};
 ghost use Rattle.serde_json.specs.Written.{compact_text};
 ghost use Rattle.hippo_text_forms.specs.Printing.{AddsText, KeepsFront};
+ghost use Rattle.hippo_report.specs.Adding.{AddsWhole};
 ghost use Rattle.hippo_flags.specs.Flags.{question_text, flag_text, flag_data, flag_fields, flag_line};
 
 use crate::csv_flags::flag_bytes;
 use crate::json_flags::flag_json;
 use hippo_model::Flag;
-use hippo_report::{Format, Printed, append_later, append_pieces, append_whole};
+use hippo_report::{Format, Printed, append_later, append_pieces, append_whole, ascii_text};
 use hippo_text_forms::moment_text;
 use hippo_values::{Memory, RoomyTxt};
 use itoa::Buffer;
@@ -129,10 +130,12 @@ fn append_flag<const ROOM: usize>(
     ensures adds { AddsText (flag_line line.now.format line.now.flag.now) result out.old out.new }
 {
     let flag = line.flag;
-    match str::from_utf8(&moment_text(flag.moment)) {
-        Ok(moment) => append_dated(line.alloc, line.format, &DatedFlag { flag, moment }, out),
-        Err(_) => unreachable!(),
-    }
+    let text = moment_text(flag.moment);
+    let dated = DatedFlag {
+        flag,
+        moment: ascii_text(&text),
+    };
+    append_dated(line.alloc, line.format, &dated, out)
 }
 
 impl<'a, const ROOM: usize> Printed<ROOM> for FlagLine<'a> {
@@ -154,8 +157,7 @@ pub fn flag_line<const ROOM: usize>(
     flag: &Flag,
     out: &mut RoomyTxt<ROOM>,
 ) -> Result<(), Memory>
-    ensures ok { OnOk result (out.new ≡ out.old ++ flag_line format flag.now) }
-    ensures err { OnErr result (out.new ≡ out.old) }
+    ensures { AddsWhole (flag_line format flag.now) result out.old out.new }
 {
     let line = FlagLine {
         alloc,

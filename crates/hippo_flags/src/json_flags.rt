@@ -7,6 +7,7 @@ ghost use Rattle.hippo_text_forms.specs.Dates.{day_text, moment_text};
 ghost use Rattle.hippo_flags.specs.Flags.{shared_data, flag_data};
 
 use hippo_model::{Flag, SharedRow};
+use hippo_report::ascii_text;
 use hippo_text_forms::{day_text, moment_text};
 use hippo_values::{DayNumber, Value};
 use serde_json::json;
@@ -15,10 +16,7 @@ use std::alloc::{AllocError, Global};
 fn day_data(alloc: Global, day: DayNumber) -> Result<serde_json::Value, AllocError>
     ensures { IfOk result (λ made. view made ≡ string (day_text day)) }
 {
-    match str::from_utf8(&day_text(day)) {
-        Ok(text) => serde_json::Value::try_from_str(alloc, text),
-        Err(_) => unreachable!(),
-    }
+    serde_json::Value::try_from_str(alloc, ascii_text(&day_text(day)))
 }
 
 // What has a form in JSON.

@@ -1,5 +1,5 @@
 -- From the checks of each command to what judging it finds.
-use Rattle.std.proofs.Common.{◌≡◌, ◌∙◌, ◌≤◌, ◌<◌, ◌^◌, ℕ, inl, inr, refl, sym, ap, subst, true, false, length, Option, Some, None, Result, Ok, Err}
+use Rattle.std.proofs.Common.{◌≡◌, ◌∙◌, ◌≤◌, ◌<◌, ◌^◌, ℕ, inl, inr, refl, sym, ap, subst, Bool, true, false, length, Option, Some, None, Result, Ok, Err}
 use Rattle.std.specs.Prelude.{is_some, ok_or}
 use Rattle.std.proofs.lemmas.Bool.{false≢true}
 use Rattle.hippo_values.specs.Texts.{Txt}
@@ -37,7 +37,7 @@ use Rattle.hippo_judging.specs.declared.deeds.Unjudged.{Unjudged}
 use Rattle.hippo_judging.specs.Checks.{Checked, Refuses, by_console, by_session, open_session, cursor_in_session, job_at, StandsJob, held_watch, reply_room}
 use Rattle.hippo_judging.specs.Deeds as deeds
 use Rattle.hippo_judging.specs.Changes.{IsChange}
-use Rattle.hippo_judging.specs.Findings.{AddsNextEntry, IsJudged, IsRefused, IsAuditOfState, Does, FindsDeed, with_free_number, without_reading, Judges, may_do_nothing}
+use Rattle.hippo_judging.specs.Findings.{AddsNextEntry, IsJudged, IsRefused, IsAuditOfState, Does, FindsDeed, begins, begun_with, free_to_begin, without_reading, Judges, may_do_nothing}
 use Rattle.hippo_judging.specs.Judging.{judged, audit_in}
 use Rattle.hippo_judging.proofs.FollowingLemmas.{some_so}
 
@@ -203,40 +203,25 @@ module _ (state : State) (world : World) (written : RawAudit) (text : Txt) where
     pub may_audit : Does (commands.make_statement Console (stmt.Audit written) text) (kinds.Audit audit) state world
     may_audit = ((written, text, refl), means, judged_audit (λ one. Ok (deeds.audit one)))
 
-    abbrev begins : Audit → Checked deeds.Deed
-    begins one = ok_or (free_number world.jobs) JobLimit >>= λ number. Ok (deeds.begin_audit number one)
+    at_free : (make : ℕ → Audit → deeds.Deed) (limit : Refusal) (free found : Option ℕ) → free ≡ found
+        → (ok_or free limit >>= λ number. Ok (make number audit)) ≡ (ok_or found limit >>= λ number. Ok (make number audit))
+    at_free make limit free found is = ap (λ (one : Option ℕ). ok_or one limit >>= λ number. Ok (make number audit)) is
 
-    abbrev sets : Audit → Checked deeds.Deed
-    sets one = ok_or (free_number world.watches) WatchLimit >>= λ number. Ok (deeds.watch number one)
+    begun : (make : ℕ → Audit → deeds.Deed) (limit : Refusal) (free found : Option ℕ) → free ≡ found → (history : History) → StandsFor state history
+        → of_audit (λ one. ok_or free limit >>= λ number. Ok (make number one)) history ≡ (ok_or found limit >>= λ number. Ok (make number audit))
+    begun make limit free found is history stands =
+        judged_audit (λ one. ok_or free limit >>= λ number. Ok (make number one)) history stands ∙ at_free make limit free found is
 
-    by_free : (found : Option ℕ) → free_number world.jobs ≡ found → begins audit ≡ (ok_or found JobLimit >>= λ number. Ok (deeds.begin_audit number audit))
-    by_free found free = ap (λ (one : Option ℕ). ok_or one JobLimit >>= λ number. Ok (deeds.begin_audit number audit)) free
-
-    -- a job begins where a number is free
-    pub may_begin : (found : Option ℕ) → free_number world.jobs ≡ found → FindsDeed (commands.make_statement Console (stmt.BeginAudit written) text) (with_free_number kinds.BeginAudit JobLimit audit found) state world
-    may_begin (Some number) free = (
-      (written, text, refl),
-      means,
-      free,
-      λ history stands. judged_audit begins history stands ∙ by_free (Some number) free,
-    )
-    may_begin None free =
+    -- a job begins where a number is free, and a watch is set
+    pub may_begin : (is_watch : Bool) (found : Option ℕ) → free_to_begin is_watch world ≡ found → FindsDeed (commands.make_statement Console (begins is_watch written) text) (begun_with is_watch audit found) state world
+    may_begin false (Some number) free = ((written, text, refl), means, free, begun deeds.begin_audit JobLimit (free_number world.jobs) (Some number) free)
+    may_begin true (Some number) free = ((written, text, refl), means, begun deeds.watch WatchLimit (free_number world.watches) (Some number) free)
+    may_begin false None free =
         refused_or_short (commands.make_statement Console (stmt.BeginAudit written) text) JobLimit state world refl
-        (λ history stands. inl (judged_audit begins history stands ∙ by_free None free))
-
-    by_free_watch : (found : Option ℕ) → free_number world.watches ≡ found → sets audit ≡ (ok_or found WatchLimit >>= λ number. Ok (deeds.watch number audit))
-    by_free_watch found free = ap (λ (one : Option ℕ). ok_or one WatchLimit >>= λ number. Ok (deeds.watch number audit)) free
-
-    -- a watch is set where a number is free
-    pub may_watch : (found : Option ℕ) → free_number world.watches ≡ found → FindsDeed (commands.make_statement Console (stmt.Watch written) text) (with_free_number kinds.Watch WatchLimit audit found) state world
-    may_watch (Some number) free = (
-      (written, text, refl),
-      means,
-      λ history stands. judged_audit sets history stands ∙ by_free_watch (Some number) free,
-    )
-    may_watch None free =
+        (λ history stands. inl (begun deeds.begin_audit JobLimit (free_number world.jobs) None free history stands))
+    may_begin true None free =
         refused_or_short (commands.make_statement Console (stmt.Watch written) text) WatchLimit state world refl
-        (λ history stands. inl (judged_audit sets history stands ∙ by_free_watch None free))
+        (λ history stands. inl (begun deeds.watch WatchLimit (free_number world.watches) None free history stands))
 
 -- what begins with an audit is refused where that is
 pub refused_audit : (state : State) (world : World) (written : RawAudit) (command : Command) (next : Audit → Checked deeds.Deed) (refusal : Refusal) → may_do_nothing command ≡ true
@@ -246,6 +231,17 @@ refused_audit state world written command next refusal takes begins refuses =
     refused_or_short command refusal state world takes
     (λ history stands. subst (λ (judgement : Checked deeds.Deed). Refuses judgement refusal) (sym (begins history))
     (refuses_on (audit_in history Console written) next refusal (refuses history stands)))
+
+-- so is what sets a watch, or begins a job
+pub refused_begin : (state : State) (world : World) (written : RawAudit) (text : Txt) (is_watch : Bool) (refusal : Refusal)
+    → ((history : History) → StandsFor state history → Refuses (audit_in history Console written) refusal)
+    → IsRefused (commands.make_statement Console (begins is_watch written) text) refusal state world
+refused_begin state world written text true refusal refuses =
+    refused_audit state world written (commands.make_statement Console (stmt.Watch written) text)
+    (λ audit. ok_or (free_number world.watches) WatchLimit >>= λ number. Ok (deeds.watch number audit)) refusal refl (λ history. refl) refuses
+refused_begin state world written text false refusal refuses =
+    refused_audit state world written (commands.make_statement Console (stmt.BeginAudit written) text)
+    (λ audit. ok_or (free_number world.jobs) JobLimit >>= λ number. Ok (deeds.begin_audit number audit)) refusal refl (λ history. refl) refuses
 
 -- ---- changes
 module _ (state : State) (world : World) (command : Command) (judgement : History → Checked deeds.Deed) (takes : may_do_nothing command ≡ true)

@@ -3,7 +3,7 @@ use Rattle.std.proofs.Common.{◌≡◌, ◌+◌, ◌≤◌, ◌<◌, ◌^◌, �
 use Rattle.std.proofs.lemmas.Fmt.{length-decimal-le}
 use Rattle.hippo_values.specs.Texts.{Txt}
 use Rattle.hippo_text_forms.specs.Dates.{day_text, time_text, moment_text}
-use Rattle.hippo_report.specs.declared.refusal.Refusal.TheVariants.{MomentBack, NoSession, SessionsOnly, ConsoleOnly, NoCursor, JobLimit, NoJob, NoWatch, Memory}
+use Rattle.hippo_report.specs.declared.refusal.Refusal.TheVariants.{MomentBack, NoSession, SessionsOnly, ConsoleOnly, NoCursor, NoJob, NoWatch, Memory}
 use Rattle.hippo_report.specs.Notices.{done_line, number_line}
 use Rattle.hippo_report.specs.declared.speaker.Speaker.{Speaker}
 use Rattle.hippo_report.specs.declared.speaker.Speaker.TheVariants.{Nobody, Console, Session}
@@ -65,9 +65,6 @@ no_cursor_fits who number is small = naming_fits who (codes "53 NoCursor") (deci
 
 pub console_only_fits : (who : Speaker) → IsSpeaker who → length (refusal_line who ConsoleOnly) ≤ reply_room
 console_only_fits who is = plain_fits who (codes "24 ConsoleOnly") is (omega arith)
-
-pub job_limit_fits : (who : Speaker) → IsSpeaker who → length (refusal_line who JobLimit) ≤ reply_room
-job_limit_fits who is = plain_fits who (codes "54 JobLimit") is (omega arith)
 
 pub no_job_fits : (who : Speaker) (number : ℕ) → IsSpeaker who → number < 2 ^ 64 → length (refusal_line who (NoJob number)) ≤ reply_room
 no_job_fits who number is small = naming_fits who (codes "55 NoJob") (decimal number) is (omega arith) (length-decimal_word number small)

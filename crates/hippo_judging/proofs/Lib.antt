@@ -7,4 +7,5 @@ pub mod EntryLemmas
 pub mod FollowingLemmas
 mod AskedLemmas
 mod FindingLemmas
+mod RequestLemmas
 mod LookUpLemmas

@@ -6,6 +6,7 @@ use Rattle.hippo_values.specs.Texts.{Txt}
 use Rattle.hippo_model.specs.declared.audit.Audit.{Audit}
 use Rattle.hippo_model.specs.declared.entry.Entry.{Entry}
 use Rattle.hippo_statements.specs.declared.statement.RawAudit.{RawAudit}
+use Rattle.hippo_statements.specs.declared.statement.Stmt.{Stmt}
 use Rattle.hippo_statements.specs.declared.statement.Stmt.TheVariants as stmt
 use Rattle.hippo_model.specs.StoredForms.{stored}
 use Rattle.hippo_model.specs.Terms.{History, Place}
@@ -19,6 +20,7 @@ use Rattle.hippo_audit_job.specs.Jobs.{OpenAudit}
 use Rattle.hippo_replay.specs.declared.state.State.{State}
 use Rattle.hippo_replay.specs.Standing.{StandsFor, MayFollow}
 use Rattle.hippo_report.specs.declared.refusal.Refusal.{Refusal}
+use Rattle.hippo_report.specs.declared.refusal.Refusal.TheVariants.{JobLimit, WatchLimit}
 use Rattle.hippo_report.specs.declared.speaker.Speaker.TheVariants.{Nobody, Console}
 use Rattle.hippo_report.specs.declared.speaker.Speaker.TheVariants as speaker
 use Rattle.hippo_report.specs.Refusals.{refusal_line}
@@ -54,6 +56,14 @@ IsOfLine command = Unit {0}
 abbrev pub may_do_nothing : Command → Bool
 may_do_nothing (make_request who (requests.steps job count)) = false
 may_do_nothing command = takes_memory command
+
+-- a session alone asks for these, the console alone for the others
+abbrev pub is_of_session : requests.Request → Bool
+is_of_session (requests.logs_in user purpose recipient) = true
+is_of_session requests.logs_out = true
+is_of_session (requests.fetches cursor count) = true
+is_of_session (requests.closes cursor) = true
+is_of_session request = false
 
 -- a command is judged so, whatever history the state stands for
 abbrev pub IsJudged : Command → State → World → Checked deeds.Deed → Type 0
@@ -174,10 +184,29 @@ abbrev pub FindsDeed : Command → Result Deed Refusal → State → World → T
 FindsDeed command (Ok deed) state world = Does command deed state world
 FindsDeed command (Err refusal) state world = IsRefused command refusal state world
 
--- what an audit is for gets the number that is free; or none is, and that refuses it
-abbrev pub with_free_number : (ℕ → Audit → Deed) → Refusal → Audit → Option ℕ → Checked Deed
-with_free_number make limit audit (Some number) = Ok (make number audit)
-with_free_number make limit audit None = Err limit
+-- the statement that sets a watch, or begins a job
+abbrev pub begins : Bool → RawAudit → Stmt
+begins true written = stmt.Watch written
+begins false written = stmt.BeginAudit written
+
+-- why there is no further one
+abbrev pub limit_of : Bool → Refusal
+limit_of true = WatchLimit
+limit_of false = JobLimit
+
+abbrev pub begun_at : Bool → ℕ → Audit → Deed
+begun_at true number audit = kinds.Watch number audit
+begun_at false number audit = kinds.BeginAudit number audit
+
+-- it gets the number that is free; or none is, and that refuses it
+abbrev pub begun_with : Bool → Audit → Option ℕ → Checked Deed
+begun_with is_watch audit (Some number) = Ok (begun_at is_watch number audit)
+begun_with is_watch audit None = Err (limit_of is_watch)
+
+-- the lowest number that is free for it
+abbrev pub free_to_begin : Bool → World → Option ℕ
+free_to_begin true world = free_number world.watches
+free_to_begin false world = free_number world.jobs
 
 -- the question with a number was looked up in a history, or memory was short, or the keeper failed;
 -- no step is taken for one that is there

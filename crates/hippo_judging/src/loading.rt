@@ -149,6 +149,13 @@ fn insert_of(
     }
 }
 
+/// A record for a table, as a line has it.
+#[derive(Clone, Copy)]
+pub(crate) struct Record<'a> {
+    pub(crate) table: &'a WrittenName<'a>,
+    pub(crate) text: &'a str,
+}
+
 /// The entry that a record for a table adds, which is that of its row's INSERT and may follow the
 /// history. Or its first refusal: that there is no such table, that the text is not one record with
 /// a field of its form for each column, or that of the INSERT. Want of memory may refuse it, too.
@@ -156,17 +163,17 @@ pub(crate) fn entry_of_record<W: WorldView>(
     alloc: Global,
     state: &State,
     world: &W,
-    table: &WrittenName<'_>,
-    text: &str,
+    record: &Record<'_>,
 ) -> Result<Entry, Refusal>
     requires timely { IsTimely state.now (W.seen world.now).clock }
     ensures found { (history : History) → StandsFor state.now history
         → FindsChange history (W.seen world.now)
-        (judged_load history (W.seen world.now) Console table.now text.now) result }
+        (judged_load history (W.seen world.now) Console record.now.table.now record.now.text.now)
+        result }
     ensures number { IfOk result (λ entry. entry.seq < 2 ^ 63) }
     ensures follows { IfOk result (λ entry. MayFollow state.now entry) }
 {
-    match insert_of(alloc, &state.catalog, table, text) {
+    match insert_of(alloc, &state.catalog, record.table, record.text) {
         Ok(insert) => {
             let found = entry_of_change(alloc, state, world, &insert);
             drop(insert);

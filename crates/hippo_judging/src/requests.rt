@@ -7,11 +7,11 @@ ghost use Rattle.hippo_replay.specs.declared.state.State.{State as HeldState};
 ghost use Rattle.hippo_replay.specs.Standing.{IsTimely};
 ghost use Rattle.hippo_report.specs.declared.speaker.Speaker.TheVariants.{Nobody, Console, Session};
 ghost use Rattle.hippo_sessions.specs.Worlds.{World};
-ghost use Rattle.hippo_judging.specs.Findings.{FindsDeed, IsRefused};
+ghost use Rattle.hippo_judging.specs.Findings.{FindsDeed, IsRefused, is_of_session};
 
 use crate::console_checks::{check_job, held_watch};
 use crate::deeds::Deed;
-use crate::loading::entry_of_record;
+use crate::loading::{Record, entry_of_record};
 use crate::session_checks::{check_login, open_cursor, open_session};
 use hippo_lines::{RequestForm, WrittenName};
 use hippo_model::Pair;
@@ -175,14 +175,14 @@ fn judge_load<W: WorldView>(
     alloc: Global,
     state: &State,
     world: &W,
-    table: &WrittenName<'_>,
-    text: &str,
+    record: &Record<'_>,
 ) -> Result<Deed<'static>, Refusal>
     requires timely { IsTimely state.now (W.seen world.now).clock }
-    ensures { FindsDeed (commands.make_request Console (requests.loads table.now text.now)) result
-        state.now (W.seen world.now) }
+    ensures { FindsDeed (commands.make_request Console
+        (requests.loads record.now.table.now record.now.text.now)) result state.now
+        (W.seen world.now) }
 {
-    match entry_of_record(alloc, state, world, table, text) {
+    match entry_of_record(alloc, state, world, record) {
         Ok(entry) => Ok(Deed::Change { entry }),
         Err(refusal) => Err(refusal),
     }
@@ -233,11 +233,26 @@ fn request_of_console<W: WorldView>(
         RequestForm::Load {
             table,
             record: text,
-        } => judge_load(alloc, state, world, table, text),
+        } => judge_load(alloc, state, world, &Record { table, text: *text }),
         RequestForm::Login { .. } => Err(Refusal::SessionsOnly),
         RequestForm::Logout => Err(Refusal::SessionsOnly),
         RequestForm::Fetch { .. } => Err(Refusal::SessionsOnly),
         RequestForm::Close { .. } => Err(Refusal::SessionsOnly),
+    }
+}
+
+fn is_of_session(asked: &RequestForm<'_>) -> bool
+    ensures { result ≡ is_of_session (request asked.now) }
+{
+    match asked {
+        RequestForm::Login { .. } => true,
+        RequestForm::Logout => true,
+        RequestForm::Fetch { .. } => true,
+        RequestForm::Close { .. } => true,
+        RequestForm::Step { .. } => false,
+        RequestForm::Drop { .. } => false,
+        RequestForm::Unwatch { .. } => false,
+        RequestForm::Load { .. } => false,
     }
 }
 
@@ -246,15 +261,10 @@ fn refused_to_nobody(asked: &RequestForm<'_>) -> Refusal
     ensures { (state : HeldState) (world : World)
         → IsRefused (commands.make_request Nobody (request asked.now)) result state world }
 {
-    match asked {
-        RequestForm::Login { .. } => Refusal::SessionsOnly,
-        RequestForm::Logout => Refusal::SessionsOnly,
-        RequestForm::Fetch { .. } => Refusal::SessionsOnly,
-        RequestForm::Close { .. } => Refusal::SessionsOnly,
-        RequestForm::Step { .. } => Refusal::ConsoleOnly,
-        RequestForm::Drop { .. } => Refusal::ConsoleOnly,
-        RequestForm::Unwatch { .. } => Refusal::ConsoleOnly,
-        RequestForm::Load { .. } => Refusal::ConsoleOnly,
+    if is_of_session(asked) {
+        Refusal::SessionsOnly
+    } else {
+        Refusal::ConsoleOnly
     }
 }
 

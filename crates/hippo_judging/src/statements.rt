@@ -12,7 +12,7 @@ ghost use Rattle.hippo_replay.specs.declared.state.State.{State as HeldState};
 ghost use Rattle.hippo_report.specs.declared.refusal.Refusal.TheVariants as refusals;
 ghost use Rattle.hippo_sessions.specs.Worlds.{World};
 ghost use Rattle.hippo_judging.specs.declared.deeds.Deed.TheVariants as kinds;
-ghost use Rattle.hippo_judging.specs.Findings.{IsOfLine, IsRefused, FindsDeed, with_free_number, without_reading, Judges, is_still};
+ghost use Rattle.hippo_judging.specs.Findings.{IsOfLine, IsRefused, FindsDeed, begins, limit_of, begun_at, begun_with, free_to_begin, without_reading, Judges, is_still};
 
 use crate::asking::{judge_question, written_question};
 use crate::audits::audit_in;
@@ -58,62 +58,67 @@ fn judge_audit(alloc: Global, state: &State, written: &RawAudit) -> Result<Deed<
     }
 }
 
-// A job gets the lowest number that is free.
-fn begun_with(audit: Audit, free: Option<usize>) -> Result<Deed<'static>, Refusal>
-    ensures { result ≡ with_free_number kinds.BeginAudit refusals.JobLimit audit free }
+fn limit_of(is_watch: bool) -> Refusal
+    ensures { result ≡ limit_of is_watch }
+{
+    if is_watch {
+        Refusal::WatchLimit
+    } else {
+        Refusal::JobLimit
+    }
+}
+
+fn begun_at(is_watch: bool, audit: Audit, number: usize) -> Deed<'static>
+    ensures { result ≡ begun_at is_watch number audit }
+{
+    if is_watch {
+        return Deed::Watch {
+            watch: number,
+            audit,
+        };
+    }
+    Deed::BeginAudit { job: number, audit }
+}
+
+// The lowest number that is free for a watch, or for a job.
+fn free_number<W: WorldView>(world: &W, is_watch: bool) -> Option<usize>
+    ensures { result ≡ free_to_begin is_watch (W.seen world.now) }
+{
+    if is_watch {
+        world.free_watch()
+    } else {
+        world.free_job()
+    }
+}
+
+// A watch gets the number that is free, and so does a job.
+fn begun_with(is_watch: bool, audit: Audit, free: Option<usize>) -> Result<Deed<'static>, Refusal>
+    ensures { result ≡ begun_with is_watch audit free }
 {
     match free {
-        Some(job) => Ok(Deed::BeginAudit { job, audit }),
+        Some(number) => Ok(begun_at(is_watch, audit, number)),
         None => {
             drop(audit);
-            Err(Refusal::JobLimit)
+            Err(limit_of(is_watch))
         }
     }
 }
 
+// WATCH, and BEGIN AUDIT.
 fn judge_begin<W: WorldView>(
     alloc: Global,
     state: &State,
     world: &W,
+    is_watch: bool,
     written: &RawAudit,
 ) -> Result<Deed<'static>, Refusal>
     requires sound { IsSound state.now }
     ensures { (text : Text) → FindsDeed (commands.make_statement Console
-        (stmt.BeginAudit written.now) text) result
+        (begins is_watch written.now) text) result
         state.now (W.seen world.now) }
 {
     match audit_in(alloc, state, written) {
-        Ok(audit) => begun_with(audit, world.free_job()),
-        Err(refusal) => Err(refusal),
-    }
-}
-
-// A watch gets the lowest number that is free.
-fn set_with(audit: Audit, free: Option<usize>) -> Result<Deed<'static>, Refusal>
-    ensures { result ≡ with_free_number kinds.Watch refusals.WatchLimit audit free }
-{
-    match free {
-        Some(watch) => Ok(Deed::Watch { watch, audit }),
-        None => {
-            drop(audit);
-            Err(Refusal::WatchLimit)
-        }
-    }
-}
-
-fn judge_watch<W: WorldView>(
-    alloc: Global,
-    state: &State,
-    world: &W,
-    written: &RawAudit,
-) -> Result<Deed<'static>, Refusal>
-    requires sound { IsSound state.now }
-    ensures { (text : Text) → FindsDeed (commands.make_statement Console (stmt.Watch written.now)
-        text) result
-        state.now (W.seen world.now) }
-{
-    match audit_in(alloc, state, written) {
-        Ok(audit) => set_with(audit, world.free_watch()),
+        Ok(audit) => begun_with(is_watch, audit, free_number(world, is_watch)),
         Err(refusal) => Err(refusal),
     }
 }
@@ -195,8 +200,8 @@ fn statement_of_console<P: Keeper, L: Ledger, W: WorldView>(
     match statement {
         Stmt::Explain(number) => look_up(alloc, state, keeper, number, steps),
         Stmt::Audit(written) => unread(judge_audit(alloc, state, written)),
-        Stmt::BeginAudit(written) => unread(judge_begin(alloc, state, world, written)),
-        Stmt::Watch(written) => unread(judge_watch(alloc, state, world, written)),
+        Stmt::BeginAudit(written) => unread(judge_begin(alloc, state, world, false, written)),
+        Stmt::Watch(written) => unread(judge_begin(alloc, state, world, true, written)),
         _ => match written_question(statement) {
             Some(_) => Err(Unjudged::Refused(Refusal::SessionsOnly)),
             None => unread(judge_change(alloc, state, world, statement)),

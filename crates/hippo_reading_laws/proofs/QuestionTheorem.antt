@@ -124,24 +124,9 @@ placed_reads text skipped tokens select _ _ cut words closed (placed {first = fi
 
 -- a statement of the console asks nothing
 pub console-none : (tokens : Kinds) (s : Stmt) (rest : Kinds) → IsConsole tokens s rest → select_place s ≡ None
-console-none _ _ rest (create_table _ _ _) = refl
-console-none _ _ rest create_purpose = refl
-console-none _ _ rest create_recipient = refl
-console-none _ _ rest create_opt_in = refl
-console-none _ _ rest create_opt_out = refl
-console-none _ _ rest authorize = refl
-console-none _ _ rest deauthorize = refl
-console-none _ _ rest (allow _ _ _) = refl
-console-none _ _ rest (revoke _) = refl
-console-none _ _ rest choice_yes = refl
-console-none _ _ rest choice_no = refl
-console-none _ _ rest (insert _) = refl
 console-none _ s rest (update _ _ is) = rw is refl
 console-none _ s rest (delete _ is) = rw is refl
-console-none _ _ rest console_explain = refl
-console-none _ _ rest (console_audit _) = refl
-console-none _ _ rest (console_begin_audit _) = refl
-console-none _ _ rest (console_watch _) = refl
+console-none _ _ rest _ = refl
 
 asked : (text : Txt) (select one : RawSelect) (start end from to : ℕ) → ◌≡◌ {A = Option (RawSelect × ℕ × ℕ)} (Some (one, from, to)) (Some (select, start, end)) → HasPart text one from to → HasPart text select start end
 asked text select one start end from to e part = subst (λ (q : RawSelect × ℕ × ℕ). HasPart text q.0 q.1 q.2) (same_Some (one, from, to) (select, start, end) e) part

@@ -2,7 +2,8 @@
 use Rattle.std.proofs.Common.{◌≡◌, List, [], ◌∷◌, ◌++◌, Option, codes, refl, sym, ap, subst, ◌∙◌}
 use Rattle.std.proofs.lemmas.List.{append_assoc}
 use Rattle.hippo_values.specs.declared.values.Value.{Value}
-use Rattle.hippo_values.specs.declared.keywords.Keyword.TheVariants.{KAnd, KBetween, KDistinct, KFrom, KGroup, KIn, KInner, KIs, KJoin, KMax, KMin, KNot, KNull, KOn, KOr, KSelect, KWhere}
+use Rattle.hippo_values.specs.declared.keywords.Keyword as words
+use Rattle.hippo_values.specs.declared.keywords.Keyword.TheVariants.{KAnd, KBetween, KDistinct, KFrom, KGroup, KIn, KInner, KIs, KJoin, KMax, KMin, KNot, KNull, KOn, KSelect, KWhere}
 use Rattle.hippo_statements.specs.declared.statement.RawColumn.{RawColumn}
 use Rattle.hippo_statements.specs.declared.statement.RawItem.{RawItem}
 use Rattle.hippo_statements.specs.declared.statement.RawOut.{RawOut}
@@ -12,7 +13,7 @@ use Rattle.hippo_lexer.specs.declared.kinds.Symbol.TheVariants.{Comma, Dot, Left
 use Rattle.hippo_lexer.specs.declared.kinds.TokenKind.{TokenKind}
 use Rattle.hippo_lexer.specs.declared.kinds.TokenKind.TheVariants.{Word, Keyword, Number, Quoted, Day, Symbol}
 use Rattle.hippo_spj_reader.specs.ConditionGrammar as conditions
-use Rattle.hippo_spj_reader.specs.ConditionGrammar.{RawCond, IsColumn, bare, qualified, IsLiteral, number, quoted_literal, day, null, IsOperand, column, literal, IsCondition, disjunction, AreDisjuncts, last_disjunct, more_disjuncts, IsConjunction, conjunction, AreConjuncts, last_conjunct, more_conjuncts, IsNegation, negated, IsPrimary, parentheses, comparison, between, not_between, among, not_among, missing, present}
+use Rattle.hippo_spj_reader.specs.ConditionGrammar.{RawCond, IsColumn, bare, qualified, IsLiteral, number, quoted_literal, day, null, IsOperand, column, literal, IsCondition, disjunction, IsConjunction, conjunction, AreJoinedBy, last_joined, more_joined, IsJoinedBy, disjunct, conjunct, IsNegation, negated, IsPrimary, parentheses, comparison, between, not_between, among, not_among, missing, present}
 use Rattle.hippo_spj_reader.specs.Front.{Kinds}
 use Rattle.hippo_spj_reader.specs.ListGrammar.{IsListOf, last_part, more_parts}
 use Rattle.hippo_spj_reader.specs.SelectGrammar.{IsItem, one_column, all_of_table, AreItems, star, listed_items, AreJoined, no_more, comma_table, join, inner_join, IsWhere, no_where, condition, IsScope, scope, IsOut, column_out, minimum, maximum, IsSelect, plain_select, distinct, grouped_select}
@@ -92,18 +93,18 @@ takes-columns ds = takes-list IsColumn (Symbol Comma) (λ _ _ _ d. takes-column 
 
 mutual
   takes-condition : {tokens rest : Kinds} {c : RawCond} → IsCondition tokens c rest → Takes IsCondition c tokens rest
-  takes-condition (disjunction ds e) = around [] [] (takes-disjuncts ds) (λ tokens other ds. disjunction ds e)
-
-  takes-disjuncts : {tokens rest : Kinds} {cs : List RawCond} → AreDisjuncts tokens cs rest → Takes AreDisjuncts cs tokens rest
-  takes-disjuncts (last_disjunct d) = around [] [] (takes-conjunction d) (λ tokens other d. last_disjunct d)
-  takes-disjuncts (more_disjuncts d ds) = both (Keyword KOr ∷ []) (takes-conjunction d) (takes-disjuncts ds) (λ tokens others other d ds. more_disjuncts d ds)
+  takes-condition (disjunction ds e) = around [] [] (takes-parts ds) (λ tokens other ds. disjunction ds e)
 
   takes-conjunction : {tokens rest : Kinds} {c : RawCond} → IsConjunction tokens c rest → Takes IsConjunction c tokens rest
-  takes-conjunction (conjunction ds e) = around [] [] (takes-conjuncts ds) (λ tokens other ds. conjunction ds e)
+  takes-conjunction (conjunction ds e) = around [] [] (takes-parts ds) (λ tokens other ds. conjunction ds e)
 
-  takes-conjuncts : {tokens rest : Kinds} {cs : List RawCond} → AreConjuncts tokens cs rest → Takes AreConjuncts cs tokens rest
-  takes-conjuncts (last_conjunct d) = around [] [] (takes-negation d) (λ tokens other d. last_conjunct d)
-  takes-conjuncts (more_conjuncts d ds) = both (Keyword KAnd ∷ []) (takes-negation d) (takes-conjuncts ds) (λ tokens others other d ds. more_conjuncts d ds)
+  takes-parts : {keyword : words.Keyword} {tokens rest : Kinds} {cs : List RawCond} → AreJoinedBy keyword tokens cs rest → Takes (AreJoinedBy keyword) cs tokens rest
+  takes-parts (last_joined d) = around [] [] (takes-part d) (λ tokens other d. last_joined d)
+  takes-parts (more_joined {keyword = keyword} d ds) = both (Keyword keyword ∷ []) (takes-part d) (takes-parts ds) (λ tokens others other d ds. more_joined d ds)
+
+  takes-part : {keyword : words.Keyword} {tokens rest : Kinds} {c : RawCond} → IsJoinedBy keyword tokens c rest → Takes (IsJoinedBy keyword) c tokens rest
+  takes-part (disjunct d) = around [] [] (takes-conjunction d) (λ tokens other d. disjunct d)
+  takes-part (conjunct d) = around [] [] (takes-negation d) (λ tokens other d. conjunct d)
 
   takes-negation : {tokens rest : Kinds} {c : RawCond} → IsNegation tokens c rest → Takes IsNegation c tokens rest
   takes-negation (negated d e) = around (Keyword KNot ∷ []) [] (takes-negation d) (λ tokens other d. negated d e)

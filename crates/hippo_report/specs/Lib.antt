@@ -1,3 +1,4 @@
+pub mod Adding
 pub mod Cells
 pub mod Refusals
 pub mod Notices

@@ -13,7 +13,7 @@ mod speaker;
 
 pub use format::Format;
 pub use notices::{done_line, number_line};
-pub use pieces::append_pieces;
+pub use pieces::{append_pieces, ascii_text};
 pub use printed::{Printed, append_joined, append_later, append_whole};
 pub use refusal::Refusal;
 pub use refusal_lines::refusal_line;

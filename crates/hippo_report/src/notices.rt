@@ -1,5 +1,5 @@
 //! Replies that say that a line was carried out, or how many rows or flags there were.
-ghost use Rattle.std.specs.Prelude.{◌≡◌, ◌+◌, ◌≤◌, ◌++◌, length, IsOk, OnOk, OnErr};
+ghost use Rattle.hippo_report.specs.Adding.{AddsWithin};
 ghost use Rattle.hippo_report.specs.Notices.{done_line, number_line};
 
 use crate::pieces::append_pieces;
@@ -11,9 +11,7 @@ use itoa::Buffer;
 /// the console, and `-` where the line is nobody's. The text is unchanged where memory is short,
 /// which it never is within the room.
 pub fn done_line<const ROOM: usize>(who: Speaker, out: &mut RoomyTxt<ROOM>) -> Result<(), Memory>
-    ensures ok { OnOk result (out.new ≡ out.old ++ done_line who) }
-    ensures err { OnErr result (out.new ≡ out.old) }
-    ensures room { length out.old + length (done_line who) ≤ ROOM → IsOk result }
+    ensures { AddsWithin ROOM (done_line who) result out.old out.new }
 {
     match who {
         Speaker::Nobody => append_pieces(&["-", " ok\n"], out),
@@ -30,10 +28,7 @@ pub fn number_line<const ROOM: usize>(
     number: u64,
     out: &mut RoomyTxt<ROOM>,
 ) -> Result<(), Memory>
-    ensures ok { OnOk result (out.new ≡ out.old ++ number_line session word.now number) }
-    ensures err { OnErr result (out.new ≡ out.old) }
-    ensures room { length out.old + length (number_line session word.now number) ≤ ROOM
-        → IsOk result }
+    ensures { AddsWithin ROOM (number_line session word.now number) result out.old out.new }
 {
     append_pieces(
         &[

@@ -1,7 +1,9 @@
 //! Parts of a reply that are added to a text.
-ghost use Rattle.std.specs.Prelude.{◌≡◌, ◌+◌, ◌≤◌, ◌++◌, length, map, IsOk, OnOk, OnErr};
+ghost use Rattle.std.specs.Prelude.{◌≡◌, ◌+◌, ◌≤◌, length, map, IsOk};
+ghost use Rattle.std.specs.Str.{IsAscii};
 ghost use Rattle.std.specs.List.{concat};
 ghost use Rattle.hippo_text_forms.specs.Printing.{AddsText};
+ghost use Rattle.hippo_report.specs.Adding.{AddsWithin};
 
 use hippo_values::{Memory, RoomyTxt};
 
@@ -22,10 +24,7 @@ pub fn append_pieces<const ROOM: usize>(
     pieces: &[&str],
     out: &mut RoomyTxt<ROOM>,
 ) -> Result<(), Memory>
-    ensures ok { OnOk result (out.new ≡ out.old ++ concat (map (λ piece. piece.now) pieces.now)) }
-    ensures err { OnErr result (out.new ≡ out.old) }
-    ensures room { length out.old + length (concat (map (λ piece. piece.now) pieces.now)) ≤ ROOM
-        → IsOk result }
+    ensures { AddsWithin ROOM (concat (map (λ piece. piece.now) pieces.now)) result out.old out.new }
 {
     let length = out.as_str().len();
     let printed = append_each(pieces, out);
@@ -33,4 +32,15 @@ pub fn append_pieces<const ROOM: usize>(
         out.truncate(length);
     }
     printed
+}
+
+/// The text that bytes of ASCII are.
+pub fn ascii_text(bytes: &[u8]) -> &str
+    requires { IsAscii bytes.now }
+    ensures { result.now ≡ bytes.now }
+{
+    match str::from_utf8(bytes) {
+        Ok(text) => text,
+        Err(_) => unreachable!(),
+    }
 }

@@ -1,6 +1,7 @@
 //! What a reply prints of values, cells and shared rows.
-ghost use Rattle.std.specs.Prelude.{◌≡◌, ◌++◌, flat_map, decimal, codes, OnOk, OnErr};
+ghost use Rattle.std.specs.Prelude.{◌++◌, flat_map, decimal, codes};
 ghost use Rattle.hippo_text_forms.specs.Printing.{value_text, AddsText};
+ghost use Rattle.hippo_report.specs.Adding.{AddsWhole};
 ghost use Rattle.hippo_report.specs.Cells.{separated_text, cell_text, keyed_text, shared_text};
 
 use hippo_model::{Cell, Cells, SharedRow};
@@ -53,8 +54,7 @@ pub fn append_whole<const ROOM: usize, T: Printed<ROOM>>(
     part: &T,
     out: &mut RoomyTxt<ROOM>,
 ) -> Result<(), Memory>
-    ensures ok { OnOk result (out.new ≡ out.old ++ T.text part.now) }
-    ensures err { OnErr result (out.new ≡ out.old) }
+    ensures { AddsWhole (T.text part.now) result out.old out.new }
 {
     let length = out.as_str().len();
     let printed = part.print(out);

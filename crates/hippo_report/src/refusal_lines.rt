@@ -1,141 +1,81 @@
 //! The reply to a line that is not carried out.
-ghost use Rattle.std.specs.Prelude.{◌≡◌, ◌+◌, ◌≤◌, ◌++◌, None, Some, length, IsOk, OnOk, OnErr};
-ghost use Rattle.hippo_text_forms.specs.Dates.{moment_text};
-ghost use Rattle.hippo_report.specs.Refusals.{fault_title, fault_detail, refusal_title, refusal_detail, detail_text, said_of, refusal_line};
+ghost use Rattle.std.specs.Prelude.{◌≡◌, None, Some};
+ghost use Rattle.hippo_report.specs.Adding.{AddsWithin};
+ghost use Rattle.hippo_report.specs.Refusals.{fault_said, refusal_said, detail_text, said_of, refusal_line};
 
-use crate::pieces::append_pieces;
+use crate::pieces::{append_pieces, ascii_text};
 use crate::refusal::{Detail, Refusal};
 use crate::speaker::Speaker;
 use hippo_model::NameFault;
 use hippo_text_forms::moment_text;
-use hippo_values::{Memory, Moment, RoomyTxt};
+use hippo_values::{Memory, RoomyTxt};
 use itoa::Buffer;
 
-fn fault_title(fault: &NameFault) -> &'static str
-    ensures { result.now ≡ fault_title fault.now }
+// The code and the name of a refusal of a statement that means nothing, and what it names.
+fn fault_said(fault: &NameFault) -> (&'static str, Detail<'_>)
+    ensures title { result.0.now ≡ (fault_said fault.now).0 }
+    ensures detail { detail_text result.1 ≡ (fault_said fault.now).1 }
 {
     match fault {
-        NameFault::UnknownTable(_) => "30 UnknownTable",
-        NameFault::UnknownColumn(_) => "31 UnknownColumn",
-        NameFault::AmbiguousColumn(_) => "32 AmbiguousColumn",
-        NameFault::UnknownPurpose(_) => "33 UnknownPurpose",
-        NameFault::UnknownRecipient(_) => "34 UnknownRecipient",
-        NameFault::UnknownItem(_) => "35 UnknownItem",
-        NameFault::AlreadyThere(_) => "36 AlreadyThere",
-        NameFault::RepeatedName(_) => "37 RepeatedName",
-        NameFault::TypeMismatch => "40 TypeMismatch",
-        NameFault::NullNotAllowed(_) => "41 NullNotAllowed",
-        NameFault::WrongCount(_) => "42 WrongCount",
-        NameFault::KeyChanged(_) => "45 KeyChanged",
-        NameFault::NoSubject(_) => "46 NoSubject",
-        NameFault::BadText => "47 BadText",
-        NameFault::NotTheKey => "48 NotTheKey",
-        NameFault::TooManyParts(_) => "50 TooManyParts",
-        NameFault::BadMoment => "18 BadMoment",
-        NameFault::PeriodBack => "56 PeriodBack",
-        NameFault::NotGrouped(_) => "60 NotGrouped",
-        NameFault::Memory => "90 Memory",
+        NameFault::UnknownTable(name) => ("30 UnknownTable", Detail::Text(name.as_str())),
+        NameFault::UnknownColumn(text) => ("31 UnknownColumn", Detail::Text(text.as_str())),
+        NameFault::AmbiguousColumn(name) => ("32 AmbiguousColumn", Detail::Text(name.as_str())),
+        NameFault::UnknownPurpose(name) => ("33 UnknownPurpose", Detail::Text(name.as_str())),
+        NameFault::UnknownRecipient(name) => ("34 UnknownRecipient", Detail::Text(name.as_str())),
+        NameFault::UnknownItem(name) => ("35 UnknownItem", Detail::Text(name.as_str())),
+        NameFault::AlreadyThere(name) => ("36 AlreadyThere", Detail::Text(name.as_str())),
+        NameFault::RepeatedName(name) => ("37 RepeatedName", Detail::Text(name.as_str())),
+        NameFault::TypeMismatch => ("40 TypeMismatch", Detail::Nothing),
+        NameFault::NullNotAllowed(name) => ("41 NullNotAllowed", Detail::Text(name.as_str())),
+        NameFault::WrongCount(number) => ("42 WrongCount", Detail::Number(*number)),
+        NameFault::KeyChanged(name) => ("45 KeyChanged", Detail::Text(name.as_str())),
+        NameFault::NoSubject(name) => ("46 NoSubject", Detail::Text(name.as_str())),
+        NameFault::BadText => ("47 BadText", Detail::Nothing),
+        NameFault::NotTheKey => ("48 NotTheKey", Detail::Nothing),
+        NameFault::TooManyParts(number) => ("50 TooManyParts", Detail::Number(*number)),
+        NameFault::BadMoment => ("18 BadMoment", Detail::Nothing),
+        NameFault::PeriodBack => ("56 PeriodBack", Detail::Nothing),
+        NameFault::NotGrouped(name) => ("60 NotGrouped", Detail::Text(name.as_str())),
+        NameFault::Memory => ("90 Memory", Detail::Nothing),
     }
 }
 
-fn fault_detail(fault: &NameFault) -> Detail<'_>
-    ensures { detail_text result ≡ fault_detail fault.now }
-{
-    match fault {
-        NameFault::UnknownTable(name) => Detail::Text(name.as_str()),
-        NameFault::UnknownColumn(text) => Detail::Text(text.as_str()),
-        NameFault::AmbiguousColumn(name) => Detail::Text(name.as_str()),
-        NameFault::UnknownPurpose(name) => Detail::Text(name.as_str()),
-        NameFault::UnknownRecipient(name) => Detail::Text(name.as_str()),
-        NameFault::UnknownItem(name) => Detail::Text(name.as_str()),
-        NameFault::AlreadyThere(name) => Detail::Text(name.as_str()),
-        NameFault::RepeatedName(name) => Detail::Text(name.as_str()),
-        NameFault::TypeMismatch => Detail::Nothing,
-        NameFault::NullNotAllowed(name) => Detail::Text(name.as_str()),
-        NameFault::WrongCount(number) => Detail::Number(*number),
-        NameFault::KeyChanged(name) => Detail::Text(name.as_str()),
-        NameFault::NoSubject(name) => Detail::Text(name.as_str()),
-        NameFault::BadText => Detail::Nothing,
-        NameFault::NotTheKey => Detail::Nothing,
-        NameFault::TooManyParts(number) => Detail::Number(*number),
-        NameFault::BadMoment => Detail::Nothing,
-        NameFault::PeriodBack => Detail::Nothing,
-        NameFault::NotGrouped(name) => Detail::Text(name.as_str()),
-        NameFault::Memory => Detail::Nothing,
-    }
-}
-
-fn refusal_title(refusal: &Refusal) -> &'static str
-    ensures { result.now ≡ refusal_title refusal.now }
+// The code and the name of a refusal, and what it names.
+fn refusal_said(refusal: &Refusal) -> (&'static str, Detail<'_>)
+    ensures title { result.0.now ≡ (refusal_said refusal.now).0 }
+    ensures detail { detail_text result.1 ≡ (refusal_said refusal.now).1 }
 {
     match refusal {
-        Refusal::BadLine => "10 BadLine",
-        Refusal::LineTooLong => "11 LineTooLong",
-        Refusal::BadToken(_) => "12 BadToken",
-        Refusal::BadSyntax => "13 BadSyntax",
-        Refusal::Unsupported(_) => "14 Unsupported",
-        Refusal::TooDeep => "15 TooDeep",
-        Refusal::NumberTooLarge(_) => "16 NumberTooLarge",
-        Refusal::BadDate(_) => "17 BadDate",
-        Refusal::BadMoment => "18 BadMoment",
-        Refusal::MomentBack(_) => "19 MomentBack",
-        Refusal::NoSession => "20 NoSession",
-        Refusal::SessionOpen => "21 SessionOpen",
-        Refusal::NotAuthorized(_) => "23 NotAuthorized",
-        Refusal::ConsoleOnly => "24 ConsoleOnly",
-        Refusal::SessionsOnly => "25 SessionsOnly",
-        Refusal::Meaningless(fault) => fault_title(fault),
-        Refusal::KeyThere(_) => "43 KeyThere",
-        Refusal::KeyMissing => "44 KeyMissing",
-        Refusal::TooManyRows => "51 TooManyRows",
-        Refusal::CursorLimit => "52 CursorLimit",
-        Refusal::NoCursor(_) => "53 NoCursor",
-        Refusal::JobLimit => "54 JobLimit",
-        Refusal::NoJob(_) => "55 NoJob",
-        Refusal::HistoryFull => "57 HistoryFull",
-        Refusal::NoSuchQuery(_) => "58 NoSuchQuery",
-        Refusal::BadRecord => "61 BadRecord",
-        Refusal::BadField(_) => "62 BadField",
-        Refusal::WatchLimit => "63 WatchLimit",
-        Refusal::NoWatch(_) => "64 NoWatch",
-        Refusal::Memory => "90 Memory",
-    }
-}
-
-fn refusal_detail(refusal: &Refusal) -> Detail<'_>
-    ensures { detail_text result ≡ refusal_detail refusal.now }
-{
-    match refusal {
-        Refusal::BadLine => Detail::Nothing,
-        Refusal::LineTooLong => Detail::Nothing,
-        Refusal::BadToken(place) => Detail::Number(*place as u64),
-        Refusal::BadSyntax => Detail::Nothing,
-        Refusal::Unsupported(word) => Detail::Text(word.as_str()),
-        Refusal::TooDeep => Detail::Nothing,
-        Refusal::NumberTooLarge(place) => Detail::Number(*place as u64),
-        Refusal::BadDate(place) => Detail::Number(*place as u64),
-        Refusal::BadMoment => Detail::Nothing,
-        Refusal::MomentBack(moment) => Detail::Moment(*moment),
-        Refusal::NoSession => Detail::Nothing,
-        Refusal::SessionOpen => Detail::Nothing,
-        Refusal::NotAuthorized(number) => Detail::Number(*number),
-        Refusal::ConsoleOnly => Detail::Nothing,
-        Refusal::SessionsOnly => Detail::Nothing,
-        Refusal::Meaningless(fault) => fault_detail(fault),
-        Refusal::KeyThere(number) => Detail::Number(*number),
-        Refusal::KeyMissing => Detail::Nothing,
-        Refusal::TooManyRows => Detail::Nothing,
-        Refusal::CursorLimit => Detail::Nothing,
-        Refusal::NoCursor(number) => Detail::Number(*number),
-        Refusal::JobLimit => Detail::Nothing,
-        Refusal::NoJob(number) => Detail::Number(*number),
-        Refusal::HistoryFull => Detail::Nothing,
-        Refusal::NoSuchQuery(number) => Detail::Integer(*number),
-        Refusal::BadRecord => Detail::Nothing,
-        Refusal::BadField(name) => Detail::Text(name.as_str()),
-        Refusal::WatchLimit => Detail::Nothing,
-        Refusal::NoWatch(number) => Detail::Number(*number),
-        Refusal::Memory => Detail::Nothing,
+        Refusal::BadLine => ("10 BadLine", Detail::Nothing),
+        Refusal::LineTooLong => ("11 LineTooLong", Detail::Nothing),
+        Refusal::BadToken(place) => ("12 BadToken", Detail::Number(*place as u64)),
+        Refusal::BadSyntax => ("13 BadSyntax", Detail::Nothing),
+        Refusal::Unsupported(word) => ("14 Unsupported", Detail::Text(word.as_str())),
+        Refusal::TooDeep => ("15 TooDeep", Detail::Nothing),
+        Refusal::NumberTooLarge(place) => ("16 NumberTooLarge", Detail::Number(*place as u64)),
+        Refusal::BadDate(place) => ("17 BadDate", Detail::Number(*place as u64)),
+        Refusal::BadMoment => ("18 BadMoment", Detail::Nothing),
+        Refusal::MomentBack(moment) => ("19 MomentBack", Detail::Moment(*moment)),
+        Refusal::NoSession => ("20 NoSession", Detail::Nothing),
+        Refusal::SessionOpen => ("21 SessionOpen", Detail::Nothing),
+        Refusal::NotAuthorized(number) => ("23 NotAuthorized", Detail::Number(*number)),
+        Refusal::ConsoleOnly => ("24 ConsoleOnly", Detail::Nothing),
+        Refusal::SessionsOnly => ("25 SessionsOnly", Detail::Nothing),
+        Refusal::Meaningless(fault) => fault_said(fault),
+        Refusal::KeyThere(number) => ("43 KeyThere", Detail::Number(*number)),
+        Refusal::KeyMissing => ("44 KeyMissing", Detail::Nothing),
+        Refusal::TooManyRows => ("51 TooManyRows", Detail::Nothing),
+        Refusal::CursorLimit => ("52 CursorLimit", Detail::Nothing),
+        Refusal::NoCursor(number) => ("53 NoCursor", Detail::Number(*number)),
+        Refusal::JobLimit => ("54 JobLimit", Detail::Nothing),
+        Refusal::NoJob(number) => ("55 NoJob", Detail::Number(*number)),
+        Refusal::HistoryFull => ("57 HistoryFull", Detail::Nothing),
+        Refusal::NoSuchQuery(number) => ("58 NoSuchQuery", Detail::Integer(*number)),
+        Refusal::BadRecord => ("61 BadRecord", Detail::Nothing),
+        Refusal::BadField(name) => ("62 BadField", Detail::Text(name.as_str())),
+        Refusal::WatchLimit => ("63 WatchLimit", Detail::Nothing),
+        Refusal::NoWatch(number) => ("64 NoWatch", Detail::Number(*number)),
+        Refusal::Memory => ("90 Memory", Detail::Nothing),
     }
 }
 
@@ -146,9 +86,7 @@ fn append_plain<const ROOM: usize>(
     title: &str,
     out: &mut RoomyTxt<ROOM>,
 ) -> Result<(), Memory>
-    ensures ok { OnOk result (out.new ≡ out.old ++ said_of who.now title.now None) }
-    ensures err { OnErr result (out.new ≡ out.old) }
-    ensures room { length out.old + length (said_of who.now title.now None) ≤ ROOM → IsOk result }
+    ensures { AddsWithin ROOM (said_of who.now title.now None) result out.old out.new }
 {
     append_pieces(&[who, " no ", title, "\n"], out)
 }
@@ -161,31 +99,9 @@ fn append_naming<const ROOM: usize>(
     detail: &str,
     out: &mut RoomyTxt<ROOM>,
 ) -> Result<(), Memory>
-    ensures ok { OnOk result (out.new ≡ out.old ++ said_of who.now title.now (Some detail.now)) }
-    ensures err { OnErr result (out.new ≡ out.old) }
-    ensures room { length out.old + length (said_of who.now title.now (Some detail.now)) ≤ ROOM
-        → IsOk result }
+    ensures { AddsWithin ROOM (said_of who.now title.now (Some detail.now)) result out.old out.new }
 {
     append_pieces(&[who, " no ", title, " ", detail, "\n"], out)
-}
-
-fn append_moment<const ROOM: usize>(
-    who: &str,
-    title: &str,
-    moment: &Moment,
-    out: &mut RoomyTxt<ROOM>,
-) -> Result<(), Memory>
-    ensures ok { OnOk result (out.new ≡ out.old
-        ++ said_of who.now title.now (Some (moment_text moment.now))) }
-    ensures err { OnErr result (out.new ≡ out.old) }
-    ensures room { length out.old + length
-        (said_of who.now title.now (Some (moment_text moment.now))) ≤ ROOM
-        → IsOk result }
-{
-    match str::from_utf8(&moment_text(*moment)) {
-        Ok(text) => append_naming(who, title, text, out),
-        Err(_) => unreachable!(),
-    }
 }
 
 fn append_said<const ROOM: usize>(
@@ -194,18 +110,15 @@ fn append_said<const ROOM: usize>(
     detail: &Detail<'_>,
     out: &mut RoomyTxt<ROOM>,
 ) -> Result<(), Memory>
-    ensures ok { OnOk result (out.new ≡ out.old
-        ++ said_of who.now title.now (detail_text detail.now)) }
-    ensures err { OnErr result (out.new ≡ out.old) }
-    ensures room { length out.old + length (said_of who.now title.now (detail_text detail.now))
-        ≤ ROOM → IsOk result }
+    ensures { AddsWithin ROOM (said_of who.now title.now (detail_text detail.now))
+        result out.old out.new }
 {
     match detail {
         Detail::Nothing => append_plain(who, title, out),
         Detail::Text(text) => append_naming(who, title, text, out),
         Detail::Number(number) => append_naming(who, title, Buffer::new().format(*number), out),
         Detail::Integer(number) => append_naming(who, title, Buffer::new().format(*number), out),
-        Detail::Moment(moment) => append_moment(who, title, moment, out),
+        Detail::Moment(moment) => append_naming(who, title, ascii_text(&moment_text(*moment)), out),
     }
 }
 
@@ -214,15 +127,11 @@ fn append_refusal<const ROOM: usize>(
     refusal: &Refusal,
     out: &mut RoomyTxt<ROOM>,
 ) -> Result<(), Memory>
-    ensures ok { OnOk result
-        (out.new ≡ out.old ++ said_of who.now (refusal_title refusal.now)
-        (refusal_detail refusal.now)) }
-    ensures err { OnErr result (out.new ≡ out.old) }
-    ensures room { length out.old
-        + length (said_of who.now (refusal_title refusal.now) (refusal_detail refusal.now)) ≤ ROOM
-        → IsOk result }
+    ensures { AddsWithin ROOM (said_of who.now (refusal_said refusal.now).0
+        (refusal_said refusal.now).1) result out.old out.new }
 {
-    append_said(who, refusal_title(refusal), &refusal_detail(refusal), out)
+    let (title, detail) = refusal_said(refusal);
+    append_said(who, title, &detail, out)
 }
 
 /// Adds the reply to a line that is not carried out: `N no CODE NAME`, with what the refusal names
@@ -233,9 +142,7 @@ pub fn refusal_line<const ROOM: usize>(
     refusal: &Refusal,
     out: &mut RoomyTxt<ROOM>,
 ) -> Result<(), Memory>
-    ensures ok { OnOk result (out.new ≡ out.old ++ refusal_line who refusal.now) }
-    ensures err { OnErr result (out.new ≡ out.old) }
-    ensures room { length out.old + length (refusal_line who refusal.now) ≤ ROOM → IsOk result }
+    ensures { AddsWithin ROOM (refusal_line who refusal.now) result out.old out.new }
 {
     match who {
         Speaker::Nobody => append_refusal("-", refusal, out),

@@ -1,6 +1,7 @@
 //! Rows of answers, and cells that were denied.
-ghost use Rattle.std.specs.Prelude.{◌≡◌, ◌++◌, flat_map, OnOk, OnErr};
+ghost use Rattle.std.specs.Prelude.{flat_map};
 ghost use Rattle.hippo_text_forms.specs.Printing.{AddsText};
+ghost use Rattle.hippo_report.specs.Adding.{AddsWhole};
 ghost use Rattle.hippo_report.specs.Cells.{answer_line, denied_line};
 
 use crate::pieces::append_pieces;
@@ -37,8 +38,7 @@ pub fn answer_line<const ROOM: usize>(
     row: &CellRow,
     out: &mut RoomyTxt<ROOM>,
 ) -> Result<(), Memory>
-    ensures ok { OnOk result (out.new ≡ out.old ++ answer_line session row.now) }
-    ensures err { OnErr result (out.new ≡ out.old) }
+    ensures { AddsWhole (answer_line session row.now) result out.old out.new }
 {
     append_whole(&AnswerRow { session, row }, out)
 }
@@ -81,8 +81,7 @@ pub fn answer_lines<const ROOM: usize>(
     rows: &[CellRow],
     out: &mut RoomyTxt<ROOM>,
 ) -> Result<(), Memory>
-    ensures ok { OnOk result (out.new ≡ out.old ++ flat_map (answer_line session) rows.now) }
-    ensures err { OnErr result (out.new ≡ out.old) }
+    ensures { AddsWhole (flat_map (answer_line session) rows.now) result out.old out.new }
 {
     append_whole(&AnswerRows { session, rows }, out)
 }
@@ -126,8 +125,7 @@ pub fn denied_line<const ROOM: usize>(
     rule: u64,
     out: &mut RoomyTxt<ROOM>,
 ) -> Result<(), Memory>
-    ensures ok { OnOk result (out.new ≡ out.old ++ denied_line table.now key.now column.now rule) }
-    ensures err { OnErr result (out.new ≡ out.old) }
+    ensures { AddsWhole (denied_line table.now key.now column.now rule) result out.old out.new }
 {
     let cell = DeniedCell {
         table,

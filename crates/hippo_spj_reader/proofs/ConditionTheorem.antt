@@ -3,6 +3,7 @@ use Rattle.std.proofs.Common.{◌≡◌, ℕ, zero, suc, ◌<◌, ◌≤◌, Lis
 use Rattle.std.proofs.lemmas.Option.{none-some, some_pair_parts}
 use Rattle.hippo_model.specs.declared.query.CondOf.{Not, Between, Among, Missing}
 use Rattle.hippo_statements.specs.declared.statement.RawOperand.{RawOperand}
+use Rattle.hippo_values.specs.declared.keywords.Keyword as words
 use Rattle.hippo_values.specs.declared.keywords.Keyword.TheVariants.{KAnd, KBetween, KIn, KIs, KNot, KNull, KOr}
 use Rattle.hippo_lexer.specs.declared.kinds.Symbol.TheVariants.{Comma, Dot, LeftParen, RightParen}
 use Rattle.hippo_lexer.specs.declared.kinds.TokenKind.{TokenKind}
@@ -10,7 +11,7 @@ use Rattle.hippo_lexer.specs.declared.kinds.TokenKind.TheVariants.{Keyword, Symb
 use Rattle.hippo_spj_reader.specs.Front.{Finder, after_keyword, after_symbol}
 use Rattle.hippo_spj_reader.specs.ListGrammar.{IsListOf, last_part, more_parts}
 use Rattle.hippo_spj_reader.specs.ListFinder.{leading_parts, leading_list}
-use Rattle.hippo_spj_reader.specs.ConditionGrammar.{RawCond, IsOperand, IsCondition, disjunction, AreDisjuncts, last_disjunct, more_disjuncts, IsConjunction, conjunction, AreConjuncts, last_conjunct, more_conjuncts, IsNegation, negated, plain, IsPrimary, parentheses, comparison, between, not_between, among, not_among, missing, present}
+use Rattle.hippo_spj_reader.specs.ConditionGrammar.{RawCond, IsOperand, IsCondition, disjunction, IsConjunction, conjunction, AreJoinedBy, last_joined, more_joined, IsJoinedBy, disjunct, conjunct, IsNegation, negated, plain, IsPrimary, parentheses, comparison, between, not_between, among, not_among, missing, present}
 use Rattle.hippo_spj_reader.specs.ConditionFinder.{leading_operand, leading_operator, leading_comparison, leading_between, leading_among, leading_range, leading_null, leading_test, conjunction_with, condition_with, primary_with, leading_negation, leading_condition}
 use Rattle.hippo_spj_reader.proofs.FrontTheorem.{found_then, choice, keyword_then, symbol_then, keyword_choice, symbol_choice, after_keyword-some, after_symbol-some, read_as}
 use Rattle.hippo_spj_reader.proofs.ListTheorem.{parts_found, list_complete, list_shorter}
@@ -77,22 +78,25 @@ test_found all tokens v c rest is_operand e =
     (λ low high lows highs is_between is_low is_high is. rw is (between (rw is_between at is_operand) is_low is_high))
     (λ list others is_in is_list is. rw is (among (rw is_in at is_operand) is_list)))))
 
+joined_found : (keyword : words.Keyword) (leading_part : Finder RawCond)
+    → ((tokens : List TokenKind) (c : RawCond) (rest : List TokenKind) → leading_part tokens ≡ Some (c, rest) → IsJoinedBy keyword tokens c rest)
+    → (tokens : List TokenKind) (parts : List RawCond) (rest : List TokenKind) → leading_list leading_part (after_keyword keyword) tokens ≡ Some (parts, rest) → AreJoinedBy keyword tokens parts rest
+joined_found keyword leading_part part_found tokens parts rest e =
+    parts_found leading_part (after_keyword keyword) (IsJoinedBy keyword) (Keyword keyword) (AreJoinedBy keyword) part_found (after_keyword-some keyword)
+    (λ _ _ _ d. last_joined d) (λ _ _ _ _ _ d ds. more_joined d ds) (suc (length tokens)) tokens parts rest e
+
 module _ (deeper : Finder RawCond) (deeper_found : (tokens : List TokenKind) (c : RawCond) (rest : List TokenKind) → deeper tokens ≡ Some (c, rest) → IsNegation tokens c rest) where
   conjunction_found : (tokens : List TokenKind) (c : RawCond) (rest : List TokenKind) → conjunction_with deeper tokens ≡ Some (c, rest) → IsConjunction tokens c rest
   conjunction_found tokens c rest e =
       found_then (leading_list deeper (after_keyword KAnd) tokens) _ _ e (λ parts found e.
       read_as IsConjunction tokens _ _ _ _ e (conjunction
-      (parts_found deeper (after_keyword KAnd) IsNegation (Keyword KAnd) AreConjuncts deeper_found (after_keyword-some KAnd)
-      (λ _ _ _ d. last_conjunct d) (λ _ _ _ _ _ d ds. more_conjuncts d ds) (suc (length tokens)) tokens parts.0 parts.1 found)
-      refl))
+      (joined_found KAnd deeper (λ tokens c rest e. conjunct (deeper_found tokens c rest e)) tokens parts.0 parts.1 found) refl))
 
   pub condition_found : (tokens : List TokenKind) (c : RawCond) (rest : List TokenKind) → condition_with deeper tokens ≡ Some (c, rest) → IsCondition tokens c rest
   condition_found tokens c rest e =
       found_then (leading_list (conjunction_with deeper) (after_keyword KOr) tokens) _ _ e (λ parts found e.
       read_as IsCondition tokens _ _ _ _ e (disjunction
-      (parts_found (conjunction_with deeper) (after_keyword KOr) IsConjunction (Keyword KOr) AreDisjuncts conjunction_found (after_keyword-some KOr)
-      (λ _ _ _ d. last_disjunct d) (λ _ _ _ _ _ d ds. more_disjuncts d ds) (suc (length tokens)) tokens parts.0 parts.1 found)
-      refl))
+      (joined_found KOr (conjunction_with deeper) (λ tokens c rest e. disjunct (conjunction_found tokens c rest e)) tokens parts.0 parts.1 found) refl))
 
   primary_found : (tokens : List TokenKind) (c : RawCond) (rest : List TokenKind) → primary_with deeper tokens ≡ Some (c, rest) → IsPrimary tokens c rest
   primary_found tokens c rest e =
@@ -129,22 +133,20 @@ operands_shorter tokens list rest is_list =
 -- a condition takes tokens
 mutual
   pub condition_shorter : (tokens : List TokenKind) (c : RawCond) (rest : List TokenKind) → IsCondition tokens c rest → length rest < length tokens
-  condition_shorter tokens c rest (disjunction ds e) = disjuncts_shorter tokens _ rest ds
-
-  disjuncts_shorter : (tokens : List TokenKind) (cs : List RawCond) (rest : List TokenKind) → AreDisjuncts tokens cs rest → length rest < length tokens
-  disjuncts_shorter tokens cs rest (last_disjunct d) = conjunction_shorter tokens _ rest d
-  disjuncts_shorter tokens cs rest (more_disjuncts {others = others} d ds) =
-      let first : length (Keyword KOr ∷ others) < length tokens = conjunction_shorter tokens _ (Keyword KOr ∷ others) d in
-      omega (arith, first, disjuncts_shorter others _ rest ds)
+  condition_shorter tokens c rest (disjunction ds e) = parts_shorter tokens _ rest ds
 
   conjunction_shorter : (tokens : List TokenKind) (c : RawCond) (rest : List TokenKind) → IsConjunction tokens c rest → length rest < length tokens
-  conjunction_shorter tokens c rest (conjunction ds e) = conjuncts_shorter tokens _ rest ds
+  conjunction_shorter tokens c rest (conjunction ds e) = parts_shorter tokens _ rest ds
 
-  conjuncts_shorter : (tokens : List TokenKind) (cs : List RawCond) (rest : List TokenKind) → AreConjuncts tokens cs rest → length rest < length tokens
-  conjuncts_shorter tokens cs rest (last_conjunct d) = negation_shorter tokens _ rest d
-  conjuncts_shorter tokens cs rest (more_conjuncts {others = others} d ds) =
-      let first : length (Keyword KAnd ∷ others) < length tokens = negation_shorter tokens _ (Keyword KAnd ∷ others) d in
-      omega (arith, first, conjuncts_shorter others _ rest ds)
+  parts_shorter : {keyword : words.Keyword} (tokens : List TokenKind) (cs : List RawCond) (rest : List TokenKind) → AreJoinedBy keyword tokens cs rest → length rest < length tokens
+  parts_shorter tokens cs rest (last_joined d) = part_shorter tokens _ rest d
+  parts_shorter tokens cs rest (more_joined {keyword = keyword} {others = others} d ds) =
+      let first : length (Keyword keyword ∷ others) < length tokens = part_shorter tokens _ (Keyword keyword ∷ others) d in
+      omega (arith, first, parts_shorter others _ rest ds)
+
+  part_shorter : {keyword : words.Keyword} (tokens : List TokenKind) (c : RawCond) (rest : List TokenKind) → IsJoinedBy keyword tokens c rest → length rest < length tokens
+  part_shorter tokens c rest (disjunct d) = conjunction_shorter tokens c rest d
+  part_shorter tokens c rest (conjunct d) = negation_shorter tokens c rest d
 
   negation_shorter : (tokens : List TokenKind) (c : RawCond) (rest : List TokenKind) → IsNegation tokens c rest → length rest < length tokens
   negation_shorter _ c rest (negated {tokens = tokens} d e) = omega (arith, negation_shorter tokens _ rest d)
@@ -204,11 +206,11 @@ mutual
   condition_complete : (n : ℕ) (tokens : List TokenKind) (c : RawCond) (rest : List TokenKind) → IsCondition tokens c rest → Ends rest → length tokens < n → condition_with (leading_negation n) tokens ≡ Some (c, rest)
   condition_complete n tokens c rest (disjunction ds e) ends enough = rw (disjuncts_complete n (suc (length tokens)) tokens _ rest ds ends enough (omega arith), e) refl
 
-  disjuncts_complete : (n m : ℕ) (tokens : List TokenKind) (cs : List RawCond) (rest : List TokenKind) → AreDisjuncts tokens cs rest → Ends rest → length tokens < n → length tokens < m →
+  disjuncts_complete : (n m : ℕ) (tokens : List TokenKind) (cs : List RawCond) (rest : List TokenKind) → AreJoinedBy KOr tokens cs rest → Ends rest → length tokens < n → length tokens < m →
       leading_parts (conjunction_with (leading_negation n)) (after_keyword KOr) m tokens ≡ Some (cs, rest)
   disjuncts_complete n zero tokens cs rest ds ends enough bound = absurd (omega arith)
-  disjuncts_complete n (suc m) tokens cs rest (last_disjunct d) ends enough bound = rw (conjunction_complete n tokens _ rest d ends.no_dot ends.no_and enough, ends.no_or) refl
-  disjuncts_complete n (suc m) tokens cs rest (more_disjuncts {others = others} d ds) ends enough bound =
+  disjuncts_complete n (suc m) tokens cs rest (last_joined (disjunct d)) ends enough bound = rw (conjunction_complete n tokens _ rest d ends.no_dot ends.no_and enough, ends.no_or) refl
+  disjuncts_complete n (suc m) tokens cs rest (more_joined {others = others} (disjunct d) ds) ends enough bound =
       let first : length (Keyword KOr ∷ others) < length tokens = conjunction_shorter tokens _ (Keyword KOr ∷ others) d in
       rw (conjunction_complete n tokens _ (Keyword KOr ∷ others) d refl refl enough, disjuncts_complete n m others _ rest ds ends (omega (arith, first)) (omega (arith, first))) refl
 
@@ -216,11 +218,11 @@ mutual
       conjunction_with (leading_negation n) tokens ≡ Some (c, rest)
   conjunction_complete n tokens c rest (conjunction ds e) no_dot no_and enough = rw (conjuncts_complete n (suc (length tokens)) tokens _ rest ds no_dot no_and enough (omega arith), e) refl
 
-  conjuncts_complete : (n m : ℕ) (tokens : List TokenKind) (cs : List RawCond) (rest : List TokenKind) → AreConjuncts tokens cs rest → after_symbol Dot rest ≡ None → after_keyword KAnd rest ≡ None → length tokens < n → length tokens < m →
+  conjuncts_complete : (n m : ℕ) (tokens : List TokenKind) (cs : List RawCond) (rest : List TokenKind) → AreJoinedBy KAnd tokens cs rest → after_symbol Dot rest ≡ None → after_keyword KAnd rest ≡ None → length tokens < n → length tokens < m →
       leading_parts (leading_negation n) (after_keyword KAnd) m tokens ≡ Some (cs, rest)
   conjuncts_complete n zero tokens cs rest ds no_dot no_and enough bound = absurd (omega arith)
-  conjuncts_complete n (suc m) tokens cs rest (last_conjunct d) no_dot no_and enough bound = rw (negation_complete n tokens _ rest d no_dot enough, no_and) refl
-  conjuncts_complete n (suc m) tokens cs rest (more_conjuncts {others = others} d ds) no_dot no_and enough bound =
+  conjuncts_complete n (suc m) tokens cs rest (last_joined (conjunct d)) no_dot no_and enough bound = rw (negation_complete n tokens _ rest d no_dot enough, no_and) refl
+  conjuncts_complete n (suc m) tokens cs rest (more_joined {others = others} (conjunct d) ds) no_dot no_and enough bound =
       let first : length (Keyword KAnd ∷ others) < length tokens = negation_shorter tokens _ (Keyword KAnd ∷ others) d in
       rw (negation_complete n tokens _ (Keyword KAnd ∷ others) d refl enough, conjuncts_complete n m others _ rest ds no_dot no_and (omega (arith, first)) (omega (arith, first))) refl
 

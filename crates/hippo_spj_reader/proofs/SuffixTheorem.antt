@@ -1,5 +1,6 @@
 -- What follows a part of the grammar is the end of the tokens that it begins.
 use Rattle.std.proofs.Common.{◌≡◌, List, [], ◌∷◌, ◌++◌, Option, refl, ap}
+use Rattle.hippo_values.specs.declared.keywords.Keyword as words
 use Rattle.hippo_values.specs.declared.values.Value.{Value}
 use Rattle.hippo_statements.specs.declared.statement.RawColumn.{RawColumn}
 use Rattle.hippo_statements.specs.declared.statement.RawItem.{RawItem}
@@ -9,7 +10,7 @@ use Rattle.hippo_statements.specs.declared.statement.RawSelect.{RawSelect}
 use Rattle.hippo_lexer.specs.declared.kinds.TokenKind.{TokenKind}
 use Rattle.hippo_spj_reader.specs.declared.selects.Scope.{Scope}
 use Rattle.hippo_spj_reader.specs.ConditionGrammar as conditions
-use Rattle.hippo_spj_reader.specs.ConditionGrammar.{RawCond, IsColumn, bare, qualified, IsLiteral, number, quoted_literal, day, null, IsOperand, column, literal, IsCondition, disjunction, AreDisjuncts, last_disjunct, more_disjuncts, IsConjunction, conjunction, AreConjuncts, last_conjunct, more_conjuncts, IsNegation, negated, IsPrimary, parentheses, comparison, between, not_between, among, not_among, missing, present}
+use Rattle.hippo_spj_reader.specs.ConditionGrammar.{RawCond, IsColumn, bare, qualified, IsLiteral, number, quoted_literal, day, null, IsOperand, column, literal, IsCondition, disjunction, IsConjunction, conjunction, AreJoinedBy, last_joined, more_joined, IsJoinedBy, disjunct, conjunct, IsNegation, negated, IsPrimary, parentheses, comparison, between, not_between, among, not_among, missing, present}
 use Rattle.hippo_spj_reader.specs.ListGrammar.{IsListOf, last_part, more_parts}
 use Rattle.hippo_spj_reader.specs.SelectGrammar.{IsItem, one_column, all_of_table, AreItems, star, listed_items, AreJoined, no_more, comma_table, join, inner_join, IsWhere, no_where, condition, IsScope, scope, IsOut, column_out, minimum, maximum, IsSelect, plain_select, distinct, grouped_select}
 
@@ -52,18 +53,18 @@ module _ {X : Type 0} (IsPart : List TokenKind → X → List TokenKind → Type
 
 mutual
   condition_suffix : {tokens rest : List TokenKind} {c : RawCond} → IsCondition tokens c rest → IsSuffix rest tokens
-  condition_suffix (disjunction ds e) = disjuncts_suffix ds
-
-  disjuncts_suffix : {tokens rest : List TokenKind} {cs : List RawCond} → AreDisjuncts tokens cs rest → IsSuffix rest tokens
-  disjuncts_suffix (last_disjunct d) = conjunction_suffix d
-  disjuncts_suffix (more_disjuncts d ds) = within (next (conjunction_suffix d)) (disjuncts_suffix ds)
+  condition_suffix (disjunction ds e) = parts_suffix ds
 
   conjunction_suffix : {tokens rest : List TokenKind} {c : RawCond} → IsConjunction tokens c rest → IsSuffix rest tokens
-  conjunction_suffix (conjunction ds e) = conjuncts_suffix ds
+  conjunction_suffix (conjunction ds e) = parts_suffix ds
 
-  conjuncts_suffix : {tokens rest : List TokenKind} {cs : List RawCond} → AreConjuncts tokens cs rest → IsSuffix rest tokens
-  conjuncts_suffix (last_conjunct d) = negation_suffix d
-  conjuncts_suffix (more_conjuncts d ds) = within (next (negation_suffix d)) (conjuncts_suffix ds)
+  parts_suffix : {keyword : words.Keyword} {tokens rest : List TokenKind} {cs : List RawCond} → AreJoinedBy keyword tokens cs rest → IsSuffix rest tokens
+  parts_suffix (last_joined d) = part_suffix d
+  parts_suffix (more_joined d ds) = within (next (part_suffix d)) (parts_suffix ds)
+
+  part_suffix : {keyword : words.Keyword} {tokens rest : List TokenKind} {c : RawCond} → IsJoinedBy keyword tokens c rest → IsSuffix rest tokens
+  part_suffix (disjunct d) = conjunction_suffix d
+  part_suffix (conjunct d) = negation_suffix d
 
   negation_suffix : {tokens rest : List TokenKind} {c : RawCond} → IsNegation tokens c rest → IsSuffix rest tokens
   negation_suffix (negated d e) = behind (negation_suffix d)

@@ -10,6 +10,7 @@ use Rattle.hippo_model.specs.declared.query.CondOf.{CondOf, All, Any, Not, Compa
 use Rattle.hippo_statements.specs.declared.statement.RawColumn.{RawColumn}
 use Rattle.hippo_statements.specs.declared.statement.RawOperand.{RawOperand}
 use Rattle.hippo_statements.specs.declared.statement.RawOperand.TheVariants.{Column, Literal}
+use Rattle.hippo_values.specs.declared.keywords.Keyword as words
 use Rattle.hippo_values.specs.declared.keywords.Keyword.TheVariants.{KAnd, KBetween, KIn, KIs, KNot, KNull, KOr}
 use Rattle.hippo_lexer.specs.declared.kinds.Symbol as signs
 use Rattle.hippo_lexer.specs.declared.kinds.Symbol.TheVariants.{LeftParen, RightParen, Comma, Dot, Equal, NotEqual, Less, LessEqual, Greater, GreaterEqual}
@@ -67,28 +68,31 @@ mutual
   -- cond = conj {OR conj}
   pub data IsCondition : Kinds → RawCond → Kinds → Type 0 where
     disjunction : {condition : RawCond} {parts : List RawCond} {tokens rest : Kinds} →
-        AreDisjuncts tokens parts rest → condition ≡ any_of parts
+        AreJoinedBy KOr tokens parts rest → condition ≡ any_of parts
         → IsCondition tokens condition rest
-
-  pub data AreDisjuncts : Kinds → List RawCond → Kinds → Type 0 where
-    last_disjunct : {part : RawCond} {tokens rest : Kinds} →
-        IsConjunction tokens part rest → AreDisjuncts tokens (part ∷ []) rest
-    more_disjuncts : {part : RawCond} {parts : List RawCond} {tokens others rest : Kinds} →
-        IsConjunction tokens part (Keyword KOr ∷ others) → AreDisjuncts others parts rest →
-        AreDisjuncts tokens (part ∷ parts) rest
 
   -- conj = neg {AND neg}
   pub data IsConjunction : Kinds → RawCond → Kinds → Type 0 where
     conjunction : {condition : RawCond} {parts : List RawCond} {tokens rest : Kinds} →
-        AreConjuncts tokens parts rest → condition ≡ all_of parts
+        AreJoinedBy KAnd tokens parts rest → condition ≡ all_of parts
         → IsConjunction tokens condition rest
 
-  pub data AreConjuncts : Kinds → List RawCond → Kinds → Type 0 where
-    last_conjunct : {part : RawCond} {tokens rest : Kinds} →
-        IsNegation tokens part rest → AreConjuncts tokens (part ∷ []) rest
-    more_conjuncts : {part : RawCond} {parts : List RawCond} {tokens others rest : Kinds} →
-        IsNegation tokens part (Keyword KAnd ∷ others) → AreConjuncts others parts rest →
-        AreConjuncts tokens (part ∷ parts) rest
+  -- part {keyword part}
+  pub data AreJoinedBy : words.Keyword → Kinds → List RawCond → Kinds → Type 0 where
+    last_joined : {keyword : words.Keyword} {part : RawCond} {tokens rest : Kinds} →
+        IsJoinedBy keyword tokens part rest → AreJoinedBy keyword tokens (part ∷ []) rest
+    more_joined : {keyword : words.Keyword} {part : RawCond} {parts : List RawCond}
+        {tokens others rest : Kinds} →
+        IsJoinedBy keyword tokens part (Keyword keyword ∷ others)
+        → AreJoinedBy keyword others parts rest →
+        AreJoinedBy keyword tokens (part ∷ parts) rest
+
+  -- OR joins conjunctions, and AND negations
+  pub data IsJoinedBy : words.Keyword → Kinds → RawCond → Kinds → Type 0 where
+    disjunct : {part : RawCond} {tokens rest : Kinds} →
+        IsConjunction tokens part rest → IsJoinedBy KOr tokens part rest
+    conjunct : {part : RawCond} {tokens rest : Kinds} →
+        IsNegation tokens part rest → IsJoinedBy KAnd tokens part rest
 
   -- neg = NOT neg | prim
   pub data IsNegation : Kinds → RawCond → Kinds → Type 0 where

@@ -1,10 +1,11 @@
 -- What a reader promises, against what can be found at the front of its tokens.
-use Rattle.std.specs.Prelude.{◌≡◌, ◌<◌, ◌≤◌, List, [], ◌∷◌, ◌++◌, length, Option, Some, None, option_map, IfSome, IfOk, IfErr, Result, Ok, Err}
+use Rattle.std.specs.Prelude.{◌≡◌, ℕ, ◌<◌, ◌≤◌, List, [], ◌∷◌, ◌++◌, length, slice_range, Option, Some, None, option_map, IfSome, IfOk, IfErr, Result, Ok, Err}
 use Rattle.hippo_values.specs.Options.{◌>>=◌}
 use denote.Ref.{Bor}
 use Rattle.hippo_lexer.specs.declared.faults.SyntaxFault.{SyntaxFault}
 use Rattle.hippo_lexer.specs.declared.faults.SyntaxFault.TheVariants as fault
 use Rattle.hippo_lexer.specs.declared.kinds.Token.{Token}
+use Rattle.hippo_lexer.specs.Words.{words_check}
 use Rattle.hippo_spj_reader.specs.Front.{Kinds, Finder, kinds}
 
 -- the first where it finds something, else the other
@@ -82,6 +83,13 @@ IsFaultOnlyWhere P fault.TooDeep = ⊥
 IsFaultOnlyWhere P (fault.Unsupported place) = ⊥
 IsFaultOnlyWhere P fault.BadSyntax = P
 IsFaultOnlyWhere P fault.Memory = Unit {0}
+
+-- the tokens from place first to the place before last are there, and no word of them is beyond the
+-- grammar
+pub record CanBeRead (tokens : List Token) (first last : ℕ) : Type 0 where
+  pub order : first ≤ last
+  pub within : last ≤ length tokens
+  pub words : words_check (slice_range tokens first last) ≡ Ok tt
 
 -- all of the tokens are read, as the one reading that the grammar has for them; BadSyntax only
 -- where it has none

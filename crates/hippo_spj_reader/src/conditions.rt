@@ -1,8 +1,7 @@
 //! Conditions, operands and columns.
 
-ghost use Rattle.std.specs.Prelude.{◌≡◌, ◌≢◌, ℕ, ◌<◌, ◌≤◌, [], ◌∷◌, length, slice_range, IfOk, IfSome, option_map, MatchResult};
-ghost use Rattle.hippo_lexer.specs.Words.{words_check};
-ghost use Rattle.hippo_spj_reader.specs.Promises.{AddsPart, Gives, GivesPart, LeavesNoMore, Reads, ReadsAll};
+ghost use Rattle.std.specs.Prelude.{◌≡◌, ◌≢◌, ℕ, ◌<◌, ◌≤◌, [], ◌∷◌, length, IfOk, IfSome, option_map, MatchResult};
+ghost use Rattle.hippo_spj_reader.specs.Promises.{AddsPart, CanBeRead, Gives, GivesPart, LeavesNoMore, Reads, ReadsAll};
 ghost use Rattle.hippo_spj_reader.specs.Front.{kinds, kinds_between};
 ghost use Rattle.hippo_spj_reader.specs.ConditionGrammar.{RawCond, any_of, all_of, IsCondition};
 ghost use Rattle.hippo_spj_reader.specs.ConditionFinder.{leading_column, begins_with_name, leading_operand, operator_of, leading_operator, leading_comparison, leading_between, leading_among, leading_range, leading_null, leading_test, conjunction_with, condition_with, primary_with, leading_negation, leading_condition};
@@ -370,9 +369,7 @@ pub fn read_condition(
     first: usize,
     last: usize,
 ) -> Result<RawCond, SyntaxFault>
-    requires order { first ≤ last }
-    requires within { last ≤ length t.now }
-    requires words { words_check (slice_range t.now first last) ≡ Ok tt }
+    requires { CanBeRead t.now first last }
     ensures { ReadsAll IsCondition (kinds_between t.now first last) result }
 {
     whole::<ConditionPart>(alloc, &t.as_slice()[first..last])

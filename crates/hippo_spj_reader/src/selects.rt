@@ -1,10 +1,9 @@
 //! Selects: their items, their sources and their condition.
 
-ghost use Rattle.std.specs.Prelude.{◌≡◌, [], ◌∷◌, ◌++◌, ◌<◌, ◌≤◌, length, IfOk, slice_range, IfSome, OnOk, option_map, option_to_list, Some, None, if◌then◌else◌};
+ghost use Rattle.std.specs.Prelude.{◌≡◌, [], ◌∷◌, ◌++◌, ◌<◌, ◌≤◌, length, IfOk, IfSome, OnOk, option_map, option_to_list, Some, None, if◌then◌else◌};
 ghost use Rattle.hippo_statements.specs.declared.statement.RawForm.TheVariants.{Plain, Distinct};
 ghost use Rattle.hippo_statements.specs.declared.statement.RawSelect.{RawSelect};
-ghost use Rattle.hippo_lexer.specs.Words.{words_check};
-ghost use Rattle.hippo_spj_reader.specs.Promises.{Gives, GivesPart, LeavesNoMore, Reads, Passes, ReadsAll};
+ghost use Rattle.hippo_spj_reader.specs.Promises.{CanBeRead, Gives, GivesPart, LeavesNoMore, Reads, Passes, ReadsAll};
 ghost use Rattle.hippo_spj_reader.specs.Front.{kinds, kinds_between};
 ghost use Rattle.hippo_spj_reader.specs.SelectGrammar.{whole_condition, select_with, IsSelect};
 ghost use Rattle.hippo_model.specs.Conditions.{outer_parts};
@@ -492,9 +491,7 @@ pub fn read_select(
     first: usize,
     last: usize,
 ) -> Result<RawSelect, SyntaxFault>
-    requires order { first ≤ last }
-    requires within { last ≤ length t.now }
-    requires words { words_check (slice_range t.now first last) ≡ Ok tt }
+    requires { CanBeRead t.now first last }
     ensures { ReadsAll IsSelect (kinds_between t.now first last) result }
 {
     whole::<SelectPart>(alloc, &t.as_slice()[first..last])

@@ -21,7 +21,7 @@ use Rattle.hippo_audit_reader.specs.AuditGrammar.{IsAudit}
 use Rattle.hippo_audit_reader.specs.AuditFinder.{leading_audit}
 use Rattle.hippo_audit_reader.proofs.AuditTheorem as auditing
 use Rattle.hippo_stmt_reader.specs.StatementGrammar.{IsColumnDef, IsSubject, AreSettings, IsConsole, create_table, create_purpose, create_recipient, create_opt_in, create_opt_out, authorize, deauthorize, allow, revoke, choice_yes, choice_no, insert, update, delete, console_explain, console_audit, console_begin_audit, console_watch, IsEnd, no_semicolon, semicolon}
-use Rattle.hippo_stmt_reader.specs.StatementFinder.{end_left, leading_column_def, after_column, leading_names, leading_subject, leading_with_item, leading_retention, leading_number, leading_grant, leading_disclosure, create_table_of, create_purpose_of, create_recipient_of, leading_item_kind, create_item_of, create_of, authorize_of, deauthorize_of, allow_of, revoke_of, leading_yes_or_no, choice_of, insert_of, update_of, delete_of, explain_of, audit_statement_of, begin_audit_of, watch_of, console_behind, console_by_keyword, console_of}
+use Rattle.hippo_stmt_reader.specs.StatementFinder.{end_left, leading_column_def, after_column, leading_names, leading_subject, leading_with_item, leading_retention, leading_number, leading_grant, leading_disclosure, create_table_of, create_purpose_of, create_recipient_of, one_of, create_item_of, create_of, authorize_of, deauthorize_of, allow_of, revoke_of, choice_of, insert_of, update_of, delete_of, explain_of, audit_statement_of, begin_audit_of, watch_of, console_behind, console_by_keyword, console_of}
 use Rattle.hippo_stmt_reader.proofs.PartTheorem.{end_found, end_complete, number_found, column_defs_found, column_defs_complete, names_then, names_whole, subject_found, subject_complete, with_found, with_complete, retention_found, retention_complete, retention-no_with, settings_found, settings_complete, keys_found, keys_complete, literals_found, literals_complete, name_behind_then, assigned_then, grant_then, disclosure_then}
 
 -- the tokens are a statement of the console up to the end
@@ -61,7 +61,7 @@ unfolding create_item_of
 create_item_found tokens s e =
     name_then tokens _ _ e (λ item a is_item e.
     keyword_then KOpt a _ _ e (λ b is_opt e.
-    found_then (leading_item_kind b) _ _ e (λ k k_is e.
+    found_then (one_of KIn OptIn KOut OptOut b) _ _ e (λ k k_is e.
     found_then (end_left k.1) _ _ e (λ end is_end e.
     either_keyword_then KIn KOut OptIn OptOut b k.0 k.1 k_is
     (λ is_in is_kind. rw (is_item, is_opt, is_in, ← same_Some _ s e, is_kind) (k.1, create_opt_in, end_found k.1 end is_end))
@@ -113,7 +113,7 @@ choice_found tokens s e =
     keyword_then KOn n.1 _ _ e (λ a is_on e.
     name_then a _ _ e (λ item b is_item e.
     keyword_then KIs b _ _ e (λ c is_is e.
-    found_then (leading_yes_or_no c) _ _ e (λ answer answer_is e.
+    found_then (one_of KYes true KNo false c) _ _ e (λ answer answer_is e.
     found_then (end_left answer.1) _ _ e (λ end is_end e.
     let is_number = number_found tokens n.0 n.1 n_is in
     either_keyword_then KYes KNo true false c answer.0 answer.1 answer_is

@@ -153,16 +153,12 @@ create_purpose_of tokens = of_part stmt.CreatePurpose (leading_name tokens)
 unfoldable pub create_recipient_of : Kinds → Option Stmt
 create_recipient_of tokens = of_part stmt.CreateRecipient (leading_name tokens)
 
--- IN | OUT
-abbrev pub leading_item_kind : Finder ItemKind
-leading_item_kind tokens = one_of KIn OptIn KOut OptOut tokens
-
 -- behind CREATE ITEM
 unfoldable pub create_item_of : Kinds → Option Stmt
 create_item_of tokens = do
   item ← leading_name tokens
   behind ← after_keyword KOpt item.1
-  k ← leading_item_kind behind
+  k ← one_of KIn OptIn KOut OptOut behind
   with_end (stmt.CreateItem item.0 k.0) k.1
 
 -- behind CREATE
@@ -194,6 +190,10 @@ deauthorize_of tokens = do
   grant ← leading_grant tokens
   with_end (stmt.Deauthorize grant.0.user grant.0.purpose grant.0.recipient) grant.1
 
+abbrev pub disclosure_of : Name → Name → Name → List Name → Disclosure
+disclosure_of purpose recipient table columns =
+    record { purpose = purpose; recipient = recipient; table = table; columns = columns }
+
 -- p TO r ON t "(" c {"," c} ")"
 unfoldable pub leading_disclosure : Finder Disclosure
 leading_disclosure tokens = do
@@ -201,15 +201,7 @@ leading_disclosure tokens = do
   recipient ← leading_name_behind KTo purpose.1
   table ← leading_name_behind KOn recipient.1
   columns ← leading_names table.1
-  Some (
-    record {
-      purpose = purpose.0;
-      recipient = recipient.0;
-      table = table.0;
-      columns = columns.0;
-    },
-    columns.1,
-  )
+  Some (disclosure_of purpose.0 recipient.0 table.0 columns.0, columns.1)
 
 -- behind ALLOW
 unfoldable pub allow_of : Kinds → Option Stmt
@@ -226,10 +218,6 @@ revoke_of tokens = do
   rule ← leading_disclosure tokens
   with_end (stmt.Revoke rule.0.purpose rule.0.recipient rule.0.table rule.0.columns) rule.1
 
--- YES | NO
-abbrev pub leading_yes_or_no : Finder Bool
-leading_yes_or_no tokens = one_of KYes true KNo false tokens
-
 -- behind CHOICE
 unfoldable pub choice_of : Kinds → Option Stmt
 choice_of tokens = do
@@ -237,7 +225,7 @@ choice_of tokens = do
   a ← after_keyword KOn n.1
   item ← leading_name a
   b ← after_keyword KIs item.1
-  said ← leading_yes_or_no b
+  said ← one_of KYes true KNo false b
   with_end (stmt.Choice n.0 item.0 said.0) said.1
 
 -- behind INSERT

@@ -1,8 +1,9 @@
 //! AUTHORIZE, DEAUTHORIZE, ALLOW, REVOKE and CHOICE.
-ghost use Rattle.std.specs.Prelude.{◌≡◌, ◌<◌};
+ghost use Rattle.std.specs.Prelude.{◌≡◌, true, false, ◌<◌};
+ghost use Rattle.hippo_values.specs.declared.keywords.Keyword.TheVariants.{KNo, KYes};
 ghost use Rattle.hippo_spj_reader.specs.Promises.{Gives, Reads};
 ghost use Rattle.hippo_spj_reader.specs.Front.{kinds};
-ghost use Rattle.hippo_stmt_reader.specs.StatementFinder.{leading_grant, authorize_of, deauthorize_of, leading_disclosure, leading_with_item, days_of, leading_retention, allow_of, revoke_of, leading_yes_or_no, choice_of};
+ghost use Rattle.hippo_stmt_reader.specs.StatementFinder.{leading_grant, authorize_of, deauthorize_of, leading_disclosure, leading_with_item, days_of, leading_retention, allow_of, revoke_of, one_of, choice_of};
 
 use crate::parts::{name_behind, names, number, with_end};
 use hippo_lexer::{Keyword, Symbol, SyntaxFault, Token};
@@ -81,7 +82,7 @@ struct Disclosure {
     columns: Names,
 }
 
-#[tactic(auto, unfolding(crate::specs::StatementFinder::leading_disclosure))]
+#[tactic(auto, unfolding(crate::specs::StatementFinder::leading_disclosure), using(crate::proofs::BehindLemmas::fails_first))]
 fn disclosed(alloc: Global, tokens: &[Token]) -> Result<(Disclosure, &[Token]), SyntaxFault>
     ensures { Reads leading_disclosure tokens.now result }
 {
@@ -172,7 +173,7 @@ pub fn revoke(alloc: Global, tokens: &[Token]) -> Result<Stmt, SyntaxFault>
 }
 
 fn yes_or_no(tokens: &[Token]) -> Result<(bool, &[Token]), SyntaxFault>
-    ensures { Reads leading_yes_or_no tokens.now result }
+    ensures { Reads (one_of KYes true KNo false) tokens.now result }
 {
     if let Some(rest) = after_keyword(tokens, Keyword::KYes) {
         return Ok((true, rest));

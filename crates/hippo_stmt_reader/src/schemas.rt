@@ -1,8 +1,10 @@
 //! CREATE TABLE, PURPOSE, RECIPIENT and ITEM.
-ghost use Rattle.std.specs.Prelude.{◌≡◌, ◌<◌, length, option_map, IfSome};
+ghost use Rattle.std.specs.Prelude.{◌≡◌};
+ghost use Rattle.hippo_values.specs.declared.keywords.Keyword.TheVariants.{KIn, KOut};
+ghost use Rattle.hippo_model.specs.declared.entry.ItemKind.TheVariants.{OptIn, OptOut};
 ghost use Rattle.hippo_spj_reader.specs.Promises.{Gives, Reads};
 ghost use Rattle.hippo_spj_reader.specs.Front.{kinds};
-ghost use Rattle.hippo_stmt_reader.specs.StatementFinder.{column_kind_of, leading_column_kind, leading_column_def, after_column, leading_subject, create_table_of, create_purpose_of, create_recipient_of, leading_item_kind, create_item_of, create_of};
+ghost use Rattle.hippo_stmt_reader.specs.StatementFinder.{column_kind_of, leading_column_kind, leading_column_def, after_column, leading_subject, create_table_of, create_purpose_of, create_recipient_of, one_of, create_item_of, create_of};
 
 use crate::parts::{names, with_end};
 use hippo_lexer::{Keyword, Symbol, SyntaxFault, Token, TokenKind};
@@ -25,15 +27,14 @@ fn column_kind_of(keyword: Keyword) -> Option<ColumnKind>
     }
 }
 
-fn column_kind(tokens: &[Token]) -> Option<(ColumnKind, &[Token])>
-    ensures found { option_map (λ x. (x.0, kinds x.1.now)) result
-        ≡ leading_column_kind (kinds tokens.now) }
-    ensures shorter { IfSome result (λ x. length x.1.now < length tokens.now) }
+fn column_kind(tokens: &[Token]) -> Result<(ColumnKind, &[Token]), SyntaxFault>
+    ensures { Reads leading_column_kind tokens.now result }
 {
-    match split(tokens)? {
-        (TokenKind::Keyword(keyword), rest) => Some((column_kind_of(*keyword)?, rest)),
-        _ => None,
-    }
+    let Some((TokenKind::Keyword(keyword), rest)) = split(tokens) else {
+        return Err(SyntaxFault::BadSyntax);
+    };
+    let kind = column_kind_of(*keyword).ok_or(SyntaxFault::BadSyntax)?;
+    Ok((kind, rest))
 }
 
 #[tactic(auto, unfolding(crate::specs::StatementFinder::leading_column_def))]
@@ -41,7 +42,7 @@ fn column_def(alloc: Global, tokens: &[Token]) -> Result<(Column, &[Token]), Syn
     ensures { Reads leading_column_def tokens.now result }
 {
     let (name, rest) = name(alloc, tokens)?;
-    let (kind, rest) = column_kind(rest).ok_or(SyntaxFault::BadSyntax)?;
+    let (kind, rest) = column_kind(rest)?;
     let (not_null, rest) = match after_keyword(rest, Keyword::KNot) {
         Some(behind) => (true, expect_keyword(behind, Keyword::KNull)?),
         None => (false, rest),
@@ -139,7 +140,7 @@ fn create_recipient(alloc: Global, tokens: &[Token]) -> Result<Stmt, SyntaxFault
 }
 
 fn item_kind(tokens: &[Token]) -> Result<(ItemKind, &[Token]), SyntaxFault>
-    ensures { Reads leading_item_kind tokens.now result }
+    ensures { Reads (one_of KIn OptIn KOut OptOut) tokens.now result }
 {
     if let Some(rest) = after_keyword(tokens, Keyword::KIn) {
         return Ok((ItemKind::OptIn, rest));

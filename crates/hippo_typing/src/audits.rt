@@ -11,11 +11,11 @@ ghost use Rattle.hippo_catalog.specs.AuditExpressions.{audit_parts_refused, peri
 ghost use Rattle.hippo_typing.specs.FoundAudits.{tables_refused, audit_columns_refused, audit_found};
 ghost use Rattle.hippo_typing.specs.FoundAudits.{judged_refused, head_of_audit};
 
-use crate::columns::found_references;
 use crate::conditions::found_condition;
 use crate::pairs::paired;
 use crate::parts::check_count;
 use crate::tables::tables_of;
+use crate::written::found_each;
 use hippo_catalog::{
     Catalog, Period, StatementTables, check_kinds, check_pair, check_repeats, check_texts,
 };
@@ -125,7 +125,7 @@ fn found_audit(
     ensures { Resolves (audit_columns_refused tables.now audit.now)
         (audit_found tables.now audit.now) result }
 {
-    let columns = found_references(alloc, tables, audit.columns.as_slice())?;
+    let columns = found_each(alloc, tables, audit.columns.as_slice())?;
     let cond = found_condition(alloc, tables, &audit.cond)?;
     Ok(FoundAudit { columns, cond })
 }

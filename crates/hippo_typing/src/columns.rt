@@ -7,8 +7,9 @@ ghost use Rattle.hippo_catalog.specs.WrittenColumns.{may_stand_in, home_in, home
 ghost use Rattle.hippo_typing.specs.Found.{with_column};
 
 use crate::found::{Found, FoundColumns};
+use crate::written::Written;
 use hippo_catalog::{IndexedTable, StatementTables, column_faults};
-use hippo_model::{NameFault, Ref, Refs};
+use hippo_model::{NameFault, Ref};
 use hippo_statements::RawColumn;
 use hippo_values::{Name, Sequence};
 use std::alloc::Global;
@@ -103,19 +104,14 @@ pub fn found_columns<'a>(
     Ok(found)
 }
 
-/// The columns that written columns are, each of which has to be one of the statement's tables, and
-/// only one.
-pub fn found_references(
-    alloc: Global,
-    tables: &StatementTables<'_>,
-    written: &[RawColumn],
-) -> Result<Refs, NameFault>
-    ensures { Resolves (flat_map (column_refused tables.now) written.now)
-        (map (column_of tables.now) written.now) result }
-{
-    let mut found = Sequence::new(alloc);
-    for column in written {
-        found.push(found_column(alloc, tables, column)?)?;
+impl Written for RawColumn {
+    type Found = Ref;
+
+    ghost refused = { column_refused };
+
+    ghost meant = { column_of };
+
+    fn find(&self, alloc: Global, tables: &StatementTables<'_>) -> Result<Ref, NameFault> {
+        found_column(alloc, tables, self)
     }
-    Ok(found)
 }

@@ -1,48 +1,30 @@
 //! A condition with its columns found.
 ghost use Rattle.std.specs.Prelude.{◌∷◌, [], flat_map, map, if◌then◌else◌};
 ghost use Rattle.hippo_model.specs.declared.query.CondOf.TheVariants.{All, Any, Not, Compare, Between, Among, Missing};
-ghost use Rattle.hippo_model.specs.declared.query.Operand.TheVariants.{Column, Literal};
 ghost use Rattle.hippo_catalog.specs.Refusals.{Resolves};
-ghost use Rattle.hippo_catalog.specs.WrittenColumns.{column_refused, column_of};
 ghost use Rattle.hippo_catalog.specs.Comparisons.{operand_refused, operand_of, operands_refused, condition_of};
 
-use crate::columns::found_column;
+use crate::written::{Written, found_each};
 use hippo_catalog::StatementTables;
 use hippo_model::{CondOf, NameFault, Operand, Operands};
-use hippo_statements::{RawColumn, RawCond, RawOperand};
-use hippo_values::{Boxed, CompareOp, Duplicate, Sequence, Value};
+use hippo_statements::{RawCond, RawOperand};
+use hippo_values::{Boxed, CompareOp, Duplicate, Sequence};
 use std::alloc::Global;
 
 type RawOperands = Sequence<RawOperand>;
 
-fn column_operand(
-    alloc: Global,
-    tables: &StatementTables<'_>,
-    written: &RawColumn,
-) -> Result<Operand, NameFault>
-    ensures { Resolves (column_refused tables.now written.now)
-        (Column (column_of tables.now written.now)) result }
-{
-    Ok(Operand::Column(found_column(alloc, tables, written)?))
-}
+impl Written for RawOperand {
+    type Found = Operand;
 
-fn literal_operand(alloc: Global, value: &Value) -> Result<Operand, NameFault>
-    ensures { Resolves [] (Literal value.now) result }
-{
-    Ok(Operand::Literal(value.copy(alloc)?))
-}
+    ghost refused = { operand_refused };
 
-fn found_operand(
-    alloc: Global,
-    tables: &StatementTables<'_>,
-    operand: &RawOperand,
-) -> Result<Operand, NameFault>
-    ensures { Resolves (operand_refused tables.now operand.now) (operand_of tables.now operand.now)
-        result }
-{
-    match operand {
-        RawOperand::Column(written) => column_operand(alloc, tables, written.get()),
-        RawOperand::Literal(value) => literal_operand(alloc, value),
+    ghost meant = { operand_of };
+
+    fn find(&self, alloc: Global, tables: &StatementTables<'_>) -> Result<Operand, NameFault> {
+        match self {
+            RawOperand::Column(written) => Ok(Operand::Column(written.get().find(alloc, tables)?)),
+            RawOperand::Literal(value) => Ok(Operand::Literal(value.copy(alloc)?)),
+        }
     }
 }
 
@@ -54,11 +36,7 @@ fn found_list(
     ensures { Resolves (flat_map (operand_refused tables.now) list.now)
         (map (operand_of tables.now) list.now) result }
 {
-    let mut found = Sequence::new(alloc);
-    for operand in list.as_slice() {
-        found.push(found_operand(alloc, tables, operand)?)?;
-    }
-    Ok(found)
+    found_each(alloc, tables, list.as_slice())
 }
 
 fn found_comparison(
@@ -71,8 +49,8 @@ fn found_comparison(
     ensures { Resolves (flat_map (operand_refused tables.now) (left.now ∷ right.now ∷ []))
         (Compare op (operand_of tables.now left.now) (operand_of tables.now right.now)) result }
 {
-    let left = found_operand(alloc, tables, left)?;
-    let right = found_operand(alloc, tables, right)?;
+    let left = left.find(alloc, tables)?;
+    let right = right.find(alloc, tables)?;
     Ok(CondOf::Compare { op, left, right })
 }
 
@@ -88,9 +66,9 @@ fn found_between(
         (operand_of tables.now high.now))
         result }
 {
-    let value = found_operand(alloc, tables, value)?;
-    let low = found_operand(alloc, tables, low)?;
-    let high = found_operand(alloc, tables, high)?;
+    let value = value.find(alloc, tables)?;
+    let low = low.find(alloc, tables)?;
+    let high = high.find(alloc, tables)?;
     Ok(CondOf::Between { value, low, high })
 }
 
@@ -103,7 +81,7 @@ fn found_among(
     ensures { Resolves (flat_map (operand_refused tables.now) (value.now ∷ list.now))
         (Among (operand_of tables.now value.now) (map (operand_of tables.now) list.now)) result }
 {
-    let value = found_operand(alloc, tables, value)?;
+    let value = value.find(alloc, tables)?;
     let list = found_list(alloc, tables, list)?;
     Ok(CondOf::Among { value, list })
 }
@@ -116,7 +94,7 @@ fn found_missing(
     ensures { Resolves (flat_map (operand_refused tables.now) (value.now ∷ []))
         (Missing (operand_of tables.now value.now)) result }
 {
-    let value = found_operand(alloc, tables, value)?;
+    let value = value.find(alloc, tables)?;
     Ok(CondOf::Missing { value })
 }
 

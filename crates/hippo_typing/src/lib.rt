@@ -14,6 +14,7 @@ mod parts;
 mod selects;
 mod tables;
 mod texts;
+mod written;
 
 pub use audits::resolve_audit;
 pub use hippo_catalog::Catalog;

@@ -1,29 +1,20 @@
-use Rattle.std.proofs.Common.{refl, sym, subst, ap, ◌∙◌, Ok}
-use Rattle.std.specs.Prelude.{ok_or}
-use Rattle.hippo_values.specs.Results.{◌>>=◌}
-use Rattle.hippo_statements.specs.declared.statement.Stmt.TheVariants as stmt
+use Rattle.std.proofs.Common.{refl, sym, subst, ap, ◌∙◌}
 use Rattle.hippo_commands.specs.Commands as commands
-use Rattle.hippo_report.specs.declared.refusal.Refusal.TheVariants.{JobLimit}
-use Rattle.hippo_sessions.specs.Worlds.{free_number}
 use Rattle.hippo_judging.specs.Checks.{Checked}
 use Rattle.hippo_report.specs.declared.speaker.Speaker.TheVariants.{Console}
-use Rattle.hippo_judging.specs.Deeds as deeds
 use Rattle.hippo_judging.specs.declared.deeds.Deed.{Deed}
-use Rattle.hippo_judging.specs.declared.deeds.Deed.TheVariants.{BeginAudit}
-use Rattle.hippo_judging.specs.Findings.{FindsDeed, with_free_number}
-use Rattle.hippo_judging.proofs.FindingLemmas.{may_begin, refused_audit}
+use Rattle.hippo_judging.specs.Findings.{FindsDeed, begins, begun_with, free_to_begin}
+use Rattle.hippo_judging.proofs.FindingLemmas.{may_begin, refused_begin}
 use Rattle.hippo_judging.proofs.statements.judge_begin.Goals as goal
 
 pub returns-in-Ok : goal.returns-in-Ok
 returns-in-Ok g c = λ text.
-    let command = commands.make_statement Console (stmt.BeginAudit c.args.written.now) text in
+    let command = commands.make_statement Console (begins c.args.is_watch c.args.written.now) text in
     let finds = may_begin c.args.state.now (g.W.WorldView.seen c.args.world.now) c.args.written.now text c.in-Ok.audit
-    (record { fits = c.in-Ok.ensures.audit; differ = c.in-Ok.ensures.differ }) c.in-Ok.ensures.found (free_number (g.W.WorldView.seen c.args.world.now).jobs) refl in
+    (record { fits = c.in-Ok.ensures.audit; differ = c.in-Ok.ensures.differ }) c.in-Ok.ensures.found c.args.is_watch (free_to_begin c.args.is_watch (g.W.WorldView.seen c.args.world.now)) refl in
     subst (λ (found : Checked Deed). FindsDeed command found c.args.state.now (g.W.WorldView.seen c.args.world.now))
-    (sym (c.begun_with.ensures ∙ ap (with_free_number BeginAudit JobLimit c.in-Ok.audit) c.free_job.ensures)) finds
+    (sym (c.begun_with.ensures ∙ ap (begun_with c.args.is_watch c.in-Ok.audit) c.free_number.ensures)) finds
 
 pub returns-in-Err : goal.returns-in-Err
 returns-in-Err g c = λ text.
-    refused_audit c.args.state.now (g.W.WorldView.seen c.args.world.now) c.args.written.now (commands.make_statement Console (stmt.BeginAudit c.args.written.now) text)
-    (λ audit. ok_or (free_number (g.W.WorldView.seen c.args.world.now).jobs) JobLimit >>= λ number. Ok (deeds.begin_audit number audit)) c.in-Err.refusal
-    refl (λ history. refl) c.in-Err.ensures.found
+    refused_begin c.args.state.now (g.W.WorldView.seen c.args.world.now) c.args.written.now text c.args.is_watch c.in-Err.refusal c.in-Err.ensures.found

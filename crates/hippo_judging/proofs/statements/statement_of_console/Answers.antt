@@ -21,8 +21,8 @@ returns-in-BeginAudit-clause-judges g c = λ text.
 pub returns-in-Watch-clause-judges : goal.returns-in-Watch-clause-judges
 returns-in-Watch-clause-judges g c = λ text.
     rw c.in-Watch.is
-    (judges_found (commands.make_statement Console (stmt.Watch c.in-Watch.written) text) c.judge_watch.result c.unread-in-Watch.result
-    c.args.state.now (g.W.WorldView.seen c.args.world.now) (g.P.Keeper.state c.args.keeper.now) (g.P.Keeper.state c.args.keeper.now) c.args.steps.now c.args.steps.now c.unread-in-Watch.ensures (c.judge_watch.ensures text))
+    (judges_found (commands.make_statement Console (stmt.Watch c.in-Watch.written) text) c.judge_begin-in-Watch.result c.unread-in-Watch.result
+    c.args.state.now (g.W.WorldView.seen c.args.world.now) (g.P.Keeper.state c.args.keeper.now) (g.P.Keeper.state c.args.keeper.now) c.args.steps.now c.args.steps.now c.unread-in-Watch.ensures (c.judge_begin-in-Watch.ensures text))
 
 pub returns-in-Some : goal.returns-in-Some
 returns-in-Some g c = record {

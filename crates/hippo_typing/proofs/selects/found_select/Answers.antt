@@ -5,8 +5,7 @@ use Rattle.hippo_catalog.specs.Comparisons.{operands_refused}
 use Rattle.hippo_catalog.specs.Refusals.{IsFirstOf}
 use Rattle.hippo_catalog.specs.Selects.{by_of, list_refused, columns_refused}
 use Rattle.hippo_catalog.specs.WrittenColumns.{column_refused}
-use Rattle.hippo_catalog.proofs.Refused.{first_with_more, first_after}
-use Rattle.hippo_typing.proofs.GroupLemmas.{first_of_three}
+use Rattle.hippo_catalog.proofs.Refused.{first_with_more, first_after, first_of_three}
 use Rattle.hippo_typing.proofs.selects.found_select.Goals as goal
 
 pub returns-in_err-list : goal.returns-in_err-list
