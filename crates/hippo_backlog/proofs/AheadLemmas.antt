@@ -147,12 +147,13 @@ none_left zero (kept ∷ rest) past = absurd (omega arith)
 none_left (suc next) (kept ∷ rest) past = none_left next rest (omega arith)
 
 -- what was handed over is within what is read, with a piece more
-pub handed_within : (max end handed reached : ℕ) (piece : Store) → handed ≤ reached → RisesAbove reached piece → handed + stored_versions piece ≤ reached_by max end piece reached
-handed_within max end handed reached piece within rises =
+pub handed_within : (max end handed reached : ℕ) (piece : Store) → handed ≤ reached → RisesAbove reached piece
+    → (count next : ℕ) → count ≡ stored_versions piece → next ≡ reached_by max end piece reached → handed + count ≤ next
+handed_within max end handed reached piece within rises count next count_is next_is =
     let few = count_by-le-length is_stored_version piece in
     let last = last-above reached piece rises in
     let least = reached_by-least max end piece reached in
-    omega (arith, few, last, least)
+    omega (arith, few, last, least, count_is, next_is)
 
 module _ (test : Entry → Bool) where
   -- nothing is read yet

@@ -18,7 +18,7 @@ use Rattle.hippo_model.specs.Versions.{row_fits, key_fits}
 use Rattle.hippo_keyed_rows.proofs.KeptRows.{slice_get-find_row, is_some-find_row}
 use Rattle.hippo_entry.specs.Forms.{IsEntryOf}
 use Rattle.hippo_backlog.specs.declared.faults.ReadFault.TheVariants.{Damaged}
-use Rattle.hippo_backlog.specs.Taking.{Becomes, result_of_fit, TakesVersion}
+use Rattle.hippo_backlog.specs.Taking.{put_with, Becomes, result_of_fit, TakesVersion}
 use Rattle.hippo_keeper.proofs.Results.{err_of}
 
 -- a place is found where a row is
@@ -35,11 +35,18 @@ birth_some rows key place born is there =
     ∙ ap (option_map (λ (kept : BornRow). kept.born)) (slice_get-find_row rows.key key rows.rows)
 
 module _ (schema : Schema) (moment : Moment) (table : Name) (old : KeyedRows) (key_is : old.key ≡ schema.key) where
-  -- an insert
-  pub inserted : (row : Row) (fits lives : Bool) → fits ≡ (bytes_eq table schema.name && row_fits schema row) → lives ≡ is_some (row_with (key_of old.key row) old) → changed schema moment (Insert table row) old ≡ then_some (fits && not lives) (with_row (record { row = row; born = moment }) old)
-  inserted row fits lives fits_is lives_is =
-      let found : lives ≡ is_some (row_with (key_of schema.key row) old) = lives_is ∙ ap (λ (places : List Place). is_some (row_with (key_of places row) old)) key_is in
-      λ i. then_some (sym fits_is i && not (sym found i)) (with_row (record { row = row; born = moment }) old)
+  -- an insert puts a row, with its moment as the birth where its key is not live
+  by_newness : (row : Row) (fits new : Bool) → then_some (fits && new) (with_row (record { row = row; born = moment }) old) ≡ option_and_then (λ (born : Moment). then_some fits (with_row (record { row = row; born = born }) old)) (then_some new moment)
+  by_newness row true true = refl
+  by_newness row true false = refl
+  by_newness row false true = refl
+  by_newness row false false = refl
+
+  pub insert_puts : (row : Row) (birth : Option Moment) → birth ≡ then_some (not (is_some (row_with (key_of old.key row) old))) moment → changed schema moment (Insert table row) old ≡ put_with schema table row birth old
+  insert_puts row birth birth_is =
+      let found : birth ≡ then_some (not (is_some (row_with (key_of schema.key row) old))) moment = birth_is ∙ ap (λ (places : List Place). then_some (not (is_some (row_with (key_of places row) old))) moment) key_is in
+      by_newness row (bytes_eq table schema.name && row_fits schema row) (not (is_some (row_with (key_of schema.key row) old)))
+      ∙ ap (λ (b : Option Moment). put_with schema table row b old) (sym found)
 
   -- a delete
   pub deleted : (key : Key) (fits lives : Bool) → fits ≡ (bytes_eq table schema.name && key_fits schema key) → lives ≡ is_some (row_with key old) → changed schema moment (Delete table key) old ≡ then_some (fits && lives) (without_row key old)
@@ -50,11 +57,11 @@ module _ (schema : Schema) (moment : Moment) (table : Name) (old : KeyedRows) (k
   by_birth row named None = refl
   by_birth row named (Some was) = refl
 
-  pub updated : (row : Row) (birth : Option Moment) (fits : Bool) → birth ≡ option_map (λ (kept : BornRow). kept.born) (row_with (key_of old.key row) old) → fits ≡ (bytes_eq table schema.name && row_fits schema row) → changed schema moment (Update table row) old ≡ option_and_then (λ (born : Moment). then_some fits (with_row (record { row = row; born = born }) old)) birth
-  updated row birth fits birth_is fits_is =
+  pub update_puts : (row : Row) (birth : Option Moment) → birth ≡ option_map (λ (kept : BornRow). kept.born) (row_with (key_of old.key row) old) → changed schema moment (Update table row) old ≡ put_with schema table row birth old
+  update_puts row birth birth_is =
       let found : birth ≡ option_map (λ (kept : BornRow). kept.born) (row_with (key_of schema.key row) old) = birth_is ∙ ap (λ (places : List Place). option_map (λ (kept : BornRow). kept.born) (row_with (key_of places row) old)) key_is in
       by_birth row (bytes_eq table schema.name && row_fits schema row) (row_with (key_of schema.key row) old)
-      ∙ (λ i. option_and_then (λ (born : Moment). then_some (sym fits_is i) (with_row (record { row = row; born = born }) old)) (sym found i))
+      ∙ ap (λ (b : Option Moment). put_with schema table row b old) (sym found)
 
 -- what was put, or want of memory
 pub becomes_put : (after : Option KeyedRows) (old put new : KeyedRows) (result : Result (Unit {0}) Memory) → after ≡ Some put → OnOk result (new ≡ put) → result ≡ Ok tt → after ≡ Some new

@@ -62,18 +62,25 @@ changed_key schema moment (Update table row) old new is =
 changed_key schema moment (Delete table key) old new is = sym (ap (λ (k : KeyedRows). k.key) (then_some-Some _ (without_row key old) new is))
 changed_key schema moment act old new is = absurd cc
 
--- what was handed over is taken in step by step
-pub TakesInVersions-here : (schema : Schema) (number : ℕ) (held : HeldVersions) → TakesInVersions schema number [] held held
-TakesInVersions-here schema number held = record {
+-- the place is moved to a number
+abbrev pub placed : ℕ → HeldVersions → HeldVersions
+placed number held = record { rows = held.rows; ahead = held.ahead; place = number }
+
+-- what was handed over is taken in step by step: first nothing, whatever the place is moved to
+TakesInVersions-moved : (schema : Schema) (number place : ℕ) (held : HeldVersions) → held.place ≤ place → (held.place ≤ number → place ≤ number) → TakesInVersions schema number [] held (placed place held)
+TakesInVersions-moved schema number place held rises limit = record {
   taken = [];
   parts = append-nil held.ahead.waiting;
   rows = λ earlier is. is ∙ ap (kept_at schema) (sym (append-nil earlier));
   key = refl;
   counted = omega arith;
   further = omega arith;
-  rises = omega arith;
-  limit = λ within. within;
+  rises = rises;
+  limit = limit;
 }
+
+pub TakesInVersions-here : (schema : Schema) (number : ℕ) (held : HeldVersions) → TakesInVersions schema number [] held held
+TakesInVersions-here schema number held = TakesInVersions-moved schema number held.place held (omega arith) (λ within. within)
 
 module _ (schema : Schema) (number : ℕ) where
   pub TakesInVersions-then : (front rest : Store) (old mid new : HeldVersions) → TakesInVersions schema number front old mid → TakesInVersions schema number rest mid new → TakesInVersions schema number (front ++ rest) old new
@@ -385,10 +392,6 @@ module _ (schema : Schema) (max end : ℕ) (old : HeldVersions) (before after : 
   pub read_err : (fault : KeeperFault) → ReadsEntries (is_stored_version_of schema.name) reached max (Err fault) before after → steps_new ≡ steps_old + 0 → (number : ℕ) → ReadsOn schema number end (reading_as_call (err_of (Unit {0}) (read_fault fault))) old old before after steps_old steps_new
   read_err fault reads steps number = reads_fault schema max end old before after steps_old steps_new used fault (subst (λ (n : ℕ). ReadsEntries (is_stored_version_of schema.name) n max (Err fault) before after) reached_is reads) steps number
 
--- the place is moved to a number
-abbrev pub placed : ℕ → HeldVersions → HeldVersions
-placed number held = record { rows = held.rows; ahead = held.ahead; place = number }
-
 module _ (schema : Schema) (number end : ℕ) where
   -- nothing is read at first
   pub ReadsOn-first : (held : HeldVersions) (keeper : KeeperState) (steps : ℕ) → IsReady true keeper → ReadsOn schema number end (well KeeperFault) held held keeper keeper steps steps
@@ -444,6 +447,15 @@ module _ (schema : Schema) (number end : ℕ) where
         undamaged = λ tells meaning history store within there. undamaged;
       }
 
+  module _ (old held mid new : HeldVersions) (before now after : KeeperState) (one two three : ℕ) (so_far : ReadsOn schema number end (well KeeperFault) old held before now one two) (takes : TakesWaiting schema number (well ReadFault) held mid) where
+    -- what waits is taken in, and a piece is read
+    pub ReadsOn-piece : ReadsOn schema number end (well KeeperFault) mid new now after two three → ReadsOn schema number end (well KeeperFault) old new before after one three
+    ReadsOn-piece reads = ReadsOn-then old mid new before now one two (ReadsOn-waiting old held mid before now one two so_far (well ReadFault) takes) after three (well KeeperFault) reads
+
+    -- or not
+    pub BringsUp-unread : (fault : ReadFault) → ReadsOn schema number end (reading_as_call (err_of (Unit {0}) fault)) mid new now after two three → ((place : ℕ) → err_of (Unit {0}) fault ≢ Err (Damaged place)) → BringsUp {A = Unit {0}} schema number end (Err fault) old new before after one three
+    BringsUp-unread fault reads undamaged = BringsUp-fault old mid new before now one two (ReadsOn-waiting old held mid before now one two so_far (well ReadFault) takes) after three fault reads undamaged
+
   -- all up to the number is taken in
   pub BringsUp-end : (old mid : HeldVersions) (before now : KeeperState) (steps_old steps_now : ℕ) → ReadsOn schema number end (well KeeperFault) old mid before now steps_old steps_now → mid.place ≤ number → BeginsAbove number mid.ahead.waiting → has_read number mid.ahead ≡ true → BringsUp {A = Unit {0}} schema number end (Ok tt) old (placed number mid) before now steps_old steps_now
   BringsUp-end old mid before now steps_old steps_now so_far forward begins read = record {
@@ -455,16 +467,7 @@ module _ (schema : Schema) (number end : ℕ) where
     where
       moved : TakesWaiting schema number (well ReadFault) mid (placed number mid)
       moved = record {
-        taken = record {
-          taken = [];
-          parts = append-nil mid.ahead.waiting;
-          rows = λ earlier is. is ∙ ap (kept_at schema) (sym (append-nil earlier));
-          key = refl;
-          counted = omega arith;
-          further = omega arith;
-          rises = forward;
-          limit = λ within. omega arith;
-        };
+        taken = TakesInVersions-moved schema number number mid forward (λ within. omega arith);
         keeps = λ meaning history valid there.
             let there_now = IsAhead-moved (is_version_of schema.name) mid.place mid.ahead history there.split number forward begins read in
             record { created = there.created; split = there_now.0; rows_are = there.rows_are ∙ ap (kept_at schema) (sym there_now.1) };

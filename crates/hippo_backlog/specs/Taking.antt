@@ -1,15 +1,27 @@
 -- What taking a version into a table's rows comes to.
-use Rattle.std.specs.Prelude.{◌≡◌, ◌≢◌, ℕ, Bool, true, false, Result, Ok, Err, Option, Some, None, OnOk, OnErr}
+use Rattle.std.specs.Prelude.{◌≡◌, ◌≢◌, ◌&&◌, ℕ, Bool, true, false, Result, Ok, Err, Option, Some, None, OnOk, OnErr, option_and_then, bytes_eq}
+use Rattle.std.specs.Bool.{then_some}
 use Rattle.hippo_values.specs.declared.memory.Memory.{Memory}
+use Rattle.hippo_values.specs.declared.moments.Moment.{Moment}
+use Rattle.hippo_values.specs.declared.names.Name.{Name}
 use Rattle.hippo_model.specs.declared.entry.Entry.{Entry}
 use Rattle.hippo_model.specs.declared.schema.Schema.{Schema}
 use Rattle.hippo_model.specs.declared.stored.StoredEntry.{StoredEntry}
-use Rattle.hippo_keyed_rows.specs.RowSets.{KeyedRows}
+use Rattle.hippo_model.specs.Terms.{Row}
+use Rattle.hippo_model.specs.Versions.{row_fits}
+use Rattle.hippo_keyed_rows.specs.RowSets.{KeyedRows, with_row}
 use Rattle.hippo_keyed_rows.specs.Changes.{changed}
 use Rattle.hippo_entry.specs.Forms.{HasForm}
 use Rattle.hippo_backlog.specs.declared.faults.ReadFault.{ReadFault}
 use Rattle.hippo_backlog.specs.declared.faults.ReadFault.TheVariants.{Keeper, Damaged}
 use Rattle.hippo_backlog.specs.declared.faults.ReadFault.TheVariants as read_faults
+
+-- rows with one of this birth, in the place of that with its key; none where there is no birth, or
+-- the row does not fit the table
+abbrev pub put_with : Schema → Name → Row → Option Moment → KeyedRows → Option KeyedRows
+put_with schema table row birth kept =
+    option_and_then (λ born. then_some (bytes_eq table schema.name && row_fits schema row)
+    (with_row (record { row = row; born = born }) kept)) birth
 
 -- rows become what a change makes of them; or there is no such change, or memory was short, and
 -- they stay

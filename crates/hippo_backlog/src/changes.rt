@@ -1,11 +1,12 @@
 //! A version taken into a table's rows.
-ghost use Rattle.std.specs.Prelude.{◌≡◌, ◌&&◌, Ok, is_some, option_map, bytes_eq};
-ghost use Rattle.hippo_model.specs.declared.entry.Act.TheVariants.{Insert, Update, Delete};
+ghost use Rattle.std.specs.Prelude.{◌≡◌, ◌&&◌, not, Ok, is_some, option_map, bytes_eq};
+ghost use Rattle.std.specs.Bool.{then_some};
+ghost use Rattle.hippo_model.specs.declared.entry.Act.TheVariants.{Delete};
 ghost use Rattle.hippo_keyed_rows.specs.Changes.{changed};
 ghost use Rattle.hippo_model.specs.Rows.{key_of};
 ghost use Rattle.hippo_keyed_rows.specs.RowSets.{row_with};
 ghost use Rattle.hippo_model.specs.Versions.{row_fits, key_fits};
-ghost use Rattle.hippo_backlog.specs.Taking.{Becomes, result_of_fit, TakesVersion};
+ghost use Rattle.hippo_backlog.specs.Taking.{put_with, Becomes, result_of_fit, TakesVersion};
 
 use crate::faults::ReadFault;
 use hippo_entry::decode;
@@ -54,39 +55,31 @@ fn birth_like(rows: &RowSet, row: &Cells) -> Option<Moment>
     }
 }
 
-// Inserts a row of a key that is not live; whether it fits.
-fn insert(
-    schema: &Schema,
-    table: &Name,
-    row: Cells,
-    moment: Moment,
-    rows: &mut RowSet,
-) -> Result<bool, Memory>
-    requires key { rows.old.key ≡ schema.now.key }
-    ensures { Becomes (changed schema.now moment (Insert table.now row) rows.old) result rows.old
-        rows.new }
+// The moment, as the birth of a row whose key is not live.
+fn birth_of_new(rows: &RowSet, row: &Cells, moment: Moment) -> Option<Moment>
+    ensures { result ≡ then_some (not (is_some (row_with (key_of rows.now.key row.now) rows.now)))
+        moment }
 {
-    let is_new = !is_live_like(rows, &row);
-    if fits(schema, table, &row) && is_new {
-        rows.put(row, moment)?;
-        return Ok(true);
+    if is_live_like(rows, row) {
+        None
+    } else {
+        Some(moment)
     }
-    Ok(false)
 }
 
-// Puts a row in the place of the one that has its key, with that one's birth; whether it fits.
-fn update(
+// Puts a row with its birth, in the place of the one that has its key; whether it has a birth and
+// fits.
+fn put(
     schema: &Schema,
     table: &Name,
     row: Cells,
-    moment: Moment,
+    birth: Option<Moment>,
     rows: &mut RowSet,
 ) -> Result<bool, Memory>
     requires key { rows.old.key ≡ schema.now.key }
-    ensures { Becomes (changed schema.now moment (Update table.now row) rows.old) result rows.old
-        rows.new }
+    ensures { Becomes (put_with schema.now table.now row birth rows.old) result rows.old rows.new }
 {
-    let Some(born) = birth_like(rows, &row) else {
+    let Some(born) = birth else {
         return Ok(false);
     };
     if fits(schema, table, &row) {
@@ -116,8 +109,14 @@ fn change(schema: &Schema, moment: Moment, act: Act, rows: &mut RowSet) -> Resul
     ensures { Becomes (changed schema.now moment act rows.old) result rows.old rows.new }
 {
     match act {
-        Act::Insert { table, row } => insert(schema, &table, row, moment, rows),
-        Act::Update { table, row } => update(schema, &table, row, moment, rows),
+        Act::Insert { table, row } => {
+            let birth = birth_of_new(rows, &row, moment);
+            put(schema, &table, row, birth, rows)
+        }
+        Act::Update { table, row } => {
+            let birth = birth_like(rows, &row);
+            put(schema, &table, row, birth, rows)
+        }
         Act::Delete { table, key } => Ok(delete(schema, &table, &key, moment, rows)),
         other => {
             drop(other);

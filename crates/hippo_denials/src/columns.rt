@@ -66,12 +66,9 @@ fn is_in_list(tables: &Names, table: &Name, place: usize, list: &Operands) -> bo
         ≡ list_any (λ operand. list_any (is_it tables.now (table.now, place)) (columns_in operand))
         list.now }
 {
-    for operand in list.as_slice() {
-        if is_in(tables, table, place, operand) {
-            return true;
-        }
-    }
-    false
+    list.as_slice()
+        .iter()
+        .any(|operand| is_in(tables, table, place, operand))
 }
 
 // Whether a condition speaks of a column.

@@ -17,26 +17,38 @@ use hippo_values::{Memory, Name, Sequence};
 use std::alloc::Global;
 use std::sync::ledger::Ledger;
 
+// What is looked for: the cells that were denied to a question, by the rules then, and not more than
+// so many.
+#[derive(Clone, Copy)]
+struct Wanted<'s, 'a> {
+    rules: RulesThen<'s>,
+    catalog: &'a Catalog,
+    text: &'s str,
+    limit: usize,
+}
+
 // Adds the denied cells of a table, whose rows are read as they were.
 fn read_table<'a, P: Keeper, L: Ledger>(
     keeper: &mut P,
     alloc: Global,
-    rules: &RulesThen<'_>,
+    wanted: &Wanted<'_, 'a>,
     query: &Query,
     schema: &'a Schema,
-    limit: usize,
     cells: &mut Sequence<Denied<'a>>,
     steps: &mut Steps<L>,
 ) -> Result<(), DenialsFault>
-    requires may { MayRead limit cells.old (P.state keeper.old) }
-    ensures reads { ReadsDenials (FitsTable schema.now rules.now.count rules.now.book.now)
-        (one_table rules.now query.now schema.now) (one_count schema.now) limit result cells.old
+    requires may { MayRead wanted.now.limit cells.old (P.state keeper.old) }
+    ensures reads { ReadsDenials (FitsTable schema.now wanted.now.rules.count
+        wanted.now.rules.book.now)
+        (one_table wanted.now.rules query.now schema.now) (one_count schema.now)
+        wanted.now.limit result cells.old
         cells.new
         (P.state keeper.old) (P.state keeper.new) steps.old steps.new }
-    ensures within { OnOk result (length cells.new ≤ limit) }
+    ensures within { OnOk result (length cells.new ≤ wanted.now.limit) }
 {
+    let rules = &wanted.rules;
     match snapshot(keeper, alloc, schema, rules.count, steps) {
-        Ok(rows) => match list_table(alloc, rules, query, schema, &rows, limit, cells) {
+        Ok(rows) => match list_table(alloc, rules, query, schema, &rows, wanted.limit, cells) {
             Ok(()) => Ok(()),
             Err(fault) => Err(fault_of(fault)),
         },
@@ -48,25 +60,24 @@ fn read_table<'a, P: Keeper, L: Ledger>(
 fn read_named<'a, P: Keeper, L: Ledger>(
     keeper: &mut P,
     alloc: Global,
-    catalog: &'a Catalog,
-    rules: &RulesThen<'_>,
+    wanted: &Wanted<'_, 'a>,
     query: &Query,
     name: &Name,
-    limit: usize,
     cells: &mut Sequence<Denied<'a>>,
     steps: &mut Steps<L>,
 ) -> Result<(), DenialsFault>
-    requires may { MayRead limit cells.old (P.state keeper.old) }
-    ensures reads { ReadsDenials (FitsQuery (name.now ∷ []) catalog.now.names rules.now.count
-        rules.now.book.now)
-        (tables_denials rules.now query.now (name.now ∷ [])) (tables_versions (name.now ∷ [])) limit
+    requires may { MayRead wanted.now.limit cells.old (P.state keeper.old) }
+    ensures reads { ReadsDenials (FitsQuery (name.now ∷ []) wanted.now.catalog.now.names
+        wanted.now.rules.count wanted.now.rules.book.now)
+        (tables_denials wanted.now.rules query.now (name.now ∷ []))
+        (tables_versions (name.now ∷ [])) wanted.now.limit
         result cells.old
         cells.new (P.state keeper.old) (P.state keeper.new) steps.old steps.new }
-    ensures within { OnOk result (length cells.new ≤ limit) }
+    ensures within { OnOk result (length cells.new ≤ wanted.now.limit) }
 {
-    match catalog.table(name) {
-        None => Err(DenialsFault::Read(ReadFault::Damaged(rules.number))),
-        Some(schema) => read_table(keeper, alloc, rules, query, schema, limit, cells, steps),
+    match wanted.catalog.table(name) {
+        None => Err(DenialsFault::Read(ReadFault::Damaged(wanted.rules.number))),
+        Some(schema) => read_table(keeper, alloc, wanted, query, schema, cells, steps),
     }
 }
 
@@ -74,25 +85,21 @@ fn read_named<'a, P: Keeper, L: Ledger>(
 fn read_tables<'a, P: Keeper, L: Ledger>(
     keeper: &mut P,
     alloc: Global,
-    catalog: &'a Catalog,
-    rules: &RulesThen<'_>,
+    wanted: &Wanted<'_, 'a>,
     query: &Query,
-    limit: usize,
     cells: &mut Sequence<Denied<'a>>,
     steps: &mut Steps<L>,
 ) -> Result<(), DenialsFault>
-    requires may { MayRead limit cells.old (P.state keeper.old) }
-    ensures reads { ReadsDenials (FitsQuery query.now.tables catalog.now.names rules.now.count
-        rules.now.book.now)
-        (tables_denials rules.now query.now query.now.tables) (tables_versions query.now.tables)
-        limit result cells.old
+    requires may { MayRead wanted.now.limit cells.old (P.state keeper.old) }
+    ensures reads { ReadsDenials (FitsQuery query.now.tables wanted.now.catalog.now.names
+        wanted.now.rules.count wanted.now.rules.book.now)
+        (tables_denials wanted.now.rules query.now query.now.tables)
+        (tables_versions query.now.tables) wanted.now.limit result cells.old
         cells.new (P.state keeper.old) (P.state keeper.new) steps.old steps.new }
-    ensures within { OnOk result (length cells.new ≤ limit) }
+    ensures within { OnOk result (length cells.new ≤ wanted.now.limit) }
 {
     for name in query.tables.as_slice() {
-        match read_named(
-            keeper, alloc, catalog, rules, query, name, limit, cells, steps,
-        ) {
+        match read_named(keeper, alloc, wanted, query, name, cells, steps) {
             Ok(()) => {}
             Err(fault) => return Err(fault),
         }
@@ -100,31 +107,29 @@ fn read_tables<'a, P: Keeper, L: Ledger>(
     Ok(())
 }
 
-// Adds those of the query that a text means.
+// Adds those of the query that the text means.
 fn read_text<'a, P: Keeper, L: Ledger>(
     keeper: &mut P,
     alloc: Global,
-    catalog: &'a Catalog,
-    rules: &RulesThen<'_>,
-    text: &str,
-    limit: usize,
+    wanted: &Wanted<'_, 'a>,
     cells: &mut Sequence<Denied<'a>>,
     steps: &mut Steps<L>,
 ) -> Result<(), DenialsFault>
-    requires may { MayRead limit cells.old (P.state keeper.old) }
-    ensures reads { ReadsDenials (FitsText text.now catalog.now.names rules.now.count
-        rules.now.book.now)
-        (text_denials rules.now text.now) versions limit result cells.old cells.new
+    requires may { MayRead wanted.now.limit cells.old (P.state keeper.old) }
+    ensures reads { ReadsDenials (FitsText wanted.now.text.now wanted.now.catalog.now.names
+        wanted.now.rules.count wanted.now.rules.book.now)
+        (text_denials wanted.now.rules wanted.now.text.now) versions wanted.now.limit result
+        cells.old cells.new
         (P.state keeper.old) (P.state keeper.new) steps.old steps.new }
-    ensures within { OnOk result (length cells.new ≤ limit) }
+    ensures within { OnOk result (length cells.new ≤ wanted.now.limit) }
 {
-    match read_meaning(alloc, catalog, text) {
+    match read_meaning(alloc, wanted.catalog, wanted.text) {
         Ok(Some(query)) => {
-            let result = read_tables(keeper, alloc, catalog, rules, &query, limit, cells, steps);
+            let result = read_tables(keeper, alloc, wanted, &query, cells, steps);
             drop(query);
             result
         }
-        Ok(None) => Err(DenialsFault::Read(ReadFault::Damaged(rules.number))),
+        Ok(None) => Err(DenialsFault::Read(ReadFault::Damaged(wanted.rules.number))),
         Err(Memory) => Err(DenialsFault::Read(ReadFault::Memory)),
     }
 }
@@ -157,18 +162,21 @@ pub fn denied_cells<'a, P: Keeper, L: Ledger>(
             text,
             ..
         } => {
-            let rules = RulesThen {
-                number: entry.seq,
-                book,
-                count: entry.seq.saturating_sub(1),
-                moment: entry.moment,
-                purpose,
-                recipient,
-            };
             let text = text.as_str();
-            match read_text(
-                keeper, alloc, catalog, &rules, text, limit, &mut cells, steps,
-            ) {
+            let wanted = Wanted {
+                rules: RulesThen {
+                    number: entry.seq,
+                    book,
+                    count: entry.seq.saturating_sub(1),
+                    moment: entry.moment,
+                    purpose,
+                    recipient,
+                },
+                catalog,
+                text,
+                limit,
+            };
+            match read_text(keeper, alloc, &wanted, &mut cells, steps) {
                 Ok(()) => Ok(cells),
                 Err(fault) => Err(fault),
             }

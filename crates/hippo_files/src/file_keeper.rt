@@ -5,10 +5,10 @@ ghost use Rattle.hippo_keeper.specs.Keeping.{Store, IsReady};
 ghost use Rattle.hippo_sqlite.specs.Openings.{IsFoundIn};
 ghost use Rattle.hippo_sqlite.specs.Standings.{finds_by};
 
-use hippo_keeper::{Keeper, KeeperFault, Steps};
+use hippo_keeper::{Keeper, KeeperFault, Sought, Steps};
 use hippo_model::{StoredEntry, StoredList};
 use hippo_sqlite::{FileOpener, SqliteKeeper};
-use hippo_values::{Moment, Name};
+use hippo_values::Moment;
 use sqlite::{Start, Unknown};
 use std::alloc::Global;
 use std::rt::HostRuntime;
@@ -53,25 +53,13 @@ impl Keeper for FileKeeper {
         self.keeper.append(alloc, entry)
     }
 
-    fn read_all<L: Ledger>(
+    fn read<L: Ledger>(
         &mut self,
         alloc: Global,
-        after: u64,
-        max: u64,
+        sought: &Sought<'_>,
         steps: &mut Steps<L>,
     ) -> Result<StoredList, KeeperFault> {
-        self.keeper.read_all(alloc, after, max, steps)
-    }
-
-    fn read_backlog<L: Ledger>(
-        &mut self,
-        alloc: Global,
-        table: &Name,
-        after: u64,
-        max: u64,
-        steps: &mut Steps<L>,
-    ) -> Result<StoredList, KeeperFault> {
-        self.keeper.read_backlog(alloc, table, after, max, steps)
+        self.keeper.read(alloc, sought, steps)
     }
 
     fn read_asked(

@@ -11,21 +11,21 @@ use Rattle.sqlite_keyed.proofs.ListLemmas.{ascending-filter}
 use Rattle.sqlite.specs.State.{State, Shown}
 use Rattle.sqlite.proofs.Callers.{reads_as}
 use Rattle.hippo_model.specs.declared.stored.StoredEntry.{StoredEntry}
-use Rattle.hippo_keeper.specs.Selecting.{handed_over}
-use Rattle.hippo_history_table.specs.declared.statements.Question.{Question}
-use Rattle.hippo_history_table.specs.Queries.{read_sql, params_of, test_of}
+use Rattle.hippo_keeper.specs.Selecting.{is_selected, handed_over}
+use Rattle.hippo_keeper.specs.declared.selection.Selection.{Selection}
+use Rattle.hippo_history_table.specs.Queries.{read_sql, params_of}
 use Rattle.hippo_history_table.specs.Tables.{HistoryRow, stored_row, shown_row, entry_in, entries_in, AreInOrder, AreAbove, history_schema}
 use Rattle.hippo_history_table.proofs.TextLemmas.{query, select, terms_of, limit_of, read_is, read_plain, no_listing}
 use Rattle.hippo_history_table.proofs.OrderLemmas.{handed}
 use Rattle.hippo_history_table.proofs.SelectLemmas.{shows}
 use Rattle.hippo_history_table.proofs.TestLemmas.{passes, passes_terms, limit_is}
 
-pub shown_is : (question : Question) (old new : State) (after max : ℕ) (rows : List HistoryRow) (found : List Row) → old.now.schema ≡ history_schema → old.now.trees 0 ≡ map stored_row rows → AreInOrder rows
-    → Shown (read_sql question) (params_of question after max) old new found → found ≡ take max (map shown_row (filter (passes question after) rows))
-shown_is question old new after max rows found schema are order shown =
-    let params = params_of question after max in
-    let read = reads_as (read_sql question) params old new history_schema schema (select (query (terms_of question) (limit_of question))) (read_is question) (read_plain question) (no_listing question) found shown in
-    shows (terms_of question) (limit_of question) params old.now.trees max (passes question after) rows found are order.rise (passes_terms question after max) (limit_is question after max) (read.answer Null)
+pub shown_is : (selection : Selection) (old new : State) (after max : ℕ) (rows : List HistoryRow) (found : List Row) → old.now.schema ≡ history_schema → old.now.trees 0 ≡ map stored_row rows → AreInOrder rows
+    → Shown (read_sql selection) (params_of selection after max) old new found → found ≡ take max (map shown_row (filter (passes selection after) rows))
+shown_is selection old new after max rows found schema are order shown =
+    let params = params_of selection after max in
+    let read = reads_as (read_sql selection) params old new history_schema schema (select (query (terms_of selection) (limit_of selection))) (read_is selection) (read_plain selection) (no_listing selection) found shown in
+    shows (terms_of selection) (limit_of selection) params old.now.trees max (passes selection after) rows found are order.rise (passes_terms selection after max) (limit_is selection after max) (read.answer Null)
 
 -- ---- the rows that are shown are above the number, in order
 
@@ -33,20 +33,20 @@ above_number : (n : ℤ) (after : ℕ) → nat_lt after (number_in (Int n)) ≡ 
 above_number (pos n) after test = grind (arith, nat_tests)
 above_number (negsuc n) after test = absurd (let low : nat_lt after 0 ≡ false = grind (arith, nat_tests) in let both = sym low ∙ test in cc)
 
-first_passes : (question : Question) (after : ℕ) (row : HistoryRow) → passes question after row ≡ true → nat_lt after (number_in (Int row.number)) ≡ true
-first_passes question after row test = go (nat_lt after (number_in (Int row.number))) (test_of question (entry_in (stored_row row))) test
+first_passes : (selection : Selection) (after : ℕ) (row : HistoryRow) → passes selection after row ≡ true → nat_lt after (number_in (Int row.number)) ≡ true
+first_passes selection after row test = go (nat_lt after (number_in (Int row.number))) (is_selected selection (entry_in (stored_row row))) test
   where
     go : (a b : Bool) → (a && b) ≡ true → a ≡ true
     go true b both = refl
     go false b both = both
 
-all_above : (question : Question) (after : ℕ) (rows : List HistoryRow) → AllByRecursion (λ row. int_cmp (pos after) row.number ≡ Less) (filter (passes question after) rows)
-all_above question after [] = tt
-all_above question after (row ∷ rows) = go (passes question after row) refl (all_above question after rows)
+all_above : (selection : Selection) (after : ℕ) (rows : List HistoryRow) → AllByRecursion (λ row. int_cmp (pos after) row.number ≡ Less) (filter (passes selection after) rows)
+all_above selection after [] = tt
+all_above selection after (row ∷ rows) = go (passes selection after row) refl (all_above selection after rows)
   where
-    go : (b : Bool) → passes question after row ≡ b → AllByRecursion (λ other. int_cmp (pos after) other.number ≡ Less) (filter (passes question after) rows)
-        → AllByRecursion (λ other. int_cmp (pos after) other.number ≡ Less) (cond (passes question after row) (row ∷ filter (passes question after) rows) (filter (passes question after) rows))
-    go true is rest = rw is (above_number row.number after (first_passes question after row is), rest)
+    go : (b : Bool) → passes selection after row ≡ b → AllByRecursion (λ other. int_cmp (pos after) other.number ≡ Less) (filter (passes selection after) rows)
+        → AllByRecursion (λ other. int_cmp (pos after) other.number ≡ Less) (cond (passes selection after row) (row ∷ filter (passes selection after) rows) (filter (passes selection after) rows))
+    go true is rest = rw is (above_number row.number after (first_passes selection after row is), rest)
     go false is rest = rw is rest
 
 all_taken : (P : HistoryRow → Type 0) (max : ℕ) (rows : List HistoryRow) → AllByRecursion P rows → AllByRecursion P (take max rows)
@@ -60,15 +60,15 @@ rising_taken (suc max) [] rising = tt
 rising_taken (suc max) (row ∷ rows) rising = (all_taken (λ other. int_cmp row.number other.number ≡ Less) max rows rising.0, rising_taken max rows rising.1)
 
 -- the entries of what is shown are those that are asked for
-pub told_by : (question : Question) (old new : State) (after max : ℕ) (rows : List HistoryRow) (found : List Row) (list : List StoredEntry) → old.now.schema ≡ history_schema → old.now.trees 0 ≡ map stored_row rows → AreInOrder rows
-    → Shown (read_sql question) (params_of question after max) old new found
+pub told_by : (selection : Selection) (old new : State) (after max : ℕ) (rows : List HistoryRow) (found : List Row) (list : List StoredEntry) → old.now.schema ≡ history_schema → old.now.trees 0 ≡ map stored_row rows → AreInOrder rows
+    → Shown (read_sql selection) (params_of selection after max) old new found
     → ((written : List HistoryRow) → found ≡ map shown_row written → AreAbove (pos after) written → length written ≤ max → list ≡ map (λ row. entry_in (stored_row row)) written)
-    → list ≡ handed_over (test_of question) after max (entries_in (map stored_row rows))
-told_by question old new after max rows found list schema are order shown read =
-    let passing = filter (passes question after) rows in
-    let is = shown_is question old new after max rows found schema are order shown ∙ take-map shown_row max passing in
+    → list ≡ handed_over (is_selected selection) after max (entries_in (map stored_row rows))
+told_by selection old new after max rows found list schema are order shown read =
+    let passing = filter (passes selection after) rows in
+    let is = shown_is selection old new after max rows found schema are order shown ∙ take-map shown_row max passing in
     let above : AreAbove (pos after) (take max passing) = record {
-      rise = rising_taken max passing (ascending-filter (λ a b. int_cmp a.number b.number ≡ Less) (passes question after) rows order.rise);
-      high = all_taken (λ row. int_cmp (pos after) row.number ≡ Less) max passing (all_above question after rows);
+      rise = rising_taken max passing (ascending-filter (λ a b. int_cmp a.number b.number ≡ Less) (passes selection after) rows order.rise);
+      high = all_taken (λ row. int_cmp (pos after) row.number ≡ Less) max passing (all_above selection after rows);
     } in
-    read (take max passing) is above (omega (arith, length-take max passing)) ∙ handed (test_of question) after max (passes question after) rows (λ row. refl)
+    read (take max passing) is above (omega (arith, length-take max passing)) ∙ handed (is_selected selection) after max (passes selection after) rows (λ row. refl)

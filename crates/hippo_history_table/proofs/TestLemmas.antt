@@ -14,9 +14,10 @@ use Rattle.sqlite_sql.specs.declared.ops.CompareOp.TheVariants.{Eq, Ge, Gt, Le}
 use Rattle.sqlite_sql.specs.Ops.{binary, is_true, from_truth, test}
 use Rattle.sqlite_sql.specs.Term.{eval, holds}
 use Rattle.hippo_history_table.specs.Tables.{HistoryRow, stored_row, kind_in, entry_in}
-use Rattle.hippo_history_table.specs.declared.statements.Question.{Question}
-use Rattle.hippo_history_table.specs.declared.statements.Question.TheVariants.{All, VersionsOf, AskedIn}
-use Rattle.hippo_history_table.specs.Queries.{params_of, test_of}
+use Rattle.hippo_keeper.specs.Selecting.{is_selected}
+use Rattle.hippo_keeper.specs.declared.selection.Selection.{Selection}
+use Rattle.hippo_keeper.specs.declared.selection.Selection.TheVariants.{All, VersionsOf, AskedIn}
+use Rattle.hippo_history_table.specs.Queries.{params_of}
 use Rattle.hippo_history_table.proofs.TextLemmas.{terms_of, limit_of}
 
 truth_of : (b : Bool) → is_true (from_truth (Rattle.std.proofs.Common.Some b)) ≡ b
@@ -85,10 +86,10 @@ moved false b c true = refl
 moved false b c false = refl
 
 -- the rows that a read is about
-abbrev pub passes : Question → ℕ → HistoryRow → Bool
-passes question after row = nat_lt after (entry_in (stored_row row)).seq && test_of question (entry_in (stored_row row))
+abbrev pub passes : Selection → ℕ → HistoryRow → Bool
+passes selection after row = nat_lt after (entry_in (stored_row row)).seq && is_selected selection (entry_in (stored_row row))
 
-pub passes_terms : (question : Question) (after max : ℕ) (row : HistoryRow) → list_all (holds (params_of question after max ∷ stored_row row ∷ [])) (terms_of question) ≡ passes question after row
+pub passes_terms : (selection : Selection) (after max : ℕ) (row : HistoryRow) → list_all (holds (params_of selection after max ∷ stored_row row ∷ [])) (terms_of selection) ≡ passes selection after row
 passes_terms All after max row = λ i. (compare_int Gt row.number (pos after) ∙ is_above row.number after) i && true
 passes_terms (VersionsOf table) after max row =
     (λ i. compare_text row.table table.now i && (compare_int Ge row.kind (pos 2) i && (compare_int Le row.kind (pos 4) i && ((compare_int Gt row.number (pos after) ∙ is_above row.number after) i && true))))
@@ -99,7 +100,7 @@ passes_terms (AskedIn from to) after max row =
     ∙ moved (kind_in (Int row.kind) == 13) (int_le from row.moment) (int_le row.moment to) (nat_lt after (number_in (Int row.number)))
 
 -- how many rows it may show
-pub limit_is : (question : Question) (after max : ℕ) → eval (limit_of question) (params_of question after max ∷ []) ≡ Int (pos max)
+pub limit_is : (selection : Selection) (after max : ℕ) → eval (limit_of selection) (params_of selection after max ∷ []) ≡ Int (pos max)
 limit_is All after max = refl
 limit_is (VersionsOf table) after max = refl
 limit_is (AskedIn from to) after max = refl

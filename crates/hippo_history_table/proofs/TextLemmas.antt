@@ -14,8 +14,8 @@ use Rattle.sqlite_resolve.specs.Compile.{table_defined_by}
 use Rattle.sqlite_tied.specs.Compute.{everything}
 use Rattle.sqlite.specs.Listing.{understood, reads_listing}
 use Rattle.sqlite.proofs.Callers.{IsPlain, command_of, statement_of}
-use Rattle.hippo_history_table.specs.declared.statements.Question.{Question}
-use Rattle.hippo_history_table.specs.declared.statements.Question.TheVariants.{All, VersionsOf, AskedIn}
+use Rattle.hippo_keeper.specs.declared.selection.Selection.{Selection}
+use Rattle.hippo_keeper.specs.declared.selection.Selection.TheVariants.{All, VersionsOf, AskedIn}
 use Rattle.hippo_history_table.specs.Queries.{create_sql, insert_sql, read_sql}
 use Rattle.hippo_history_table.specs.Tables.{history_table, history_schema, empty_schema}
 
@@ -57,7 +57,7 @@ unfolding understood everything
 insert_is = refl
 
 -- what a read filters by, and which parameter says how many rows it may show
-abbrev pub terms_of : Question → List Term
+abbrev pub terms_of : Selection → List Term
 terms_of All = compared (Compare Gt Binary) 0 0 ∷ []
 terms_of (VersionsOf table) =
     compared (Compare Eq Binary) 4 0 ∷ op2 (Compare Ge Binary) (col 1 3) (lit (Int (pos 2))) ∷ op2 (Compare Le Binary) (col 1 3) (lit (Int (pos 4)))
@@ -66,25 +66,25 @@ terms_of (AskedIn from to) =
     op2 (Compare Eq Binary) (col 1 3) (lit (Int (pos 13))) ∷ compared (Compare Ge Binary) 2 0 ∷ compared (Compare Le Binary) 2 1
     ∷ compared (Compare Gt Binary) 0 2 ∷ []
 
-abbrev pub limit_of : Question → Term
+abbrev pub limit_of : Selection → Term
 limit_of All = col 0 1
 limit_of (VersionsOf table) = col 0 2
 limit_of (AskedIn from to) = col 0 3
 
 -- each read is this query, is plain, and reads no listing
-pub read_is : (question : Question) → command_of (understood history_schema (read_sql question)) ≡ select (query (terms_of question) (limit_of question))
+pub read_is : (selection : Selection) → command_of (understood history_schema (read_sql selection)) ≡ select (query (terms_of selection) (limit_of selection))
 unfolding understood everything
 read_is All = refl
 read_is (VersionsOf table) = refl
 read_is (AskedIn from to) = refl
 
-pub read_plain : (question : Question) → IsPlain (understood history_schema (read_sql question))
+pub read_plain : (selection : Selection) → IsPlain (understood history_schema (read_sql selection))
 unfolding understood everything
 read_plain All = (refl, refl)
 read_plain (VersionsOf table) = (refl, refl)
 read_plain (AskedIn from to) = (refl, refl)
 
-pub no_listing : (question : Question) → reads_listing history_schema (read_sql question) ≡ false
+pub no_listing : (selection : Selection) → reads_listing history_schema (read_sql selection) ≡ false
 unfolding understood everything
 no_listing All = refl
 no_listing (VersionsOf table) = refl

@@ -1,11 +1,12 @@
 -- The statements of the keeper, and what its reads ask for.
-use Rattle.std.specs.Prelude.{ℕ, ℤ, pos, List, [], ◌∷◌, codes, Bool}
+use Rattle.std.specs.Prelude.{ℕ, ℤ, pos, List, [], ◌∷◌, codes, Result, IfOk, IfErr, Vec}
+use Rattle.std.specs.declared.alloc.Global.{Global}
 use Rattle.sqlite_value.specs.declared.value.Value.TheVariants.{Int, Text}
 use Rattle.sqlite_value.specs.Order.{Row}
-use Rattle.hippo_model.specs.declared.stored.StoredEntry.{StoredEntry}
-use Rattle.hippo_keeper.specs.Selecting.{is_any, is_stored_version_of, was_asked_in}
-use Rattle.hippo_history_table.specs.declared.statements.Question.{Question}
-use Rattle.hippo_history_table.specs.declared.statements.Question.TheVariants.{All, VersionsOf, AskedIn}
+use Rattle.sqlite.specs.declared.error.Error.{Error}
+use Rattle.sqlite.specs.State.{State, HasCleanDisk, Survives, Shown, FailsToQuery, CommitsShowing}
+use Rattle.hippo_keeper.specs.declared.selection.Selection.{Selection}
+use Rattle.hippo_keeper.specs.declared.selection.Selection.TheVariants.{All, VersionsOf, AskedIn}
 
 abbrev pub create_sql : List ℕ
 create_sql =
@@ -27,7 +28,7 @@ questions_sql =
     codes "SELECT seq, moment, kind, tbl, body FROM history WHERE kind = 13 AND moment >= ?1 AND moment <= ?2 AND seq > ?3 ORDER BY seq LIMIT ?4"
 
 -- the statement of a read
-abbrev pub read_sql : Question → List ℕ
+abbrev pub read_sql : Selection → List ℕ
 read_sql All = all_sql
 read_sql (VersionsOf table) = versions_sql
 read_sql (AskedIn from to) = questions_sql
@@ -39,13 +40,14 @@ versions_params table after max = Text table ∷ Int (pos after) ∷ Int (pos ma
 abbrev pub asked_params : ℤ → ℤ → ℕ → ℕ → Row
 asked_params from to after max = Int from ∷ Int to ∷ Int (pos after) ∷ Int (pos max) ∷ []
 
-abbrev pub params_of : Question → ℕ → ℕ → Row
+abbrev pub params_of : Selection → ℕ → ℕ → Row
 params_of All after max = Int (pos after) ∷ Int (pos max) ∷ []
 params_of (VersionsOf table) after max = versions_params table.now after max
 params_of (AskedIn from to) after max = asked_params from to after max
 
--- which entries it asks for
-abbrev pub test_of : Question → StoredEntry → Bool
-test_of All = is_any
-test_of (VersionsOf table) = is_stored_version_of table.now
-test_of (AskedIn from to) = was_asked_in from to
+-- what a query did: it showed rows or failed, and a stop may leave what it may commit
+pub record HasQueried (text : List ℕ) (params : Row) (result : Result (Vec Row Global) Error)
+    (old new : State) : Type 0 where
+  pub ok : HasCleanDisk new → IfOk result (λ rows. Shown text params old new rows.items)
+  pub err : HasCleanDisk new → IfErr result (FailsToQuery text params old new)
+  pub survives : Survives old new (CommitsShowing text params old)

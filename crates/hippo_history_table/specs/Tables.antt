@@ -4,12 +4,12 @@ use Rattle.std.specs.declared.cmp.Ordering.TheVariants.{Less}
 use Rattle.std.specs.List.{AllByRecursion}
 use Rattle.std.specs.Ordering.{int_cmp}
 use Rattle.sqlite_value.specs.declared.value.Value.{Value}
-use Rattle.sqlite_value.specs.declared.keys.Collation.TheVariants.{Binary}
 use Rattle.sqlite_value.specs.declared.value.Value.TheVariants.{Null, Int, Text as Words, Blob as Bytes}
 use Rattle.sqlite_value.specs.Order.{Row, column, bytes}
 use Rattle.sqlite_trees.specs.Objects.{number_in}
 use Rattle.sqlite_trees.specs.Tree.{IsAscending}
 use Rattle.sqlite_rules.specs.Edit.{id_in}
+use Rattle.sqlite.specs.Listing.{plain}
 use Rattle.hippo_model.specs.declared.stored.StoredEntry.{StoredEntry}
 use Rattle.hippo_keeper.specs.Keeping.{Store}
 use Rattle.sqlite_schema.specs.Names.{table_named}
@@ -20,22 +20,14 @@ use Rattle.sqlite_schema.specs.declared.schema.Kind.{Kind}
 use Rattle.sqlite_schema.specs.declared.schema.Kind.TheVariants.{Integer, Text, Blob}
 
 abbrev pub needed_column : List ℕ → Kind → Column
-needed_column name kind =
-    record {
-      name = name;
-      kind = kind;
-      is_strict = true;
-      not_null = true;
-      default = Null;
-      collation = Binary;
-    }
+needed_column name kind = record (plain name kind) { not_null = true }
 
 -- the table that the keeper makes in a store with no other
 abbrev pub history_table : Table
 history_table = record {
   name = codes "history";
   tree = 0;
-  columns = record (needed_column (codes "seq") Integer) { not_null = false }
+  columns = plain (codes "seq") Integer
       ∷ needed_column (codes "moment") Integer ∷ needed_column (codes "kind") Integer
       ∷ needed_column (codes "tbl") Text ∷ needed_column (codes "body") Blob ∷ [];
   key = Some 0;

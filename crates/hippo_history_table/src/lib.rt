@@ -6,4 +6,4 @@ mod entries;
 mod statements;
 
 pub use entries::{RowFault, entries_of};
-pub use statements::{Question, create_history, insert, select};
+pub use statements::{create_history, insert, select};

@@ -54,6 +54,6 @@ pub record ReadsEntries (test : StoredEntry → Bool) (after max : ℕ)
 
 -- the test of a read
 abbrev pub is_selected : Selection → StoredEntry → Bool
-is_selected All entry = is_any entry
-is_selected (VersionsOf table) entry = is_stored_version_of table.now entry
-is_selected (AskedIn from to) entry = was_asked_in from to entry
+is_selected All = is_any
+is_selected (VersionsOf table) = is_stored_version_of table.now
+is_selected (AskedIn from to) = was_asked_in from to

@@ -1,9 +1,10 @@
 //! What keeps the history: the calls of every keeper, and what they promise.
 ghost use Rattle.std.specs.Prelude.{◌≡◌, ◌+◌, ◌^◌, ◌<◌, ◌≤◌, true, false};
 ghost use Rattle.hippo_keeper.specs.Keeping.{KeeperState, IsReady, next_number, Starts, AppendsEntry};
-ghost use Rattle.hippo_keeper.specs.Selecting.{is_any, is_stored_version_of, was_asked_in, versions_read, ReadsEntries};
+ghost use Rattle.hippo_keeper.specs.Selecting.{is_any, is_stored_version_of, was_asked_in, is_selected, versions_read, ReadsEntries};
 
 use crate::faults::KeeperFault;
+use crate::selection::{Selection, Sought};
 use crate::steps::Steps;
 use hippo_model::{StoredEntry, StoredList};
 use hippo_values::{Moment, Name};
@@ -33,37 +34,19 @@ pub trait Keeper {
         requires next { (state self.old).tells → entry.seq ≡ next_number (state self.old).kept }
         ensures appends { AppendsEntry entry result (state self.old) (state self.new) };
 
-    /// The first `max` entries, from 1 to 1,000, whose numbers are above `after`. Each version
-    /// among them is a step.
-    fn read_all<L: Ledger>(
+    /// The first so many entries, from 1 to 1,000, that are sought. Each version among them is a
+    /// step.
+    fn read<L: Ledger>(
         &mut self,
         alloc: Global,
-        after: u64,
-        max: u64,
+        sought: &Sought<'_>,
         steps: &mut Steps<L>,
     ) -> Result<StoredList, KeeperFault>
         requires ready { IsReady true (state self.old) }
-        requires some { 0 < max }
-        requires limit { max ≤ 1000 }
-        ensures reads { ReadsEntries is_any after max result (state self.old) (state self.new) }
-        ensures steps { steps.new ≡ steps.old + versions_read result };
-
-    /// The first `max` versions of a table's rows, from 1 to 1,000, whose numbers are above
-    /// `after`. Each is a step.
-    fn read_backlog<L: Ledger>(
-        &mut self,
-        alloc: Global,
-        table: &Name,
-        after: u64,
-        max: u64,
-        steps: &mut Steps<L>,
-    ) -> Result<StoredList, KeeperFault>
-        requires ready { IsReady true (state self.old) }
-        requires some { 0 < max }
-        requires limit { max ≤ 1000 }
-        ensures reads { ReadsEntries (is_stored_version_of table.now) after max result
-            (state self.old)
-            (state self.new) }
+        requires some { 0 < sought.now.max }
+        requires limit { sought.now.max ≤ 1000 }
+        ensures reads { ReadsEntries (is_selected sought.now.selection) sought.now.after
+            sought.now.max result (state self.old) (state self.new) }
         ensures steps { steps.new ≡ steps.old + versions_read result };
 
     /// The first `max` questions, from 1 to 1,000, that were asked from one moment to another, both
@@ -81,4 +64,53 @@ pub trait Keeper {
         requires limit { max ≤ 1000 }
         ensures reads { ReadsEntries (was_asked_in from to) after max result (state self.old)
             (state self.new) };
+
+    /// The first `max` entries, from 1 to 1,000, whose numbers are above `after`. Each version
+    /// among them is a step.
+    fn read_all<L: Ledger>(
+        &mut self,
+        alloc: Global,
+        after: u64,
+        max: u64,
+        steps: &mut Steps<L>,
+    ) -> Result<StoredList, KeeperFault>
+        requires ready { IsReady true (state self.old) }
+        requires some { 0 < max }
+        requires limit { max ≤ 1000 }
+        ensures reads { ReadsEntries is_any after max result (state self.old) (state self.new) }
+        ensures steps { steps.new ≡ steps.old + versions_read result }
+    {
+        let sought = Sought {
+            selection: Selection::All,
+            after,
+            max,
+        };
+        self.read(alloc, &sought, steps)
+    }
+
+    /// The first `max` versions of a table's rows, from 1 to 1,000, whose numbers are above
+    /// `after`. Each is a step.
+    fn read_backlog<L: Ledger>(
+        &mut self,
+        alloc: Global,
+        table: &Name,
+        after: u64,
+        max: u64,
+        steps: &mut Steps<L>,
+    ) -> Result<StoredList, KeeperFault>
+        requires ready { IsReady true (state self.old) }
+        requires some { 0 < max }
+        requires limit { max ≤ 1000 }
+        ensures reads { ReadsEntries (is_stored_version_of table.now) after max result
+            (state self.old)
+            (state self.new) }
+        ensures steps { steps.new ≡ steps.old + versions_read result }
+    {
+        let sought = Sought {
+            selection: Selection::VersionsOf(table),
+            after,
+            max,
+        };
+        self.read(alloc, &sought, steps)
+    }
 }

@@ -10,5 +10,5 @@ mod steps;
 pub use faults::{KeeperFail, KeeperFails, KeeperFault};
 pub use keeper::Keeper;
 pub use memory_keeper::MemoryKeeper;
-pub use selection::count_versions;
+pub use selection::{Selection, Sought, counted};
 pub use steps::Steps;

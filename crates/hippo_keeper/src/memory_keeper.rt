@@ -3,14 +3,14 @@ ghost use Rattle.std.specs.Prelude.{◌≡◌, ℕ, ◌+◌, ◌≤◌, true, fa
 ghost use Rattle.hippo_keeper.specs.Answering.{has_failed, wants_memory};
 ghost use Rattle.hippo_keeper.specs.Keeping.{Store, RisesAbove, next_number};
 ghost use Rattle.hippo_keeper.specs.MemoryKeeping.{new_store, next_failure, memory_after_call, memory_after_fault, memory_after_start, memory_after_append, with_entry, ReadsInMemory, FindsInMemory, SurvivesInMemory, memory_keeper_state};
-ghost use Rattle.hippo_keeper.specs.Selecting.{is_any, is_stored_version_of, was_asked_in, is_selected, versions_read};
+ghost use Rattle.hippo_keeper.specs.Selecting.{was_asked_in, is_selected, versions_read};
 
 use crate::faults::{KeeperFails, KeeperFault};
 use crate::keeper::Keeper;
-use crate::selection::{Selection, count_versions, select};
+use crate::selection::{Selection, Sought, counted, select};
 use crate::steps::Steps;
 use hippo_model::{StoredEntry, StoredList};
-use hippo_values::{Memory, Moment, Name};
+use hippo_values::{Memory, Moment};
 use std::alloc::Global;
 use std::marker::Model;
 use std::sync::ledger::Ledger;
@@ -118,20 +118,20 @@ impl MemoryKeeper {
         &kept[place..]
     }
 
-    fn read(
-        &mut self,
-        alloc: Global,
-        selection: &Selection<'_>,
-        after: u64,
-        max: u64,
-    ) -> Result<StoredList, KeeperFault>
-        ensures reads { ReadsInMemory (is_selected selection.now) after max result self.old
-            self.new }
+    // The kept entries that are sought.
+    fn find(&mut self, alloc: Global, sought: &Sought<'_>) -> Result<StoredList, KeeperFault>
+        ensures reads { ReadsInMemory (is_selected sought.now.selection) sought.now.after
+            sought.now.max result self.old self.new }
     {
         if self.begin_call().is_some() {
             return Err(self.fail());
         }
-        match select(alloc, self.entries_above(after), selection, max) {
+        match select(
+            alloc,
+            self.entries_above(sought.after),
+            &sought.selection,
+            sought.max,
+        ) {
             Ok(list) => Ok(list),
             Err(_) => Err(KeeperFault::Memory),
         }
@@ -185,36 +185,17 @@ impl Keeper for MemoryKeeper {
         Ok(())
     }
 
-    fn read_all<L: Ledger>(
+    fn read<L: Ledger>(
         &mut self,
         alloc: Global,
-        after: u64,
-        max: u64,
+        sought: &Sought<'_>,
         steps: &mut Steps<L>,
     ) -> Result<StoredList, KeeperFault>
-        ensures reads { ReadsInMemory is_any after max result self.old self.new }
+        ensures reads { ReadsInMemory (is_selected sought.now.selection) sought.now.after
+            sought.now.max result self.old self.new }
         ensures steps { steps.new ≡ steps.old + versions_read result }
     {
-        let list = self.read(alloc, &Selection::All, after, max)?;
-        count_versions(list.as_slice(), steps);
-        Ok(list)
-    }
-
-    fn read_backlog<L: Ledger>(
-        &mut self,
-        alloc: Global,
-        table: &Name,
-        after: u64,
-        max: u64,
-        steps: &mut Steps<L>,
-    ) -> Result<StoredList, KeeperFault>
-        ensures reads { ReadsInMemory (is_stored_version_of table.now) after max result self.old
-            self.new }
-        ensures steps { steps.new ≡ steps.old + versions_read result }
-    {
-        let list = self.read(alloc, &Selection::VersionsOf(table.as_str()), after, max)?;
-        count_versions(list.as_slice(), steps);
-        Ok(list)
+        counted(self.find(alloc, sought), steps)
     }
 
     fn read_asked(
@@ -227,6 +208,11 @@ impl Keeper for MemoryKeeper {
     ) -> Result<StoredList, KeeperFault>
         ensures reads { ReadsInMemory (was_asked_in from to) after max result self.old self.new }
     {
-        self.read(alloc, &Selection::AskedIn(from, to), after, max)
+        let sought = Sought {
+            selection: Selection::AskedIn(from, to),
+            after,
+            max,
+        };
+        self.find(alloc, &sought)
     }
 }

@@ -1,10 +1,11 @@
 //! Which kept entries a read hands over.
 ghost use Rattle.std.specs.Prelude.{◌≡◌, ◌+◌, take, filter, IfOk};
-ghost use Rattle.hippo_keeper.specs.Selecting.{is_stored_version, is_selected, stored_versions};
+ghost use Rattle.hippo_keeper.specs.Selecting.{is_stored_version, is_selected, stored_versions, versions_read};
 
+use crate::faults::KeeperFault;
 use crate::steps::Steps;
 use hippo_model::{StoredEntry, StoredList};
-use hippo_values::{Duplicate, Memory, Moment};
+use hippo_values::{Duplicate, Memory, Moment, Name};
 use std::alloc::Global;
 use std::sync::ledger::Ledger;
 
@@ -17,14 +18,23 @@ const DELETE: u8 = 4;
 
 const ASKED: u8 = 13;
 
-/// What a read asks for.
+/// Which entries a read asks for.
 #[derive(Clone, Copy)]
-pub(crate) enum Selection<'a> {
+pub enum Selection<'a> {
     All,
     /// The versions of a table's rows.
-    VersionsOf(&'a str),
+    VersionsOf(&'a Name),
     /// The questions of a period, its ends among it.
     AskedIn(Moment, Moment),
+}
+
+/// What a read is to hand over: of the selected entries, the first `max` whose numbers are above
+/// `after`.
+#[derive(Clone, Copy)]
+pub struct Sought<'a> {
+    pub selection: Selection<'a>,
+    pub after: u64,
+    pub max: u64,
 }
 
 // Whether an entry inserts, updates or deletes a row.
@@ -40,7 +50,9 @@ fn is_among(selection: &Selection<'_>, entry: &StoredEntry) -> bool
 {
     match selection {
         Selection::All => true,
-        Selection::VersionsOf(table) => { is_version(entry) && entry.table.as_str() == *table }
+        Selection::VersionsOf(table) => {
+            is_version(entry) && entry.table.as_str() == table.as_str()
+        }
         Selection::AskedIn(from, to) => {
             entry.kind == ASKED && from.seconds() <= entry.moment && entry.moment <= to.seconds()
         }
@@ -70,12 +82,29 @@ pub(crate) fn select(
 }
 
 /// One step for each version among the entries.
-pub fn count_versions<L: Ledger>(entries: &[StoredEntry], steps: &mut Steps<L>)
+fn count_versions<L: Ledger>(entries: &[StoredEntry], steps: &mut Steps<L>)
     ensures { steps.new ≡ steps.old + stored_versions entries.now }
 {
     for entry in entries {
         if is_version(entry) {
             steps.tick();
         }
+    }
+}
+
+/// What a read answers, with one step for each version in it.
+pub fn counted<L: Ledger>(
+    answer: Result<StoredList, KeeperFault>,
+    steps: &mut Steps<L>,
+) -> Result<StoredList, KeeperFault>
+    ensures same { result ≡ answer }
+    ensures steps { steps.new ≡ steps.old + versions_read result }
+{
+    match answer {
+        Ok(list) => {
+            count_versions(list.as_slice(), steps);
+            Ok(list)
+        }
+        Err(fault) => Err(fault),
     }
 }

@@ -2,7 +2,6 @@
 ghost use Rattle.std.specs.Prelude.{◌≡◌, true, false, [], ◌∷◌, ◌++◌, OnOk};
 ghost use Rattle.hippo_model.specs.Terms.{History};
 ghost use Rattle.hippo_model.specs.Validity.{may_follow};
-ghost use Rattle.hippo_tables.specs.Standing.{is_delete};
 ghost use Rattle.hippo_keeper.specs.Answering.{has_failed, wants_memory};
 ghost use Rattle.hippo_typing.specs.Meanings.{meaning};
 ghost use Rattle.hippo_replay.specs.declared.state.State.{State as StateOf};
@@ -67,27 +66,6 @@ impl State {
         self.add(alloc, entry).unwrap();
     }
 
-    // Keeps an entry that takes no memory, and then takes it in.
-    fn keep_and_add<P: Keeper>(
-        &mut self,
-        alloc: Global,
-        keeper: &mut P,
-        entry: &Entry,
-    ) -> Result<(), KeeperFault>
-        requires may { MayKeep entry.now self.old (P.state keeper.old) }
-        requires room { takes_no_memory entry.now.act ≡ true }
-        ensures records { Records entry.now result self.old self.new (P.state keeper.old)
-            (P.state keeper.new) }
-    {
-        match self.keep(alloc, keeper, entry) {
-            Ok(()) => {
-                self.add_at_once(alloc, entry);
-                Ok(())
-            }
-            Err(fault) => Err(fault),
-        }
-    }
-
     // Keeps the entry that was taken in last, which is taken back where memory is short.
     fn keep_last<P: Keeper>(
         &mut self,
@@ -113,24 +91,6 @@ impl State {
         }
     }
 
-    // Takes in an entry that is no Delete, and then keeps it.
-    fn add_and_keep<P: Keeper>(
-        &mut self,
-        alloc: Global,
-        keeper: &mut P,
-        entry: &Entry,
-    ) -> Result<(), KeeperFault>
-        requires may { MayKeep entry.now self.old (P.state keeper.old) }
-        requires remembered { is_delete entry.now.act ≡ false }
-        ensures records { Records entry.now result self.old self.new (P.state keeper.old)
-            (P.state keeper.new) }
-    {
-        match self.add(alloc, entry) {
-            Ok(()) => self.keep_last(alloc, keeper, entry),
-            Err(Memory) => Err(KeeperFault::Memory),
-        }
-    }
-
     /// Takes in the entry that comes next and keeps it: nothing of it is tested. `Memory` is want
     /// of memory: state and keeper then say what they said. After `Failed`, which comes only where
     /// the keeper failed, the entry is kept or not, and the state is of no use.
@@ -146,9 +106,18 @@ impl State {
         ensures sound { has_failed result ≡ false → IsSound self.new }
     {
         if takes_no_memory(&entry.act) {
-            self.keep_and_add(alloc, keeper, entry)
+            match self.keep(alloc, keeper, entry) {
+                Ok(()) => {
+                    self.add_at_once(alloc, entry);
+                    Ok(())
+                }
+                Err(fault) => Err(fault),
+            }
         } else {
-            self.add_and_keep(alloc, keeper, entry)
+            match self.add(alloc, entry) {
+                Ok(()) => self.keep_last(alloc, keeper, entry),
+                Err(Memory) => Err(KeeperFault::Memory),
+            }
         }
     }
 }

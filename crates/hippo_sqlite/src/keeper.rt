@@ -7,9 +7,9 @@ ghost use Rattle.hippo_sqlite.specs.Standings.{finds_by, sqlite_keeper_state, Is
 use crate::link::Link;
 use crate::opener::Opener;
 use crate::standing::Standing;
-use hippo_keeper::{Keeper, KeeperFault, Steps};
+use hippo_keeper::{Keeper, KeeperFault, Sought, Steps};
 use hippo_model::{StoredEntry, StoredList};
-use hippo_values::{Moment, Name};
+use hippo_values::Moment;
 use std::alloc::Global;
 use std::sync::ledger::Ledger;
 
@@ -83,26 +83,13 @@ impl<O: Opener> Keeper for SqliteKeeper<O> {
         self.standing.settle(answer)
     }
 
-    fn read_all<L: Ledger>(
+    fn read<L: Ledger>(
         &mut self,
         alloc: Global,
-        after: u64,
-        max: u64,
+        sought: &Sought<'_>,
         steps: &mut Steps<L>,
     ) -> Result<StoredList, KeeperFault> {
-        let answer = self.link.read_all(alloc, after, max, steps);
-        self.standing.settle(answer)
-    }
-
-    fn read_backlog<L: Ledger>(
-        &mut self,
-        alloc: Global,
-        table: &Name,
-        after: u64,
-        max: u64,
-        steps: &mut Steps<L>,
-    ) -> Result<StoredList, KeeperFault> {
-        let answer = self.link.read_backlog(alloc, table, after, max, steps);
+        let answer = self.link.read(alloc, sought, steps);
         self.standing.settle(answer)
     }
 

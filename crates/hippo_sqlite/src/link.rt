@@ -4,19 +4,21 @@ ghost use Rattle.sqlite.specs.State.{HasCleanDisk, Survives, CommitsShowing, Ope
 ghost use Rattle.sqlite.specs.Held.{state};
 ghost use Rattle.hippo_keeper.specs.Answering.{has_failed};
 ghost use Rattle.hippo_keeper.specs.Keeping.{RisesAbove, next_number};
-ghost use Rattle.hippo_keeper.specs.Selecting.{handed_over, is_any, is_stored_version_of, was_asked_in, versions_read};
+ghost use Rattle.hippo_keeper.specs.Selecting.{handed_over, was_asked_in, is_selected, versions_read};
 ghost use Rattle.hippo_sqlite.specs.Contents.{AppendsTo, HasRead};
 ghost use Rattle.hippo_sqlite.specs.Links.{linked_contents, link_contents};
 ghost use Rattle.hippo_sqlite.specs.Outcomes.{HasExecuted, HasLooked, IsLinked};
-ghost use Rattle.hippo_history_table.specs.Queries.{insert_sql, read_sql, params_of, test_of};
+ghost use Rattle.hippo_history_table.specs.Queries.{insert_sql, read_sql, params_of};
 ghost use Rattle.hippo_sqlite.specs.Standings.{IsStarted};
 ghost use Rattle.hippo_history_table.specs.Tables.{HistoryRow, row_of, values_of, stored_row, entries_in, AreInOrder, history_schema, is_foreign};
 
 use crate::standing::fault_of;
-use hippo_history_table::{Question, create_history, entries_of, insert, select};
-use hippo_keeper::{Keeper, KeeperFails, KeeperFault, MemoryKeeper, Steps, count_versions};
+use hippo_history_table::{create_history, entries_of, insert, select};
+use hippo_keeper::{
+    Keeper, KeeperFails, KeeperFault, MemoryKeeper, Selection, Sought, Steps, counted,
+};
 use hippo_model::{StoredEntry, StoredList};
-use hippo_values::{Moment, Name};
+use hippo_values::Moment;
 use sqlite::{Alter, Connection};
 use sqlite_schema::schema::Schema;
 use std::alloc::Global;
@@ -44,23 +46,6 @@ pub(crate) enum Link<S: Alter + Drop> {
     Opened(Linked<S>),
 }
 
-// What a read answers, with one step for each version in it.
-fn counted<L: Ledger>(
-    answer: Result<StoredList, KeeperFault>,
-    steps: &mut Steps<L>,
-) -> Result<StoredList, KeeperFault>
-    ensures same { result ≡ answer }
-    ensures steps { steps.new ≡ steps.old + versions_read result }
-{
-    match answer {
-        Ok(list) => {
-            count_versions(list.as_slice(), steps);
-            Ok(list)
-        }
-        Err(fault) => Err(fault),
-    }
-}
-
 // Keeps one more entry.
 fn keep<S: Alter>(connection: &mut Connection<S>, entry: &StoredEntry) -> Result<(), KeeperFault>
     requires { entry.now.seq < 2 ^ 63 }
@@ -74,32 +59,33 @@ fn keep<S: Alter>(connection: &mut Connection<S>, entry: &StoredEntry) -> Result
     }
 }
 
-// The first kept entries above a number that a read asks for.
+// The kept entries that are sought.
 fn find<S: Alter>(
     connection: &mut Connection<S>,
     alloc: Global,
-    question: &Question<'_>,
-    after: u64,
-    max: u64,
+    sought: &Sought<'_>,
 ) -> Result<StoredList, KeeperFault>
-    requires above { after < 2 ^ 63 }
-    requires limit { max ≤ 1000 }
-    ensures few { IfOk result (λ list. length list ≤ max) }
-    ensures order { IfOk result (RisesAbove after) }
-    ensures looked { HasCleanDisk (state S.Store connection.new) → HasLooked (read_sql question.now)
-        (params_of question.now after max) (state S.Store connection.old)
-        (state S.Store connection.new) }
+    requires above { sought.now.after < 2 ^ 63 }
+    requires limit { sought.now.max ≤ 1000 }
+    ensures few { IfOk result (λ list. length list ≤ sought.now.max) }
+    ensures order { IfOk result (RisesAbove sought.now.after) }
+    ensures looked { HasCleanDisk (state S.Store connection.new)
+        → HasLooked (read_sql sought.now.selection)
+        (params_of sought.now.selection sought.now.after sought.now.max)
+        (state S.Store connection.old) (state S.Store connection.new) }
     ensures survives { Survives (state S.Store connection.old) (state S.Store connection.new)
-        (CommitsShowing (read_sql question.now) (params_of question.now after max)
+        (CommitsShowing (read_sql sought.now.selection)
+        (params_of sought.now.selection sought.now.after sought.now.max)
         (state S.Store connection.old)) }
     ensures told { IfOk result (λ list. HasCleanDisk (state S.Store connection.new)
         → (rows : List HistoryRow)
         → (state S.Store connection.old).now.schema ≡ history_schema
         → (state S.Store connection.old).now.trees 0 ≡ map stored_row rows → AreInOrder rows
-        → list ≡ handed_over (test_of question.now) after max (entries_in (map stored_row rows))) }
+        → list ≡ handed_over (is_selected sought.now.selection) sought.now.after sought.now.max
+        (entries_in (map stored_row rows))) }
 {
-    match select(connection, question, after, max) {
-        Ok(rows) => match entries_of(alloc, rows.as_slice(), after, max) {
+    match select(connection, sought) {
+        Ok(rows) => match entries_of(alloc, rows.as_slice(), sought.after, sought.max) {
             Ok(list) => Ok(list),
             Err(fault) => Err(fault.fault()),
         },
@@ -169,23 +155,17 @@ impl<S: Alter + Drop> Linked<S> {
         answer
     }
 
-    /// The first kept entries above a number that a read asks for.
-    fn read(
-        &mut self,
-        alloc: Global,
-        question: &Question<'_>,
-        after: u64,
-        max: u64,
-    ) -> Result<StoredList, KeeperFault>
-        requires limit { max ≤ 1000 }
+    /// The kept entries that are sought.
+    fn read(&mut self, alloc: Global, sought: &Sought<'_>) -> Result<StoredList, KeeperFault>
+        requires limit { sought.now.max ≤ 1000 }
         requires rests { (linked_contents S.Store self.old).rests }
-        ensures { HasRead (test_of question.now) after max result (linked_contents S.Store self.old)
-            (linked_contents S.Store self.new) }
+        ensures { HasRead (is_selected sought.now.selection) sought.now.after sought.now.max result
+            (linked_contents S.Store self.old) (linked_contents S.Store self.new) }
     {
-        if after >= NUMBERS {
+        if sought.after >= NUMBERS {
             return Ok(StoredList::new(alloc));
         }
-        let answer = find(&mut self.connection, alloc, question, after, max);
+        let answer = find(&mut self.connection, alloc, sought);
         self.note(&answer);
         answer
     }
@@ -241,51 +221,23 @@ impl<S: Alter + Drop> Link<S> {
         }
     }
 
-    /// The first kept entries above a number; each version among them is a step.
-    pub(crate) fn read_all<L: Ledger>(
+    /// The kept entries that are sought; each version among them is a step.
+    pub(crate) fn read<L: Ledger>(
         &mut self,
         alloc: Global,
-        after: u64,
-        max: u64,
+        sought: &Sought<'_>,
         steps: &mut Steps<L>,
     ) -> Result<StoredList, KeeperFault>
-        requires limit { max ≤ 1000 }
+        requires limit { sought.now.max ≤ 1000 }
         requires rests { (link_contents S.Store self.old).rests }
-        ensures reads { HasRead is_any after max result (link_contents S.Store self.old)
-            (link_contents S.Store self.new) }
+        ensures reads { HasRead (is_selected sought.now.selection) sought.now.after sought.now.max
+            result (link_contents S.Store self.old) (link_contents S.Store self.new) }
         ensures steps { steps.new ≡ steps.old + versions_read result }
     {
         match self {
             Link::Absent => Err(KeeperFault::Failed),
-            Link::InMemory(keeper) => keeper.read_all(alloc, after, max, steps),
-            Link::Opened(linked) => counted(linked.read(alloc, &Question::All, after, max), steps),
-        }
-    }
-
-    /// The first kept versions of a table's rows above a number; each is a step.
-    pub(crate) fn read_backlog<L: Ledger>(
-        &mut self,
-        alloc: Global,
-        table: &Name,
-        after: u64,
-        max: u64,
-        steps: &mut Steps<L>,
-    ) -> Result<StoredList, KeeperFault>
-        requires limit { max ≤ 1000 }
-        requires rests { (link_contents S.Store self.old).rests }
-        ensures reads { HasRead (is_stored_version_of table.now) after max result
-            (link_contents S.Store self.old) (link_contents S.Store self.new) }
-        ensures steps { steps.new ≡ steps.old + versions_read result }
-    {
-        match self {
-            Link::Absent => Err(KeeperFault::Failed),
-            Link::InMemory(keeper) => keeper.read_backlog(alloc, table, after, max, steps),
-            Link::Opened(linked) => {
-                counted(
-                    linked.read(alloc, &Question::VersionsOf(table), after, max),
-                    steps,
-                )
-            }
+            Link::InMemory(keeper) => keeper.read(alloc, sought, steps),
+            Link::Opened(linked) => counted(linked.read(alloc, sought), steps),
         }
     }
 
@@ -303,10 +255,15 @@ impl<S: Alter + Drop> Link<S> {
         ensures reads { HasRead (was_asked_in from to) after max result
             (link_contents S.Store self.old) (link_contents S.Store self.new) }
     {
+        let sought = Sought {
+            selection: Selection::AskedIn(from, to),
+            after,
+            max,
+        };
         match self {
             Link::Absent => Err(KeeperFault::Failed),
             Link::InMemory(keeper) => keeper.read_asked(alloc, from, to, after, max),
-            Link::Opened(linked) => linked.read(alloc, &Question::AskedIn(from, to), after, max),
+            Link::Opened(linked) => linked.read(alloc, &sought),
         }
     }
 }

@@ -6,5 +6,5 @@ use Rattle.hippo_sqlite.proofs.link.find.Goals as goal
 
 pub returns-in-Ok-entries_of-clause-told : goal.returns-in-Ok-entries_of-clause-told
 returns-in-Ok-entries_of-clause-told g c clean rows schema are order =
-    told_by c.args.question.now (state g.S.Store c.args.connection.now) (state g.S.Store c.select.new.connection) c.args.after c.args.max rows c.in-Ok.rows.items c.in-Ok-entries_of.list
+    told_by c.args.sought.now.selection (state g.S.Store c.args.connection.now) (state g.S.Store c.select.new.connection) c.args.sought.now.after c.args.sought.now.max rows c.in-Ok.rows.items c.in-Ok-entries_of.list
     schema are order (c.in-Ok.ensures.ok clean) (λ written is above few. c.in-Ok-entries_of.ensures.told written (c.as_slice.ensures.value ∙ is) above few)

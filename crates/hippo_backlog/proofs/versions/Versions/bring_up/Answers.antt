@@ -1,11 +1,10 @@
 -- Piece by piece, until the number is reached or something is wrong.
 use Rattle.std.proofs.Common.{◌≡◌, true, ◌∙◌, sym, subst, Ok}
-use Rattle.hippo_keeper.specs.declared.faults.KeeperFault.{KeeperFault}
 use Rattle.hippo_backlog.specs.declared.faults.ReadFault.{ReadFault}
 use Rattle.hippo_backlog.specs.ReadingAhead.{has_read}
 use Rattle.hippo_backlog.specs.Backlogs.{HeldVersions, BringsUp}
 use Rattle.hippo_keeper.proofs.Results.{well}
-use Rattle.hippo_backlog.proofs.VersionLemmas.{placed, ReadsOn-first, ReadsOn-waiting, ReadsOn-then, BringsUp-waiting, BringsUp-fault, BringsUp-end}
+use Rattle.hippo_backlog.proofs.VersionLemmas.{placed, ReadsOn-first, ReadsOn-waiting, ReadsOn-piece, BringsUp-waiting, BringsUp-unread, BringsUp-end}
 use Rattle.hippo_backlog.proofs.versions.Versions.bring_up.Goals as goal
 
 pub loop-fault-init : goal.loop-fault-init
@@ -13,11 +12,8 @@ loop-fault-init g c = ReadsOn-first c.args.schema.now c.args.number c.args.end c
 
 pub loop-fault-preserved : goal.loop-fault-preserved
 loop-fault-preserved g c =
-    let before = g.P.Keeper.state c.args.keeper.now in
-    let now = g.P.Keeper.state c.loop-fault.keeper in
-    let mid = c.take_waiting.new.self in
-    let so_far = ReadsOn-waiting c.args.schema.now c.args.number c.args.end c.args.self.now c.loop-fault.self mid before now c.args.steps.now c.loop-fault.steps c.loop-fault.invariant (well ReadFault) c.in-Ok.ensures.takes in
-    ReadsOn-then c.args.schema.now c.args.number c.args.end c.args.self.now mid c.read_piece.new.self before now c.args.steps.now c.loop-fault.steps so_far (g.P.Keeper.state c.read_piece.new.keeper) c.read_piece.new.steps (well KeeperFault) (c.in-Ok-read_piece.ensures.reads c.args.number)
+    ReadsOn-piece c.args.schema.now c.args.number c.args.end c.args.self.now c.loop-fault.self c.take_waiting.new.self c.read_piece.new.self (g.P.Keeper.state c.args.keeper.now) (g.P.Keeper.state c.loop-fault.keeper) (g.P.Keeper.state c.read_piece.new.keeper)
+    c.args.steps.now c.loop-fault.steps c.read_piece.new.steps c.loop-fault.invariant c.in-Ok.ensures.takes (c.in-Ok-read_piece.ensures.reads c.args.number)
 
 pub returns-in-Err : goal.returns-in-Err
 returns-in-Err g c = record {
@@ -37,11 +33,7 @@ returns-then-has_read g c =
     }
 
 pub returns-in-Err-read_piece : goal.returns-in-Err-read_piece
-returns-in-Err-read_piece g c =
-    let before = g.P.Keeper.state c.args.keeper.now in
-    let now = g.P.Keeper.state c.loop-fault.keeper in
-    let mid = c.take_waiting.new.self in
-    let so_far = ReadsOn-waiting c.args.schema.now c.args.number c.args.end c.args.self.now c.loop-fault.self mid before now c.args.steps.now c.loop-fault.steps c.loop-fault.invariant (well ReadFault) c.in-Ok.ensures.takes in
-    record {
-      brings = BringsUp-fault c.args.schema.now c.args.number c.args.end c.args.self.now mid c.read_piece.new.self before now c.args.steps.now c.loop-fault.steps so_far (g.P.Keeper.state c.read_piece.new.keeper) c.read_piece.new.steps c.in-Err-read_piece.fault (c.in-Err-read_piece.ensures.reads c.args.number) c.in-Err-read_piece.ensures.undamaged;
-    }
+returns-in-Err-read_piece g c = record {
+  brings = BringsUp-unread c.args.schema.now c.args.number c.args.end c.args.self.now c.loop-fault.self c.take_waiting.new.self c.read_piece.new.self (g.P.Keeper.state c.args.keeper.now) (g.P.Keeper.state c.loop-fault.keeper) (g.P.Keeper.state c.read_piece.new.keeper)
+      c.args.steps.now c.loop-fault.steps c.read_piece.new.steps c.loop-fault.invariant c.in-Ok.ensures.takes c.in-Err-read_piece.fault (c.in-Err-read_piece.ensures.reads c.args.number) c.in-Err-read_piece.ensures.undamaged;
+}

@@ -3,13 +3,13 @@ use Rattle.std.proofs.Common.{◌≡◌, ◌∙◌, length, take, filter, ap, su
 use Rattle.hippo_keeper.specs.Keeping.{RisesAbove}
 use Rattle.hippo_keeper.specs.Selecting.{is_selected, handed_over}
 use Rattle.hippo_keeper.proofs.RisingLemmas.{RisesAbove-filter, RisesAbove-take}
-use Rattle.hippo_keeper.proofs.memory_keeper.MemoryKeeper.read.Goals as goal
+use Rattle.hippo_keeper.proofs.memory_keeper.MemoryKeeper.find.Goals as goal
 
 pub returns-in-Ok : goal.returns-in-Ok
 returns-in-Ok c =
-    let test = is_selected c.args.selection.now in
+    let test = is_selected c.args.sought.now.selection in
     let above = c.entries_above.result.now in
-    let is : c.in-Ok.list ≡ take c.args.max (filter test above) = c.in-Ok.ensures in
+    let is : c.in-Ok.list ≡ take c.args.sought.now.max (filter test above) = c.in-Ok.ensures in
     let same : c.begin_call.new.self.kept ≡ c.args.self.now.kept = ap (λ store. store.kept) c.begin_call.ensures.counted in
     record {
       reads = record {
@@ -17,9 +17,9 @@ returns-in-Ok c =
         fails = search rules;
         faults = search rules;
         read = record {
-          told = λ told. is ∙ ap (λ entries. take c.args.max (filter test entries)) c.entries_above.ensures.above ∙ ap (λ kept. handed_over test c.args.after c.args.max kept) same;
-          few = omega (arith, ap length is, length-take c.args.max (filter test above));
-          order = subst (λ list. RisesAbove c.args.after list) (sym is) (RisesAbove-take c.args.max c.args.after _ (RisesAbove-filter test c.args.after above c.entries_above.ensures.order));
+          told = λ told. is ∙ ap (λ entries. take c.args.sought.now.max (filter test entries)) c.entries_above.ensures.above ∙ ap (λ kept. handed_over test c.args.sought.now.after c.args.sought.now.max kept) same;
+          few = omega (arith, ap length is, length-take c.args.sought.now.max (filter test above));
+          order = subst (λ list. RisesAbove c.args.sought.now.after list) (sym is) (RisesAbove-take c.args.sought.now.max c.args.sought.now.after _ (RisesAbove-filter test c.args.sought.now.after above c.entries_above.ensures.order));
         };
       };
     }
