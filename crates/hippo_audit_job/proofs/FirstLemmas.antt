@@ -304,15 +304,16 @@ module _ {X : Type 0} (terms : Examination X) where
       seq_is : entry.seq ≡ kept.seq
       seq_is = ap (λ (k : StoredEntry). k.seq) found.sound.1
 
+      asked_up_to : terms.upto new ≤ entry.seq → terms.upto new ≤ kept.seq
+      asked_up_to limit = let number = seq_is in omega (arith, limit, number)
+
       -- an answer that is no Damaged of a question leaves the job there
       pub LooksOn-before : {A : Type 0} (shares : Result (Option (List SharedRow)) ReadFault) → LooksAt terms past job.audit entry shares job.examiner new before after steps_old steps_new
           → (result : Result A ReadFault) → has_failed (reading_as_call result) ≡ has_failed (reading_as_call shares) → ((number : ℕ) → shares ≢ Err (Damaged number) → result ≢ Err (Damaged number))
           → LooksOn terms upto past result job (looked_before (kept.seq - 1) new job) before after steps_old steps_new
       LooksOn-before shares looks result same undamaged =
           let below = under in
-          let number = seq_is in
-          let limit = looks.moves.limit in
-          let order : terms.upto new ≤ kept.seq = omega (arith, limit, number) in
+          let order = asked_up_to looks.moves.limit in
           record {
             moves = record {
               is_after = IsAfterCall-as true false (reading_as_call shares) (reading_as_call result) before after same looks.moves.is_after;
@@ -341,9 +342,7 @@ module _ {X : Type 0} (terms : Examination X) where
           → (value : A) → LooksOn {A = A} terms upto past (Ok value) job (with_flag kept.seq (option_and_then (flag_by entry entry.act) shares) (looked_before (kept.seq - 1) new job)) before after steps_old steps_new
       LooksOn-after shares looks value =
           let below = under in
-          let number = seq_is in
-          let limit = looks.moves.limit in
-          let order : terms.upto new ≤ kept.seq = omega (arith, limit, number) in
+          let order = asked_up_to looks.moves.limit in
           record {
             moves = record {
               is_after = looks.moves.is_after;

@@ -1,5 +1,5 @@
 -- Jobs that fit a history: a new one, and when the history grows.
-use Rattle.std.proofs.Common.{◌≡◌, ◌∙◌, sym, ap, refl, subst, arith, ℕ, ◌+◌, ◌≤◌, Bool, true, false, cond, List, [], ◌∷◌, ◌++◌, length, Option, None, Some, length-append}
+use Rattle.std.proofs.Common.{◌≡◌, ◌∙◌, sym, ap, refl, subst, arith, rules, ℕ, ◌+◌, ◌≤◌, Bool, true, false, cond, List, [], ◌∷◌, ◌++◌, length, Option, None, Some, length-append}
 use Rattle.std.specs.Prelude.{nat_lt, is_some, slice_index_or, bytes_eq}
 use Rattle.std.specs.List.{AllByRecursion, IsDistinct}
 use Rattle.std.specs.Option.{option_map_or}
@@ -80,6 +80,13 @@ module _ {X : Type 0} (terms : Examination X) where
     examiner_fits = is_new.fits_each history 1 valid;
     once = is_new.counted history valid;
   }
+
+  -- what holds of a job does so whichever flags wait, and whether or not each step answered Ok
+  pub IsSoundJob-marked : (waiting : List Flag) (mark : Bool) (job : Job X) → IsSoundJob terms job → IsSoundJob terms (record job { waiting = waiting; unbroken = mark })
+  IsSoundJob-marked waiting mark job sound = search rules
+
+  pub JobFits-marked : (waiting : List Flag) (mark : Bool) (job : Job X) (history : History) → JobFits terms job history → JobFits terms (record job { waiting = waiting; unbroken = mark }) history
+  JobFits-marked waiting mark job history fits = search rules
 
   -- a job that fits a history fits it with one entry more
   pub JobFits-grown : (job : Job X) (history : History) (entry : Entry) → is_valid meaning (history ++ entry ∷ []) ≡ true → IsSoundJob terms job → JobFits terms job history → JobFits terms job (history ++ entry ∷ [])

@@ -14,6 +14,7 @@ use Rattle.hippo_audit_job.specs.declared.jobs.Job.{Job}
 use Rattle.hippo_audit_job.specs.declared.past.Past.{Past}
 use Rattle.hippo_audit_job.specs.Examining.{Examination}
 use Rattle.hippo_audit_job.specs.Jobs.{MayLook, IsAsFar, LooksOn}
+use Rattle.hippo_audit_job.proofs.JobLemmas.{IsSoundJob-marked, JobFits-marked}
 use Rattle.hippo_audit_job.proofs.StepLemmas.{LooksOn-none, LooksOn-then}
 use Rattle.hippo_audit_job.proofs.FlagLemmas.{LooksOn-as, LooksOn-fault}
 
@@ -83,15 +84,7 @@ module _ {X : Type 0} (terms : Examination X) (upto : ℕ) (past : Past) where
       → LooksOn terms upto past result old (record new { unbroken = mark }) before after one two
   LooksOn-marked mark result old new before after one two looks = record {
     moves = looks.moves;
-    is_sound = record {
-      tables = looks.is_sound.tables;
-      within = looks.is_sound.within;
-      counted = looks.is_sound.counted;
-      read = looks.is_sound.read;
-      ahead = looks.is_sound.ahead;
-      examiner_is = looks.is_sound.examiner_is;
-      asked = looks.is_sound.asked;
-    };
+    is_sound = IsSoundJob-marked terms new.waiting mark new looks.is_sound;
     same_audit = looks.same_audit;
     same_length = looks.same_length;
     forward = looks.forward;
@@ -99,14 +92,7 @@ module _ {X : Type 0} (terms : Examination X) (upto : ℕ) (past : Past) where
     told = λ tells history forms stands fits.
         let over = looks.told tells history forms stands fits in
         record {
-          fits_still = record {
-            begun = over.fits_still.begun;
-            audit_is = over.fits_still.audit_is;
-            flags = over.fits_still.flags;
-            split = over.fits_still.split;
-            examiner_fits = over.fits_still.examiner_fits;
-            once = over.fits_still.once;
-          };
+          fits_still = JobFits-marked terms new.waiting mark new history over.fits_still;
           flags = over.flags;
           undamaged = over.undamaged;
         };

@@ -1,5 +1,6 @@
 -- What an audit makes of one logged question, by what is found of it.
 use Rattle.std.proofs.Common.{◌≡◌, ◌∙◌, sym, ap, refl, subst, ℕ, ◌≤◌, Bool, true, false, List, Option, None, Some, Result, Ok, Err}
+use Rattle.std.specs.Bool.{then_some}
 use Rattle.std.specs.Prelude.{◌≢◌, ◌&&◌, not, option_and_then, if◌then◌else◌, IfOk}
 use Rattle.std.proofs.lemmas.Bool.{false≢true, and_parts}
 use Rattle.hippo_values.specs.Texts.{Txt}
@@ -25,7 +26,7 @@ use Rattle.hippo_backlog.proofs.CallLemmas.{reading_as_call-unfailed}
 use Rattle.hippo_keeper.proofs.CallLemmas.{KeepsSame-here, IsAfterCall-none}
 use Rattle.hippo_audit_job.specs.declared.past.Past.{Past}
 use Rattle.hippo_audit_job.specs.Examining.{IsPastOf, Examination, Examines}
-use Rattle.hippo_audit_job.specs.Looking.{question_parts, IsMeant, IsAskedFor, IsQuestionOf, LooksAt}
+use Rattle.hippo_audit_job.specs.Looking.{question_parts, IsCandidateOf, IsQuestionOf, LooksAt}
 use Rattle.hippo_audit_job.proofs.CountLemmas.{RisesWith-none, FallsWith-none}
 use Rattle.hippo_audit_job.proofs.StretchLemmas.{question_means}
 
@@ -116,6 +117,20 @@ module _ (history : History) (audit : Audit) (entry : Entry) (question : IsQuest
         let inside = (and_parts (is_question entry.act) (in_period audit entry.moment) question.asked).1 in
         shared_then query same ∙ (λ i. if inside i && not (exempt i) && names i then first_serving before asked_context query audit else None)
 
+-- a query that is left out fails the test, and one that is found passes it
+not_named : (names : Bool) (query : Query) → None ≡ then_some names query → names ≡ false
+not_named true query is = absurd cc
+not_named false query is = refl
+
+is_named_one : (names : Bool) (query found : Query) → Some found ≡ then_some names query → (names ≡ true) × (query ≡ found)
+is_named_one true query found is = (refl, some_is query found (sym is))
+is_named_one false query found is = absurd cc
+
+pub candidate_means : (past : Past) (audit : Audit) (text : Txt) (query : Query) → IsCandidateOf past audit text (Ok (Some query)) → (meaning_in past.catalog.now.names text ≡ Some query) × (names_all query audit ≡ true)
+candidate_means past audit text query candidate =
+    let named = is_named_one (names_all candidate.0 audit) candidate.0 query candidate.2 in
+    (candidate.1 ∙ ap Some named.1, ap (λ (q : Query). names_all q audit) (sym named.1) ∙ named.0)
+
 if_ok : (result : Shares) (one other : Option (List SharedRow)) → one ≡ other → IfOk result (λ found. found ≡ one) → IfOk result (λ found. found ≡ other)
 if_ok (Ok found) one other same is = is ∙ same
 if_ok (Err fault) one other same is = tt
@@ -144,30 +159,31 @@ module _ {X : Type 0} (terms : Examination X) (past : Past) (audit : Audit) (ent
 
   -- where it is asked
   pub LooksAt-examined : (query : Query) (result : Shares) (old new : X) (before after : KeeperState) (steps_old steps_new : ℕ) (found : Name × Name × Txt) → question_parts entry.act ≡ Some found
-      → meaning_in past.catalog.now.names found.2 ≡ Some query → is_exempt audit found.0 found.1 ≡ false → names_all query audit ≡ true
+      → IsCandidateOf past audit found.2 (Ok (Some query)) → is_exempt audit found.0 found.1 ≡ false
       → Examines terms past audit entry query result old new before after steps_old steps_new
       → LooksAt terms past audit entry result old new before after steps_old steps_new
-  LooksAt-examined query result old new before after steps_old steps_new found is meant exempt names examines = record {
+  LooksAt-examined query result old new before after steps_old steps_new found is candidate exempt examines = record {
     moves = examines.moves;
     told = λ tells history kept stands is_audit fits.
         let examined = examines.told tells history kept stands is_audit fits in
+        let means = candidate_means past audit found.2 query candidate in
         record {
           fits_still = examined.fits_still;
           once = examined.once;
           undamaged = λ question. examined.undamaged;
           finds = λ question.
               let asked = asked_so history audit entry question past stands found is in
-              if_ok result _ (shared_tuple meaning history audit entry) (sym (shares_first history audit entry question past stands found is query meant exempt names))
-              (examined.finds question.stands asked.user found.0 found.1 found.2 asked.is (meant_then history audit entry question past stands found is query meant));
+              if_ok result _ (shared_tuple meaning history audit entry) (sym (shares_first history audit entry question past stands found is query means.0 exempt means.1))
+              (examined.finds question.stands asked.user found.0 found.1 found.2 asked.is (meant_then history audit entry question past stands found is query means.0));
         };
   }
 
   module _ (examiner : X) (keeper : KeeperState) (steps : ℕ) (ready : IsReady true keeper) (sound : terms.sound examiner) (order : terms.upto examiner ≤ entry.seq) where
     -- a query that does not name each column shares nothing
-    pub LooksAt-unnamed : (query : Query) → IsAskedFor past audit entry query → names_all query audit ≡ false → LooksAt terms past audit entry (Ok None) examiner examiner keeper keeper steps steps
-    LooksAt-unnamed query asked names =
+    pub LooksAt-unnamed : (found : Name × Name × Txt) → question_parts entry.act ≡ Some found → IsCandidateOf past audit found.2 (Ok None) → LooksAt terms past audit entry (Ok None) examiner examiner keeper keeper steps steps
+    LooksAt-unnamed found is meant =
         LooksAt-unasked examiner keeper steps ready sound order (Ok None) (λ e. absurd cc) (λ history stands question number e. absurd cc)
-        (λ history stands question. shares_unnamed history audit entry question past stands (asked.purpose, asked.recipient, asked.text) asked.asked query asked.means names)
+        (λ history stands question. shares_unnamed history audit entry question past stands found is meant.0 meant.1 (not_named (names_all meant.0 audit) meant.0 meant.2))
 
     -- nor a question that is exempt
     pub LooksAt-exempt : (found : Name × Name × Txt) → question_parts entry.act ≡ Some found → is_exempt audit found.0 found.1 ≡ true → LooksAt terms past audit entry (Ok None) examiner examiner keeper keeper steps steps
@@ -185,7 +201,7 @@ module _ {X : Type 0} (terms : Examination X) (past : Past) (audit : Audit) (ent
         LooksAt-unasked examiner keeper steps ready sound order (Err (Damaged place)) (λ e. absurd cc) (λ history stands question number e. absurd (is_inside history audit entry question outside)) (λ history stands question. tt)
 
     -- a question whose text means nothing now
-    pub LooksAt-meant : (found : Name × Name × Txt) → question_parts entry.act ≡ Some found → (fault : ReadFault) → IsMeant past found.2 (Err fault) → LooksAt terms past audit entry (Err fault) examiner examiner keeper keeper steps steps
+    pub LooksAt-meant : (found : Name × Name × Txt) → question_parts entry.act ≡ Some found → (fault : ReadFault) → IsCandidateOf past audit found.2 (Err fault) → LooksAt terms past audit entry (Err fault) examiner examiner keeper keeper steps steps
     LooksAt-meant found is Keeper meant = absurd meant
     LooksAt-meant found is Memory meant =
         LooksAt-unasked examiner keeper steps ready sound order (Err Memory) (λ e. absurd cc) (λ history stands question number e. absurd cc) (λ history stands question. tt)

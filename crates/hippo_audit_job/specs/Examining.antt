@@ -156,16 +156,23 @@ pub record MovesOn {A X : Type 0} (terms : Examination X) (number : ℕ) (result
   pub limit : terms.upto new ≤ number
   pub ledger : RisesWith (terms.handed old) (terms.handed new) steps_old steps_new
 
+-- so of each history that is kept, of which this is the past and the audit is one, and which an
+-- examiner fits at an entry
+abbrev pub OverKept : {X : Type 0} → Examination X → Past → Audit → Entry → X → KeeperState
+    → (History → Type 0) → Type 0
+OverKept terms past audit entry examiner keeper Is =
+    (history : History) → map stored history ≡ keeper.kept → IsPastOf past history
+    → IsAuditOf history audit → terms.fits examiner history entry.seq
+    → Is history
+
 -- what examining a question does
 pub record Examines {X : Type 0} (terms : Examination X) (past : Past) (audit : Audit)
     (entry : Entry) (query : Query)
     (result : Result (Option (List SharedRow)) ReadFault) (old new : X) (before after : KeeperState)
     (steps_old steps_new : ℕ) : Type 0 where
   pub moves : MovesOn terms entry.seq result old new before after steps_old steps_new
-  pub told : after.tells → (history : History) → map stored history ≡ before.kept
-      → IsPastOf past history
-      → IsAuditOf history audit → terms.fits old history entry.seq
-      → ExaminesKept terms history audit entry query result old new steps_old steps_new
+  pub told : after.tells → OverKept terms past audit entry old before (λ history.
+      ExaminesKept terms history audit entry query result old new steps_old steps_new)
 
 -- a count as far as 64 bits show it
 abbrev pub shown_count : ℕ → ℕ

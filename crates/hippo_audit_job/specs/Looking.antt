@@ -1,5 +1,6 @@
 -- What an audit makes of one logged question, and of the questions that are read ahead.
-use Rattle.std.specs.Prelude.{◌≡◌, ◌≢◌, ◌≤◌, ◌<◌, ℕ, true, false, Bool, ◌&&◌, List, map, length, Option, Some, None, Result, Ok, Err, IfOk, OnOk, ⊤}
+use Rattle.std.specs.Prelude.{◌≡◌, ◌≢◌, ◌≤◌, ◌<◌, ℕ, true, false, Bool, ◌&&◌, List, length, Option, Some, None, Result, Ok, Err, IfOk, OnOk, ⊤}
+use Rattle.std.specs.Bool.{then_some}
 use Rattle.hippo_values.specs.Texts.{Txt}
 use Rattle.hippo_values.specs.declared.names.Name.{Name}
 use Rattle.hippo_model.specs.declared.audit.Audit.{Audit}
@@ -11,9 +12,9 @@ use Rattle.hippo_model.specs.declared.query.Query.{Query}
 use Rattle.hippo_model.specs.declared.stored.StoredEntry.{StoredEntry}
 use Rattle.hippo_model.specs.Terms.{History}
 use Rattle.hippo_model.specs.HandedOver.{is_question}
-use Rattle.hippo_model.specs.StoredForms.{stored}
+use Rattle.hippo_model.specs.Columns.{names_all}
 use Rattle.hippo_model.specs.Stores.{IsStoreOf}
-use Rattle.hippo_model.specs.Audits.{in_period, is_exempt, shared_tuple}
+use Rattle.hippo_model.specs.Audits.{in_period, shared_tuple}
 use Rattle.hippo_laws.specs.Audits.{StandsIn}
 use Rattle.hippo_entry.specs.Forms.{IsEntryOf}
 use Rattle.hippo_keeper.specs.Keeping.{KeeperState, IsAfterCall, RisesAbove, last_number, KeepsSame}
@@ -23,7 +24,7 @@ use Rattle.hippo_backlog.specs.declared.faults.ReadFault.TheVariants.{Keeper, Da
 use Rattle.hippo_backlog.specs.Calls.{reading_as_call}
 use Rattle.hippo_backlog.specs.ReadingAhead.{ReadAhead, IsAhead}
 use Rattle.hippo_audit_job.specs.declared.past.Past.{Past}
-use Rattle.hippo_audit_job.specs.Examining.{Examination, MovesOn, FallsWith, IsPastOf, IsAuditOf}
+use Rattle.hippo_audit_job.specs.Examining.{Examination, MovesOn, FallsWith, OverKept}
 
 -- for which purpose and recipient was asked, and the text, where an act is a question
 abbrev pub question_parts : Act → Option (Name × Name × Txt)
@@ -37,21 +38,15 @@ IsDecoded kept (Err (Damaged number)) = IsEntryOf kept None × (number ≡ kept.
 IsDecoded kept (Err Memory) = ⊤
 IsDecoded kept (Err Keeper) = ⊥
 
--- what a text means now is found, or it means nothing
-abbrev pub IsMeant : Past → Txt → Result Query ReadFault → Type 0
-IsMeant past text (Ok query) = meaning_in past.catalog.now.names text ≡ Some query
-IsMeant past text (Err (Damaged number)) = meaning_in past.catalog.now.names text ≡ None
-IsMeant past text (Err Memory) = ⊤
-IsMeant past text (Err Keeper) = ⊥
-
--- an entry is a question that is not exempt, and its text means this query now
-pub record IsAskedFor (past : Past) (audit : Audit) (entry : Entry) (query : Query) : Type 0 where
-  pub purpose : Name
-  pub recipient : Name
-  pub text : Txt
-  pub asked : question_parts entry.act ≡ Some (purpose, recipient, text)
-  pub means : meaning_in past.catalog.now.names text ≡ Some query
-  pub counts : is_exempt audit purpose recipient ≡ false
+-- what a text means now is found, where it names each column of an audit; or it means nothing
+abbrev pub IsCandidateOf : Past → Audit → Txt → Result (Option Query) ReadFault → Type 0
+IsCandidateOf past audit text (Ok found) =
+    (query : Query) × (meaning_in past.catalog.now.names text ≡ Some query)
+    × (found ≡ then_some (names_all query audit) query)
+IsCandidateOf past audit text (Err (Damaged number)) =
+    meaning_in past.catalog.now.names text ≡ None
+IsCandidateOf past audit text (Err Memory) = ⊤
+IsCandidateOf past audit text (Err Keeper) = ⊥
 
 -- whether an entry is a question of an audit's period
 abbrev pub is_question_in_period : Audit → Entry → Bool
@@ -80,10 +75,8 @@ pub record LooksAt {X : Type 0} (terms : Examination X) (past : Past) (audit : A
     (result : Result (Option (List SharedRow)) ReadFault) (old new : X) (before after : KeeperState)
     (steps_old steps_new : ℕ) : Type 0 where
   pub moves : MovesOn terms entry.seq result old new before after steps_old steps_new
-  pub told : after.tells → (history : History) → map stored history ≡ before.kept
-      → IsPastOf past history
-      → IsAuditOf history audit → terms.fits old history entry.seq
-      → LooksAtKept terms history audit entry result old new steps_old steps_new
+  pub told : after.tells → OverKept terms past audit entry old before (λ history.
+      LooksAtKept terms history audit entry result old new steps_old steps_new)
 
 -- a piece of the questions of an audit's period is read, where nothing waits
 pub record ReadsAhead {A : Type 0} (audit : Audit) (end : ℕ) (result : Result A ReadFault)

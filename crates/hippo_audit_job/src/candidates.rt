@@ -68,12 +68,10 @@ fn any_operand_names(wanted: Named<'_>, tables: &Names, operands: &Operands) -> 
         tables.now
         (columns_in operand)) operands.now }
 {
-    for operand in operands.as_slice() {
-        if operand_names(wanted, tables, operand) {
-            return true;
-        }
-    }
-    false
+    operands
+        .as_slice()
+        .iter()
+        .any(|operand| operand_names(wanted, tables, operand))
 }
 
 // Whether a condition names this column.

@@ -1,8 +1,10 @@
 //! What an audit makes of one logged question.
 ghost use Rattle.std.specs.Prelude.{◌≡◌, option_map, option_and_then};
+ghost use Rattle.std.specs.Bool.{then_some};
 ghost use Rattle.hippo_model.specs.Audits.{flag_by};
+ghost use Rattle.hippo_model.specs.Columns.{names_all};
 ghost use Rattle.hippo_audit_job.specs.Examining.{MayExamine};
-ghost use Rattle.hippo_audit_job.specs.Looking.{question_parts, IsMeant, IsAskedFor, LooksAt};
+ghost use Rattle.hippo_audit_job.specs.Looking.{question_parts, IsCandidateOf, LooksAt};
 ghost use Rattle.hippo_audit_job.specs.Flagging.{FindsFlag};
 
 use crate::candidates::{in_period, is_exempt, names_all};
@@ -81,38 +83,33 @@ fn flagged(entry: Entry, shared: Option<SharedTuple>) -> Option<Flag>
     }
 }
 
-// The query that a question's text means, `Damaged` with its number where it means none.
-fn meant(alloc: Global, past: &Past<'_>, number: u64, text: &Txt) -> Result<Query, ReadFault>
-    ensures { IsMeant past.now text.now result }
+// A query, where it names each column of an audit.
+fn naming(query: Query, audit: &Audit) -> Option<Query>
+    ensures { result ≡ then_some (names_all query audit.now) query }
 {
-    match read_meaning(alloc, past.catalog, text.as_str()) {
-        Ok(Some(query)) => Ok(query),
-        Ok(None) => Err(ReadFault::Damaged(number)),
-        Err(Memory) => Err(ReadFault::Memory),
+    if names_all(&query, audit) {
+        Some(query)
+    } else {
+        drop(query);
+        None
     }
 }
 
-// What a question that is not exempt shares with an audit, where its text means this query.
-fn shared_by<P: Keeper, L: Ledger, X: Examiner<P>>(
-    examiner: &mut X,
-    keeper: &mut P,
+// The query that a question's text means, where it names each column of an audit; `Damaged` with the
+// question's number where its text means nothing.
+fn candidate(
     alloc: Global,
     past: &Past<'_>,
-    entry: &Entry,
-    query: &Query,
     audit: &Audit,
-    steps: &mut Steps<L>,
-) -> Result<Option<SharedTuple>, ReadFault>
-    requires may { MayExamine X.terms audit.now entry.now.seq examiner.old (P.state keeper.old) }
-    ensures looks { IsAskedFor past.now audit.now entry.now query.now
-        → LooksAt X.terms past.now audit.now entry.now
-        result examiner.old examiner.new (P.state keeper.old) (P.state keeper.new) steps.old
-        steps.new }
+    number: u64,
+    text: &Txt,
+) -> Result<Option<Query>, ReadFault>
+    ensures { IsCandidateOf past.now audit.now text.now result }
 {
-    if names_all(query, audit) {
-        examiner.examine(keeper, alloc, past, entry, query, audit, steps)
-    } else {
-        Ok(None)
+    match read_meaning(alloc, past.catalog, text.as_str()) {
+        Ok(Some(query)) => Ok(naming(query, audit)),
+        Ok(None) => Err(ReadFault::Damaged(number)),
+        Err(Memory) => Err(ReadFault::Memory),
     }
 }
 
@@ -140,12 +137,13 @@ pub(crate) fn shared_with<P: Keeper, L: Ledger, X: Examiner<P>>(
     if is_exempt(audit, question.purpose, question.recipient) {
         return Ok(None);
     }
-    match meant(alloc, past, entry.seq, question.text) {
-        Ok(query) => {
-            let shared = shared_by(examiner, keeper, alloc, past, entry, &query, audit, steps);
+    match candidate(alloc, past, audit, entry.seq, question.text) {
+        Ok(Some(query)) => {
+            let shared = examiner.examine(keeper, alloc, past, entry, &query, audit, steps);
             drop(query);
             shared
         }
+        Ok(None) => Ok(None),
         Err(fault) => Err(fault),
     }
 }

@@ -5,7 +5,7 @@ use Rattle.std.specs.List.{IsDistinct, position_or_len}
 use Rattle.std.proofs.lemmas.List.{map-append}
 use Rattle.std.proofs.lemmas.List.Folds.{find_at, position_or_len_push}
 use Rattle.std.proofs.lemmas.List.Sums.{passes_at_first, sum_by_push, prefix_len-le-length}
-use Rattle.std.proofs.lemmas.Option.{slice_get-get_or, slice_get_past, get_or_from_slice_get}
+use Rattle.std.proofs.lemmas.Option.{slice_get-get_or, slice_get_past, get_or_from_slice_get, same_Some}
 use Rattle.std.proofs.lemmas.Slice.Eq.{bytes_eq-Decides}
 use Rattle.hippo_values.specs.declared.names.Name.{Name}
 use Rattle.hippo_model.specs.declared.schema.Schema.{Schema}
@@ -29,7 +29,7 @@ use Rattle.hippo_intervals.proofs.LivesLemmas.{LivesFit-first}
 use Rattle.hippo_audit_job.specs.declared.past.Past.{Past}
 use Rattle.hippo_audit_job.specs.Examining.{IsPastOf}
 use Rattle.hippo_combine.specs.Held.{lives_of, place_held, AreHeldAt, all_taken, TablesFit}
-use Rattle.hippo_combine.specs.Bringing.{with_table, IsPlaceOf, Brings}
+use Rattle.hippo_combine.specs.Bringing.{with_table, IsPlaceOf, AreHeldIfKnown, Brings}
 use Rattle.hippo_combine.proofs.HeldLemmas.{all-set, all-push, all-at, sum-set, name_of, names-set, others-differ, apart-push, lives_of-set, held-set, held-push}
 
 -- ---- the place of a table
@@ -239,3 +239,10 @@ module _ (past : Past) (number : ℕ) {A : Type 0} (result : Result A ReadFault)
   -- and stands at the number then
   pub holds_one : OnOk result (AreHeldAt number (schema.name ∷ []) (slice_set mid place new))
   holds_one = held_at past number result mid place old new before after s0 s1 at advances schema.name is_place.first is_place.within advances.place_is
+
+-- a table that is known is held under its own name
+pub held_if_known : (past : Past) (number : ℕ) (table : Name) (schema : Schema) (tables : List HeldLives) → table_of past.catalog.now.names table ≡ Some schema
+    → AreHeldAt number (schema.name ∷ []) tables → AreHeldIfKnown past number (table ∷ []) tables
+held_if_known past number table schema tables known held names =
+    let named : Some schema.name ≡ Some table = sym (ap (option_map (λ (found : Schema). found.name)) known) ∙ names.0 in
+    subst (λ (name : Name). AreHeldAt number (name ∷ []) tables) (same_Some schema.name table named) held

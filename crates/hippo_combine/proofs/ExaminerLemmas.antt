@@ -1,7 +1,8 @@
 -- What each examiner's proof wants: answers whose one fault is want of memory, an entry that is none of the history, and where nothing serves.
-use Rattle.std.proofs.Common.{◌≡◌, ◌≢◌, ◌⊎◌, inl, inr, ◌∙◌, sym, ap, refl, arith, ℕ, ◌<◌, Bool, true, false, ◌&&◌, List, [], ◌∷◌, Option, None, Result, Ok, Err}
-use Rattle.std.specs.Prelude.{IfErr, find}
+use Rattle.std.proofs.Common.{◌≡◌, ◌≢◌, ◌⊎◌, inl, inr, ◌∙◌, sym, ap, subst, refl, arith, ℕ, ◌<◌, Bool, true, false, ◌&&◌, List, [], ◌∷◌, Option, None, Result, Ok, Err}
+use Rattle.std.specs.Prelude.{IfErr, IfOk, find}
 use Rattle.std.proofs.lemmas.Option.{slice_get_within}
+use Rattle.hippo_values.specs.declared.memory.Memory.{Memory as NoRoom}
 use Rattle.hippo_model.specs.declared.audit.Audit.{Audit}
 use Rattle.hippo_model.specs.declared.audit.SharedRow.{SharedRow}
 use Rattle.hippo_model.specs.declared.entry.Entry.{Entry}
@@ -34,6 +35,10 @@ pub undamaged : (result : Shared) → IfErr result (λ fault. fault ≡ Memory) 
 undamaged (Ok shared) memory place is = cc
 undamaged (Err fault) memory place is =
     let other : Memory ≡ Damaged place = sym memory ∙ same_Err {A = Option (List SharedRow)} fault (Damaged place) is in cc
+
+pub as_read-holds : {A : Type 0} (Holds : A → Type 0) (made : Result A NoRoom) (result : Result A ReadFault) → IfOk result (λ value. made ≡ Ok value) → IfOk made Holds → IfOk result Holds
+as_read-holds Holds made (Ok value) same holds = subst (λ (m : Result _ NoRoom). IfOk m Holds) same holds
+as_read-holds Holds made (Err fault) same holds = tt
 
 -- ---- an entry that is none of the history
 pub no_entry : (past : Past) (entry : Entry) (history : History) → IsPastOf past history → (entry.seq ≡ 0) ⊎ (past.count < entry.seq) → StandsIn meaning history entry → ⊥

@@ -1,10 +1,9 @@
 -- What is held of tables at a place, as the sets and schemas of the history there; and where nothing is shared.
-use Rattle.std.proofs.Common.{◌≡◌, ◌⊎◌, inl, inr, ◌∙◌, sym, ap, refl, subst, arith, ℕ, zero, suc, ◌<◌, Bool, true, false, cond, ◌&&◌, List, [], ◌∷◌, ◌++◌, map, filter_map, length, take, Option, None, Some, option_map, get_or}
-use Rattle.std.specs.Prelude.{flat_map, nat_lt, bytes_eq}
+use Rattle.std.proofs.Common.{◌≡◌, ◌⊎◌, inl, inr, ◌∙◌, sym, ap, refl, subst, arith, ℕ, zero, suc, ◌<◌, Bool, true, false, cond, ◌&&◌, List, [], ◌∷◌, map, filter_map, length, take, Option, None, Some, option_map, get_or}
+use Rattle.std.specs.Prelude.{nat_lt, bytes_eq, flat_map}
 use Rattle.std.specs.List.{AllByRecursion, cons_option, list_any}
 use Rattle.std.specs.Option.{option_map_or}
 use Rattle.std.proofs.lemmas.Bool.{and_parts, false≢true}
-use Rattle.std.proofs.lemmas.Bool.Decides.{nat_tests}
 use Rattle.std.proofs.lemmas.List.Elements.{All-from_recursion}
 use Rattle.std.proofs.lemmas.Option.{none-some, same_Some}
 use Rattle.std.proofs.lemmas.Slice.Eq.{bytes_eq-Decides}
@@ -34,7 +33,7 @@ use Rattle.hippo_intervals.specs.Living.{HeldLives, LivesFit}
 use Rattle.hippo_intervals.proofs.LivesLemmas.{LivesAreThoseOf-fits}
 use Rattle.hippo_combine.specs.Held.{lives_of, schema_held, rows_held, place_held, has_some, are_held, AreHeldAt, TablesFit}
 use Rattle.hippo_combine.proofs.ExaminerLemmas.{find_none, nothing_of_audit}
-use Rattle.hippo_examining.proofs.PastLemmas.{front_valid, lasting, no_rows_yet}
+use Rattle.hippo_examining.proofs.PastLemmas.{front_valid, lasting, no_rows_yet, no_length, flat_map_none}
 
 abbrev no_set : KeyedRows
 no_set = record { key = []; rows = [] }
@@ -163,10 +162,6 @@ module _ (tables : List HeldLives) (number : ℕ) (history : History) (valid : i
       ∙ sym (λ i. map Some (cons_option (all.0.held.schema_is i) (filter_map (schema_held tables) names)))
 
 -- ---- what is empty shares nothing
-flat_map_none : {A B : Type 0} (f : A → List B) → ((x : A) → f x ≡ []) → (xs : List A) → flat_map f xs ≡ []
-flat_map_none f none [] = refl
-flat_map_none f none (x ∷ xs) = λ i. (none x i) ++ flat_map_none f none xs i
-
 product_none : {A : Type 0} (first : List A) (rest : List (List A)) → product rest ≡ [] → product (first ∷ rest) ≡ []
 product_none first rest none = flat_map_none (λ member. map (λ others. member ∷ others) (product rest)) (λ member. ap (map (λ others. member ∷ others)) none) first
 
@@ -181,13 +176,6 @@ module _ (tables : List HeldLives) (number : ℕ) (history : History) (valid : i
   either : (table : Name) (schema : Schema) → schema_at history table ≡ Some schema → (found : Option Schema) → schema_at (take number history) table ≡ found → (found ≡ None) ⊎ (found ≡ Some schema)
   either table schema there None is = inl refl
   either table schema there (Some other) is = inr (sym (lasting history number valid table other is) ∙ there)
-
-  no_length : (rows : List BornRow) → nat_lt 0 (length rows) ≡ false → rows ≡ []
-  no_length [] is = refl
-  no_length (row ∷ rows) is = absurd (false≢true (sym is ∙ some_length (length rows)))
-    where
-      some_length : (n : ℕ) → nat_lt 0 (suc n) ≡ true
-      some_length n = grind (arith, nat_tests)
 
   none_here : (table : Name) → place_held tables table ≡ Some number → has_some (rows_held tables table) ≡ false → rows_in table ≡ []
   none_here table place none =

@@ -13,6 +13,7 @@ use Rattle.hippo_backlog.specs.Calls.{reading_as_call}
 use Rattle.hippo_intervals.specs.Living.{HeldLives, no_lives}
 use Rattle.hippo_audit_job.specs.declared.past.Past.{Past}
 use Rattle.hippo_audit_job.specs.Examining.{IsPastOf}
+use Rattle.hippo_combine.specs.declared.bringing.Forward.{Forward}
 use Rattle.hippo_combine.specs.Held.{lives_of, AreHeldAt, AreHeldUpTo, all_taken, TablesFit}
 
 -- the tables that are held, with a new one behind where none has this schema's name
@@ -64,3 +65,15 @@ pub record Brings {A : Type 0} (past : Past) (number : ℕ) (result : Result A R
   pub undamaged : after.tells → (history : History) → map stored history ≡ before.kept
       → IsPastOf past history
       → TablesFit old history → (place : ℕ) → result ≢ Err (Damaged place)
+
+-- the same of a number up to which tables are brought
+abbrev pub MayGo : Forward → List HeldLives → KeeperState → Type 0
+MayGo forward tables keeper = MayBring forward.past.now forward.number tables keeper
+
+abbrev pub BringsOn : {A : Type 0} → Forward → Result A ReadFault → List HeldLives → List HeldLives
+    → KeeperState → KeeperState → ℕ → ℕ → Type 0
+BringsOn forward result old new before after steps_old steps_new =
+    Brings forward.past.now forward.number result old new before after steps_old steps_new
+
+abbrev pub AreBrought : Forward → List Name → List HeldLives → Type 0
+AreBrought forward names tables = AreHeldIfKnown forward.past.now forward.number names tables

@@ -1,9 +1,6 @@
 //! Tables that are brought forward to a place in the history.
-ghost use Rattle.std.specs.Prelude.{◌≡◌, ◌∷◌, [], Some, IfOk, OnOk, OnErr};
-ghost use Rattle.hippo_values.specs.declared.names.Name.{Name as NameValue};
-ghost use Rattle.hippo_catalog.specs.Catalogs.{table_of};
-ghost use Rattle.hippo_combine.specs.Held.{AreHeldAt};
-ghost use Rattle.hippo_combine.specs.Bringing.{with_table, IsPlaceOf, AreHeldIfKnown, MayBring, Brings};
+ghost use Rattle.std.specs.Prelude.{◌≡◌, IfOk, OnOk, OnErr};
+ghost use Rattle.hippo_combine.specs.Bringing.{with_table, IsPlaceOf};
 
 use crate::held::place_of;
 use hippo_audit_job::Past;
@@ -28,105 +25,78 @@ fn place_for(tables: &mut Vec<Lives>, alloc: Global, schema: &Schema) -> Result<
     Ok(place)
 }
 
-// Brings a table forward to a number.
-fn bring<P: Keeper, L: Ledger>(
-    tables: &mut Vec<Lives>,
-    keeper: &mut P,
-    alloc: Global,
-    past: &Past<'_>,
-    schema: &Schema,
-    number: u64,
-    steps: &mut Steps<L>,
-) -> Result<(), ReadFault>
-    requires may { MayBring past.now number tables.old.items (P.state keeper.old) }
-    ensures brings { (table : NameValue)
-        → table_of past.now.catalog.now.names table ≡ Some schema.now
-        → Brings past.now number result tables.old.items tables.new.items
-        (P.state keeper.old) (P.state keeper.new) steps.old steps.new }
-    ensures held { OnOk result (AreHeldAt number (schema.now.name ∷ []) tables.new.items) }
-{
-    let place = match place_for(tables, alloc, schema) {
-        Ok(place) => place,
-        Err(Memory) => return Err(ReadFault::Memory),
-    };
-    tables[place].advance(keeper, alloc, number, past.count, steps)
+/// A number up to which tables are brought forward, and what is known of the history.
+#[derive(Clone, Copy)]
+pub(crate) struct Forward<'a> {
+    pub past: &'a Past<'a>,
+    pub number: u64,
 }
 
-// Brings a table forward to a number, where it is known.
-fn bring_known<P: Keeper, L: Ledger>(
-    tables: &mut Vec<Lives>,
-    keeper: &mut P,
-    alloc: Global,
-    past: &Past<'_>,
-    table: &Name,
-    number: u64,
-    steps: &mut Steps<L>,
-) -> Result<(), ReadFault>
-    requires may { MayBring past.now number tables.old.items (P.state keeper.old) }
-    ensures brings { Brings past.now number result tables.old.items tables.new.items
-        (P.state keeper.old) (P.state keeper.new) steps.old steps.new }
-    ensures held { OnOk result (AreHeldIfKnown past.now number (table.now ∷ []) tables.new.items) }
-{
-    match past.catalog.table(table) {
-        Some(schema) => bring(tables, keeper, alloc, past, schema, number, steps),
-        None => Ok(()),
+impl<'a> Forward<'a> {
+    ghost use Rattle.std.specs.Prelude.{◌∷◌, [], OnOk};
+    ghost use Rattle.hippo_combine.specs.Bringing.{AreBrought, BringsOn, MayGo};
+
+    // Brings a table forward, where it is known.
+    fn bring<P: Keeper, L: Ledger>(
+        &self,
+        tables: &mut Vec<Lives>,
+        keeper: &mut P,
+        alloc: Global,
+        table: &Name,
+        steps: &mut Steps<L>,
+    ) -> Result<(), ReadFault>
+        requires may { MayGo self.now tables.old.items (P.state keeper.old) }
+        ensures brings { BringsOn self.now result tables.old.items tables.new.items
+            (P.state keeper.old) (P.state keeper.new) steps.old steps.new }
+        ensures held { OnOk result (AreBrought self.now (table.now ∷ []) tables.new.items) }
+    {
+        let Some(schema) = self.past.catalog.table(table) else {
+            return Ok(());
+        };
+        let place = match place_for(tables, alloc, schema) {
+            Ok(place) => place,
+            Err(Memory) => return Err(ReadFault::Memory),
+        };
+        tables[place].advance(keeper, alloc, self.number, self.past.count, steps)
     }
-}
 
-// Brings the tables with these names forward to a number, of those that are known.
-fn bring_all<P: Keeper, L: Ledger>(
-    tables: &mut Vec<Lives>,
-    keeper: &mut P,
-    alloc: Global,
-    past: &Past<'_>,
-    names: &[Name],
-    number: u64,
-    steps: &mut Steps<L>,
-) -> Result<(), ReadFault>
-    requires may { MayBring past.now number tables.old.items (P.state keeper.old) }
-    ensures brings { Brings past.now number result tables.old.items tables.new.items
-        (P.state keeper.old) (P.state keeper.new) steps.old steps.new }
-    ensures held { OnOk result (AreHeldIfKnown past.now number names.now tables.new.items) }
-{
-    for table in names {
-        bring_known(tables, keeper, alloc, past, table, number, steps)?;
+    // Brings the tables with these names forward, of those that are known.
+    fn bring_all<P: Keeper, L: Ledger>(
+        &self,
+        tables: &mut Vec<Lives>,
+        keeper: &mut P,
+        alloc: Global,
+        names: &[Name],
+        steps: &mut Steps<L>,
+    ) -> Result<(), ReadFault>
+        requires may { MayGo self.now tables.old.items (P.state keeper.old) }
+        ensures brings { BringsOn self.now result tables.old.items tables.new.items
+            (P.state keeper.old) (P.state keeper.new) steps.old steps.new }
+        ensures held { OnOk result (AreBrought self.now names.now tables.new.items) }
+    {
+        for table in names {
+            self.bring(tables, keeper, alloc, table, steps)?;
+        }
+        Ok(())
     }
-    Ok(())
-}
 
-/// Brings the tables of an audit and of a query forward to a number, of those that are known.
-pub(crate) fn bring_both<P: Keeper, L: Ledger>(
-    tables: &mut Vec<Lives>,
-    keeper: &mut P,
-    alloc: Global,
-    past: &Past<'_>,
-    query: &Query,
-    audit: &Audit,
-    number: u64,
-    steps: &mut Steps<L>,
-) -> Result<(), ReadFault>
-    requires may { MayBring past.now number tables.old.items (P.state keeper.old) }
-    ensures brings { Brings past.now number result tables.old.items tables.new.items
-        (P.state keeper.old) (P.state keeper.new) steps.old steps.new }
-    ensures audit { OnOk result (AreHeldIfKnown past.now number audit.now.tables tables.new.items) }
-    ensures query { OnOk result (AreHeldIfKnown past.now number query.now.tables tables.new.items) }
-{
-    bring_all(
-        tables,
-        keeper,
-        alloc,
-        past,
-        audit.tables.as_slice(),
-        number,
-        steps,
-    )?;
-    bring_all(
-        tables,
-        keeper,
-        alloc,
-        past,
-        query.tables.as_slice(),
-        number,
-        steps,
-    )
+    /// Brings the tables of an audit and of a query forward, of those that are known.
+    pub(crate) fn bring_both<P: Keeper, L: Ledger>(
+        &self,
+        tables: &mut Vec<Lives>,
+        keeper: &mut P,
+        alloc: Global,
+        query: &Query,
+        audit: &Audit,
+        steps: &mut Steps<L>,
+    ) -> Result<(), ReadFault>
+        requires may { MayGo self.now tables.old.items (P.state keeper.old) }
+        ensures brings { BringsOn self.now result tables.old.items tables.new.items
+            (P.state keeper.old) (P.state keeper.new) steps.old steps.new }
+        ensures audit { OnOk result (AreBrought self.now audit.now.tables tables.new.items) }
+        ensures query { OnOk result (AreBrought self.now query.now.tables tables.new.items) }
+    {
+        self.bring_all(tables, keeper, alloc, audit.tables.as_slice(), steps)?;
+        self.bring_all(tables, keeper, alloc, query.tables.as_slice(), steps)
+    }
 }

@@ -1,7 +1,8 @@
 //! An examiner that brings the rows of the tables that it needs forward.
 ghost use Rattle.hippo_combine.specs.Bringing.{IsNumberBefore};
 
-use crate::bringing::bring_both;
+use crate::asked::as_read;
+use crate::bringing::Forward;
 use crate::held::all_taken;
 use crate::ordering::order_for;
 use crate::sharing::shared_with;
@@ -69,17 +70,12 @@ impl<P: Keeper> Examiner<P> for Combine {
             return Ok(None);
         };
         order_for(&mut self.tables, alloc, query, audit);
-        bring_both(
-            &mut self.tables,
-            keeper,
-            alloc,
-            past,
-            query,
-            audit,
+        let forward = Forward {
+            past: &*past,
             number,
-            steps,
-        )?;
-        shared_with(
+        };
+        forward.bring_both(&mut self.tables, keeper, alloc, query, audit, steps)?;
+        as_read(shared_with(
             alloc,
             self.tables.as_slice(),
             past.book,
@@ -87,7 +83,7 @@ impl<P: Keeper> Examiner<P> for Combine {
             entry,
             query,
             audit,
-        )
+        ))
     }
 
     fn taken(&self) -> Option<u64> {

@@ -2,10 +2,12 @@
 //! between questions.
 #![tactic(auto)]
 
+mod asked;
 mod bringing;
 mod combine;
 mod held;
 mod ordering;
 mod sharing;
 
+pub use asked::{as_read, rules_asked};
 pub use combine::{Combine, number_before};

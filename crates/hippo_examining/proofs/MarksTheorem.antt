@@ -1,9 +1,8 @@
 -- Without which tuples the groups of a query change, by their marks.
 use Rattle.std.proofs.Common.{◌≡◌, append_assoc, Bool, true, false, not, cond, ◌&&◌, ◌||◌, List, [], ◌∷◌, ◌++◌, map, take, refl, sym, ap, ◌∙◌}
-use Rattle.std.specs.Prelude.{filter, nat_eq}
+use Rattle.std.specs.Prelude.{filter}
 use Rattle.std.specs.List.{AllByRecursion, list_any, list_all}
 use Rattle.std.specs.Ordering.{is_eq}
-use Rattle.std.proofs.lemmas.Bool.{and_parts, eqb-true}
 use Rattle.std.proofs.lemmas.List.Folds.{list_all-map}
 use Rattle.std.proofs.lemmas.Simd.{map-map}
 use Rattle.hippo_values.specs.declared.values.Value.{Value}
@@ -24,6 +23,7 @@ use Rattle.hippo_eval.specs.Answering.{masked_rows}
 use Rattle.hippo_distinct.proofs.NeededGroups.{needs_what_changes_groups}
 use Rattle.hippo_shared.specs.declared.marks.Mark.TheVariants.{One, Several}
 use Rattle.hippo_shared.specs.Marks.{row_places, same_places, mark_of, is_one}
+use Rattle.hippo_shared.proofs.MarkLemmas.{same-exact}
 use Rattle.hippo_examining.specs.declared.group_marks.GroupMarks.{GroupMarks}
 use Rattle.hippo_examining.specs.GroupMarks.{PlacedRow, placed_rows, shown_value, member_places, best_by, best_of, marks_of, is_best_changed, changes_without}
 use Rattle.hippo_groups.specs.KeptGroups.{members_of, keys_of}
@@ -32,22 +32,14 @@ use Rattle.hippo_distinct.proofs.KeptLemmas.{any-different_rows}
 use Rattle.hippo_groups.proofs.GroupLemmas.{kept_at}
 
 -- equal places are the same
-places-exact : (some others : List Place) → same_places some others ≡ true → some ≡ others
-places-exact [] [] same = refl
-places-exact [] (other ∷ others) same = absurd cc
-places-exact (one ∷ some) [] same = absurd cc
-places-exact (one ∷ some) (other ∷ others) same =
-    let both = and_parts (nat_eq one other) (same_places some others) same in
-    λ i. eqb-true one other both.0 i ∷ places-exact some others both.1 i
-
 places-sym : (some others : List Place) → same_places some others ≡ same_places others some
 places-sym some others = by (same_places some others) (same_places others some) refl refl
   where
     by : (one other : Bool) → same_places some others ≡ one → same_places others some ≡ other → same_places some others ≡ same_places others some
     by true true e f = e ∙ sym f
     by false false e f = e ∙ sym f
-    by true false e f = ap (λ (these : List Place). same_places these others) (places-exact some others e) ∙ ap (same_places others) (sym (places-exact some others e))
-    by false true e f = ap (λ (these : List Place). same_places these others) (sym (places-exact others some f)) ∙ ap (same_places others) (places-exact others some f)
+    by true false e f = ap (λ (these : List Place). same_places these others) (same-exact some others e) ∙ ap (same_places others) (sym (same-exact some others e))
+    by false true e f = ap (λ (these : List Place). same_places these others) (sym (same-exact others some f)) ∙ ap (same_places others) (same-exact others some f)
 
 any-map : {A B : Type 0} (test : B → Bool) (f : A → B) (items : List A) → list_any test (map f items) ≡ list_any (λ item. test (f item)) items
 any-map test f [] = refl
@@ -114,7 +106,7 @@ module _ (places : List Place) where
       none_if false e = refl
 
       alike : same_places first places ≡ true → list_all (same_places first) rest ≡ others
-      alike e = λ i. list_all (λ other. (ap (λ (these : List Place). same_places these other) (places-exact first places e) ∙ places-sym places other) i) rest
+      alike e = λ i. list_all (λ other. (ap (λ (these : List Place). same_places these other) (same-exact first places e) ∙ places-sym places other) i) rest
 
       by : (same : Bool) → same_places first places ≡ same → is_one places (mark_of (first ∷ rest)) ≡ (same_places first places && others)
       by true e = one_if (list_all (same_places first) rest) e ∙ alike e ∙ sym (ap (λ (same : Bool). same && others) e)

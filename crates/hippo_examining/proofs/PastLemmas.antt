@@ -5,6 +5,7 @@ use Rattle.std.specs.Bool.{then_some}
 use Rattle.std.specs.List.{AllByRecursion, list_any, list_all}
 use Rattle.std.specs.Option.{option_or, option_map_or}
 use Rattle.std.proofs.lemmas.Bool.{and_parts, false≢true, or_left, or_right}
+use Rattle.std.proofs.lemmas.Bool.Decides.{nat_tests}
 use Rattle.std.proofs.lemmas.List.{take-append-drop}
 use Rattle.std.proofs.lemmas.Option.{none-some}
 use Rattle.std.proofs.lemmas.Slice.Eq.{bytes_eq-Decides}
@@ -196,3 +197,15 @@ are_common history number valid query audit its names = each audit.columns its.c
     each (column ∷ columns) all names =
         let both = and_parts _ _ names in
         (is_common history number valid query audit column all.0 both.0, each columns all.1 both.1)
+
+-- ---- what is empty makes nothing
+pub no_length : {A : Type 0} (rows : List A) → nat_lt 0 (length rows) ≡ false → rows ≡ []
+no_length [] is = refl
+no_length (row ∷ rows) is = absurd (false≢true (sym is ∙ some_length (length rows)))
+  where
+    some_length : (n : ℕ) → nat_lt 0 (suc n) ≡ true
+    some_length n = grind (arith, nat_tests)
+
+pub flat_map_none : {A B : Type 0} (f : A → List B) → ((x : A) → f x ≡ []) → (xs : List A) → flat_map f xs ≡ []
+flat_map_none f none [] = refl
+flat_map_none f none (x ∷ xs) = λ i. (none x i) ++ flat_map_none f none xs i

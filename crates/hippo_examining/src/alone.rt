@@ -9,17 +9,16 @@ ghost use Rattle.hippo_model.specs.Answers.{product};
 ghost use Rattle.hippo_model.specs.Terms.{Place, ShownRow};
 ghost use Rattle.hippo_eval.specs.Walks.{rows_of};
 ghost use Rattle.hippo_sides.specs.Finding.{has_places};
-ghost use Rattle.hippo_shared.specs.Audited.{HasRowsFor};
+ghost use Rattle.hippo_shared.specs.Comparing.{HaveRows, needed_between};
 ghost use Rattle.hippo_shared.specs.Marks.{mark_of, is_one};
-ghost use Rattle.hippo_shared.specs.Needs.{first_needed};
 ghost use Rattle.hippo_examining.specs.AloneRows.{AreMarked, mark_at};
 
 use hippo_commons::common_places;
 use hippo_eval::{Onward, Visitor, passes, project};
 use hippo_join::walk_joined;
-use hippo_model::{Cell, CellRow, ChoiceView, Combo, Exprs, Masked, Places, SharedTuple};
+use hippo_model::{Cell, CellRow, ChoiceView, Combo, Masked, Places, SharedTuple};
 use hippo_rows::Sets;
-use hippo_shared::{Audited, Mark, audit_has_any, first_of, know_order, row_places};
+use hippo_shared::{Compared, Mark, audit_has_any, first_of, know_order, row_places};
 use hippo_values::{Memory, Sequence};
 use std::alloc::Global;
 use std::collections::{BTreeMap, BTreeSet};
@@ -117,28 +116,24 @@ fn alone(alloc: Global, marks: BTreeMap<CellRow, Mark>) -> Result<BTreeSet<Place
 /// memory for the different rows.
 pub(crate) fn first_alone<C: ChoiceView>(
     alloc: Global,
-    query: &Masked,
-    seen: &Exprs,
-    audited: &Audited<'_, C>,
+    compared: &Compared<'_, C>,
 ) -> Result<Option<SharedTuple>, Memory>
-    requires { HasRowsFor query.now.tables audited.now }
-    ensures { IfOk result (λ shared. shared
-        ≡ first_needed (C.choices audited.now.choices.now) query.now Distinct
-        audited.now.audit.now seen.now audited.now.query_sets.now audited.now.audit_sets.now) }
+    requires { HaveRows compared.now }
+    ensures { IfOk result (λ shared. shared ≡ needed_between C.choices Distinct compared.now) }
 {
-    if !audit_has_any(alloc, audited)? {
+    if !audit_has_any(alloc, compared.audited)? {
         return Ok(None);
     }
-    know_order(audited.audit_sets);
-    let tables = audited.audit.tables.as_slice();
-    let common = common_places(alloc, query.tables.as_slice(), tables)?;
+    know_order(compared.audited.audit_sets);
+    let tables = compared.audited.audit.tables.as_slice();
+    let common = common_places(alloc, compared.query.tables.as_slice(), tables)?;
     let marks = row_marks(
         alloc,
-        query,
-        audited.query_sets,
+        compared.query,
+        compared.audited.query_sets,
         &common.query,
-        audited.choices,
+        compared.audited.choices,
     )?;
     let candidates = alone(alloc, marks)?;
-    first_of(alloc, candidates, query, seen, audited)
+    first_of(alloc, candidates, compared)
 }

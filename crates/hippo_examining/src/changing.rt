@@ -1,13 +1,12 @@
 //! The first virtual tuple that a grouped query needs and an audit has.
 ghost use Rattle.std.specs.Prelude.{◌≡◌, IfOk};
 ghost use Rattle.hippo_model.specs.declared.query.Form.TheVariants.{Grouped};
-ghost use Rattle.hippo_shared.specs.Audited.{HasRowsFor};
-ghost use Rattle.hippo_shared.specs.Needs.{first_needed};
+ghost use Rattle.hippo_shared.specs.Comparing.{HaveRows, needed_between};
 
 use crate::marking::marked_groups;
 use hippo_commons::common_places;
-use hippo_model::{ChoiceView, Exprs, Masked, Shape, SharedTuple};
-use hippo_shared::{Audited, audit_has_any, first_of, know_order};
+use hippo_model::{ChoiceView, Shape, SharedTuple};
+use hippo_shared::{Compared, audit_has_any, first_of, know_order};
 use hippo_values::Memory;
 use std::alloc::Global;
 
@@ -21,31 +20,27 @@ use std::alloc::Global;
 /// the audit's rows counts.
 pub(crate) fn first_changing<C: ChoiceView>(
     alloc: Global,
-    query: &Masked,
     shape: &Shape,
-    seen: &Exprs,
-    audited: &Audited<'_, C>,
+    compared: &Compared<'_, C>,
 ) -> Result<Option<SharedTuple>, Memory>
-    requires { HasRowsFor query.now.tables audited.now }
+    requires { HaveRows compared.now }
     ensures { IfOk result (λ shared. shared
-        ≡ first_needed (C.choices audited.now.choices.now) query.now
-        (Grouped shape.now) audited.now.audit.now seen.now audited.now.query_sets.now
-        audited.now.audit_sets.now) }
+        ≡ needed_between C.choices (Grouped shape.now) compared.now) }
 {
-    if !audit_has_any(alloc, audited)? {
+    if !audit_has_any(alloc, compared.audited)? {
         return Ok(None);
     }
-    know_order(audited.audit_sets);
-    let tables = audited.audit.tables.as_slice();
-    let common = common_places(alloc, query.tables.as_slice(), tables)?;
+    know_order(compared.audited.audit_sets);
+    let tables = compared.audited.audit.tables.as_slice();
+    let common = common_places(alloc, compared.query.tables.as_slice(), tables)?;
     let groups = marked_groups(
         alloc,
-        query,
+        compared.query,
         shape,
-        audited.query_sets,
+        compared.audited.query_sets,
         &common.query,
-        audited.choices,
+        compared.audited.choices,
     )?;
     let candidates = groups.candidates(alloc)?;
-    first_of(alloc, candidates, query, seen, audited)
+    first_of(alloc, candidates, compared)
 }

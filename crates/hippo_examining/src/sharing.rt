@@ -1,7 +1,7 @@
 //! The first virtual tuple that serves, over rows at hand.
 ghost use Rattle.std.specs.Prelude.{◌≡◌, IfOk, map};
 ghost use Rattle.hippo_shared.specs.Audited.{HasRowsFor};
-ghost use Rattle.hippo_shared.specs.Needs.{first_needed};
+ghost use Rattle.hippo_shared.specs.Comparing.{HaveRows, needed_between};
 ghost use Rattle.hippo_examining.specs.Seen.{column_in_query, to_be_seen};
 ghost use Rattle.hippo_examining.specs.Examining.{ServesFirst};
 
@@ -9,12 +9,10 @@ use crate::alone::first_alone;
 use crate::changing::first_changing;
 use crate::laws::needed_serves_first;
 use hippo_commons::place_in;
-use hippo_model::{
-    Audit, ChoiceView, Exprs, Form, Masked, Query, Ref, Refs, RulesInForce, SharedTuple,
-};
+use hippo_model::{Audit, ChoiceView, Exprs, Form, Query, Ref, Refs, RulesInForce, SharedTuple};
 use hippo_rewrite::{mask_columns, rewrite};
 use hippo_rows::Sets;
-use hippo_shared::{Audited, first_shared};
+use hippo_shared::{Audited, Compared, first_shared};
 use hippo_values::{Memory, Name, Sequence};
 use std::alloc::Global;
 
@@ -65,19 +63,15 @@ pub fn to_be_seen(
 fn first_needed<C: ChoiceView>(
     alloc: Global,
     form: &Form,
-    query: &Masked,
-    seen: &Exprs,
-    audited: &Audited<'_, C>,
+    compared: &Compared<'_, C>,
 ) -> Result<Option<SharedTuple>, Memory>
-    requires { HasRowsFor query.now.tables audited.now }
-    ensures { IfOk result (λ shared. shared
-        ≡ first_needed (C.choices audited.now.choices.now) query.now form.now
-        audited.now.audit.now seen.now audited.now.query_sets.now audited.now.audit_sets.now) }
+    requires { HaveRows compared.now }
+    ensures { IfOk result (λ shared. shared ≡ needed_between C.choices form.now compared.now) }
 {
     match form {
-        Form::Plain => first_shared(alloc, query, seen, audited),
-        Form::Distinct => first_alone(alloc, query, seen, audited),
-        Form::Grouped(shape) => first_changing(alloc, query, shape, seen, audited),
+        Form::Plain => first_shared(alloc, compared),
+        Form::Distinct => first_alone(alloc, compared),
+        Form::Grouped(shape) => first_changing(alloc, shape, compared),
     }
 }
 
@@ -115,7 +109,12 @@ pub fn shared_of<C: ChoiceView>(
     };
     let seen = to_be_seen(alloc, query, audit, rules)?;
     let masked = rewrite(alloc, query, rules)?;
-    let shared = first_needed(alloc, &query.form, &masked, &seen, &audited);
+    let compared = Compared {
+        query: &masked,
+        seen: &seen,
+        audited: &audited,
+    };
+    let shared = first_needed(alloc, &query.form, &compared);
     drop(masked);
     drop(seen);
     shared

@@ -1,10 +1,9 @@
 -- Rows after the first entries of a history, and what is shared over them.
-use Rattle.std.proofs.Common.{◌≡◌, ◌∙◌, sym, ap, refl, arith, ℕ, suc, true, false, ◌&&◌, List, [], ◌∷◌, ◌++◌, map, filter_map, length, take, Option, None, Some}
+use Rattle.std.proofs.Common.{◌≡◌, ◌∙◌, sym, ap, refl, ℕ, true, false, ◌&&◌, List, [], ◌∷◌, map, filter_map, length, take, Option, None, Some}
 use Rattle.std.specs.Prelude.{ℤ, flat_map, nat_lt, is_some}
 use Rattle.std.specs.List.{AllByRecursion, cons_option}
 use Rattle.std.specs.Option.{option_map_or}
 use Rattle.std.proofs.lemmas.Bool.{and_parts, false≢true}
-use Rattle.std.proofs.lemmas.Bool.Decides.{nat_tests}
 use Rattle.hippo_values.specs.declared.names.Name.{Name}
 use Rattle.hippo_model.specs.declared.audit.Audit.{Audit}
 use Rattle.hippo_model.specs.declared.born_row.BornRow.{BornRow}
@@ -30,7 +29,7 @@ use Rattle.hippo_shared.specs.HistoryLaws.{sets_at}
 use Rattle.hippo_audit_job.specs.declared.past.Past.{Past}
 use Rattle.hippo_examining.specs.Examining.{AreOfHistory}
 use Rattle.hippo_combine.proofs.ExaminerLemmas.{nothing_of_audit}
-use Rattle.hippo_examining.proofs.PastLemmas.{front_valid, lasting, no_rows_yet, are_common}
+use Rattle.hippo_examining.proofs.PastLemmas.{front_valid, lasting, no_rows_yet, are_common, no_length, flat_map_none}
 use Rattle.hippo_removal.specs.Removals.{have_rows, rows_then, AreThen}
 
 abbrev no_set : KeyedRows
@@ -77,22 +76,11 @@ module _ (number : ℕ) (history : History) (valid : is_valid meaning history �
       (created_by name (schema_at history name) refl both.0, created_all names both.1)
 
   -- where a table has no rows there are no combinations
-  no_length : (rows : List BornRow) → nat_lt 0 (length rows) ≡ false → rows ≡ []
-  no_length [] is = refl
-  no_length (row ∷ rows) is = absurd (false≢true (sym is ∙ some_length (length rows)))
-    where
-      some_length : (n : ℕ) → nat_lt 0 (suc n) ≡ true
-      some_length n = grind (arith, nat_tests)
-
   empty_by : (table : Name) (found : Option Schema) → schema_at front table ≡ found → (set_of (schema_at history table)).rows ≡ [] → unmasked_at front table ≡ []
   empty_by table None is rows = rw is refl
   empty_by table (Some schema) is rows =
       let same : (kept_at schema front).rows ≡ [] = sym (ap (λ (found : Option Schema). (set_of found).rows) (lasting history number valid table schema is)) ∙ rows in
       rw (is, same) refl
-
-  flat_map_none : {A B : Type 0} (f : A → List B) → ((x : A) → f x ≡ []) → (xs : List A) → flat_map f xs ≡ []
-  flat_map_none f none [] = refl
-  flat_map_none f none (x ∷ xs) = λ i. (none x i) ++ flat_map_none f none xs i
 
   pub none_of_all : (names : List Name) → have_rows (rows_then number history names) ≡ false → product (map (unmasked_at front) names) ≡ []
   none_of_all [] none = absurd (false≢true (sym none))

@@ -1,9 +1,6 @@
 //! The examiner by removal.
-ghost use Rattle.std.specs.Prelude.{◌≡◌, ◌<◌, length, take, IfOk, IfErr};
+ghost use Rattle.std.specs.Prelude.{◌≡◌, ◌<◌, length, take, IfOk};
 ghost use Rattle.hippo_model.specs.Terms.{History};
-ghost use Rattle.hippo_model.specs.Verdicts.{Context};
-ghost use Rattle.hippo_backlog.specs.declared.faults.ReadFault.TheVariants.{Memory as NoMemory};
-ghost use Rattle.hippo_model.specs.Audits.{first_serving};
 ghost use Rattle.hippo_audit_job.specs.Examining.{IsServing};
 ghost use Rattle.hippo_removal.specs.Removals.{have_rows, AreThen};
 
@@ -11,10 +8,10 @@ use crate::sharing::first_serving;
 use crate::snapshots::{BothRows, Rows, lent, read_both, schemas_of};
 use hippo_audit_job::{Examiner, Past};
 use hippo_backlog::ReadFault;
-use hippo_combine::number_before;
+use hippo_combine::{as_read, number_before, rules_asked};
 use hippo_keeper::{Keeper, Steps};
-use hippo_model::{Act, Audit, Entry, Query, SharedTuple};
-use hippo_values::{Memory, Moment, Name};
+use hippo_model::{Audit, Entry, Query, SharedTuple};
+use hippo_values::Memory;
 use std::alloc::Global;
 use std::sync::ledger::Ledger;
 
@@ -44,14 +41,13 @@ fn have_rows(rows: &Rows) -> bool
     rows.as_slice().iter().all(|set| 0 < set.len())
 }
 
-// The first virtual tuple that serves; none where there are no rows of one of the audit's tables.
-fn shared_at(
+// The first virtual tuple that serves, of a question with this meaning and an audit, over rows that
+// are those before the entry; none where there are no rows of one of the audit's tables.
+fn shared_over(
     alloc: Global,
     past: &Past<'_>,
     number: u64,
-    moment: Moment,
-    purpose: &Name,
-    recipient: &Name,
+    entry: &Entry,
     query: &Query,
     audit: &Audit,
     both: &BothRows,
@@ -59,19 +55,19 @@ fn shared_at(
     requires many { length both.now.audit ≡ length audit.now.tables }
     ensures { IfOk result (λ shared. (history : History)
         → AreThen past.now number history query.now audit.now both.now.query both.now.audit
-        → let context : Context = record
-        { purpose = purpose.now; recipient = recipient.now; moment = moment } in
-        shared ≡ first_serving (take number history) context query.now audit.now) }
+        → IsServing (take number history) audit.now entry.now query.now shared) }
 {
     if !have_rows(&both.audit) {
         return Ok(None);
     }
     let schemas = schemas_of(alloc, past.catalog, query.tables.as_slice())?;
-    let book = past.book;
-    let rules = book.rules_in_force(alloc, number, moment, purpose, recipient, &schemas)?;
+    let found = rules_asked(alloc, past.book, number, entry, &schemas)?;
+    let Some(rules) = found else {
+        return Ok(None);
+    };
     let query_sets = lent(alloc, &both.query)?;
     let audit_sets = lent(alloc, &both.audit)?;
-    let choices = book.choices_at(number);
+    let choices = past.book.choices_at(number);
     first_serving(
         alloc,
         query,
@@ -81,47 +77,6 @@ fn shared_at(
         &audit_sets,
         &choices,
     )
-}
-
-// The first virtual tuple that serves, of a question with this meaning and an audit, over rows that
-// are those before the entry.
-fn shared_over(
-    alloc: Global,
-    past: &Past<'_>,
-    number: u64,
-    entry: &Entry,
-    query: &Query,
-    audit: &Audit,
-    both: &BothRows,
-) -> Result<Option<SharedTuple>, ReadFault>
-    requires many { length both.now.audit ≡ length audit.now.tables }
-    ensures memory { IfErr result (λ fault. fault ≡ NoMemory) }
-    ensures serves { IfOk result (λ shared. (history : History)
-        → AreThen past.now number history query.now audit.now both.now.query both.now.audit
-        → IsServing (take number history) audit.now entry.now query.now shared) }
-{
-    let Act::Asked {
-        purpose,
-        recipient,
-        ..
-    } = &entry.act
-    else {
-        return Ok(None);
-    };
-    match shared_at(
-        alloc,
-        past,
-        number,
-        entry.moment,
-        purpose,
-        recipient,
-        query,
-        audit,
-        both,
-    ) {
-        Ok(shared) => Ok(shared),
-        Err(Memory) => Err(ReadFault::Memory),
-    }
 }
 
 impl<P: Keeper> Examiner<P> for Removal {
@@ -143,7 +98,7 @@ impl<P: Keeper> Examiner<P> for Removal {
             return Ok(None);
         };
         let both = read_both(keeper, alloc, past, query, audit, number, steps)?;
-        shared_over(alloc, past, number, entry, query, audit, &both)
+        as_read(shared_over(alloc, past, number, entry, query, audit, &both))
     }
 
     fn taken(&self) -> Option<u64> {

@@ -3,7 +3,7 @@ ghost use Rattle.std.specs.Prelude.{◌≡◌, map, IfOk, bytes_eq, filter_map, 
 ghost use Rattle.std.specs.List.{list_any};
 ghost use Rattle.hippo_model.specs.declared.query.Expr.TheVariants.{Keep};
 ghost use Rattle.hippo_commons.specs.Commons.{common_tables, place_in};
-ghost use Rattle.hippo_shared.specs.Needs.{first_needed};
+ghost use Rattle.hippo_shared.specs.Comparing.{needed_between};
 ghost use Rattle.hippo_examining.specs.Examining.{ServesFirst};
 ghost use Rattle.hippo_removal.specs.Removing.{tuple_of, unmasked_query};
 
@@ -20,7 +20,7 @@ use hippo_model::{
 };
 use hippo_rewrite::rewrite;
 use hippo_rows::{RowSet, Sets};
-use hippo_shared::Audited;
+use hippo_shared::{Audited, Compared};
 use hippo_values::{Duplicate, Memory, Name, Sequence};
 use std::alloc::Global;
 
@@ -225,29 +225,31 @@ impl<'a, C: ChoiceView> Visitor for Sides<'a, C> {
 fn first_needed<C: ChoiceView>(
     alloc: Global,
     form: &Form,
-    query: &Masked,
-    seen: &Exprs,
-    audited: &Audited<'_, C>,
+    compared: &Compared<'_, C>,
 ) -> Result<Option<SharedTuple>, Memory>
-    requires audit_sets { length audited.now.audit_sets.now ≡ length audited.now.audit.now.tables }
-    ensures { IfOk result (λ shared. shared
-        ≡ first_needed (C.choices audited.now.choices.now) query.now form.now
-        audited.now.audit.now seen.now audited.now.query_sets.now audited.now.audit_sets.now) }
+    requires audit_sets { length compared.now.audited.now.audit_sets.now
+        ≡ length compared.now.audited.now.audit.now.tables }
+    ensures { IfOk result (λ shared. shared ≡ needed_between C.choices form.now compared.now) }
 {
-    let tables = audited.audit.tables.as_slice();
-    let common = common_tables(alloc, query.tables.as_slice(), tables)?;
-    let common_sets = sets_named(alloc, tables, audited.audit_sets, common.as_slice())?;
-    let unmasked = unmasked_query(alloc, audited.audit)?;
+    let tables = compared.audited.audit.tables.as_slice();
+    let common = common_tables(alloc, compared.query.tables.as_slice(), tables)?;
+    let common_sets = sets_named(
+        alloc,
+        tables,
+        compared.audited.audit_sets,
+        common.as_slice(),
+    )?;
+    let unmasked = unmasked_query(alloc, compared.audited.audit)?;
     let sides = Sides {
-        query: &*query,
+        query: &*compared.query,
         form: &*form,
         audit: &unmasked,
-        seen: &*seen,
-        query_sets: &*audited.query_sets,
-        audit_sets: &*audited.audit_sets,
+        seen: &*compared.seen,
+        query_sets: &*compared.audited.query_sets,
+        audit_sets: &*compared.audited.audit_sets,
         common: common.as_slice(),
         common_sets: &common_sets,
-        choices: &*audited.choices,
+        choices: &*compared.audited.choices,
     };
     sides.first_shared(alloc)
 }
@@ -278,7 +280,12 @@ pub(crate) fn first_serving<C: ChoiceView>(
     };
     let masked = rewrite(alloc, query, rules)?;
     let seen = to_be_seen(alloc, query, audit, rules)?;
-    let shared = first_needed(alloc, &query.form, &masked, &seen, &audited);
+    let compared = Compared {
+        query: &masked,
+        seen: &seen,
+        audited: &audited,
+    };
+    let shared = first_needed(alloc, &query.form, &compared);
     drop(seen);
     drop(masked);
     shared

@@ -1,6 +1,6 @@
 -- The first of some places with which something holds.
-use Rattle.std.proofs.Common.{◌≡◌, ℕ, zero, suc, ◌+◌, ◌<◌, ◌≤◌, Bool, true, false, cond, ◌&&◌, ◌||◌, List, [], ◌∷◌, length, drop, get_or, refl, sym, ap, subst, ◌∙◌, Option, Some, None, inl, inr, add-one, Ok}
-use Rattle.std.specs.Prelude.{slice_get, filter, find}
+use Rattle.std.proofs.Common.{◌≡◌, ℕ, zero, suc, ◌+◌, ◌<◌, ◌≤◌, Bool, true, false, cond, ◌&&◌, ◌||◌, List, [], ◌∷◌, length, drop, get_or, refl, sym, ap, subst, ◌∙◌, Option, Some, None, inl, inr, add-one, Result, Ok, Err, option_map, Vec, Global}
+use Rattle.std.specs.Prelude.{slice_get, filter, find, IfOk}
 use Rattle.std.specs.Ordering.{is_eq, nat_cmp}
 use Rattle.std.specs.Cmp.{eq_by_cmp_equiv}
 use Rattle.std.specs.Cmp.Lexicographic.{slice_cmp}
@@ -10,6 +10,7 @@ use Rattle.std.proofs.lemmas.List.{drop_all}
 use Rattle.std.proofs.lemmas.Option.{slice_get_read}
 use Rattle.std.proofs.lemmas.List.Kept.{IsStrictlySortedBy-filter}
 use Rattle.std.proofs.Math.Bool.{or-true}
+use Rattle.hippo_values.specs.declared.memory.Memory.{Memory}
 use Rattle.hippo_model.specs.Terms.{Place}
 use Rattle.hippo_keyed_rows.specs.RowSets.{KeyedRows}
 use Rattle.hippo_sides.specs.Finding.{has_places, IsRising}
@@ -112,3 +113,9 @@ module _ (holds : List Place → Type 0) where
 
   pub found-none : (candidates : List (List Place)) (i : ℕ) → length candidates ≤ i → IsFirstAmong holds (drop i candidates) None
   found-none candidates i past = subst (λ (l : List (List Place)). IsFirstAmong holds l None) (sym (drop_all i candidates past)) tt
+
+-- what is found is copied
+pub copied-first : (holds : List Place → Type 0) (candidates : List (List Place)) (found : Option (List Place)) (result : Result (Option (Vec ℕ Global)) Memory)
+    → IfOk result (λ made. option_map (λ copy. copy.items) made ≡ found) → IsFirstAmong holds candidates found → IfOk result (λ made. IsFirstAmong holds candidates (option_map (λ copy. copy.items) made))
+copied-first holds candidates found (Ok made) same first = subst (IsFirstAmong holds candidates) (sym same) first
+copied-first holds candidates found (Err fault) same first = tt

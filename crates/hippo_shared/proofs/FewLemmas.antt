@@ -1,6 +1,5 @@
 -- A few places of the one common table.
-use Rattle.std.proofs.Common.{◌≡◌, ℕ, suc, ◌+◌, ◌<◌, ◌≤◌, List, [], ◌∷◌, ◌++◌, map, length, take, get_or, sym, ap, subst, ◌∙◌, Option, Some, None, inl, inr, arith, Vec, Global}
-use Rattle.std.specs.Prelude.{slice_get, IfSome}
+use Rattle.std.proofs.Common.{◌≡◌, ℕ, suc, ◌+◌, ◌<◌, ◌≤◌, List, [], ◌∷◌, ◌++◌, map, length, take, get_or, sym, ap, subst, ◌∙◌, Option, Some, None, inl, inr, arith}
 use Rattle.std.specs.List.{All, Contains}
 use Rattle.std.specs.List.Sorted.{IsNonDecreasing, IsPermutation}
 use Rattle.std.proofs.lemmas.List.{take_more, take_all}
@@ -10,11 +9,9 @@ use Rattle.hippo_sides.specs.declared.sides.Side.{Side}
 use Rattle.hippo_sides.specs.Stages.{Reaches}
 use Rattle.hippo_sides.proofs.FindingLemmas.{first_or_later}
 use Rattle.hippo_model.specs.Masking.{Choices}
-use Rattle.hippo_shared.specs.declared.sides.Sides.{Sides}
-use Rattle.hippo_shared.specs.FirstPlaces.{AgreeAt, AreFirst, IsFirst, IsFirstAmong}
-use Rattle.hippo_shared.specs.Searching.{AreFewOf, AreFewShared, HasOneOf, HaveCommon}
+use Rattle.hippo_shared.specs.FirstPlaces.{AreFirst, IsFirst, IsFirstAmong}
+use Rattle.hippo_shared.specs.Searching.{AreFewOf}
 use Rattle.hippo_commons.proofs.LoopLemmas.{map-push}
-use Rattle.hippo_shared.proofs.SideLemmas.{share-both, one-agrees}
 
 abbrev pub alone : Place → List Place
 alone place = place ∷ []
@@ -41,44 +38,6 @@ few-of choices side tables table some here sorted only reaches same moved rises 
       subst (λ (t : ℕ). Reaches (choices side.choices.now) side.query.now side.sets.now t some) only.1 reaches in
       Contains-permutation here sorted place moved (subst (λ (l : List Place). Contains l place) (sym same) (reach places counts place at));
 }
-
-agreed_one : (tables given places : List Place) → length tables ≡ 1 → AgreeAt tables given places → (place : Place) × (given ≡ place ∷ []) × (slice_get places (get_or tables 0 0) ≡ Some place)
-agreed_one [] given places one agree = absurd (omega (arith, one))
-agreed_one (table ∷ other ∷ tables) given places one agree = absurd (omega (arith, one))
-agreed_one (table ∷ []) [] places one agree = absurd agree
-agreed_one (table ∷ []) (place ∷ []) places one agree = (place, (λ i. place ∷ []), agree.0)
-agreed_one (table ∷ []) (place ∷ other ∷ given) places one agree = absurd agree.1
-
-module _ {C : Type 0} (choices : C → Choices) (sides : Sides C) (common : HaveCommon sides) where
-  abbrev query_places : List Place
-  query_places = sides.common.now.query.items
-
-  abbrev audit_places : List Place
-  audit_places = sides.common.now.audit.items
-
-  pub few-by-query : (few : List Place) → AreFewOf choices sides.query query_places few → AreFewShared choices sides few
-  few-by-query few are = record {
-    rises = are.rises;
-    all = λ given share.
-        let both = share-both (HasOneOf choices sides.query sides.seen.now) (HasOneOf choices sides.audit []) query_places audit_places _ _ given share in
-        let one = one-agrees (choices sides.query.choices.now) sides.query.query.now sides.seen.now sides.query.sets.now query_places given _ common.query_open both.0 both.1 in
-        let here = agreed_one query_places given one.0.places are.one one.1 in
-        (here.0, here.1, are.reaches one.0.places one.0.counts here.0 here.2);
-  }
-
-  few-by-audit : (few : List Place) → AreFewOf choices sides.audit audit_places few → AreFewShared choices sides few
-  few-by-audit few are = record {
-    rises = are.rises;
-    all = λ given share.
-        let both = share-both (HasOneOf choices sides.query sides.seen.now) (HasOneOf choices sides.audit []) query_places audit_places _ _ given share in
-        let one = one-agrees (choices sides.audit.choices.now) sides.audit.query.now [] sides.audit.sets.now audit_places given _ common.audit_open (both.0 ∙ common.same) both.2 in
-        let here = agreed_one audit_places given one.0.places are.one one.1 in
-        (here.0, here.1, are.reaches one.0.places one.0.counts here.0 here.2);
-  }
-
-  pub few-by-either : (items : Vec ℕ Global → List Place) (found : Option (Vec ℕ Global)) → IfSome found (λ few. AreFewOf choices sides.audit audit_places (items few)) → IfSome found (λ few. AreFewShared choices sides (items few))
-  few-by-either items None few = tt
-  few-by-either items (Some places) few = few-by-audit (items places) few
 
 -- ---- the first of them
 module _ (holds : List Place → Type 0) where

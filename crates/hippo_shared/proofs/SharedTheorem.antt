@@ -1,7 +1,7 @@
 -- The first places with which both sides have a combination are those of the first shared tuple; and the first of some
 -- places, those of the first virtual tuple that passes a test.
 use Rattle.std.proofs.Common.{◌≡◌, ℕ, zero, suc, ◌<◌, Bool, true, false, ◌&&◌, List, [], ◌∷◌, map, length, refl, sym, ap, subst, ◌∙◌, Option, Some, None, option_map, replicate, arith}
-use Rattle.std.specs.Prelude.{bytes_eq, find}
+use Rattle.std.specs.Prelude.{bytes_eq, find, IfSome}
 use Rattle.std.specs.List.{All, AllByRecursion, IsDistinct, list_any}
 use Rattle.std.proofs.lemmas.Bool.{and_parts}
 use Rattle.hippo_values.specs.declared.names.Name.{Name}
@@ -264,40 +264,25 @@ module _ {C : Type 0} (choices : C → Choices) (query : Masked) (seen : List Ex
       (replicate (length audited.query_sets.now) None) (replicate (length audited.audit_sets.now) None) given holds in
       both.0 ∙ length_map (place_in query.tables) (common_tables query.tables audited.audit.now.tables) ∙ sym (length_map (place_in audited.audit.now.tables) (common_tables query.tables audited.audit.now.tables))
 
+  -- a tuple has a place for each common table
+  pub found-long : (found : Option (List Place)) → IsFirst (SharedBy choices sides) found → IfSome found (λ places. length places ≡ length (common_in audited.audit.now.tables query audited.audit.now))
+  found-long None first = tt
+  found-long (Some places) first = long_here places (first-holds Here places (subst (λ (holds : List Place → Type 0). IsFirst holds (Some places)) shared_here first))
+
+  pub candidate-long : (candidates : List (List Place)) (found : Option (List Place)) → IsFirstAmong (SharedBy choices sides) candidates found → IfSome found (λ places. length places ≡ length (common_in audited.audit.now.tables query audited.audit.now))
+  candidate-long candidates None first = tt
+  candidate-long candidates (Some places) first = long_here places (among-holds Here candidates places (subst (λ (holds : List Place → Type 0). IsFirstAmong holds candidates (Some places)) shared_here first))
+
   -- the first of all
-  module _ {V : Type 0} (items : V → List Place) (found : Option V) (first : IsFirst (SharedBy choices sides) (option_map items found)) where
-    found_some : (value : V) → found ≡ Some value → IsFirst Here (Some (items value))
-    found_some value at = subst (λ (o : Option V). IsFirst Here (option_map items o)) at (subst (λ (holds : List Place → Type 0). IsFirst holds (option_map items found)) shared_here first)
-
-    pub found-long : (value : V) → found ≡ Some value → length (items value) ≡ length (common_in audited.audit.now.tables query audited.audit.now)
-    found-long value at = long_here (items value) (first-holds Here (items value) (found_some value at))
-
-    pub some-shared : (value : V) → found ≡ Some value → (shared : List SharedRow) → shared ≡ tuple_here (items value)
-        → Some shared ≡ first_shared now query audited.audit.now seen audited.query_sets.now audited.audit_sets.now
-    some-shared value at shared is =
-        ap Some is ∙ shared-is now query audited.audit.now seen audited.query_sets.now audited.audit_sets.now rows.query_sets rows.audit_sets rows.tables rows.rows ascend (Some (items value)) (found_some value at)
-
-    pub none-shared : found ≡ None → None ≡ first_shared now query audited.audit.now seen audited.query_sets.now audited.audit_sets.now
-    none-shared at =
-        let none : IsFirst Here None = subst (λ (o : Option V). IsFirst Here (option_map items o)) at (subst (λ (holds : List Place → Type 0). IsFirst holds (option_map items found)) shared_here first) in
-        shared-is now query audited.audit.now seen audited.query_sets.now audited.audit_sets.now rows.query_sets rows.audit_sets rows.tables rows.rows ascend None none
+  pub first-told : (found : Option (List Place)) → IsFirst (SharedBy choices sides) found → option_map tuple_here found ≡ first_shared now query audited.audit.now seen audited.query_sets.now audited.audit_sets.now
+  first-told found first =
+      shared-is now query audited.audit.now seen audited.query_sets.now audited.audit_sets.now rows.query_sets rows.audit_sets rows.tables rows.rows ascend found
+      (subst (λ (holds : List Place → Type 0). IsFirst holds found) shared_here first)
 
   -- the first of some places, ascending
-  module _ (candidates : List (List Place)) (found : Option (List Place)) (rising : IsRising candidates) (first : IsFirstAmong (SharedBy choices sides) candidates found) where
-    among_here : (other : Option (List Place)) → found ≡ other → IsFirstAmong Here candidates other
-    among_here other at = subst (λ (o : Option (List Place)). IsFirstAmong Here candidates o) at (subst (λ (holds : List Place → Type 0). IsFirstAmong holds candidates found) shared_here first)
-
-    pub candidate-long : (places : List Place) → found ≡ Some places → length places ≡ length (common_in audited.audit.now.tables query audited.audit.now)
-    candidate-long places at = long_here places (among-holds Here candidates places (among_here (Some places) at))
-
-    pub candidate-some : (places : List Place) → found ≡ Some places → (shared : List SharedRow) → shared ≡ tuple_here places → (test : List SharedRow → Bool)
-        → AreCandidates test audited.audit.now.tables audited.audit_sets.now (common_tables query.tables audited.audit.now.tables) candidates
-        → Some shared ≡ first_passing test now query audited.audit.now seen audited.query_sets.now audited.audit_sets.now
-    candidate-some places at shared is test those =
-        ap Some is ∙ candidate-is now query audited.audit.now seen audited.query_sets.now audited.audit_sets.now rows.query_sets rows.audit_sets rows.tables rows.rows ascend test candidates rising those (Some places) (among_here (Some places) at)
-
-    pub candidate-none : found ≡ None → (test : List SharedRow → Bool)
-        → AreCandidates test audited.audit.now.tables audited.audit_sets.now (common_tables query.tables audited.audit.now.tables) candidates
-        → None ≡ first_passing test now query audited.audit.now seen audited.query_sets.now audited.audit_sets.now
-    candidate-none at test those =
-        candidate-is now query audited.audit.now seen audited.query_sets.now audited.audit_sets.now rows.query_sets rows.audit_sets rows.tables rows.rows ascend test candidates rising those None (among_here None at)
+  pub candidate-told : (candidates : List (List Place)) → IsRising candidates → (found : Option (List Place)) → IsFirstAmong (SharedBy choices sides) candidates found → (test : List SharedRow → Bool)
+      → AreCandidates test audited.audit.now.tables audited.audit_sets.now (common_tables query.tables audited.audit.now.tables) candidates
+      → option_map tuple_here found ≡ first_passing test now query audited.audit.now seen audited.query_sets.now audited.audit_sets.now
+  candidate-told candidates rising found first test those =
+      candidate-is now query audited.audit.now seen audited.query_sets.now audited.audit_sets.now rows.query_sets rows.audit_sets rows.tables rows.rows ascend test candidates rising those found
+      (subst (λ (holds : List Place → Type 0). IsFirstAmong holds candidates found) shared_here first)

@@ -1,6 +1,6 @@
 -- Places of the common tables that look-ups tell.
 use Rattle.std.proofs.Common.{◌≡◌, ℕ, ◌+◌, ◌<◌, ◌≤◌, Bool, true, false, List, [], ◌∷◌, ◌++◌, length, drop, get_or, refl, sym, ap, subst, ◌∙◌, Option, Some, None, option_map, if◌then◌else◌, replicate, arith, append_assoc, Vec, Global, Ok}
-use Rattle.std.specs.Prelude.{IfSome}
+use Rattle.std.specs.Prelude.{slice_get, IfSome}
 use Rattle.std.proofs.lemmas.List.{append-nil, drop_all, drop_more}
 use Rattle.hippo_model.specs.declared.query.Masked.{Masked}
 use Rattle.hippo_model.specs.Masking.{Choices}
@@ -9,9 +9,14 @@ use Rattle.hippo_model.specs.Terms.{Place}
 use Rattle.hippo_join.specs.Existence.{Decides}
 use Rattle.hippo_lookups.specs.Places.{Fits, slot_at, stands}
 use Rattle.hippo_lookups.proofs.SlotLemmas.{Fits-at}
+use Rattle.hippo_model.specs.declared.query.Expr.{Expr}
+use Rattle.hippo_sides.specs.declared.sides.Side.{Side}
 use Rattle.hippo_shared.specs.declared.sides.Sides.{Sides}
 use Rattle.hippo_shared.specs.FirstPlaces.{AgreeAt, AreChosen, AreFirst, IsFirst}
-use Rattle.hippo_shared.specs.Searching.{AreTold, HasOneOf, HaveCommon, IsOnlyShared}
+use Rattle.hippo_shared.specs.declared.told.HowMany.{HowMany}
+use Rattle.hippo_shared.specs.declared.told.HowMany.TheVariants.{Only, Few}
+use Rattle.hippo_shared.specs.Searching.{HasOneOf, HaveCommon, SharedBy}
+use Rattle.hippo_shared.specs.ToldPlaces.{AreToldOf, AreToldShared}
 use Rattle.hippo_shared.proofs.SideLemmas.{share-both, one-agrees}
 
 -- ---- places that are chosen in some tables
@@ -54,28 +59,53 @@ agree_once (table ∷ tables) (g ∷ given) (t ∷ told) places a b =
     some_is : {x y : Place} → Some x ≡ Some y → x ≡ y
     some_is e = cc
 
+agreed_one : (tables given places : List Place) → length tables ≡ 1 → AgreeAt tables given places → (place : Place) × (given ≡ place ∷ []) × (slice_get places (get_or tables 0 0) ≡ Some place)
+agreed_one [] given places one agree = absurd (omega (arith, one))
+agreed_one (table ∷ other ∷ tables) given places one agree = absurd (omega (arith, one))
+agreed_one (table ∷ []) [] places one agree = absurd agree
+agreed_one (table ∷ []) (place ∷ []) places one agree = (place, (λ i. place ∷ []), agree.0)
+agreed_one (table ∷ []) (place ∷ other ∷ given) places one agree = absurd agree.1
+
 module _ {C : Type 0} (choices : C → Choices) (sides : Sides C) (common : HaveCommon sides) where
-  abbrev query_places : List Place
+  abbrev pub query_places : List Place
   query_places = sides.common.now.query.items
 
-  abbrev audit_places : List Place
+  abbrev pub audit_places : List Place
   audit_places = sides.common.now.audit.items
 
-  pub told-by-query : (told : List Place) → AreTold choices sides.query query_places told → IsOnlyShared choices sides told
-  told-by-query told are given share =
+  -- what is shared stands in a combination of each side
+  in-query : (given : List Place) → SharedBy choices sides given
+      → (one : HasOneOf choices sides.query sides.seen.now (replicate (length sides.query.sets.now) None)) × AgreeAt query_places given one.places
+  in-query given share =
       let both = share-both (HasOneOf choices sides.query sides.seen.now) (HasOneOf choices sides.audit []) query_places audit_places (replicate (length sides.query.sets.now) None) (replicate (length sides.audit.sets.now) None) given share in
-      let one = one-agrees (choices sides.query.choices.now) sides.query.query.now sides.seen.now sides.query.sets.now query_places given (replicate (length sides.query.sets.now) None) common.query_open both.0 both.1 in
-      agree_once query_places given told one.0.places one.1 (are one.0.places one.0.counts)
+      one-agrees (choices sides.query.choices.now) sides.query.query.now sides.seen.now sides.query.sets.now query_places given (replicate (length sides.query.sets.now) None) common.query_open both.0 both.1
 
-  pub told-by-audit : (told : List Place) → AreTold choices sides.audit audit_places told → IsOnlyShared choices sides told
-  told-by-audit told are given share =
+  in-audit : (given : List Place) → SharedBy choices sides given
+      → (one : HasOneOf choices sides.audit [] (replicate (length sides.audit.sets.now) None)) × AgreeAt audit_places given one.places
+  in-audit given share =
       let both = share-both (HasOneOf choices sides.query sides.seen.now) (HasOneOf choices sides.audit []) query_places audit_places (replicate (length sides.query.sets.now) None) (replicate (length sides.audit.sets.now) None) given share in
-      let one = one-agrees (choices sides.audit.choices.now) sides.audit.query.now [] sides.audit.sets.now audit_places given (replicate (length sides.audit.sets.now) None) common.audit_open (both.0 ∙ common.same) both.2 in
-      agree_once audit_places given told one.0.places one.1 (are one.0.places one.0.counts)
+      one-agrees (choices sides.audit.choices.now) sides.audit.query.now [] sides.audit.sets.now audit_places given (replicate (length sides.audit.sets.now) None) common.audit_open (both.0 ∙ common.same) both.2
 
-  pub either-told : (items : Vec ℕ Global → List Place) (found : Option (Vec ℕ Global)) → IfSome found (λ told. AreTold choices sides.audit audit_places (items told)) → IfSome found (λ told. IsOnlyShared choices sides (items told))
-  either-told items None told = tt
-  either-told items (Some places) told = told-by-audit (items places) told
+  -- what a side tells is what is shared, where what is shared stands in a combination of it
+  module _ (side : Side C) (seen : List Expr) (tables : List Place)
+      (in_side : (given : List Place) → SharedBy choices sides given → (one : HasOneOf choices side seen (replicate (length side.sets.now) None)) × AgreeAt tables given one.places) where
+    told_by : (how_many : HowMany) (told : List Place) → AreToldOf how_many choices side tables told → AreToldShared how_many choices sides told
+    told_by Only told are = λ given share.
+        let one = in_side given share in agree_once tables given told one.0.places one.1 (are one.0.places one.0.counts)
+    told_by Few few are = record {
+      rises = are.rises;
+      all = λ given share.
+          let one = in_side given share in
+          let here = agreed_one tables given one.0.places are.one one.1 in
+          (here.0, here.1, are.reaches one.0.places one.0.counts here.0 here.2);
+    }
+
+  pub by-query : (how_many : HowMany) (told : List Place) → AreToldOf how_many choices sides.query query_places told → AreToldShared how_many choices sides told
+  by-query how_many told are = told_by sides.query sides.seen.now query_places in-query how_many told are
+
+  pub by-either : (how_many : HowMany) (items : Vec ℕ Global → List Place) (found : Option (Vec ℕ Global)) → IfSome found (λ told. AreToldOf how_many choices sides.audit audit_places (items told)) → IfSome found (λ told. AreToldShared how_many choices sides (items told))
+  by-either how_many items None told = tt
+  by-either how_many items (Some places) told = told_by sides.audit [] audit_places in-audit how_many (items places) told
 
 -- ---- what holds with these places alone, holds with them first
 only_first : (holds : List Place → Type 0) (told : List Place) → ((given : List Place) → holds given → given ≡ told) → holds told → AreFirst holds told

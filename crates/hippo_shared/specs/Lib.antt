@@ -3,8 +3,10 @@ pub mod Audited
 pub mod Needs
 pub mod FirstPlaces
 pub mod Searching
+pub mod ToldPlaces
 pub mod Sides
 pub mod Tuples
 pub mod HistoryLaws
 pub mod Marks
 pub mod Candidates
+pub mod Comparing

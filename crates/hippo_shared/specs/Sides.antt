@@ -1,16 +1,19 @@
 -- What stands for an audit in a search, and the sides that are made of it.
-use Rattle.std.specs.Prelude.{◌≡◌, List, [], map}
+use Rattle.std.specs.Prelude.{◌≡◌, List, [], map, length, Option, IfSome}
 use Rattle.hippo_values.specs.declared.names.Name.{Name}
 use Rattle.hippo_model.specs.declared.audit.Audit.{Audit}
+use Rattle.hippo_model.specs.declared.audit.SharedRow.{SharedRow}
 use Rattle.hippo_model.specs.declared.query.Expr.{Expr}
 use Rattle.hippo_model.specs.declared.query.Masked.{Masked}
 use Rattle.hippo_model.specs.Terms.{Place}
 use Rattle.hippo_eval.specs.Unmasked.{unmasked_condition}
 use Rattle.hippo_lookups.specs.Places.{blank}
 use Rattle.hippo_shared.specs.declared.audited.Audited.{Audited}
+use Rattle.hippo_shared.specs.declared.audited.Compared.{Compared}
 use Rattle.hippo_shared.specs.declared.sharing.AuditSide.{AuditSide}
 use Rattle.hippo_shared.specs.declared.sides.Sides.{Sides}
 use Rattle.hippo_commons.specs.Commons.{common_tables, place_in}
+use Rattle.hippo_shared.specs.Tuples.{tuple_at}
 
 -- an audit's condition as that of a query without guards
 abbrev pub condition_alone : Audit → Masked
@@ -42,3 +45,19 @@ pub record AreSidesOf {C : Type 0} (query : Masked) (shown : List Expr) (audited
   pub query_places : sides.common.now.query.items ≡ common_in query.tables query audited.audit.now
   pub audit_places : sides.common.now.audit.items
       ≡ common_in audited.audit.now.tables query audited.audit.now
+
+-- the places of the common tables among those of the audit
+abbrev pub places_beside : {C : Type 0} → Compared C → List Place
+places_beside compared =
+    let audit = compared.audited.now.audit.now in common_in audit.tables compared.query.now audit
+
+-- there is a place for each of the common tables, where there are some
+abbrev pub AreOfTuple : {C : Type 0} → Compared C → Option (List Place) → Type 0
+AreOfTuple compared found =
+    IfSome found (λ places. length places ≡ length (places_beside compared))
+
+-- the virtual tuple of the rows at some places of the common tables
+abbrev pub tuple_there : {C : Type 0} → Compared C → List Place → List SharedRow
+tuple_there compared places =
+    tuple_at compared.audited.now.audit.now.tables compared.audited.now.audit_sets.now
+    (places_beside compared) places

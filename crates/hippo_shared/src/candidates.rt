@@ -1,21 +1,18 @@
 //! The first virtual tuple that a query and an audit share, of those that pass a test.
-ghost use Rattle.std.specs.Prelude.{◌≡◌, [], Bool, false, None, List, IfOk, length, replicate};
+ghost use Rattle.std.specs.Prelude.{◌≡◌, [], false, None, List, IfOk, length, replicate};
 ghost use Rattle.hippo_model.specs.declared.audit.SharedRow as shared_row;
 ghost use Rattle.hippo_join.specs.Existence.{HasOne, Decides};
 ghost use Rattle.hippo_sides.specs.Finding.{IsRising};
-ghost use Rattle.hippo_shared.specs.Audited.{HasRowsFor};
-ghost use Rattle.hippo_commons.specs.Commons.{common_tables};
+ghost use Rattle.hippo_shared.specs.Comparing.{HaveRows, IsFirstPassing};
 ghost use Rattle.hippo_shared.specs.Sharing.{audit_has};
 ghost use Rattle.hippo_shared.specs.Sides.{StandsForAudit};
-ghost use Rattle.hippo_shared.specs.Candidates.{AreCandidates, first_passing};
 
-use crate::audited::Audited;
-use crate::sharing::{AuditSide, audit_side, know_order, sides_of, unmasked_query};
+use crate::audited::{Audited, Compared};
+use crate::sharing::{AuditSide, audit_side, know_order, sides_of, tuple_found, unmasked_query};
 use crate::told::first_candidate;
-use crate::tuples::tuple_at;
 use hippo_commons::order_from;
 use hippo_join::{blank_row, has};
-use hippo_model::{ChoiceView, Exprs, Masked, Places, SharedTuple};
+use hippo_model::{ChoiceView, Masked, Places, SharedTuple};
 use hippo_rows::Sets;
 use hippo_sides::{Side, open_slots};
 use hippo_values::Memory;
@@ -80,58 +77,33 @@ fn listed(alloc: Global, candidates: BTreeSet<Places>) -> Result<Vec<Places>, Me
 fn first_listed<C: ChoiceView>(
     alloc: Global,
     listed: &[Places],
-    query: &Masked,
-    seen: &Exprs,
-    audited: &Audited<'_, C>,
+    compared: &Compared<'_, C>,
     side: &AuditSide,
 ) -> Result<Option<SharedTuple>, Memory>
     requires order { IsRising listed.now }
-    requires rows { HasRowsFor query.now.tables audited.now }
-    requires side { StandsForAudit query.now audited.now.audit.now side.now }
-    ensures { IfOk result (λ shared. (test : List shared_row.SharedRow → Bool)
-        → AreCandidates test audited.now.audit.now.tables audited.now.audit_sets.now
-        (common_tables query.now.tables audited.now.audit.now.tables) listed.now
-        → shared ≡ first_passing test (C.choices audited.now.choices.now) query.now
-        audited.now.audit.now seen.now
-        audited.now.query_sets.now audited.now.audit_sets.now) }
+    requires rows { HaveRows compared.now }
+    requires side { StandsForAudit compared.now.query.now compared.now.audited.now.audit.now
+        side.now }
+    ensures { IfOk result (IsFirstPassing C.choices compared.now listed.now) }
 {
-    know_order(audited.audit_sets);
-    let sides = sides_of(query, seen, audited, side);
-    match first_candidate(alloc, &sides, listed)? {
-        Some(places) => {
-            let names = audited.audit.tables.as_slice();
-            let tuple = tuple_at(
-                alloc,
-                names,
-                audited.audit_sets,
-                &side.common.audit,
-                places.as_slice(),
-            )?;
-            Ok(Some(tuple))
-        }
-        None => Ok(None),
-    }
+    know_order(compared.audited.audit_sets);
+    let sides = sides_of(compared, side);
+    let found = first_candidate(alloc, &sides, listed)?;
+    tuple_found(alloc, compared, side, found)
 }
 
 // What `first_of` answers for places in ascending order.
 fn first_of_listed<C: ChoiceView>(
     alloc: Global,
     listed: &[Places],
-    query: &Masked,
-    seen: &Exprs,
-    audited: &Audited<'_, C>,
+    compared: &Compared<'_, C>,
 ) -> Result<Option<SharedTuple>, Memory>
     requires order { IsRising listed.now }
-    requires rows { HasRowsFor query.now.tables audited.now }
-    ensures { IfOk result (λ shared. (test : List shared_row.SharedRow → Bool)
-        → AreCandidates test audited.now.audit.now.tables audited.now.audit_sets.now
-        (common_tables query.now.tables audited.now.audit.now.tables) listed.now
-        → shared ≡ first_passing test (C.choices audited.now.choices.now) query.now
-        audited.now.audit.now seen.now
-        audited.now.query_sets.now audited.now.audit_sets.now) }
+    requires rows { HaveRows compared.now }
+    ensures { IfOk result (IsFirstPassing C.choices compared.now listed.now) }
 {
-    let side = audit_side(alloc, query, audited.audit)?;
-    let found = first_listed(alloc, listed, query, seen, audited, &side);
+    let side = audit_side(alloc, compared.query, compared.audited.audit)?;
+    let found = first_listed(alloc, listed, compared, &side);
     drop(side);
     found
 }
@@ -143,18 +115,11 @@ fn first_of_listed<C: ChoiceView>(
 pub fn first_of<C: ChoiceView>(
     alloc: Global,
     candidates: BTreeSet<Places>,
-    query: &Masked,
-    seen: &Exprs,
-    audited: &Audited<'_, C>,
+    compared: &Compared<'_, C>,
 ) -> Result<Option<SharedTuple>, Memory>
-    requires { HasRowsFor query.now.tables audited.now }
-    ensures { IfOk result (λ shared. (test : List shared_row.SharedRow → Bool)
-        → AreCandidates test audited.now.audit.now.tables audited.now.audit_sets.now
-        (common_tables query.now.tables audited.now.audit.now.tables) candidates.keys
-        → shared ≡ first_passing test (C.choices audited.now.choices.now) query.now
-        audited.now.audit.now seen.now
-        audited.now.query_sets.now audited.now.audit_sets.now) }
+    requires { HaveRows compared.now }
+    ensures { IfOk result (IsFirstPassing C.choices compared.now candidates.keys) }
 {
     let listed = listed(alloc, candidates)?;
-    first_of_listed(alloc, &listed, query, seen, audited)
+    first_of_listed(alloc, &listed, compared)
 }

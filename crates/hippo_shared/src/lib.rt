@@ -11,7 +11,7 @@ mod sides;
 mod told;
 mod tuples;
 
-pub use audited::Audited;
+pub use audited::{Audited, Compared};
 pub use candidates::{audit_has_any, first_of};
 pub use marks::{Mark, row_places};
 pub use sharing::{first_shared, know_order};

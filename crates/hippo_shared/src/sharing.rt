@@ -1,20 +1,19 @@
 //! The first virtual tuple that a query and an audit share.
-ghost use Rattle.std.specs.Prelude.{◌≡◌, IfOk, map};
+ghost use Rattle.std.specs.Prelude.{◌≡◌, IfOk, map, option_map};
 ghost use Rattle.std.specs.List.{All};
 ghost use Rattle.hippo_keyed_rows.specs.RowSets.{IsAscending, key_in};
-ghost use Rattle.hippo_shared.specs.Audited.{HasRowsFor};
+ghost use Rattle.hippo_shared.specs.Comparing.{HaveRows, shared_between};
 ghost use Rattle.hippo_shared.specs.Searching.{HaveCommon};
-ghost use Rattle.hippo_shared.specs.Sharing.{first_shared};
-ghost use Rattle.hippo_shared.specs.Sides.{AreSidesOf, StandsForAudit, condition_alone};
+ghost use Rattle.hippo_shared.specs.Sides.{AreOfTuple, AreSidesOf, StandsForAudit, condition_alone, tuple_there};
 
-use crate::audited::Audited;
+use crate::audited::Compared;
 use crate::sides::Sides;
 use crate::told::first_places;
 use crate::tuples::tuple_at;
 use hippo_commons::{CommonPlaces, common_places};
 use hippo_eval::unmasked_condition;
 use hippo_join::blank_row;
-use hippo_model::{Audit, BornRow, ChoiceView, Exprs, Masked, SharedTuple};
+use hippo_model::{Audit, BornRow, ChoiceView, Masked, SharedTuple};
 use hippo_rows::Sets;
 use hippo_sides::Side;
 use hippo_values::{Memory, Sequence};
@@ -65,57 +64,55 @@ pub(crate) fn audit_side(alloc: Global, query: &Masked, audit: &Audit) -> Result
 
 // Both sides of a search, by what stands for the audit.
 pub(crate) fn sides_of<'s, C: ChoiceView>(
-    query: &'s Masked,
-    seen: &'s Exprs,
-    audited: &'s Audited<'_, C>,
+    compared: &'s Compared<'_, C>,
     side: &'s AuditSide,
 ) -> Sides<'s, C>
-    requires rows { HasRowsFor query.now.tables audited.now }
-    requires side { StandsForAudit query.now audited.now.audit.now side.now }
-    ensures are { AreSidesOf query.now seen.now audited.now result }
+    requires rows { HaveRows compared.now }
+    requires side { StandsForAudit compared.now.query.now compared.now.audited.now.audit.now
+        side.now }
+    ensures are { AreSidesOf compared.now.query.now compared.now.seen.now compared.now.audited.now
+        result }
     ensures common { HaveCommon result }
 {
     Sides {
         query: Side {
-            query: &*query,
-            sets: &*audited.query_sets,
-            choices: &*audited.choices,
+            query: &*compared.query,
+            sets: &*compared.audited.query_sets,
+            choices: &*compared.audited.choices,
             blank: &side.blank,
         },
         audit: Side {
             query: &side.unmasked,
-            sets: &*audited.audit_sets,
-            choices: &*audited.choices,
+            sets: &*compared.audited.audit_sets,
+            choices: &*compared.audited.choices,
             blank: &side.blank,
         },
-        seen: seen.as_slice(),
+        seen: compared.seen.as_slice(),
         common: &side.common,
     }
 }
 
-// What `first_shared` answers, by what stands for the audit.
-fn first_beside<C: ChoiceView>(
+// The virtual tuple of the rows at some places of the common tables, where places were found.
+pub(crate) fn tuple_found<C: ChoiceView>(
     alloc: Global,
-    query: &Masked,
-    seen: &Exprs,
-    audited: &Audited<'_, C>,
+    compared: &Compared<'_, C>,
     side: &AuditSide,
+    found: Option<Vec<usize>>,
 ) -> Result<Option<SharedTuple>, Memory>
-    requires rows { HasRowsFor query.now.tables audited.now }
-    requires side { StandsForAudit query.now audited.now.audit.now side.now }
-    ensures { IfOk result (λ shared. shared
-        ≡ first_shared (C.choices audited.now.choices.now) query.now
-        audited.now.audit.now seen.now audited.now.query_sets.now audited.now.audit_sets.now) }
+    requires rows { HaveRows compared.now }
+    requires side { StandsForAudit compared.now.query.now compared.now.audited.now.audit.now
+        side.now }
+    requires places { AreOfTuple compared.now (option_map (λ places. places.items) found) }
+    ensures { IfOk result (λ tuple. tuple ≡ option_map (tuple_there compared.now)
+        (option_map (λ places. places.items) found)) }
 {
-    know_order(audited.audit_sets);
-    let sides = sides_of(query, seen, audited, side);
-    match first_places(alloc, &sides)? {
+    match found {
         Some(places) => {
-            let names = audited.audit.tables.as_slice();
+            let names = compared.audited.audit.tables.as_slice();
             let tuple = tuple_at(
                 alloc,
                 names,
-                audited.audit_sets,
+                compared.audited.audit_sets,
                 &side.common.audit,
                 &places,
             )?;
@@ -123,6 +120,23 @@ fn first_beside<C: ChoiceView>(
         }
         None => Ok(None),
     }
+}
+
+// What `first_shared` answers, by what stands for the audit.
+fn first_beside<C: ChoiceView>(
+    alloc: Global,
+    compared: &Compared<'_, C>,
+    side: &AuditSide,
+) -> Result<Option<SharedTuple>, Memory>
+    requires rows { HaveRows compared.now }
+    requires side { StandsForAudit compared.now.query.now compared.now.audited.now.audit.now
+        side.now }
+    ensures { IfOk result (λ shared. shared ≡ shared_between C.choices compared.now) }
+{
+    know_order(compared.audited.audit_sets);
+    let sides = sides_of(compared, side);
+    let found = first_places(alloc, &sides)?;
+    tuple_found(alloc, compared, side, found)
 }
 
 /// The first virtual tuple (a row of each table in both FROM lists, by its key; in the audit's
@@ -135,17 +149,13 @@ fn first_beside<C: ChoiceView>(
 /// on the way to the first tuple.
 pub fn first_shared<C: ChoiceView>(
     alloc: Global,
-    query: &Masked,
-    seen: &Exprs,
-    audited: &Audited<'_, C>,
+    compared: &Compared<'_, C>,
 ) -> Result<Option<SharedTuple>, Memory>
-    requires { HasRowsFor query.now.tables audited.now }
-    ensures { IfOk result (λ shared. shared
-        ≡ first_shared (C.choices audited.now.choices.now) query.now
-        audited.now.audit.now seen.now audited.now.query_sets.now audited.now.audit_sets.now) }
+    requires { HaveRows compared.now }
+    ensures { IfOk result (λ shared. shared ≡ shared_between C.choices compared.now) }
 {
-    let side = audit_side(alloc, query, audited.audit)?;
-    let found = first_beside(alloc, query, seen, audited, &side);
+    let side = audit_side(alloc, compared.query, compared.audited.audit)?;
+    let found = first_beside(alloc, compared, &side);
     drop(side);
     found
 }

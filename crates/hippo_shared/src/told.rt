@@ -6,6 +6,7 @@ ghost use Rattle.hippo_join.specs.Existence.{Decides};
 ghost use Rattle.hippo_shared.specs.FirstPlaces.{AreChosen, IsFirst, IsFirstAmong, with_rows};
 ghost use Rattle.hippo_lookups.specs.Places.{slot_at};
 ghost use Rattle.hippo_shared.specs.Searching.{AreFewOf, AreFewShared, AreTold, HasOneOf, HaveCommon, IsOnlyShared, SharedBy};
+ghost use Rattle.hippo_shared.specs.ToldPlaces.{AreToldOf, AreToldShared};
 
 use crate::searching::{first_staged, first_walked, in_order, slots_with};
 use crate::sides::Sides;
@@ -18,6 +19,13 @@ use std::alloc::Global;
 
 // So many candidates are looked up one by one, before stages are made for all.
 const FEW: usize = 16;
+
+// What look-ups tell of the common tables: the only place of each, or few of the only table.
+#[derive(Clone, Copy)]
+enum HowMany {
+    Only,
+    Few,
+}
 
 fn place_in_slot(slots: &[Option<usize>], table: usize) -> Option<usize>
     ensures { result ≡ slot_at slots.now table }
@@ -59,22 +67,6 @@ fn told_places<C: ChoiceView>(
 {
     let slots = settled(side, alloc)?;
     let found = chosen_in(alloc, tables, &slots)?;
-    Ok(found)
-}
-
-// The places of the common tables of which look-ups on either side tell that no others are shared.
-fn told_by_either<C: ChoiceView>(
-    alloc: Global,
-    sides: &Sides<'_, C>,
-) -> Result<Option<Vec<usize>>, Memory>
-    requires { HaveCommon sides.now }
-    ensures { IfOk result (λ found. IfSome found
-        (λ told. IsOnlyShared C.choices sides.now told.items)) }
-{
-    if let Some(places) = told_places(alloc, &sides.query, &sides.common.query)? {
-        return Ok(Some(places));
-    }
-    let found = told_places(alloc, &sides.audit, &sides.common.audit)?;
     Ok(found)
 }
 
@@ -170,20 +162,37 @@ fn few_places<C: ChoiceView>(
     Ok(Some(sorted))
 }
 
-// The places of the one common table among which those are that are shared, where look-ups on
-// either side find few.
-fn few_by_either<C: ChoiceView>(
+// The places that look-ups on a side tell of some tables, where they tell them.
+fn places_told<C: ChoiceView>(
+    alloc: Global,
+    side: &Side<'_, C>,
+    tables: &[usize],
+    how_many: HowMany,
+) -> Result<Option<Vec<usize>>, Memory>
+    requires { All (λ table. table < length side.now.sets.now) tables.now }
+    ensures { IfOk result (λ found. IfSome found
+        (λ places. AreToldOf how_many C.choices side.now tables.now places.items)) }
+{
+    match how_many {
+        HowMany::Only => told_places(alloc, side, tables),
+        HowMany::Few => few_places(alloc, side, tables),
+    }
+}
+
+// The places of the common tables that look-ups on either side tell.
+fn told_by_either<C: ChoiceView>(
     alloc: Global,
     sides: &Sides<'_, C>,
+    how_many: HowMany,
 ) -> Result<Option<Vec<usize>>, Memory>
     requires { HaveCommon sides.now }
     ensures { IfOk result (λ found. IfSome found
-        (λ few. AreFewShared C.choices sides.now few.items)) }
+        (λ told. AreToldShared how_many C.choices sides.now told.items)) }
 {
-    if let Some(places) = few_places(alloc, &sides.query, &sides.common.query)? {
+    if let Some(places) = places_told(alloc, &sides.query, &sides.common.query, how_many)? {
         return Ok(Some(places));
     }
-    let found = few_places(alloc, &sides.audit, &sides.common.audit)?;
+    let found = places_told(alloc, &sides.audit, &sides.common.audit, how_many)?;
     Ok(found)
 }
 
@@ -232,8 +241,7 @@ fn first_of_few<C: ChoiceView>(
         (option_map (λ places. places.items) found)) }
 {
     let candidates = singles(alloc, few)?;
-    let found = first_looked_up(alloc, sides, &candidates)?;
-    copied(alloc, found)
+    first_candidate(alloc, sides, &candidates)
 }
 
 // The first places of the common tables' rows with which both sides have a combination.
@@ -245,10 +253,10 @@ pub(crate) fn first_places<C: ChoiceView>(
     ensures { IfOk result (λ found. IsFirst (SharedBy C.choices sides.now)
         (option_map (λ places. places.items) found)) }
 {
-    if let Some(told) = told_by_either(alloc, sides)? {
+    if let Some(told) = told_by_either(alloc, sides, HowMany::Only)? {
         return first_told(alloc, sides, told);
     }
-    if let Some(few) = few_by_either(alloc, sides)? {
+    if let Some(few) = told_by_either(alloc, sides, HowMany::Few)? {
         return first_of_few(alloc, sides, &few);
     }
     first_walked(alloc, sides)
@@ -273,18 +281,19 @@ fn first_looked_up<'p, C: ChoiceView>(
 }
 
 // The first of some places of the common tables' rows with which both sides have a combination.
-pub(crate) fn first_candidate<'p, C: ChoiceView>(
+pub(crate) fn first_candidate<C: ChoiceView>(
     alloc: Global,
     sides: &Sides<'_, C>,
-    candidates: &'p [Places],
-) -> Result<Option<&'p Places>, Memory>
+    candidates: &[Places],
+) -> Result<Option<Vec<usize>>, Memory>
     requires { HaveCommon sides.now }
     ensures { IfOk result (λ found. IsFirstAmong (SharedBy C.choices sides.now) candidates.now
-        (option_copied found)) }
+        (option_map (λ places. places.items) found)) }
 {
     if candidates.len() <= FEW {
-        first_looked_up(alloc, sides, candidates)
-    } else {
-        first_staged(alloc, sides, candidates)
+        let found = first_looked_up(alloc, sides, candidates)?;
+        return copied(alloc, found);
     }
+    let found = first_staged(alloc, sides, candidates)?;
+    copied(alloc, found)
 }

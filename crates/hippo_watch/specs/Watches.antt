@@ -32,17 +32,27 @@ pub record WasWatchOf (history : History) (entry : Entry) (watch : AuditHits) : 
   pub audit_is : IsAuditOf history watch.audit
   pub is_now : IsWatchOf (history ++ entry ∷ []) watch
 
+-- what is so before an act that comes next over these tables, and what is so after it
+abbrev pub ComesOn : {W : Type 0} → Tables → Act → (History → Entry → W → Type 0)
+    → (History → Entry → W → Type 0) → W → W → Type 0
+ComesOn tables act Before After old new =
+    (history : History) (entry : Entry) → entry.act ≡ act → ComesNext tables history entry
+    → Before history entry old → After history entry new
+
+-- a watch of a history, whatever comes next, and of the history with an entry more
+abbrev pub IsWatchBefore : History → Entry → AuditHits → Type 0
+IsWatchBefore history entry watch = IsWatchOf history watch
+
+abbrev pub IsWatchAfter : History → Entry → AuditHits → Type 0
+IsWatchAfter history entry watch = IsWatchOf (history ++ entry ∷ []) watch
+
 -- a watch of a history is one of it with an entry more
 abbrev pub WatchFollows : Tables → Act → AuditHits → AuditHits → Type 0
-WatchFollows tables act old new =
-    (history : History) (entry : Entry) → entry.act ≡ act → ComesNext tables history entry
-    → IsWatchOf history old → IsWatchOf (history ++ entry ∷ []) new
+WatchFollows tables act old new = ComesOn tables act IsWatchBefore IsWatchAfter old new
 
 -- and one with an entry more is one without
 abbrev pub WatchGoesBack : Tables → Act → AuditHits → AuditHits → Type 0
-WatchGoesBack tables act old new =
-    (history : History) (entry : Entry) → entry.act ≡ act → ComesNext tables history entry
-    → WasWatchOf history entry old → IsWatchOf history new
+WatchGoesBack tables act old new = ComesOn tables act WasWatchOf IsWatchBefore old new
 
 -- what a watch shares with a question that is asked next
 abbrev pub SharesWatched : AskedNow → AuditHits → Option (List SharedRow) → Type 0

@@ -69,24 +69,6 @@ fn first_kept(
     )
 }
 
-// The first virtual tuple that serves; none where a table of the question or of the audit is not
-// there.
-fn first_now(
-    alloc: Global,
-    asked: &AskedNow<'_>,
-    audit: &Audit,
-) -> Result<Option<SharedTuple>, Memory>
-    requires some { AreOfSome asked.now.tables.now }
-    requires differ { IsDistinct bytes_eq audit.now.tables }
-    ensures { IfOk result (ServesNow asked.now audit.now) }
-{
-    if are_at_hand(asked.tables, asked.query, audit) {
-        first_kept(alloc, asked, audit)
-    } else {
-        Ok(None)
-    }
-}
-
 /// What an audit shares with a question that is asked now: the first virtual tuple that serves,
 /// where the query is a candidate; none exactly where the audit does not flag the question. Wants
 /// an audit that names no table twice. The error is want of memory.
@@ -99,9 +81,11 @@ pub(crate) fn alarm(
     requires differ { IsDistinct bytes_eq audit.now.tables }
     ensures { IfOk result (SharesNext asked.now audit.now) }
 {
-    if is_candidate(asked, audit) {
-        first_now(alloc, asked, audit)
-    } else {
-        Ok(None)
+    if !is_candidate(asked, audit) {
+        return Ok(None);
     }
+    if !are_at_hand(asked.tables, asked.query, audit) {
+        return Ok(None);
+    }
+    first_kept(alloc, asked, audit)
 }

@@ -13,7 +13,7 @@ use Rattle.hippo_report.specs.declared.format.Format.{Format}
 use Rattle.hippo_typing.specs.Meanings.{meaning}
 use Rattle.hippo_audit_job.specs.Examining.{IsAuditOf}
 use Rattle.hippo_audit_job.specs.Jobs.{open_audit}
-use Rattle.hippo_audit_job.proofs.JobLemmas.{IsSoundJob-new, JobFits-new, JobFits-grown}
+use Rattle.hippo_audit_job.proofs.JobLemmas.{IsSoundJob-new, IsSoundJob-marked, JobFits-new, JobFits-marked, JobFits-grown}
 use Rattle.hippo_combine.specs.Combining.{combine_terms}
 use Rattle.hippo_model.specs.declared.entry.Act.{Act}
 use Rattle.hippo_tables.specs.declared.tables.Tables.{Tables}
@@ -21,7 +21,8 @@ use Rattle.hippo_hits.specs.declared.counts.AuditHits.{AuditHits}
 use Rattle.hippo_watch.specs.Watches.{IsWatchOf, WasWatchOf}
 use Rattle.hippo_watch.proofs.WatchLemmas.{IsWatchOf-no_version}
 use Rattle.hippo_world.specs.declared.worlds.World.{World as HeldWorld}
-use Rattle.hippo_world.specs.Auditing.{HeldJob, taken_by_job, HasBegun, IsLooking, AreLooking, watched, AreWatching, AreAudits, EachFollows, EachGoesBack, job_tally, job_tallies}
+use Rattle.hippo_world.specs.Auditing.{HeldJob, taken_by_job, HasBegun, IsLooking, AreLooking, watched, AreWatching, AreAudits, job_tally, job_tallies, EachChanges}
+use Rattle.hippo_world.specs.declared.watches.Way.TheVariants.{In, Back}
 use Rattle.hippo_world.specs.Holding.{world_of, KeepsAudits, JobsFit, WatchesFit, WatchesFollow, WatchesGoBack, tallies_of}
 use Rattle.hippo_sessions.specs.Worlds.{World, with_at, none_held, opening}
 use Rattle.hippo_sessions.proofs.HeldLemmas.{StandsAt, seen-none}
@@ -134,23 +135,8 @@ tally-begun audit number job begun =
 -- a job whose flags are written looks at the same history
 pub IsLooking-written : (history : History) (job : HeldJob) → IsLooking history job → IsLooking history (record job { waiting = [] })
 IsLooking-written history job looks = record {
-  sound = record {
-    tables = looks.sound.tables;
-    within = looks.sound.within;
-    counted = looks.sound.counted;
-    read = looks.sound.read;
-    ahead = looks.sound.ahead;
-    examiner_is = looks.sound.examiner_is;
-    asked = looks.sound.asked;
-  };
-  fits = record {
-    begun = looks.fits.begun;
-    audit_is = looks.fits.audit_is;
-    flags = looks.fits.flags;
-    split = looks.fits.split;
-    examiner_fits = looks.fits.examiner_fits;
-    once = looks.fits.once;
-  };
+  sound = IsSoundJob-marked combine_terms [] job.unbroken job looks.sound;
+  fits = JobFits-marked combine_terms [] job.unbroken job history looks.fits;
 }
 
 -- ---- watches when an entry is taken in, and taken back
@@ -180,12 +166,12 @@ both_held history entry (None ∷ rest) audits all = (tt, both_held history entr
 both_held history entry (Some watch ∷ rest) audits all = (record { audit_is = audits.0; is_now = all.0 }, both_held history entry rest audits.1 all.1)
 
 module _ (tables : Tables) (act : Act) (old new : HeldWorld) where
-  pub WatchesFollow-each : EachFollows tables act old.watches new.watches → WatchesFollow tables act old new
+  pub WatchesFollow-each : EachChanges In tables act old.watches new.watches → WatchesFollow tables act old new
   WatchesFollow-each each = λ history entry is next fit.
       each_of_all (λ held. IfSome held (IsWatchOf (history ++ entry ∷ []))) new.watches
       (each history entry is next (all_here (λ held. IfSome held (IsWatchOf history)) old.watches fit))
 
-  pub WatchesGoBack-each : EachGoesBack tables act old.watches new.watches → WatchesGoBack tables act old new
+  pub WatchesGoBack-each : EachChanges Back tables act old.watches new.watches → WatchesGoBack tables act old new
   WatchesGoBack-each each = λ history entry is next audits fit.
       each_of_all (λ held. IfSome held (IsWatchOf history)) new.watches
       (each history entry is next (all_here (λ held. IfSome held (WasWatchOf history entry)) old.watches (both_held history entry old.watches audits fit)))

@@ -1,5 +1,5 @@
 -- The audit jobs and watches that a run holds, and what they have to do with a history.
-use Rattle.std.specs.Prelude.{◌≡◌, ℕ, List, [], ◌∷◌, ◌++◌, map, Option, IfSome, option_map}
+use Rattle.std.specs.Prelude.{◌≡◌, ℕ, List, map, Option, IfSome, option_map}
 use Rattle.std.specs.List.{All, AllByRecursion}
 use Rattle.hippo_model.specs.declared.audit.Audit.{Audit}
 use Rattle.hippo_model.specs.declared.entry.Act.{Act}
@@ -7,11 +7,13 @@ use Rattle.hippo_model.specs.declared.entry.Entry.{Entry}
 use Rattle.hippo_model.specs.Terms.{History}
 use Rattle.hippo_tables.specs.declared.tables.Tables.{Tables}
 use Rattle.hippo_hits.specs.declared.counts.AuditHits.{AuditHits}
-use Rattle.hippo_watch.specs.Watches.{IsWatchOf, WasWatchOf, ComesNext}
+use Rattle.hippo_watch.specs.Watches.{IsWatchOf, WasWatchOf, ComesOn, IsWatchBefore, IsWatchAfter}
 use Rattle.hippo_audit_job.specs.declared.jobs.Job.{Job}
 use Rattle.hippo_audit_job.specs.Examining.{IsAuditOf, IsNew}
 use Rattle.hippo_audit_job.specs.Jobs.{IsSoundJob, JobFits, new_job}
 use Rattle.hippo_sessions.specs.Tallies.{JobTally}
+use Rattle.hippo_world.specs.declared.watches.Way.{Way}
+use Rattle.hippo_world.specs.declared.watches.Way.TheVariants.{In, Back}
 use Rattle.hippo_combine.specs.declared.combine.Combine.{Combine}
 use Rattle.hippo_combine.specs.Combining.{combine_terms}
 use Rattle.hippo_combine.specs.Held.{all_taken}
@@ -50,29 +52,32 @@ AreWatching history watches = AllByRecursion (λ held. IfSome held (IsWatchOf hi
 abbrev pub AreAudits : History → List (Option Audit) → Type 0
 AreAudits history audits = AllByRecursion (λ held. IfSome held (IsAuditOf history)) audits
 
--- what stands at a number follows, or goes back
-abbrev pub OneFollows : Tables → Act → Option AuditHits → Option AuditHits → Type 0
-OneFollows tables act old new =
-    (history : History) (entry : Entry) → entry.act ≡ act → ComesNext tables history entry
-    → IfSome old (IsWatchOf history) → IfSome new (IsWatchOf (history ++ entry ∷ []))
+-- what is so of a watch before and after an act that is taken in, or taken back
+abbrev pub IsBefore : Way → History → Entry → AuditHits → Type 0
+IsBefore In = IsWatchBefore
+IsBefore Back = WasWatchOf
 
-abbrev pub OneGoesBack : Tables → Act → Option AuditHits → Option AuditHits → Type 0
-OneGoesBack tables act old new =
-    (history : History) (entry : Entry) → entry.act ≡ act → ComesNext tables history entry
-    → IfSome old (WasWatchOf history entry) → IfSome new (IsWatchOf history)
+abbrev pub IsAfter : Way → History → Entry → AuditHits → Type 0
+IsAfter In = IsWatchAfter
+IsAfter Back = IsWatchBefore
 
--- what stands at each number does
-abbrev pub EachFollows : Tables → Act → List (Option AuditHits) → List (Option AuditHits) → Type 0
-EachFollows tables act old new =
-    (history : History) (entry : Entry) → entry.act ≡ act → ComesNext tables history entry
-    → All (λ held. IfSome held (IsWatchOf history)) old
-    → All (λ held. IfSome held (IsWatchOf (history ++ entry ∷ []))) new
+-- what the act of the next entry does to a watch, to what stands at a number, and to what stands at
+-- each number
+abbrev pub WatchChanges : Way → Tables → Act → AuditHits → AuditHits → Type 0
+WatchChanges way tables act old new = ComesOn tables act (IsBefore way) (IsAfter way) old new
 
-abbrev pub EachGoesBack : Tables → Act → List (Option AuditHits) → List (Option AuditHits) → Type 0
-EachGoesBack tables act old new =
-    (history : History) (entry : Entry) → entry.act ≡ act → ComesNext tables history entry
-    → All (λ held. IfSome held (WasWatchOf history entry)) old
-    → All (λ held. IfSome held (IsWatchOf history)) new
+abbrev pub OneChanges : Way → Tables → Act → Option AuditHits → Option AuditHits → Type 0
+OneChanges way tables act old new =
+    ComesOn tables act (λ history entry held. IfSome held (IsBefore way history entry))
+    (λ history entry held. IfSome held (IsAfter way history entry)) old new
+
+abbrev pub EachChanges : Way → Tables → Act → List (Option AuditHits) → List (Option AuditHits)
+    → Type 0
+EachChanges way tables act old new =
+    ComesOn tables act
+    (λ history entry watches. All (λ held. IfSome held (IsBefore way history entry)) watches)
+    (λ history entry watches. All (λ held. IfSome held (IsAfter way history entry)) watches)
+    old new
 
 -- what is tallied of a job
 abbrev pub job_tally : HeldJob → JobTally

@@ -1,45 +1,44 @@
 //! Watches at their numbers: what an act that comes next changes in them.
 ghost use Rattle.std.specs.Prelude.{◌≡◌, map, option_map};
-ghost use Rattle.hippo_world.specs.Auditing.{watched, OneFollows, OneGoesBack, EachFollows, EachGoesBack};
+ghost use Rattle.hippo_world.specs.Auditing.{watched, WatchChanges, OneChanges, EachChanges};
 
 use hippo_model::Act;
 use hippo_sessions::Numbered;
 use hippo_tables::Tables;
 use hippo_watch::Watch;
 
-fn take_in_one(held: &mut Option<Watch>, tables: &Tables, act: &Act)
+/// Whether the act of the next entry is taken in, or taken back.
+#[derive(Clone, Copy)]
+pub(crate) enum Way {
+    In,
+    Back,
+}
+
+fn change_watch(watch: &mut Watch, tables: &Tables, act: &Act, way: Way)
+    ensures audit { watched watch.new ≡ watched watch.old }
+    ensures changes { WatchChanges way tables.now act.now watch.old watch.new }
+{
+    match way {
+        Way::In => watch.take_in(tables, act),
+        Way::Back => watch.take_back(tables, act),
+    }
+}
+
+fn change_one(held: &mut Option<Watch>, tables: &Tables, act: &Act, way: Way)
     ensures audit { option_map watched held.new ≡ option_map watched held.old }
-    ensures follows { OneFollows tables.now act.now held.old held.new }
+    ensures changes { OneChanges way tables.now act.now held.old held.new }
 {
     if let Some(watch) = held {
-        watch.take_in(tables, act);
+        change_watch(watch, tables, act, way);
     }
 }
 
-fn take_back_one(held: &mut Option<Watch>, tables: &Tables, act: &Act)
-    ensures audit { option_map watched held.new ≡ option_map watched held.old }
-    ensures goes_back { OneGoesBack tables.now act.now held.old held.new }
-{
-    if let Some(watch) = held {
-        watch.take_back(tables, act);
-    }
-}
-
-fn take_in_each(watches: &mut [Option<Watch>], tables: &Tables, act: &Act)
+fn change_each(watches: &mut [Option<Watch>], tables: &Tables, act: &Act, way: Way)
     ensures audits { map (option_map watched) watches.new ≡ map (option_map watched) watches.old }
-    ensures follow { EachFollows tables.now act.now watches.old watches.new }
+    ensures changes { EachChanges way tables.now act.now watches.old watches.new }
 {
     for place in 0..watches.len() {
-        take_in_one(&mut watches[place], tables, act);
-    }
-}
-
-fn take_back_each(watches: &mut [Option<Watch>], tables: &Tables, act: &Act)
-    ensures audits { map (option_map watched) watches.new ≡ map (option_map watched) watches.old }
-    ensures go_back { EachGoesBack tables.now act.now watches.old watches.new }
-{
-    for place in 0..watches.len() {
-        take_back_one(&mut watches[place], tables, act);
+        change_one(&mut watches[place], tables, act, way);
     }
 }
 
@@ -47,16 +46,16 @@ fn take_back_each(watches: &mut [Option<Watch>], tables: &Tables, act: &Act)
 /// they are before it. Takes no memory.
 pub(crate) fn take_in(watches: &mut Numbered<Watch>, tables: &Tables, act: &Act)
     ensures audits { map (option_map watched) watches.new ≡ map (option_map watched) watches.old }
-    ensures follow { EachFollows tables.now act.now watches.old watches.new }
+    ensures follow { EachChanges Way.In tables.now act.now watches.old watches.new }
 {
-    take_in_each(&mut watches.places, tables, act);
+    change_each(&mut watches.places, tables, act, Way::In);
 }
 
 /// Changes them back where the act that was taken in last does not come, over the same tables.
 /// Takes no memory.
 pub(crate) fn take_back(watches: &mut Numbered<Watch>, tables: &Tables, act: &Act)
     ensures audits { map (option_map watched) watches.new ≡ map (option_map watched) watches.old }
-    ensures go_back { EachGoesBack tables.now act.now watches.old watches.new }
+    ensures go_back { EachChanges Way.Back tables.now act.now watches.old watches.new }
 {
-    take_back_each(&mut watches.places, tables, act);
+    change_each(&mut watches.places, tables, act, Way::Back);
 }

@@ -15,17 +15,17 @@ use Rattle.hippo_examining.proofs.changing.first_changing.Goals as goal
 
 pub returns-then-not-branch : goal.returns-then-not-branch
 returns-then-not-branch g c =
-    none-needed (g.C.ChoiceView.choices c.args.audited.now.choices.now) c.args.query.now (Grouped c.args.shape.now) c.args.audited.now.audit.now c.args.seen.now c.args.audited.now.query_sets.now c.args.audited.now.audit_sets.now
+    none-needed (g.C.ChoiceView.choices c.args.compared.now.audited.now.choices.now) c.args.compared.now.query.now (Grouped c.args.shape.now) c.args.compared.now.audited.now.audit.now c.args.compared.now.seen.now c.args.compared.now.audited.now.query_sets.now c.args.compared.now.audited.now.audit_sets.now
     (c.in_ok-audit_has_any.ensures c.if-not-branch.true)
 
 pub returns : goal.returns
 returns g c =
-    let choices : Choices = g.C.ChoiceView.choices c.args.audited.now.choices.now in
-    let tables : c.deref.result.now ≡ map (place_in c.args.query.now.tables) (common_tables c.args.query.now.tables c.args.audited.now.audit.now.tables) =
+    let choices : Choices = g.C.ChoiceView.choices c.args.compared.now.audited.now.choices.now in
+    let tables : c.deref.result.now ≡ map (place_in c.args.compared.now.query.now.tables) (common_tables c.args.compared.now.query.now.tables c.args.compared.now.audited.now.audit.now.tables) =
     c.deref.ensures.value ∙ c.in_ok-common.ensures.query
     ∙ (λ i. map (place_in (c.as_slice.ensures i)) (common_tables (c.as_slice.ensures i) (c.as_slice-tables.ensures i))) in
     let marked = subst (λ (places : List Place). AreMarkedGroups c.args.shape.now
-    (placed_rows choices c.args.query.now c.args.audited.now.query_sets.now places (product (rows_of c.args.audited.now.query_sets.now))) c.in_ok-groups.groups) tables c.in_ok-groups.ensures in
-    let are = changing_are choices c.args.query.now c.args.shape.now c.args.audited.now.audit.now.tables c.args.audited.now.query_sets.now c.args.audited.now.audit_sets.now c.requires.query_sets c.requires.audit_sets
+    (placed_rows choices c.args.compared.now.query.now c.args.compared.now.audited.now.query_sets.now places (product (rows_of c.args.compared.now.audited.now.query_sets.now))) c.in_ok-groups.groups) tables c.in_ok-groups.ensures in
+    let are = changing_are choices c.args.compared.now.query.now c.args.shape.now c.args.compared.now.audited.now.audit.now.tables c.args.compared.now.audited.now.query_sets.now c.args.compared.now.audited.now.audit_sets.now c.requires.query_sets c.requires.audit_sets
     c.requires.rows c.know_order.ensures c.in_ok-groups.groups marked c.in_ok-candidates.candidates.keys c.in_ok-candidates.ensures in
-    IfOk-weaker c.first_of.result _ _ (λ shared is. is (needs_by choices c.args.query.now (Grouped c.args.shape.now) c.args.audited.now.query_sets.now) are) c.first_of.ensures
+    IfOk-weaker c.first_of.result _ _ (λ shared is. is (needs_by choices c.args.compared.now.query.now (Grouped c.args.shape.now) c.args.compared.now.audited.now.query_sets.now) are) c.first_of.ensures

@@ -4,4 +4,4 @@ use Rattle.hippo_examining.proofs.sharing.first_needed.Goals as goal
 
 pub returns-in-Plain : goal.returns-in-Plain
 returns-in-Plain g c =
-    rw c.in-Plain.is (shared-needed (g.C.ChoiceView.choices c.args.audited.now.choices.now) c.args.query.now c.args.audited.now.audit.now c.args.seen.now c.args.audited.now.query_sets.now c.args.audited.now.audit_sets.now c.first_shared.result c.first_shared.ensures)
+    rw c.in-Plain.is (shared-needed (g.C.ChoiceView.choices c.args.compared.now.audited.now.choices.now) c.args.compared.now.query.now c.args.compared.now.audited.now.audit.now c.args.compared.now.seen.now c.args.compared.now.audited.now.query_sets.now c.args.compared.now.audited.now.audit_sets.now c.first_shared.result c.first_shared.ensures)

@@ -1,31 +1,17 @@
 -- The places that are found first are those of the first virtual tuple that passes.
-use Rattle.std.proofs.Common.{length, sym, ap, ◌∙◌}
-use Rattle.std.specs.Prelude.{option_copied}
-use Rattle.hippo_shared.specs.Tuples.{tuple_at}
-use Rattle.hippo_shared.proofs.SharedTheorem.{below-sets, below-names, candidate-long, candidate-some, candidate-none}
+use Rattle.std.proofs.Common.{ℕ, Vec, Global, option_map, ◌∙◌}
+use Rattle.std.proofs.lemmas.Result.{IfOk-weaker}
+use Rattle.hippo_shared.proofs.SharedTheorem.{candidate-long, candidate-told}
 use Rattle.hippo_shared.proofs.candidates.first_listed.Goals as goal
 
-pub tuple_at-requires-clause-names : goal.tuple_at-requires-clause-names
-tuple_at-requires-clause-names g c =
-    below-names c.args.query.now c.args.audited.now c.requires.rows c.deref.result.now c.as_slice-names.result.now (c.deref.ensures.value ∙ c.requires.side.audit_places) c.as_slice-names.ensures
+pub tuple_found-requires-clause-places : goal.tuple_found-requires-clause-places
+tuple_found-requires-clause-places g c =
+    candidate-long g.C.ChoiceView.choices c.args.compared.now.query.now c.args.compared.now.seen.now c.args.compared.now.audited.now c.requires.rows c.know_order.ensures c.sides_of-sides.result c.sides_of-sides.ensures.are
+    c.args.listed.now (option_map (λ (places : Vec ℕ Global). places.items) c.in_ok-found.found) c.in_ok-found.ensures
 
-pub tuple_at-requires-clause-sets : goal.tuple_at-requires-clause-sets
-tuple_at-requires-clause-sets g c = below-sets c.args.query.now c.args.audited.now c.requires.rows c.deref.result.now (c.deref.ensures.value ∙ c.requires.side.audit_places)
-
-pub tuple_at-requires-clause-places : goal.tuple_at-requires-clause-places
-tuple_at-requires-clause-places g c =
-    ap length c.as_slice.ensures
-    ∙ candidate-long g.C.ChoiceView.choices c.args.query.now c.args.seen.now c.args.audited.now c.requires.rows c.know_order.ensures c.sides_of-sides.result c.sides_of-sides.ensures.are
-    c.args.listed.now (option_copied c.in_ok-places.field-0) c.requires.order c.in_ok-places.ensures c.in-Some.places.now (ap option_copied c.in-Some.is)
-    ∙ sym (ap length (c.deref.ensures.value ∙ c.requires.side.audit_places))
-
-pub returns-in_ok-tuple-in-Some : goal.returns-in_ok-tuple-in-Some
-returns-in_ok-tuple-in-Some g c = λ test those.
-    candidate-some g.C.ChoiceView.choices c.args.query.now c.args.seen.now c.args.audited.now c.requires.rows c.know_order.ensures c.sides_of-sides.result c.sides_of-sides.ensures.are
-    c.args.listed.now (option_copied c.in_ok-places.field-0) c.requires.order c.in_ok-places.ensures c.in-Some.places.now (ap option_copied c.in-Some.is) c.in_ok-tuple-in-Some.tuple
-    (c.in_ok-tuple-in-Some.ensures ∙ (λ i. tuple_at (c.as_slice-names.ensures i) c.args.audited.now.audit_sets.now ((c.deref.ensures.value ∙ c.requires.side.audit_places) i) (c.as_slice.ensures i))) test those
-
-pub returns-in-None : goal.returns-in-None
-returns-in-None g c = λ test those.
-    candidate-none g.C.ChoiceView.choices c.args.query.now c.args.seen.now c.args.audited.now c.requires.rows c.know_order.ensures c.sides_of-sides.result c.sides_of-sides.ensures.are
-    c.args.listed.now (option_copied c.in_ok-places.field-0) c.requires.order c.in_ok-places.ensures (ap option_copied c.in-None.is) test those
+pub returns : goal.returns
+returns g c =
+    IfOk-weaker c.tuple_found.result _ _
+    (λ shared is test those. is ∙ candidate-told g.C.ChoiceView.choices c.args.compared.now.query.now c.args.compared.now.seen.now c.args.compared.now.audited.now c.requires.rows c.know_order.ensures c.sides_of-sides.result c.sides_of-sides.ensures.are
+    c.args.listed.now c.requires.order (option_map (λ (places : Vec ℕ Global). places.items) c.in_ok-found.found) c.in_ok-found.ensures test those)
+    c.tuple_found.ensures

@@ -17,4 +17,4 @@ returns-clause-are g c = record {
 }
 
 pub returns-clause-common : goal.returns-clause-common
-returns-clause-common g c = common-served c.args.query.now c.args.audited.now c.requires.rows c.args.side.now c.requires.side
+returns-clause-common g c = common-served c.args.compared.now.query.now c.args.compared.now.audited.now c.requires.rows c.args.side.now c.requires.side

@@ -1,17 +1,28 @@
--- What a candidate shares serves first; what is none shares nothing.
-use Rattle.std.proofs.Common.{rules}
+-- What a candidate shares serves first, where all tables are there; what is none shares nothing.
+use Rattle.std.proofs.Common.{◌∙◌, sym}
 use Rattle.std.proofs.lemmas.Result.{IfOk-weaker}
 use Rattle.hippo_watch.specs.Alarms.{ServesNow, SharesNext}
-use Rattle.hippo_watch.proofs.AlarmLemmas.{shares_first, shares_nothing}
+use Rattle.hippo_watch.proofs.AlarmLemmas.{audit_kept, query_kept, nothing_missing, shares_first, shares_nothing}
 use Rattle.hippo_watch.proofs.alarms.alarm.Goals as goal
 
-pub returns-then-is_candidate : goal.returns-then-is_candidate
-returns-then-is_candidate c =
-    IfOk-weaker c.first_now.result
+pub returns-then-not-is_candidate : goal.returns-then-not-is_candidate
+returns-then-not-is_candidate c = shares_nothing c.args.asked.now c.args.audit.now (sym c.is_candidate.ensures ∙ c.if-not-is_candidate.true)
+
+pub returns-then-not-are_at_hand : goal.returns-then-not-are_at_hand
+returns-then-not-are_at_hand c =
+    shares_first c.args.asked.now c.args.audit.now (sym c.is_candidate.ensures ∙ c.if-not-is_candidate.false) _
+    (nothing_missing c.args.asked.now c.args.audit.now _ c.are_at_hand.ensures c.if-not-are_at_hand.true)
+
+pub first_kept-requires-clause-query : goal.first_kept-requires-clause-query
+first_kept-requires-clause-query c = query_kept c.args.asked.now c.args.audit.now _ c.are_at_hand.ensures c.requires.some c.if-not-are_at_hand.false
+
+pub first_kept-requires-clause-audit : goal.first_kept-requires-clause-audit
+first_kept-requires-clause-audit c = audit_kept c.args.asked.now c.args.audit.now _ c.are_at_hand.ensures c.requires.some c.if-not-are_at_hand.false
+
+pub returns : goal.returns
+returns c =
+    IfOk-weaker c.first_kept.result
     (ServesNow c.args.asked.now c.args.audit.now)
     (SharesNext c.args.asked.now c.args.audit.now)
-    (shares_first c.args.asked.now c.args.audit.now (search rules))
-    c.first_now.ensures
-
-pub returns-else-is_candidate : goal.returns-else-is_candidate
-returns-else-is_candidate c = shares_nothing c.args.asked.now c.args.audit.now (search rules)
+    (shares_first c.args.asked.now c.args.audit.now (sym c.is_candidate.ensures ∙ c.if-not-is_candidate.false))
+    c.first_kept.ensures
