@@ -1,23 +1,32 @@
--- The state of a history, of which answers are made.
-use Rattle.std.specs.Prelude.{◌≡◌, ℕ, true, List, length, filter_map}
-use Rattle.hippo_values.specs.declared.moments.Moment.{Moment}
+-- The state of a history, of which answers are made from a standpoint.
+use Rattle.std.specs.Prelude.{◌≡◌, true, List, length, take}
 use Rattle.hippo_values.specs.declared.names.Name.{Name}
-use Rattle.hippo_model.specs.declared.audit.Pair.{Pair}
-use Rattle.hippo_model.specs.declared.schema.Schema.{Schema}
-use Rattle.hippo_model.specs.Terms.{History, Meaning}
-use Rattle.hippo_model.specs.Histories.{schema_at}
-use Rattle.hippo_model.specs.Verdicts.{Context}
+use Rattle.hippo_model.specs.declared.policy.TableRules.{TableRules}
+use Rattle.hippo_model.specs.declared.query.Query.{Query}
+use Rattle.hippo_model.specs.Answers.{answer}
+use Rattle.hippo_model.specs.Terms.{History, Meaning, ShownRow}
 use Rattle.hippo_model.specs.Validity.{is_valid}
-use Rattle.hippo_policy.specs.declared.book.PolicyBook.{PolicyBook}
+use Rattle.hippo_model.specs.Verdicts.{context_of}
 use Rattle.hippo_policy.specs.Books as books
-use Rattle.hippo_tables.specs.declared.tables.Tables.{Tables}
+use Rattle.hippo_rewrite.specs.RewritingLaws.{rules_at}
 use Rattle.hippo_tables.specs.Standing as standing
+use Rattle.hippo_answering.specs.declared.standpoint.Standpoint.{Standpoint}
 
--- a book and tables stand for a valid history of so many entries
-pub record AreStateOf
-    (meaning : Meaning) (policy : PolicyBook) (kept : Tables) (count : ℕ) (history : History)
+-- its book and tables stand for a valid history of so many entries
+pub record AreStateOf (meaning : Meaning) (standpoint : Standpoint) (history : History)
     : Type 0 where
   pub valid : is_valid meaning history ≡ true
-  pub book : books.BookStandsFor policy history
-  pub tables : standing.TablesStandFor kept history
-  pub entries : count ≡ length history
+  pub book : books.BookStandsFor standpoint.book.now history
+  pub tables : standing.TablesStandFor standpoint.tables.now history
+  pub entries : standpoint.count ≡ length history
+
+-- the rules of tables that are in force
+abbrev pub rules_from : Standpoint → History → List Name → List TableRules
+rules_from standpoint history names =
+    rules_at (take standpoint.count history) (context_of standpoint.pair.now standpoint.moment)
+    (standing.schemas_at history names)
+
+-- what a query answers
+abbrev pub answer_from : Standpoint → History → Query → List ShownRow
+answer_from standpoint history query =
+    answer history (context_of standpoint.pair.now standpoint.moment) query

@@ -1,89 +1,65 @@
 //! The answer of a query over the state of a history.
-ghost use Rattle.std.specs.Prelude.{◌≡◌, List, take, length, IfOk};
+ghost use Rattle.std.specs.Prelude.{◌≡◌, List, length, IfOk};
 ghost use Rattle.hippo_model.specs.Terms.{History, Meaning, ShownRow};
 ghost use Rattle.hippo_model.specs.Forms.{rows_by_form};
-ghost use Rattle.hippo_model.specs.Answers.{answer};
 ghost use Rattle.hippo_model.specs.Masking.{masked_answer};
 ghost use Rattle.hippo_policy.specs.Books.{BookStandsFor};
-ghost use Rattle.hippo_tables.specs.Standing.{TablesStandFor, AreKeptTables, schemas_at};
+ghost use Rattle.hippo_tables.specs.Standing.{TablesStandFor, AreKeptTables};
 ghost use Rattle.hippo_eval.specs.Walks.{rows_of};
 ghost use Rattle.hippo_eval.specs.Answering.{IsAnswered};
 ghost use Rattle.hippo_rewrite.specs.Rewriting.{rewritten_query};
-ghost use Rattle.hippo_rewrite.specs.RewritingLaws.{rules_at};
-ghost use Rattle.hippo_model.specs.Verdicts.{context_of};
-ghost use Rattle.hippo_answering.specs.States.{AreStateOf};
+ghost use Rattle.hippo_answering.specs.States.{AreStateOf, answer_from, rules_from};
 ghost use Rattle.hippo_answering.specs.Lines.{IsSaid};
 
 use crate::lines::{Lines, lines_of, walked_lines};
 use crate::sizes::sizes_of;
+use crate::standpoint::Standpoint;
 use hippo_distinct::distinct;
 use hippo_eval::{ANSWER_LIMIT, EvalFault};
 use hippo_groups::grouped;
 use hippo_join::{is_in_order, plan, run};
-use hippo_model::{Answer, ChoiceView, Form, Masked, Names, Pair, Query, RulesInForce};
-use hippo_policy::PolicyBook;
+use hippo_model::{Answer, ChoiceView, Form, Masked, Names, Query, RulesInForce};
 use hippo_rewrite::rewrite;
 use hippo_rows::Sets;
-use hippo_tables::{Tables, schemas_of, sets_of};
-use hippo_values::{Memory, Moment};
+use hippo_tables::{schemas_of, sets_of};
+use hippo_values::Memory;
 use std::alloc::Global;
 
-// The rules of a query's tables for a pair at a moment, by the first `n` entries.
+// The rules of a query's tables from a standpoint.
 fn rules_of(
     alloc: Global,
-    book: &PolicyBook,
-    tables: &Tables,
-    n: u64,
-    moment: Moment,
-    pair: &Pair,
+    standpoint: &Standpoint<'_>,
     names: &Names,
 ) -> Result<RulesInForce, Memory>
-    requires { AreKeptTables tables.now names.now }
+    requires { AreKeptTables standpoint.now.tables.now names.now }
     ensures { IfOk result (λ rules. (history : History)
-        → BookStandsFor book.now history → TablesStandFor tables.now history
-        → rules ≡ rules_at (take n history) (context_of pair.now moment)
-        (schemas_at history names.now)) }
+        → BookStandsFor standpoint.now.book.now history
+        → TablesStandFor standpoint.now.tables.now history
+        → rules ≡ rules_from standpoint.now history names.now) }
 {
-    let schemas = schemas_of(alloc, tables, names)?;
-    book.rules_in_force(alloc, n, moment, &pair.purpose, &pair.recipient, &schemas)
+    let schemas = schemas_of(alloc, standpoint.tables, names)?;
+    let pair = standpoint.pair;
+    standpoint.book.rules_in_force(
+        alloc,
+        standpoint.count,
+        standpoint.moment,
+        &pair.purpose,
+        &pair.recipient,
+        &schemas,
+    )
 }
 
 // The query with these rules written into it.
-fn masked_query(
-    alloc: Global,
-    book: &PolicyBook,
-    tables: &Tables,
-    n: u64,
-    moment: Moment,
-    pair: &Pair,
-    query: &Query,
-) -> Result<Masked, Memory>
-    requires { AreKeptTables tables.now query.now.tables }
+fn masked_query(alloc: Global, standpoint: &Standpoint<'_>, query: &Query) -> Result<Masked, Memory>
+    requires { AreKeptTables standpoint.now.tables.now query.now.tables }
     ensures tables { IfOk result (λ masked. masked.tables ≡ query.now.tables) }
     ensures rules { IfOk result (λ masked. (history : History)
-        → BookStandsFor book.now history → TablesStandFor tables.now history
-        → let rules = rules_at (take n history) (context_of pair.now moment)
-        (schemas_at history query.now.tables) in
-        masked ≡ rewritten_query rules query.now) }
+        → BookStandsFor standpoint.now.book.now history
+        → TablesStandFor standpoint.now.tables.now history
+        → masked ≡ rewritten_query (rules_from standpoint.now history query.now.tables) query.now) }
 {
-    let rules = rules_of(alloc, book, tables, n, moment, pair, &query.tables)?;
+    let rules = rules_of(alloc, standpoint, &query.tables)?;
     rewrite(alloc, query, &rules)
-}
-
-// All rows of an answer, by joins.
-fn joined<C: ChoiceView>(
-    alloc: Global,
-    query: &Masked,
-    sets: &Sets<'_>,
-    choices: &C,
-) -> Result<Answer, EvalFault>
-    requires { length sets.now ≡ length query.now.tables }
-    ensures { IsAnswered ANSWER_LIMIT (masked_answer (C.choices choices.now) query.now
-        (rows_of sets.now)) result }
-{
-    let sizes = sizes_of(alloc, sets)?;
-    let plan = plan(alloc, query, &sizes)?;
-    run(alloc, &plan, query, sets, choices)
 }
 
 // The rows of an answer, by its form.
@@ -99,7 +75,11 @@ fn formed<C: ChoiceView>(
         IsAnswered ANSWER_LIMIT (rows_by_form form.now rows) result }
 {
     match form {
-        Form::Plain => joined(alloc, query, sets, choices),
+        Form::Plain => {
+            let sizes = sizes_of(alloc, sets)?;
+            let plan = plan(alloc, query, &sizes)?;
+            run(alloc, &plan, query, sets, choices)
+        }
         Form::Distinct => distinct(alloc, query, sets, choices),
         Form::Grouped(shape) => grouped(alloc, query, shape, sets, choices),
     }
@@ -155,8 +135,9 @@ fn formed_lines<C: ChoiceView>(
     }
 }
 
-/// The answer of a query for a purpose and recipient at a moment: what it answers over the views of
-/// its tables, after the `n` entries that the book and the tables stand for. The rules in force are
+/// The answer of a query from a standpoint, for its purpose and recipient at its moment: what it
+/// answers over the views of its tables, after the entries that the book and the tables stand for.
+/// The rules in force are
 /// written into the query (LeFevre and others, Limiting Disclosure in Hippocratic Databases, VLDB
 /// 2004), and it is answered over the rows as they are. Wants a query whose tables are created.
 /// TooManyRows exactly where the answer has more than 100,000 rows.
@@ -171,21 +152,16 @@ fn formed_lines<C: ChoiceView>(
 /// ```
 pub fn answer(
     alloc: Global,
-    book: &PolicyBook,
-    tables: &Tables,
-    n: u64,
-    moment: Moment,
-    pair: &Pair,
+    standpoint: &Standpoint<'_>,
     query: &Query,
 ) -> Result<Answer, EvalFault>
-    requires { AreKeptTables tables.now query.now.tables }
-    ensures { (meaning : Meaning) (history : History)
-        → AreStateOf meaning book.now tables.now n history
-        → IsAnswered ANSWER_LIMIT (answer history (context_of pair.now moment) query.now) result }
+    requires { AreKeptTables standpoint.now.tables.now query.now.tables }
+    ensures { (meaning : Meaning) (history : History) → AreStateOf meaning standpoint.now history
+        → IsAnswered ANSWER_LIMIT (answer_from standpoint.now history query.now) result }
 {
-    let sets = sets_of(alloc, tables, &query.tables)?;
-    let masked = masked_query(alloc, book, tables, n, moment, pair, query)?;
-    let choices = book.choices_at(n);
+    let sets = sets_of(alloc, standpoint.tables, &query.tables)?;
+    let masked = masked_query(alloc, standpoint, query)?;
+    let choices = standpoint.book.choices_at(standpoint.count);
     let answer = formed(alloc, &query.form, &masked, &sets, &choices);
     drop(masked);
     answer
@@ -196,22 +172,17 @@ pub fn answer(
 /// is copied. Wants and answers what `answer` does.
 pub fn answer_as_lines(
     alloc: Global,
-    book: &PolicyBook,
-    tables: &Tables,
-    n: u64,
-    moment: Moment,
-    pair: &Pair,
+    standpoint: &Standpoint<'_>,
     query: &Query,
     session: u8,
 ) -> Result<Lines, EvalFault>
-    requires { AreKeptTables tables.now query.now.tables }
-    ensures { (meaning : Meaning) (history : History)
-        → AreStateOf meaning book.now tables.now n history → IsSaid ANSWER_LIMIT session
-        (answer history (context_of pair.now moment) query.now) result }
+    requires { AreKeptTables standpoint.now.tables.now query.now.tables }
+    ensures { (meaning : Meaning) (history : History) → AreStateOf meaning standpoint.now history
+        → IsSaid ANSWER_LIMIT session (answer_from standpoint.now history query.now) result }
 {
-    let sets = sets_of(alloc, tables, &query.tables)?;
-    let masked = masked_query(alloc, book, tables, n, moment, pair, query)?;
-    let choices = book.choices_at(n);
+    let sets = sets_of(alloc, standpoint.tables, &query.tables)?;
+    let masked = masked_query(alloc, standpoint, query)?;
+    let choices = standpoint.book.choices_at(standpoint.count);
     let lines = formed_lines(alloc, session, &query.form, &masked, &sets, &choices);
     drop(masked);
     lines

@@ -4,6 +4,8 @@
 mod answers;
 mod lines;
 mod sizes;
+mod standpoint;
 
 pub use answers::{answer, answer_as_lines};
 pub use lines::{LINES_ROOM, Lines};
+pub use standpoint::Standpoint;

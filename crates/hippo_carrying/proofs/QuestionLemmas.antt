@@ -41,7 +41,7 @@ use Rattle.hippo_judging.specs.declared.deeds.Question.{Question as AskedQuestio
 use Rattle.hippo_judging.specs.Findings.{IsJudged, question_by}
 use Rattle.hippo_effects.specs.Ledgers.{none_taken}
 use Rattle.hippo_engine.specs.Carrying.{Carries}
-use Rattle.hippo_engine.proofs.CarryingLemmas.{Holds-same, Holds-more, IsTimely-same}
+use Rattle.hippo_engine.proofs.CarryingLemmas.{Carries-unkept, Holds-same, Holds-more, IsTimely-same}
 use Rattle.hippo_effects.proofs.ClockLemmas.{int_le-refl, either_clock}
 use Rattle.hippo_judging.specs.Asking.{question_of, deed_asked, question_entry}
 use Rattle.hippo_questions.specs.Questions.{IsAnsweredBy, KeptAnswer, Asks, answer_said, world_left, HandsOutAnswer, Replies}
@@ -154,20 +154,9 @@ module _ (command : Command) (deed : Deed) (question : Question) (said : List Sh
   -- the keeper failed
   Carries-failed : (delivery : Delivery) → Asks entry (world_of old.world) question delivery (err_of (Result Answered EvalFault) Failed) old.state new.state before after
       → Carries command (err_of (Unit {0}) Keeper) old new before after steps steps
-  Carries-failed delivery kept = record {
-    call = IsAfterCall-as true false (err_of (Result Answered EvalFault) Failed) (err_of (Unit {0}) Failed) before after refl kept.keeps.call;
-    sound = λ fine. absurd (false≢true (sym fine));
-    timely = λ fine. absurd (false≢true (sym fine));
-    idle = λ none. refl;
-    carried = λ fine. absurd (false≢true fine);
-    failed = λ fails tells history holds. inl (record {
-      entry = entry;
-      adds = ap (λ (effect : Effect). effect.added) (effect_is history holds.stands) ∙ (λ i. sym (next_is history old.state old.world question holds.stands) i ∷ []);
-      follows = kept.keeps.follows refl history holds.stands;
-      kept = kept.keeps.failed refl tells;
-    });
-    undamaged = λ tells history holds number damaged. cc;
-  }
+  Carries-failed delivery kept =
+      Carries-unkept command entry old new before after steps
+      (λ history stands. ap (λ (effect : Effect). effect.added) (effect_is history stands) ∙ (λ i. sym (next_is history old.state old.world question stands) i ∷ [])) kept.keeps
 
 -- ---- the asker is looked up again
 asked_same : (one other : Session) → ◌≡◌ {A = Option Session} (Some one) (Some other) → one ≡ other

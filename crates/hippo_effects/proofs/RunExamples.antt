@@ -9,8 +9,7 @@ use Rattle.hippo_model.specs.declared.name_fault.NameFault.TheVariants as faults
 use Rattle.hippo_statements.specs.declared.statement.Stmt.TheVariants.{CreatePurpose, Insert, Delete, Select, Extract}
 use Rattle.hippo_model.specs.Terms.{History, ShownRow}
 use Rattle.hippo_model.proofs.Truths.{truths}
-use Rattle.hippo_model.proofs.ChangedOperands.{changes_of_operands}
-use Rattle.hippo_catalog.proofs.ComparedOperands.{comparisons_of}
+use Rattle.hippo_model.proofs.FoldedConditions.{folded_conditions}
 use Rattle.hippo_judging.specs.Deeds as deeds
 use Rattle.hippo_judging.specs.Judging.{judged}
 use Rattle.hippo_effects.specs.Effects.{question_effect}
@@ -40,7 +39,7 @@ a_morning_leaves_entries_and_a_session = refl
 names_and_phones_are_asked_for :
     judged clinic (world_within 4000000) (question (all_rows (codes "name" ∷ codes "phone" ∷ [])))
     ≡ Ok (deeds.answer_question (asked_for (1 ∷ 2 ∷ [])))
-names_and_phones_are_asked_for = simp (changes_of_operands, comparisons_of)
+names_and_phones_are_asked_for = simp folded_conditions
 
 -- a denied cell names the rule that denies it
 denied_by_no_rule :
@@ -139,7 +138,7 @@ the_clock_does_not_go_back = refl
 names_are_to_be_extracted :
     judged clinic (world_within 4000000) (make_statement (Session 1) (Extract (all_rows (codes "name" ∷ [])) 0 6) (codes "SELECT"))
     ≡ Ok (deeds.extract (asked_for (1 ∷ [])))
-names_are_to_be_extracted = simp (changes_of_operands, comparisons_of)
+names_are_to_be_extracted = simp folded_conditions
 
 -- a record is loaded as a row; else its number of fields comes first, then their forms, and then what its INSERT is refused for
 records_are_inserted : reply_after [] (make_request Console (loads patient (codes "3,\"O'Hara, Pat\",,7"))) ≡ ok 8

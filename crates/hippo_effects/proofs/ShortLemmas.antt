@@ -1,31 +1,19 @@
 -- A line that takes memory may be answered by want of it.
-use Rattle.std.proofs.Common.{◌≡◌, Bool, inl, inr, refl, ap, sym, true, false, Option, Ok, Err, List}
-use Rattle.std.proofs.lemmas.Bool.{false≢true}
+use Rattle.std.proofs.Common.{◌≡◌, Bool, inl, inr, refl, ap, sym, true, false, Ok, Err}
 use Rattle.std.specs.Prelude.{ℕ, ok_or}
+use Rattle.std.proofs.lemmas.Bool.{false≢true}
 use Rattle.hippo_model.specs.declared.audit.Audit.{Audit}
-use Rattle.hippo_model.specs.declared.audit.Pair.{Pair}
-use Rattle.hippo_model.specs.declared.entry.Act.{Act}
 use Rattle.hippo_model.specs.declared.entry.Entry.{Entry}
-use Rattle.hippo_model.specs.declared.name_fault.NameFault.{NameFault}
 use Rattle.hippo_statements.specs.declared.statement.RawAudit.{RawAudit}
-use Rattle.hippo_statements.specs.declared.statement.RawSelect.{RawSelect}
-use Rattle.hippo_statements.specs.declared.statement.Stmt.{Stmt}
 use Rattle.hippo_statements.specs.declared.statement.Stmt.TheVariants as stmt
-use Rattle.hippo_model.specs.declared.wanted.Wanted.{Wanted}
 use Rattle.hippo_model.specs.Terms.{History}
 use Rattle.hippo_values.specs.Texts.{Txt}
-use Rattle.hippo_values.specs.declared.names.Name.{Name}
 use Rattle.hippo_values.specs.Results.{◌>>=◌}
-use Rattle.hippo_catalog.specs.Catalogs.{known_at}
-use Rattle.hippo_catalog.specs.ChangesRefused.{change_refused}
-use Rattle.hippo_catalog.specs.ChangesWanted.{wanted_by}
-use Rattle.hippo_tables.specs.Finished.{finished_act}
 use Rattle.hippo_report.specs.declared.refusal.Refusal.{Refusal}
 use Rattle.hippo_report.specs.declared.speaker.Speaker.{Speaker}
-use Rattle.hippo_report.specs.declared.refusal.Refusal.TheVariants.{Memory, BadSyntax, NoCursor, NoSuchQuery, NoWatch, WatchLimit, JobLimit, NoJob}
+use Rattle.hippo_report.specs.declared.refusal.Refusal.TheVariants.{Memory, NoSuchQuery, NoWatch, WatchLimit, JobLimit, NoJob}
 use Rattle.hippo_report.specs.Refusals.{refusal_line}
 use Rattle.hippo_audit_job.specs.Jobs.{OpenAudit}
-use Rattle.hippo_sessions.specs.declared.cursors.Cursor.{Cursor as HeldCursor}
 use Rattle.hippo_sessions.specs.declared.sessions.Session.{Session}
 use Rattle.hippo_sessions.specs.Worlds.{World, at_number, free_number}
 use Rattle.hippo_lines.specs.Forms.{logs_in, logs_out, fetches, closes, steps, drops, unwatches, loads}
@@ -33,14 +21,14 @@ use Rattle.hippo_commands.specs.Commands.{Command, nothing, wrong, make_request,
 use Rattle.hippo_commands.specs.Commands as commands
 use Rattle.hippo_judging.specs.declared.asking.Delivery.{Delivery}
 use Rattle.hippo_judging.specs.declared.asking.Delivery.TheVariants as delivered
-use Rattle.hippo_judging.specs.declared.asking.Handing.{Handing}
 use Rattle.hippo_judging.specs.declared.asking.Handing.TheVariants.{Rows, Records, Cursor}
 use Rattle.hippo_judging.specs.Deeds.{Deed, Question}
 use Rattle.hippo_judging.specs.Deeds as deeds
-use Rattle.hippo_judging.specs.Checks.{Checked, by_console, by_session, open_session, may_log_in, unless_refused, act_made, has_room, question_at}
-use Rattle.hippo_judging.specs.Judging.{judged, judged_login, judged_logout, judged_fetch, judged_close, judged_wanted, judged_change, loaded_insert, judged_load, text_between, question_in, delivery_for, deed_for, judged_question, audit_in, judged_begin, judged_drop}
+use Rattle.hippo_judging.specs.Checks.{Checked, by_console, question_at}
+use Rattle.hippo_judging.specs.Judging.{judged, judged_fetch, judged_close, text_between, deed_for, audit_in, judged_begin, judged_drop}
 use Rattle.hippo_effects.specs.Effects.{only_reply, judgement_effect, effect_of, IsShort, IsEffect}
 use Rattle.hippo_judging.specs.Findings.{may_do_nothing}
+use Rattle.hippo_effects.proofs.JudgedLemmas.{check, if_changed, if_loaded, if_asked, if_logged_in, if_logged_out, if_held}
 
 -- a command is no step of a job, and does not set the clock
 abbrev pub is_plain : Command → Bool
@@ -54,87 +42,29 @@ IsPlain (Ok (deeds.step_job number job count)) = ⊥
 IsPlain (Ok (deeds.set_clock moment)) = ⊥
 IsPlain judgement = Unit {0}
 
-check : {A : Type 0} (found : Checked A) (next : A → Checked Deed) → ((one : A) → IsPlain (next one)) → IsPlain (found >>= next)
-check (Ok one) next all = all one
-check (Err refusal) next all = tt
-
-made : (history : History) (world : World) (wanted : Wanted) → IsPlain (judged_wanted history world wanted)
-made history world wanted =
-    check {A = Act} (act_made (finished_act history wanted)) (λ act. has_room history world >>= λ room. Ok (deeds.change act))
-    (λ act. check {A = Unit {0}} (has_room history world) (λ room. Ok (deeds.change act)) (λ room. tt))
-
-named : (history : History) (world : World) (wanted : Option Wanted) → IsPlain (ok_or wanted BadSyntax >>= λ one. judged_wanted history world one)
-named history world wanted = check {A = Wanted} (ok_or wanted BadSyntax) (λ one. judged_wanted history world one) (λ one. made history world one)
-
-change : (history : History) (world : World) (who : Speaker) (statement : Stmt) → IsPlain (judged_change history world who statement)
-change history world who statement =
-    let refusals : List NameFault = change_refused (known_at history) statement in
-    let wanted : Option Wanted = wanted_by (known_at history) statement in
-    check {A = Unit {0}} (by_console who)
-    (λ console. unless_refused refusals wanted >>= λ found. ok_or found BadSyntax >>= λ one. judged_wanted history world one)
-    (λ console. check {A = Option Wanted} (unless_refused refusals wanted) (λ found. ok_or found BadSyntax >>= λ one. judged_wanted history world one) (λ found. named history world found))
-
-load : (history : History) (world : World) (who : Speaker) (table : Name) (text : Txt) → IsPlain (judged_load history world who table text)
-load history world who table text =
-    check {A = Unit {0}} (by_console who) (λ console. loaded_insert (known_at history) table text >>= λ insert. judged_change history world who insert)
-    (λ console. check {A = Stmt} (loaded_insert (known_at history) table text) (λ insert. judged_change history world who insert)
-    (λ insert. change history world who insert))
+plain_refused : (refusal : Refusal) → IsPlain (Err refusal)
+plain_refused refusal = tt
 
 delivery_step : (session : Session) (question : Question) (delivery : Delivery) → IsPlain (Ok (deed_for session question delivery))
 delivery_step session question delivered.Rows = tt
 delivery_step session question delivered.Records = tt
 delivery_step session question (delivered.Cursor cursor) = tt
 
-delivery : (history : History) (world : World) (handing : Handing) (session : Session) (question : Question)
-    → IsPlain (delivery_for handing session >>= λ delivery. has_room history world >>= λ room. Ok (deed_for session question delivery))
-delivery history world handing session question =
-    check {A = Delivery} (delivery_for handing session) (λ delivery. has_room history world >>= λ room. Ok (deed_for session question delivery))
-    (λ delivery. check {A = Unit {0}} (has_room history world) (λ room. Ok (deed_for session question delivery)) (λ room. delivery_step session question delivery))
-
-question : (history : History) (world : World) (handing : Handing) (who : Speaker) (written : RawSelect) (text : Txt)
-    → IsPlain (judged_question handing history world who written text)
-question history world handing who written text =
-    check {A = ℕ} (by_session who)
-    (λ number. question_in history world number written text >>= λ question. open_session world number >>= λ session. delivery_for handing session >>= λ delivery. has_room history world >>= λ room. Ok (deed_for session question delivery))
-    (λ number. check {A = Question} (question_in history world number written text)
-    (λ question. open_session world number >>= λ session. delivery_for handing session >>= λ delivery. has_room history world >>= λ room. Ok (deed_for session question delivery))
-    (λ question. check {A = Session} (open_session world number)
-    (λ session. delivery_for handing session >>= λ delivery. has_room history world >>= λ room. Ok (deed_for session question delivery))
-    (λ session. delivery history world handing session question)))
-
-login : (history : History) (world : World) (who : Speaker) (user : Name) (pair : Pair) → IsPlain (judged_login history world who user pair)
-login history world who user pair =
-    check {A = ℕ} (by_session who) (λ number. may_log_in history world number user pair >>= λ allowed. Ok (deeds.log_in number user pair))
-    (λ number. check {A = Unit {0}} (may_log_in history world number user pair) (λ allowed. Ok (deeds.log_in number user pair)) (λ allowed. tt))
-
-logout : (world : World) (who : Speaker) → IsPlain (judged_logout world who)
-logout world who =
-    check {A = ℕ} (by_session who) (λ number. open_session world number >>= λ session. Ok (deeds.log_out number))
-    (λ number. check {A = Session} (open_session world number) (λ session. Ok (deeds.log_out number)) (λ session. tt))
-
--- with a cursor of the session that speaks
-cursor_held : (world : World) (who : Speaker) (at : ℕ) (next : ℕ → Session → HeldCursor → Checked Deed) → ((number : ℕ) (session : Session) (cursor : HeldCursor) → IsPlain (next number session cursor))
-    → IsPlain (by_session who >>= λ number. open_session world number >>= λ session. ok_or (at_number session.cursors at) (NoCursor at) >>= λ cursor. next number session cursor)
-cursor_held world who at next all =
-    check {A = ℕ} (by_session who) (λ number. open_session world number >>= λ session. ok_or (at_number session.cursors at) (NoCursor at) >>= λ cursor. next number session cursor)
-    (λ number. check {A = Session} (open_session world number) (λ session. ok_or (at_number session.cursors at) (NoCursor at) >>= λ cursor. next number session cursor)
-    (λ session. check {A = HeldCursor} (ok_or (at_number session.cursors at) (NoCursor at)) (λ cursor. next number session cursor) (λ cursor. all number session cursor)))
-
 fetch : (world : World) (who : Speaker) (at count : ℕ) → IsPlain (judged_fetch world who at count)
-fetch world who at count = cursor_held world who at (λ number session cursor. Ok (deeds.hand_out number session at cursor count)) (λ number session cursor. tt)
+fetch world who at count = if_held IsPlain plain_refused world who at (λ number session cursor. Ok (deeds.hand_out number session at cursor count)) (λ number session cursor. tt)
 
 close : (world : World) (who : Speaker) (at : ℕ) → IsPlain (judged_close world who at)
-close world who at = cursor_held world who at (λ number session cursor. Ok (deeds.close_cursor number session at)) (λ number session cursor. tt)
+close world who at = if_held IsPlain plain_refused world who at (λ number session cursor. Ok (deeds.close_cursor number session at)) (λ number session cursor. tt)
 
 begun : (history : History) (world : World) (who : Speaker) (written : RawAudit) → IsPlain (judged_begin history world who written)
 begun history world who written =
-    check {A = Audit} (audit_in history who written) (λ audit. ok_or (free_number world.jobs) JobLimit >>= λ free. Ok (deeds.begin_audit free audit))
-    (λ audit. check {A = ℕ} (ok_or (free_number world.jobs) JobLimit) (λ free. Ok (deeds.begin_audit free audit)) (λ free. tt))
+    check IsPlain plain_refused {A = Audit} (audit_in history who written) (λ audit. ok_or (free_number world.jobs) JobLimit >>= λ free. Ok (deeds.begin_audit free audit))
+    (λ audit. check IsPlain plain_refused {A = ℕ} (ok_or (free_number world.jobs) JobLimit) (λ free. Ok (deeds.begin_audit free audit)) (λ free. tt))
 
 dropped : (world : World) (who : Speaker) (at : ℕ) → IsPlain (judged_drop world who at)
 dropped world who at =
-    check {A = Unit {0}} (by_console who) (λ console. ok_or (at_number world.jobs at) (NoJob at) >>= λ job. Ok (deeds.drop_job at))
-    (λ console. check {A = OpenAudit} (ok_or (at_number world.jobs at) (NoJob at)) (λ job. Ok (deeds.drop_job at)) (λ job. tt))
+    check IsPlain plain_refused {A = Unit {0}} (by_console who) (λ console. ok_or (at_number world.jobs at) (NoJob at) >>= λ job. Ok (deeds.drop_job at))
+    (λ console. check IsPlain plain_refused {A = OpenAudit} (ok_or (at_number world.jobs at) (NoJob at)) (λ job. Ok (deeds.drop_job at)) (λ job. tt))
 
 -- what is done for any other command
 pub plain : (history : History) (world : World) (command : Command) → is_plain command ≡ true → IsPlain (judged history world command)
@@ -142,32 +72,32 @@ plain history world nothing other = tt
 plain history world (wrong who refusal) other = tt
 plain history world (commands.set_clock moment) other = absurd (false≢true other)
 plain history world (make_request who (logs_in user purpose recipient)) other =
-    login history world who user (record { purpose = purpose; recipient = recipient })
-plain history world (make_request who logs_out) other = logout world who
+    if_logged_in IsPlain plain_refused history world who user (record { purpose = purpose; recipient = recipient }) (λ number. tt)
+plain history world (make_request who logs_out) other = if_logged_out IsPlain plain_refused world who (λ number. tt)
 plain history world (make_request who (fetches cursor count)) other = fetch world who cursor count
 plain history world (make_request who (closes cursor)) other = close world who cursor
 plain history world (make_request who (steps job count)) other = absurd (false≢true other)
 plain history world (make_request who (drops job)) other = dropped world who job
 plain history world (make_request who (unwatches watch)) other =
-    check {A = Unit {0}} (by_console who) (λ console. ok_or (at_number world.watches watch) (NoWatch watch) >>= λ audit. Ok (deeds.end_watch watch))
-    (λ console. check {A = Audit} (ok_or (at_number world.watches watch) (NoWatch watch)) (λ audit. Ok (deeds.end_watch watch)) (λ audit. tt))
-plain history world (make_request who (loads table text)) other = load history world who table text
+    check IsPlain plain_refused {A = Unit {0}} (by_console who) (λ console. ok_or (at_number world.watches watch) (NoWatch watch) >>= λ audit. Ok (deeds.end_watch watch))
+    (λ console. check IsPlain plain_refused {A = Audit} (ok_or (at_number world.watches watch) (NoWatch watch)) (λ audit. Ok (deeds.end_watch watch)) (λ audit. tt))
+plain history world (make_request who (loads table text)) other = if_loaded IsPlain plain_refused history world who table text (λ act. tt)
 plain history world (make_statement who (stmt.Select written start end) text) other =
-    question history world Rows who written (text_between text start end)
+    if_asked IsPlain plain_refused history world Rows who written (text_between text start end) delivery_step
 plain history world (make_statement who (stmt.Ask written start end) text) other =
-    question history world Cursor who written (text_between text start end)
+    if_asked IsPlain plain_refused history world Cursor who written (text_between text start end) delivery_step
 plain history world (make_statement who (stmt.Extract written start end) text) other =
-    question history world Records who written (text_between text start end)
+    if_asked IsPlain plain_refused history world Records who written (text_between text start end) delivery_step
 plain history world (make_statement who (stmt.Explain question) text) other =
-    check {A = Unit {0}} (by_console who) (λ console. ok_or (question_at history question) (NoSuchQuery question) >>= λ entry. Ok (deeds.explain entry))
-    (λ console. check {A = Entry} (ok_or (question_at history question) (NoSuchQuery question)) (λ entry. Ok (deeds.explain entry)) (λ entry. tt))
+    check IsPlain plain_refused {A = Unit {0}} (by_console who) (λ console. ok_or (question_at history question) (NoSuchQuery question) >>= λ entry. Ok (deeds.explain entry))
+    (λ console. check IsPlain plain_refused {A = Entry} (ok_or (question_at history question) (NoSuchQuery question)) (λ entry. Ok (deeds.explain entry)) (λ entry. tt))
 plain history world (make_statement who (stmt.Audit written) text) other =
-    check {A = Audit} (audit_in history who written) (λ audit. Ok (deeds.audit audit)) (λ audit. tt)
+    check IsPlain plain_refused {A = Audit} (audit_in history who written) (λ audit. Ok (deeds.audit audit)) (λ audit. tt)
 plain history world (make_statement who (stmt.BeginAudit audit) text) other = begun history world who audit
 plain history world (make_statement who (stmt.Watch written) text) other =
-    check {A = Audit} (audit_in history who written) (λ audit. ok_or (free_number world.watches) WatchLimit >>= λ free. Ok (deeds.watch free audit))
-    (λ audit. check {A = ℕ} (ok_or (free_number world.watches) WatchLimit) (λ free. Ok (deeds.watch free audit)) (λ free. tt))
-plain history world (make_statement who statement text) other = change history world who statement
+    check IsPlain plain_refused {A = Audit} (audit_in history who written) (λ audit. ok_or (free_number world.watches) WatchLimit >>= λ free. Ok (deeds.watch free audit))
+    (λ audit. check IsPlain plain_refused {A = ℕ} (ok_or (free_number world.watches) WatchLimit) (λ free. Ok (deeds.watch free audit)) (λ free. tt))
+plain history world (make_statement who statement text) other = if_changed IsPlain plain_refused history world who statement (λ act. tt)
 
 short_of : (history : History) (world : World) (reply : Txt) (judgement : Checked Deed) → IsPlain judgement → IsShort history world reply judgement (only_reply world reply)
 short_of history world reply (Ok (deeds.answer_question question)) none = record { said = refl; kept = inl refl; same = refl }

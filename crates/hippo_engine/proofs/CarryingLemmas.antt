@@ -1,5 +1,5 @@
 -- From what single calls do to what carrying out a command does.
-use Rattle.std.proofs.Common.{◌≡◌, ◌∙◌, ℕ, refl, sym, ap, subst, inl, inr, List, [], ◌∷◌, ◌++◌, map, Option, Result, Ok, Err, true, codes, arith, append-nil}
+use Rattle.std.proofs.Common.{◌≡◌, ◌∙◌, ℕ, refl, sym, ap, subst, inl, inr, List, [], ◌∷◌, ◌++◌, map, Option, Result, Ok, Err, true, false, codes, arith, append-nil}
 use Rattle.std.specs.Prelude.{int_le}
 use Rattle.std.proofs.lemmas.Bool.{false≢true}
 use Rattle.std.proofs.lemmas.List.{map-append}
@@ -7,11 +7,12 @@ use Rattle.hippo_model.specs.declared.entry.Entry.{Entry}
 use Rattle.hippo_model.specs.StoredForms.{stored}
 use Rattle.hippo_model.specs.Terms.{History}
 use Rattle.hippo_keeper.specs.Keeping.{KeeperState, KeepsSame}
-use Rattle.hippo_replay.specs.Recording.{IsBacked, HasKept}
+use Rattle.hippo_replay.specs.Recording.{IsBacked, HasKept, KeepsEntry}
 use Rattle.hippo_replay.specs.Standing.{StandsFor, IsSound, IsTimely}
 use Rattle.hippo_replay.specs.declared.state.State.{State}
-use Rattle.hippo_keeper.proofs.CallLemmas.{KeepsSame-here, IsAfterCall-none}
-use Rattle.hippo_keeper.proofs.Results.{well}
+use Rattle.hippo_keeper.specs.declared.faults.KeeperFault.TheVariants.{Failed}
+use Rattle.hippo_keeper.proofs.CallLemmas.{KeepsSame-here, IsAfterCall-none, IsAfterCall-as}
+use Rattle.hippo_keeper.proofs.Results.{err_of, well}
 use Rattle.hippo_report.specs.declared.speaker.Speaker.{Speaker}
 use Rattle.hippo_report.specs.declared.speaker.Speaker.TheVariants.{Nobody, Console, Session}
 use Rattle.hippo_report.specs.declared.refusal.Refusal.{Refusal}
@@ -29,7 +30,7 @@ use Rattle.hippo_commands.specs.Commands as commands
 use Rattle.hippo_engine.specs.declared.engine.Engine.{Engine}
 use Rattle.hippo_effects.specs.declared.faults.EngineFault.{EngineFault}
 use Rattle.hippo_effects.specs.declared.faults.EngineFault.TheVariants.{Keeper, Write, Damaged}
-use Rattle.hippo_effects.specs.Effects.{Effect, only_reply, IsEffect}
+use Rattle.hippo_effects.specs.Effects.{Effect, only_reply, effect_of, IsEffect}
 use Rattle.hippo_judging.proofs.LengthLemmas.{plain_fits}
 use Rattle.hippo_judging.specs.Findings.{IsOfLine, may_do_nothing}
 use Rattle.hippo_effects.specs.Ledgers.{Tallies, none_taken, at_once, job_begun, job_stepped, job_dropped}
@@ -220,3 +221,22 @@ Carries-found command found result old new before after steps steps' (inr (wants
 pub IsOfLine-found : (command found : Command) → IsOfLine command → IsCommand command found → IsOfLine found
 IsOfLine-found command found of_line (inl is) = subst IsOfLine (sym is) of_line
 IsOfLine-found command found of_line (inr (wants, is)) = subst IsOfLine (sym is) (wanting command wants).1
+
+-- an entry that is not kept, since the keeper failed
+pub Carries-unkept : {A : Type 0} (command : Command) (entry : Entry) (old new : Engine) (before after : KeeperState) (steps : ℕ)
+    → ((history : History) → StandsFor old.state history → (effect_of history (world_of old.world) command).added ≡ entry ∷ [])
+    → KeepsEntry entry (err_of A Failed) old.state before after → Carries command (err_of (Unit {0}) Keeper) old new before after steps steps
+Carries-unkept {A} command entry old new before after steps adds keeps = record {
+  call = IsAfterCall-as true false (err_of A Failed) (err_of (Unit {0}) Failed) before after refl keeps.call;
+  sound = λ fine. absurd (false≢true (sym fine));
+  timely = λ fine. absurd (false≢true (sym fine));
+  idle = λ none. refl;
+  carried = λ fine. absurd (false≢true fine);
+  failed = λ fails tells history holds. inl (record {
+    entry = entry;
+    adds = adds history holds.stands;
+    follows = keeps.follows refl history holds.stands;
+    kept = keeps.failed refl tells;
+  });
+  undamaged = λ tells history holds number damaged. cc;
+}

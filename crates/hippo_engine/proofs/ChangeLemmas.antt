@@ -42,7 +42,7 @@ use Rattle.hippo_judging.specs.Deeds as deeds
 use Rattle.hippo_effects.specs.Effects.{Effect, only_reply, deed_effect, effect_of, judgement_effect, IsEffect}
 use Rattle.hippo_judging.specs.Judging.{judged}
 use Rattle.hippo_effects.specs.Ledgers.{none_taken}
-use Rattle.hippo_engine.proofs.CarryingLemmas.{Holds-same, Holds-more}
+use Rattle.hippo_engine.proofs.CarryingLemmas.{Carries-unkept, Holds-same, Holds-more}
 use Rattle.hippo_effects.proofs.ClockLemmas.{int_le-refl}
 use Rattle.hippo_effects.proofs.ShortLemmas.{short}
 
@@ -158,17 +158,4 @@ module _ (command : Command) (entry : Entry) (old new : Engine) (before after : 
   -- the keeper failed
   pub broken_change : Records entry (err_of (Unit {0}) Failed) old.state new.state before after
       → Carries command (err_of (Unit {0}) Keeper) old new before after steps steps
-  broken_change records = record {
-    call = records.keeps.call;
-    sound = λ fine. absurd (false≢true (sym fine));
-    timely = λ fine. absurd (false≢true (sym fine));
-    idle = λ none. refl;
-    carried = λ fine. absurd (false≢true fine);
-    failed = λ fails tells history holds. inl (record {
-      entry = entry;
-      adds = ap (λ (effect : Effect). effect.added) (changes.adds history holds.stands);
-      follows = records.keeps.follows refl history holds.stands;
-      kept = records.keeps.failed refl tells;
-    });
-    undamaged = λ tells history holds number damaged. cc;
-  }
+  broken_change records = Carries-unkept command entry old new before after steps (λ history stands. ap (λ (effect : Effect). effect.added) (changes.adds history stands)) records.keeps

@@ -44,11 +44,14 @@ pub record FindsFlags (audit : Audit) (state : State) (result : Result (List Fla
       → IsAuditOf history audit → HasFlags history audit result steps steps'
 
 -- the line that reads was carried out, or the keeper failed, or handed over what it did not keep
+abbrev pub unread_end : ReadFault → Result (Unit {0}) EngineFault
+unread_end Keeper = Err engine.Keeper
+unread_end (Damaged number) = Err (engine.Damaged number)
+unread_end Memory = Ok tt
+
 abbrev pub reading_end : {A : Type 0} → Result A ReadFault → Result (Unit {0}) EngineFault
 reading_end (Ok found) = Ok tt
-reading_end (Err Keeper) = Err engine.Keeper
-reading_end (Err (Damaged number)) = Err (engine.Damaged number)
-reading_end (Err Memory) = Ok tt
+reading_end (Err fault) = unread_end fault
 
 -- what is told of flags, where reading was not cut short by a fault of the keeper
 abbrev pub told_flags : Format → Result (List Flag) ReadFault → Txt

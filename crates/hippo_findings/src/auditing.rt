@@ -1,13 +1,16 @@
 //! The flags of an audit over all that was asked so far, as a reply.
-ghost use Rattle.std.specs.Prelude.{◌≡◌, ◌⊎◌, ◌++◌, true, flat_map, bytes_eq, OnOk};
+ghost use Rattle.std.specs.Prelude.{◌≡◌, ◌⊎◌, ◌++◌, true, flat_map, bytes_eq, Err as Bad, OnOk};
 ghost use Rattle.std.specs.List.{IsDistinct};
 ghost use Rattle.std.specs.Result.{result_map_both};
 ghost use Rattle.hippo_keeper.specs.Keeping.{IsReady};
 ghost use Rattle.hippo_report.specs.declared.refusal.Refusal.TheVariants as refusals;
 ghost use Rattle.hippo_flags.specs.Flags.{flag_line};
+ghost use Rattle.hippo_report.specs.declared.format.Format.{Format as Printing};
 ghost use Rattle.hippo_report.specs.declared.speaker.Speaker.TheVariants.{Console};
 ghost use Rattle.hippo_report.specs.Refusals.{refusal_line};
-ghost use Rattle.hippo_findings.specs.Auditing.{FindsFlags, reading_end, told_flags, TellsFlags};
+ghost use Rattle.hippo_findings.specs.Auditing.{FindsFlags, reading_end, unread_end, told_flags, TellsFlags};
+ghost use Rattle.hippo_findings.specs.Stepping.{TellsStep};
+ghost use Rattle.hippo_world.specs.Auditing.{HeldJob};
 ghost use Rattle.hippo_effects.specs.Effects.{lines_and_count};
 
 use hippo_audit_job::{Job, Past};
@@ -81,6 +84,23 @@ fn print_flags(
     number_line(0, "end", flags.len() as u64, reply)
 }
 
+// Says that memory was short, where the past was not read for want of it.
+pub(crate) fn say_unread(fault: ReadFault, reply: &mut Reply) -> Result<(), EngineFault>
+    ensures ended { result ≡ unread_end fault }
+    ensures said { OnOk result (reply.new ≡ refusal_line Console refusals.Memory) }
+    ensures step { (format : Printing) (job : HeldJob)
+        → TellsStep (Bad fault) format job job reply.new }
+{
+    match fault {
+        ReadFault::Memory => {
+            refuse_for_memory(Speaker::Console, reply);
+            Ok(())
+        }
+        ReadFault::Keeper => Err(EngineFault::Keeper),
+        ReadFault::Damaged(number) => Err(EngineFault::Damaged(number)),
+    }
+}
+
 // Tells the flags that were found, or that memory was short.
 fn say_flags(
     alloc: Global,
@@ -101,12 +121,7 @@ fn say_flags(
             drop(job);
             Ok(())
         }
-        Err(ReadFault::Memory) => {
-            refuse_for_memory(Speaker::Console, reply);
-            Ok(())
-        }
-        Err(ReadFault::Keeper) => Err(EngineFault::Keeper),
-        Err(ReadFault::Damaged(number)) => Err(EngineFault::Damaged(number)),
+        Err(fault) => say_unread(fault, reply),
     }
 }
 

@@ -4,7 +4,7 @@ ghost use Rattle.hippo_report.specs.declared.speaker.Speaker.TheVariants.{Consol
 ghost use Rattle.hippo_findings.specs.Auditing.{reading_end};
 ghost use Rattle.hippo_findings.specs.Stepping.{progress_line, step_text, SaysStep, TellsStep};
 
-use crate::auditing::append_flags;
+use crate::auditing::{append_flags, say_unread};
 use crate::fetching::{append_end, append_part};
 use hippo_backlog::ReadFault;
 use hippo_effects::{EngineFault, Reply, refuse_for_memory};
@@ -67,11 +67,6 @@ pub fn tell_step(
             say_step(alloc, format, job, reply);
             Ok(())
         }
-        Err(ReadFault::Memory) => {
-            refuse_for_memory(Speaker::Console, reply);
-            Ok(())
-        }
-        Err(ReadFault::Keeper) => Err(EngineFault::Keeper),
-        Err(ReadFault::Damaged(number)) => Err(EngineFault::Damaged(number)),
+        Err(fault) => say_unread(fault, reply),
     }
 }

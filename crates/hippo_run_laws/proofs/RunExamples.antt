@@ -1,5 +1,5 @@
 -- Steps of a job, and what is heard of a watch, on a small clinic.
-use Rattle.std.proofs.Common.{◌≡◌, ◌∙◌, inl, inr, refl, ap, subst, length, Option, option_and_then, arith, pos, false, List, [], ◌∷◌, ◌++◌, Some, None, Ok, codes, decimal}
+use Rattle.std.proofs.Common.{◌≡◌, ◌∙◌, inl, inr, refl, ap, subst, length, Option, option_and_then, arith, pos, List, [], ◌∷◌, ◌++◌, Some, None, Ok, codes, decimal}
 use Rattle.std.specs.Prelude.{⊤}
 use Rattle.hippo_io.specs.Lines.{LineText, text_line, too_long_line, not_utf8_line}
 use Rattle.hippo_values.specs.Names.{keywords, unsupported_words}
@@ -30,8 +30,8 @@ use Rattle.hippo_model.specs.declared.query.Query.{Query}
 use Rattle.hippo_model.specs.Verdicts.{Context}
 use Rattle.hippo_model.specs.Audits.{shared_by, flag_by, flags_between}
 use Rattle.hippo_model.proofs.Truths.{truths}
-use Rattle.hippo_model.proofs.ChangedOperands.{changes_of_operands}
-use Rattle.hippo_catalog.proofs.ComparedOperands.{comparisons_of}
+use Rattle.hippo_laws.proofs.ExampleHistories.{audit_between}
+use Rattle.hippo_model.proofs.FoldedConditions.{folded_conditions}
 use Rattle.hippo_lexer.specs.Spelling.{sign_table, sign_of}
 use Rattle.hippo_lexer.specs.Cutting.{number_of, number_first, closing, quoted_first, date_first, word_first, sign_first, token_first, tokens_from, outcome_of}
 use Rattle.hippo_lexer.specs.Words.{words_check}
@@ -49,15 +49,7 @@ use Rattle.hippo_run_laws.specs.Watches.{alarm_of, alarm_texts, JudgedHeard, IsH
 
 -- AUDIT name OF patient, in the year 2024
 abbrev names_of_patients : Audit
-names_of_patients = record {
-  from = pos 1704067200;
-  to = pos 1735689599;
-  exempt = [];
-  shown = false;
-  columns = record { table = 0; column = 1 } ∷ [];
-  tables = patient ∷ [];
-  cond = All [];
-}
+names_of_patients = audit_between (pos 1704067200) (pos 1735689599) (record { table = 0; column = 1 } ∷ []) (patient ∷ []) (All [])
 
 -- Ann has seen Ada's row
 abbrev eighth : Flag
@@ -163,7 +155,7 @@ asked_once = clinic ++ entry 8 ann_asks ∷ []
 
 names_are_meant : meaning clinic text ≡ Some (asked_for (1 ∷ [])).query
 unfolding reading
-names_are_meant = simp (changes_of_operands, comparisons_of)
+names_are_meant = simp folded_conditions
 
 -- what an audit flags of it, by what its text means
 abbrev flagged_by : Option Query → List Flag
