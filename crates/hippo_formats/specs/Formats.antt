@@ -1,5 +1,5 @@
--- An entry, and the rule of a column, as a line of JSON (RFC 8259) or of CSV (RFC 4180).
-use Rattle.std.specs.Prelude.{ℕ, Bool, true, false, List, [], ◌∷◌, ◌++◌, Option, Some, None, unwrap_or, codes, decimal}
+-- An entry, and the rule of a column, as a line of text, of JSON (RFC 8259) or of CSV (RFC 4180).
+use Rattle.std.specs.Prelude.{ℕ, Bool, true, false, List, [], ◌∷◌, ◌++◌, Option, Some, None, option_map, unwrap_or, codes, decimal}
 use Rattle.std.specs.Option.{option_map_or}
 use Rattle.csv.specs.Writing.{default_writer, row_text}
 use Rattle.serde_json.specs.Data.{Data, null, number, unsigned, string, object, no_members, member}
@@ -10,11 +10,13 @@ use Rattle.hippo_values.specs.declared.names.Name.{Name}
 use Rattle.hippo_model.specs.declared.entry.Act.{Act}
 use Rattle.hippo_model.specs.declared.entry.Act.TheVariants.{Asked}
 use Rattle.hippo_model.specs.declared.entry.Entry.{Entry}
+use Rattle.hippo_model.specs.declared.schema.Column.{Column}
 use Rattle.hippo_model.specs.declared.schema.Schema.{Schema}
 use Rattle.hippo_model.specs.Rules.{Rule, allowed, revoked}
+use Rattle.hippo_model.specs.Terms.{Place}
 use Rattle.hippo_report.specs.declared.format.Format.{Format}
 use Rattle.hippo_report.specs.declared.format.Format.TheVariants as formats
-use Rattle.hippo_telling.specs.Telling.{told_act, entry_line}
+use Rattle.hippo_telling.specs.Telling.{told_act, entry_line, allow_text, rule_text, name_at}
 
 -- an object without spaces as a line, and a record as one
 abbrev pub json_line : Data → Txt
@@ -91,16 +93,13 @@ number_data days = option_map_or (λ days. number (unsigned days)) days null
 abbrev pub text_data : Option Txt → Data
 text_data text = option_map_or string text null
 
-abbrev pub opt_data : Option Bool → Data
-opt_data opt_in = option_map_or (λ opt_in. string (opt_word opt_in)) opt_in null
-
 -- the rule of a column for a purpose and a recipient, and how silence on its item is read
 abbrev pub rule_data : Name → Name → Name → Txt → Option Rule → Option Bool → Data
 rule_data purpose recipient table column rule opt_in =
     object (member (codes "column") (string column)
     (member (codes "days") (number_data (rule_days rule))
     (member (codes "item") (text_data (rule_item rule))
-    (member (codes "opt") (opt_data opt_in)
+    (member (codes "opt") (text_data (option_map opt_word opt_in))
     (member (codes "purpose") (string purpose)
     (member (codes "recipient") (string recipient)
     (member (codes "rule") (number (unsigned (rule_number rule)))
@@ -111,5 +110,31 @@ rule_data purpose recipient table column rule opt_in =
 abbrev pub rule_fields : Name → Name → Name → Txt → Option Rule → Option Bool → List Txt
 rule_fields purpose recipient table column rule opt_in =
     decimal (rule_number rule) ∷ ruling_word rule ∷ purpose ∷ recipient ∷ table ∷ column
-    ∷ unwrap_or (rule_item rule) [] ∷ option_map_or opt_word opt_in []
+    ∷ unwrap_or (rule_item rule) [] ∷ unwrap_or (option_map opt_word opt_in) []
     ∷ option_map_or decimal (rule_days rule) [] ∷ []
+
+-- a rule by the number of its entry, as the statement that says it of these columns; 0 where there
+-- is none
+abbrev pub ruling_text : List Column → Name → Name → Name → List Place → Option Rule → Txt
+ruling_text columns purpose recipient table places None =
+    codes "0 nothing allows " ++ rule_text columns purpose recipient table places
+ruling_text columns purpose recipient table places (Some (revoked entry)) =
+    decimal entry ++ (codes " REVOKE " ++ rule_text columns purpose recipient table places)
+ruling_text columns purpose recipient table places (Some (allowed entry item days)) =
+    decimal entry ++ (codes " " ++ allow_text columns purpose recipient table places item days)
+
+-- how a patient's silence on a rule's item is read, where it has one
+abbrev pub silence_text : Option Bool → Txt
+silence_text None = []
+silence_text (Some true) = codes " (OPT IN)"
+silence_text (Some false) = codes " (OPT OUT)"
+
+-- the rule of a column as a line
+abbrev pub rule_line : Format → Name → Name → Schema → Place → Option Rule → Option Bool → Txt
+rule_line formats.Text purpose recipient schema place rule opt_in =
+    ruling_text schema.columns purpose recipient schema.name (place ∷ []) rule
+    ++ (silence_text opt_in ++ codes "\n")
+rule_line formats.Json purpose recipient schema place rule opt_in =
+    json_line (rule_data purpose recipient schema.name (name_at schema.columns place) rule opt_in)
+rule_line formats.Csv purpose recipient schema place rule opt_in =
+    csv_line (rule_fields purpose recipient schema.name (name_at schema.columns place) rule opt_in)

@@ -1,5 +1,5 @@
-//! An entry of a history, and the rule of a column, as a line of JSON (RFC 8259) or of CSV (RFC
-//! 4180).
+//! An entry of a history, and the rule of a column, as a line of text, of JSON (RFC 8259) or of CSV
+//! (RFC 4180).
 #![tactic(auto)]
 
 mod members;
@@ -11,6 +11,6 @@ mod rulings;
 mod told;
 
 pub use questions::{Question, question_of};
-pub use ruled::{append_rule_object, append_rule_record};
-pub use rulings::Names;
+pub use ruled::append_rule_line;
+pub use rulings::ColumnRule;
 pub use told::{append_entry, append_moment};

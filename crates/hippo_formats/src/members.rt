@@ -2,10 +2,8 @@
 ghost use Rattle.std.specs.Prelude.{◌≡◌, option_copied, OnOk};
 ghost use Rattle.serde_json.specs.Data.{put, string, number, unsigned};
 ghost use Rattle.serde_json.specs.View.{members_view};
-ghost use Rattle.hippo_formats.specs.Formats.{number_data, text_data, opt_data};
+ghost use Rattle.hippo_formats.specs.Formats.{number_data, text_data};
 
-use crate::rulings::opt_word;
-use hippo_values::Name;
 use serde_json::{Map, Value, put};
 use std::alloc::{AllocError, Global};
 
@@ -52,34 +50,18 @@ pub(crate) fn put_days(
     }
 }
 
-/// Adds a name, or null where there is none.
-pub(crate) fn put_name(
+/// Adds a text, or null where there is none.
+pub(crate) fn put_text_or_null(
     alloc: Global,
     members: &mut Map<String, Value>,
     key: &str,
-    name: Option<&Name>,
+    text: Option<&str>,
 ) -> Result<(), AllocError>
     ensures { OnOk result (members_view members.new.entries
-        ≡ put key.now (text_data (option_copied name.entry)) (members_view members.old.entries)) }
+        ≡ put key.now (text_data (option_copied text.entry)) (members_view members.old.entries)) }
 {
-    match name {
+    match text {
         None => put(members, alloc, key, Value::Null),
-        Some(name) => put_text(alloc, members, key, name.as_str()),
-    }
-}
-
-/// Adds how an item reads silence, or null where there is none.
-pub(crate) fn put_opt(
-    alloc: Global,
-    members: &mut Map<String, Value>,
-    key: &str,
-    opt_in: Option<bool>,
-) -> Result<(), AllocError>
-    ensures { OnOk result (members_view members.new.entries
-        ≡ put key.now (opt_data opt_in) (members_view members.old.entries)) }
-{
-    match opt_in {
-        None => put(members, alloc, key, Value::Null),
-        Some(opt_in) => put_text(alloc, members, key, opt_word(opt_in)),
+        Some(text) => put_text(alloc, members, key, text),
     }
 }

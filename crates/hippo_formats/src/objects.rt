@@ -1,19 +1,18 @@
 //! Objects of JSON (RFC 8259).
-ghost use Rattle.std.specs.Prelude.{◌≡◌, option_copied, IfOk, OnOk, string_bytes, codes};
+ghost use Rattle.std.specs.Prelude.{◌≡◌, option_map, IfOk, OnOk, string_bytes, codes};
 ghost use Rattle.serde_json.specs.Data.{put, string, number, unsigned};
 ghost use Rattle.serde_json.specs.View.{view, members_view};
 ghost use Rattle.serde_json.specs.Written.{compact_text};
-ghost use Rattle.hippo_text_forms.specs.Dates.{moment_text};
 ghost use Rattle.hippo_policy.specs.Rulings.{ruling_of, opt_in_of};
-ghost use Rattle.hippo_telling.specs.Telling.{told_act};
-ghost use Rattle.hippo_formats.specs.Formats.{statement_data, question_data, entry_data, rule_number, ruling_word, rule_item, rule_days, number_data, text_data, opt_data, rule_data};
+ghost use Rattle.hippo_telling.specs.Telling.{name_at};
+ghost use Rattle.hippo_formats.specs.Formats.{statement_data, question_data, rule_number, ruling_word, rule_item, rule_days, opt_word, number_data, text_data};
+ghost use Rattle.hippo_formats.specs.Shown.{shown_data, column_data};
 
-use crate::members::{put_days, put_name, put_number, put_opt, put_text};
-use crate::questions::{Question, question_of};
-use crate::rulings::{Names, days_of, item_of, number_of, opt_of, ruling_word};
-use crate::told::{moment_of, told_text};
-use hippo_model::{Entry, RuleAt, Schema};
-use hippo_values::Memory;
+use crate::members::{put_days, put_number, put_text, put_text_or_null};
+use crate::questions::Question;
+use crate::rulings::{ColumnRule, column_name, days_of, item_of, number_of, opt_of, ruling_word};
+use crate::told::{Shown, Told};
+use hippo_model::RuleAt;
 use serde_json::{Map, Value};
 use std::alloc::{AllocError, Global};
 
@@ -80,68 +79,42 @@ fn question_data(
     Ok(Value::Object(members))
 }
 
-fn told_data(
-    alloc: Global,
-    schema: Option<&Schema>,
-    entry: &Entry,
-    moment: &str,
-) -> Result<Value, Memory>
-    ensures { IfOk result (λ made.
-        view made ≡ statement_data entry.now.seq moment.now
-        (told_act (option_copied schema.entry) entry.now.act)) }
+fn told_data(alloc: Global, shown: &Shown<'_>) -> Result<Value, AllocError>
+    ensures { IfOk result (λ made. view made ≡ shown_data shown.now) }
 {
-    let statement = told_text(alloc, schema, &entry.act)?;
-    Ok(statement_data(alloc, entry.seq, moment, statement.as_str())?)
-}
-
-#[tactic(auto, using(crate::proofs::QuestionLemmas::statement_as_object))]
-fn entry_data(
-    alloc: Global,
-    schema: Option<&Schema>,
-    entry: &Entry,
-    moment: &str,
-) -> Result<Value, Memory>
-    ensures { IfOk result (λ made. view made
-        ≡ entry_data (option_copied schema.entry) entry.now.seq moment.now entry.now.act) }
-{
-    match question_of(&entry.act) {
-        None => told_data(alloc, schema, entry, moment),
-        Some(question) => Ok(question_data(alloc, entry.seq, moment, &question)?),
+    let moment = shown.moment.as_str();
+    match &shown.told {
+        Told::Asked(question) => question_data(alloc, shown.entry, moment, question),
+        Told::Made(statement) => statement_data(alloc, shown.entry, moment, statement.as_str()),
     }
 }
 
 /// An entry as an object, without spaces.
-#[tactic(auto, using(crate::proofs::JsonLemmas::entry_has_no_float))]
-pub(crate) fn entry_json(
-    alloc: Global,
-    schema: Option<&Schema>,
-    entry: &Entry,
-) -> Result<String, Memory>
-    ensures { IfOk result (λ text. string_bytes text
-        ≡ compact_text (entry_data (option_copied schema.entry) entry.now.seq
-        (moment_text entry.now.moment) entry.now.act)) }
+#[tactic(auto, using(crate::proofs::JsonLemmas::told_has_no_float))]
+pub(crate) fn entry_json(alloc: Global, shown: &Shown<'_>) -> Result<String, AllocError>
+    ensures { IfOk result (λ text. string_bytes text ≡ compact_text (shown_data shown.now)) }
 {
-    let moment = moment_of(alloc, &entry.moment)?;
-    let object = entry_data(alloc, schema, entry, moment.as_str())?;
-    Ok(object.to_string(alloc)?)
+    let object = told_data(alloc, shown)?;
+    object.to_string(alloc)
 }
 
 // Adds the words of a column's rule.
 fn put_names(
     alloc: Global,
     members: &mut Map<String, Value>,
-    names: &Names<'_>,
+    rule: &ColumnRule<'_>,
 ) -> Result<(), AllocError>
     ensures { OnOk result (members_view members.new.entries
-        ≡ put (codes "table") (string names.now.table.now)
-        (put (codes "recipient") (string names.now.recipient.now)
-        (put (codes "purpose") (string names.now.purpose.now)
-        (put (codes "column") (string names.now.column.now) (members_view members.old.entries))))) }
+        ≡ put (codes "table") (string rule.now.schema.now.name)
+        (put (codes "recipient") (string rule.now.recipient.now)
+        (put (codes "purpose") (string rule.now.purpose.now)
+        (put (codes "column") (string (name_at rule.now.schema.now.columns rule.now.place))
+        (members_view members.old.entries))))) }
 {
-    put_text(alloc, members, "column", names.column)?;
-    put_text(alloc, members, "purpose", names.purpose)?;
-    put_text(alloc, members, "recipient", names.recipient)?;
-    put_text(alloc, members, "table", names.table)
+    put_text(alloc, members, "column", column_name(rule))?;
+    put_text(alloc, members, "purpose", rule.purpose.as_str())?;
+    put_text(alloc, members, "recipient", rule.recipient.as_str())?;
+    put_text(alloc, members, "table", rule.schema.name.as_str())
 }
 
 // Adds the number of a rule's entry, and the word for what it says.
@@ -166,39 +139,31 @@ fn put_conditions(
     ruling: &RuleAt<'_>,
 ) -> Result<(), AllocError>
     ensures { OnOk result (members_view members.new.entries
-        ≡ put (codes "opt") (opt_data (opt_in_of ruling.now))
+        ≡ put (codes "opt") (text_data (option_map opt_word (opt_in_of ruling.now)))
         (put (codes "item") (text_data (rule_item (ruling_of ruling.now)))
         (put (codes "days") (number_data (rule_days (ruling_of ruling.now)))
         (members_view members.old.entries)))) }
 {
     put_days(alloc, members, "days", days_of(ruling))?;
-    put_name(alloc, members, "item", item_of(ruling))?;
-    put_opt(alloc, members, "opt", opt_of(ruling))
+    put_text_or_null(alloc, members, "item", item_of(ruling))?;
+    put_text_or_null(alloc, members, "opt", opt_of(ruling))
 }
 
-fn rule_data(alloc: Global, names: &Names<'_>, ruling: &RuleAt<'_>) -> Result<Value, AllocError>
-    ensures { IfOk result (λ made. view made
-        ≡ rule_data names.now.purpose.now names.now.recipient.now
-        names.now.table.now names.now.column.now (ruling_of ruling.now) (opt_in_of ruling.now)) }
+fn rule_data(alloc: Global, rule: &ColumnRule<'_>) -> Result<Value, AllocError>
+    ensures { IfOk result (λ made. view made ≡ column_data rule.now) }
 {
     let mut members = Map::new(alloc);
-    put_names(alloc, &mut members, names)?;
-    put_number_and_word(alloc, &mut members, ruling)?;
-    put_conditions(alloc, &mut members, ruling)?;
+    put_names(alloc, &mut members, rule)?;
+    put_number_and_word(alloc, &mut members, &rule.ruling)?;
+    put_conditions(alloc, &mut members, &rule.ruling)?;
     Ok(Value::Object(members))
 }
 
 /// The rule of a column as an object, without spaces.
 #[tactic(auto, using(crate::proofs::JsonLemmas::rule_has_no_float))]
-pub(crate) fn rule_json(
-    alloc: Global,
-    names: &Names<'_>,
-    ruling: &RuleAt<'_>,
-) -> Result<String, AllocError>
-    ensures { IfOk result (λ text. string_bytes text ≡ compact_text (rule_data names.now.purpose.now
-        names.now.recipient.now names.now.table.now names.now.column.now
-        (ruling_of ruling.now) (opt_in_of ruling.now))) }
+pub(crate) fn rule_json(alloc: Global, rule: &ColumnRule<'_>) -> Result<String, AllocError>
+    ensures { IfOk result (λ text. string_bytes text ≡ compact_text (column_data rule.now)) }
 {
-    let object = rule_data(alloc, names, ruling)?;
+    let object = rule_data(alloc, rule)?;
     object.to_string(alloc)
 }

@@ -20,18 +20,19 @@ pub fn question_of<'a>(act: &'a Act) -> Option<Question<'a>>
     ensures { MatchOption result (is_question act.now ≡ false) (λ question. act.now
         ≡ Asked question.user.now question.purpose.now question.recipient.now question.text.now) }
 {
-    match act {
-        Act::Asked {
-            user,
-            purpose,
-            recipient,
-            text,
-        } => Some(Question {
-            user,
-            purpose,
-            recipient,
-            text,
-        }),
-        _ => None,
-    }
+    let Act::Asked {
+        user,
+        purpose,
+        recipient,
+        text,
+    } = act
+    else {
+        return None;
+    };
+    Some(Question {
+        user,
+        purpose,
+        recipient,
+        text,
+    })
 }

@@ -1,17 +1,17 @@
 //! Records of CSV (RFC 4180).
-ghost use Rattle.std.specs.Prelude.{◌≡◌, ◌∷◌, ◌++◌, [], unwrap_or, decimal, option_copied, IfOk, OnOk};
+ghost use Rattle.std.specs.Prelude.{◌≡◌, ◌∷◌, ◌++◌, [], unwrap_or, decimal, option_copied, option_map, IfOk, OnOk};
 ghost use Rattle.std.specs.Option.{option_map_or};
 ghost use Rattle.csv.specs.Records.{fields_of};
-ghost use Rattle.hippo_text_forms.specs.Dates.{moment_text};
 ghost use Rattle.hippo_policy.specs.Rulings.{ruling_of, opt_in_of};
-ghost use Rattle.hippo_telling.specs.Telling.{told_act};
-ghost use Rattle.hippo_formats.specs.Formats.{csv_line, entry_fields, rule_number, ruling_word, rule_item, rule_days, opt_word, rule_fields};
+ghost use Rattle.hippo_telling.specs.Telling.{name_at};
+ghost use Rattle.hippo_formats.specs.Formats.{csv_line, rule_number, ruling_word, rule_item, rule_days, opt_word};
+ghost use Rattle.hippo_formats.specs.Shown.{told_fields, shown_fields, column_fields};
 
-use crate::questions::{Question, question_of};
-use crate::rulings::{Names, days_of, item_of, number_of, opt_of, opt_word, ruling_word};
-use crate::told::{moment_of, told_text};
+use crate::questions::Question;
+use crate::rulings::{ColumnRule, column_name, days_of, item_of, number_of, opt_of, ruling_word};
+use crate::told::{Shown, Told};
 use csv::{Error, StringRecord, WriterBuilder};
-use hippo_model::{Entry, RuleAt, Schema};
+use hippo_model::RuleAt;
 use hippo_values::{Memory, Txt};
 use itoa::Buffer;
 use std::alloc::{AllocError, Global};
@@ -78,80 +78,32 @@ fn push_asker(fields: &mut StringRecord, question: &Question<'_>) -> Result<(), 
     fields.push_field(question.text.as_str())
 }
 
-fn question_record(
-    alloc: Global,
-    entry: u64,
-    moment: &str,
-    question: &Question<'_>,
-) -> Result<StringRecord, AllocError>
-    ensures { IfOk result (λ made. fields_of made
-        ≡ decimal entry ∷ moment.now ∷ question.now.user.now
-        ∷ question.now.purpose.now ∷ question.now.recipient.now ∷ question.now.text.now ∷ []) }
+// Adds a statement, behind empty fields since nobody asks it.
+fn push_statement(fields: &mut StringRecord, statement: &str) -> Result<(), AllocError>
+    ensures { OnOk result (fields_of fields.new
+        ≡ fields_of fields.old ++ ([] ∷ [] ∷ [] ∷ statement.now ∷ [])) }
 {
-    let mut fields = StringRecord::new(alloc);
-    push_entry(&mut fields, entry, moment)?;
-    push_asker(&mut fields, question)?;
-    Ok(fields)
+    push_three(fields, "", "", "")?;
+    fields.push_field(statement)
 }
 
-fn statement_record(
-    alloc: Global,
-    entry: u64,
-    moment: &str,
-    statement: &str,
-) -> Result<StringRecord, AllocError>
-    ensures { IfOk result (λ made. fields_of made
-        ≡ decimal entry ∷ moment.now ∷ [] ∷ [] ∷ [] ∷ statement.now ∷ []) }
+fn push_told(fields: &mut StringRecord, told: &Told<'_>) -> Result<(), AllocError>
+    ensures { OnOk result (fields_of fields.new ≡ fields_of fields.old ++ told_fields told.now) }
 {
-    let mut fields = StringRecord::new(alloc);
-    push_entry(&mut fields, entry, moment)?;
-    push_three(&mut fields, "", "", "")?;
-    fields.push_field(statement)?;
-    Ok(fields)
-}
-
-fn told_record(
-    alloc: Global,
-    schema: Option<&Schema>,
-    entry: &Entry,
-    moment: &str,
-) -> Result<StringRecord, Memory>
-    ensures { IfOk result (λ made. fields_of made
-        ≡ decimal entry.now.seq ∷ moment.now ∷ [] ∷ [] ∷ []
-        ∷ told_act (option_copied schema.entry) entry.now.act ∷ []) }
-{
-    let statement = told_text(alloc, schema, &entry.act)?;
-    Ok(statement_record(alloc, entry.seq, moment, statement.as_str())?)
-}
-
-#[tactic(auto, using(crate::proofs::QuestionLemmas::statement_as_fields))]
-fn entry_fields(
-    alloc: Global,
-    schema: Option<&Schema>,
-    entry: &Entry,
-    moment: &str,
-) -> Result<StringRecord, Memory>
-    ensures { IfOk result (λ made. fields_of made
-        ≡ entry_fields (option_copied schema.entry) entry.now.seq moment.now entry.now.act) }
-{
-    match question_of(&entry.act) {
-        None => told_record(alloc, schema, entry, moment),
-        Some(question) => Ok(question_record(alloc, entry.seq, moment, &question)?),
+    match told {
+        Told::Asked(question) => push_asker(fields, question),
+        Told::Made(statement) => push_statement(fields, statement.as_str()),
     }
 }
 
 /// An entry; who asks is empty where nobody does.
-pub(crate) fn entry_record(
-    alloc: Global,
-    schema: Option<&Schema>,
-    entry: &Entry,
-) -> Result<StringRecord, Memory>
-    ensures { IfOk result (λ made. fields_of made
-        ≡ entry_fields (option_copied schema.entry) entry.now.seq (moment_text entry.now.moment)
-        entry.now.act) }
+pub(crate) fn entry_record(alloc: Global, shown: &Shown<'_>) -> Result<StringRecord, AllocError>
+    ensures { IfOk result (λ made. fields_of made ≡ shown_fields shown.now) }
 {
-    let moment = moment_of(alloc, &entry.moment)?;
-    entry_fields(alloc, schema, entry, moment.as_str())
+    let mut fields = StringRecord::new(alloc);
+    push_entry(&mut fields, shown.entry, shown.moment.as_str())?;
+    push_told(&mut fields, &shown.told)?;
+    Ok(fields)
 }
 
 fn push_days(fields: &mut StringRecord, days: Option<u32>) -> Result<(), AllocError>
@@ -164,23 +116,13 @@ fn push_days(fields: &mut StringRecord, days: Option<u32>) -> Result<(), AllocEr
     }
 }
 
-// The word for an item's silence, or nothing.
-fn opt_field(opt_in: Option<bool>) -> &'static str
-    ensures { result.now ≡ option_map_or opt_word opt_in [] }
+// A text, or nothing.
+fn text_field<'a>(text: Option<&'a str>) -> &'a str
+    ensures { result.now ≡ unwrap_or (option_copied text.entry) [] }
 {
-    match opt_in {
+    match text {
         None => "",
-        Some(opt_in) => opt_word(opt_in),
-    }
-}
-
-// The name of a rule's item, or nothing.
-fn item_field<'a>(ruling: &RuleAt<'a>) -> &'a str
-    ensures { result.now ≡ unwrap_or (rule_item (ruling_of ruling.now)) [] }
-{
-    match item_of(ruling) {
-        None => "",
-        Some(item) => item.as_str(),
+        Some(text) => text,
     }
 }
 
@@ -195,39 +137,40 @@ fn push_ruling(fields: &mut StringRecord, ruling: &RuleAt<'_>) -> Result<(), All
 }
 
 // Adds the words of a column's rule.
-fn push_names(fields: &mut StringRecord, names: &Names<'_>) -> Result<(), AllocError>
-    ensures { OnOk result (fields_of fields.new ≡ fields_of fields.old ++ (names.now.purpose.now
-        ∷ names.now.recipient.now ∷ names.now.table.now ∷ names.now.column.now ∷ [])) }
+fn push_names(fields: &mut StringRecord, rule: &ColumnRule<'_>) -> Result<(), AllocError>
+    ensures { OnOk result (fields_of fields.new ≡ fields_of fields.old ++ (rule.now.purpose.now
+        ∷ rule.now.recipient.now ∷ rule.now.schema.now.name
+        ∷ name_at rule.now.schema.now.columns rule.now.place ∷ [])) }
 {
-    push_three(fields, names.purpose, names.recipient, names.table)?;
-    fields.push_field(names.column)
+    let table = rule.schema.name.as_str();
+    push_three(
+        fields,
+        rule.purpose.as_str(),
+        rule.recipient.as_str(),
+        table,
+    )?;
+    fields.push_field(column_name(rule))
 }
 
 // Adds with which item a rule allows, how that reads silence, and for how long.
 fn push_conditions(fields: &mut StringRecord, ruling: &RuleAt<'_>) -> Result<(), AllocError>
     ensures { OnOk result (fields_of fields.new ≡ fields_of fields.old
         ++ (unwrap_or (rule_item (ruling_of ruling.now)) []
-        ∷ option_map_or opt_word (opt_in_of ruling.now) []
+        ∷ unwrap_or (option_map opt_word (opt_in_of ruling.now)) []
         ∷ option_map_or decimal (rule_days (ruling_of ruling.now)) [] ∷ [])) }
 {
-    fields.push_field(item_field(ruling))?;
-    fields.push_field(opt_field(opt_of(ruling)))?;
+    fields.push_field(text_field(item_of(ruling)))?;
+    fields.push_field(text_field(opt_of(ruling)))?;
     push_days(fields, days_of(ruling))
 }
 
 /// The rule of a column.
-pub(crate) fn rule_record(
-    alloc: Global,
-    names: &Names<'_>,
-    ruling: &RuleAt<'_>,
-) -> Result<StringRecord, AllocError>
-    ensures { IfOk result (λ made. fields_of made
-        ≡ rule_fields names.now.purpose.now names.now.recipient.now
-        names.now.table.now names.now.column.now (ruling_of ruling.now) (opt_in_of ruling.now)) }
+pub(crate) fn rule_record(alloc: Global, rule: &ColumnRule<'_>) -> Result<StringRecord, AllocError>
+    ensures { IfOk result (λ made. fields_of made ≡ column_fields rule.now) }
 {
     let mut fields = StringRecord::new(alloc);
-    push_ruling(&mut fields, ruling)?;
-    push_names(&mut fields, names)?;
-    push_conditions(&mut fields, ruling)?;
+    push_ruling(&mut fields, &rule.ruling)?;
+    push_names(&mut fields, rule)?;
+    push_conditions(&mut fields, &rule.ruling)?;
     Ok(fields)
 }

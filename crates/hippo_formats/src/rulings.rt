@@ -1,18 +1,30 @@
 //! What a rule says, by its parts.
-ghost use Rattle.std.specs.Prelude.{◌≡◌, option_copied};
+ghost use Rattle.std.specs.Prelude.{◌≡◌, option_copied, option_map};
 ghost use Rattle.hippo_policy.specs.Rulings.{ruling_of, opt_in_of};
+ghost use Rattle.hippo_telling.specs.Telling.{name_at};
 ghost use Rattle.hippo_formats.specs.Formats.{rule_number, ruling_word, rule_item, rule_days, opt_word};
 
-use hippo_model::RuleAt;
+use hippo_model::{RuleAt, Schema};
 use hippo_values::Name;
 
-/// The words of a column's rule.
+/// The rule of a table's column for a purpose and a recipient.
 #[derive(Clone, Copy)]
-pub struct Names<'a> {
-    pub purpose: &'a str,
-    pub recipient: &'a str,
-    pub table: &'a str,
-    pub column: &'a str,
+pub struct ColumnRule<'a> {
+    pub purpose: &'a Name,
+    pub recipient: &'a Name,
+    pub schema: &'a Schema,
+    pub place: usize,
+    pub ruling: RuleAt<'a>,
+}
+
+/// The column's name.
+pub(crate) fn column_name<'a>(rule: &ColumnRule<'a>) -> &'a str
+    ensures { result.now ≡ name_at rule.now.schema.now.columns rule.now.place }
+{
+    match rule.schema.columns.as_slice().get(rule.place) {
+        None => "",
+        Some(column) => column.name.as_str(),
+    }
 }
 
 pub(crate) fn number_of(ruling: &RuleAt<'_>) -> u64
@@ -37,11 +49,11 @@ pub(crate) fn ruling_word(ruling: &RuleAt<'_>) -> &'static str
     }
 }
 
-pub(crate) fn item_of<'a>(ruling: &RuleAt<'a>) -> Option<&'a Name>
+pub(crate) fn item_of<'a>(ruling: &RuleAt<'a>) -> Option<&'a str>
     ensures { option_copied result ≡ rule_item (ruling_of ruling.now) }
 {
     match *ruling {
-        RuleAt::With { item, .. } => Some(item),
+        RuleAt::With { item, .. } => Some(item.as_str()),
         _ => None,
     }
 }
@@ -57,18 +69,18 @@ pub(crate) fn days_of(ruling: &RuleAt<'_>) -> Option<u32>
     }
 }
 
-pub(crate) fn opt_of(ruling: &RuleAt<'_>) -> Option<bool>
-    ensures { result ≡ opt_in_of ruling.now }
-{
-    match *ruling {
-        RuleAt::With { opt_in, .. } => Some(opt_in),
-        _ => None,
-    }
-}
-
-/// The word for how an item reads silence.
-pub(crate) fn opt_word(opt_in: bool) -> &'static str
+fn opt_word(opt_in: bool) -> &'static str
     ensures { result.now ≡ opt_word opt_in }
 {
     if opt_in { "in" } else { "out" }
+}
+
+/// The word for how a rule's item reads silence.
+pub(crate) fn opt_of(ruling: &RuleAt<'_>) -> Option<&'static str>
+    ensures { option_copied result ≡ option_map opt_word (opt_in_of ruling.now) }
+{
+    match *ruling {
+        RuleAt::With { opt_in, .. } => Some(opt_word(opt_in)),
+        _ => None,
+    }
 }

@@ -2,9 +2,11 @@
 ghost use Rattle.std.specs.Prelude.{◌≡◌, ◌++◌, option_copied, IfOk, OnOk, codes};
 ghost use Rattle.hippo_text_forms.specs.Dates.{moment_text};
 ghost use Rattle.hippo_telling.specs.Telling.{told_act};
-ghost use Rattle.hippo_formats.specs.Formats.{entry_by};
+ghost use Rattle.hippo_formats.specs.Formats.{json_line, csv_line, entry_by};
+ghost use Rattle.hippo_formats.specs.Shown.{shown_data, shown_fields, Shows};
 
 use crate::objects::entry_json;
+use crate::questions::{Question, question_of};
 use crate::records::{append_record, entry_record};
 use hippo_model::{Act, Entry, Schema};
 use hippo_report::Format;
@@ -12,6 +14,21 @@ use hippo_telling::{entry_line, tell_act};
 use hippo_text_forms::moment_text;
 use hippo_values::{Memory, Moment, Txt};
 use std::alloc::Global;
+
+/// What is told of an act: a question, or the statement that another act came of.
+#[derive(Drop)]
+pub(crate) enum Told<'a> {
+    Asked(Question<'a>),
+    Made(Txt),
+}
+
+/// What is shown of an entry.
+#[derive(Drop)]
+pub(crate) struct Shown<'a> {
+    pub entry: u64,
+    pub moment: Txt,
+    pub told: Told<'a>,
+}
 
 /// Adds a moment.
 pub fn append_moment(moment: &Moment, out: &mut Txt) -> Result<(), Memory>
@@ -23,8 +40,8 @@ pub fn append_moment(moment: &Moment, out: &mut Txt) -> Result<(), Memory>
     }
 }
 
-/// A moment, as every line shows it.
-pub(crate) fn moment_of(alloc: Global, moment: &Moment) -> Result<Txt, Memory>
+// A moment, as every line shows it.
+fn moment_of(alloc: Global, moment: &Moment) -> Result<Txt, Memory>
     ensures { IfOk result (λ text. text ≡ moment_text moment.now) }
 {
     let mut text = Txt::new(alloc);
@@ -32,8 +49,8 @@ pub(crate) fn moment_of(alloc: Global, moment: &Moment) -> Result<Txt, Memory>
     Ok(text)
 }
 
-/// The statement that an act came of.
-pub(crate) fn told_text(alloc: Global, schema: Option<&Schema>, act: &Act) -> Result<Txt, Memory>
+// The statement that an act came of.
+fn told_text(alloc: Global, schema: Option<&Schema>, act: &Act) -> Result<Txt, Memory>
     ensures { IfOk result (λ text. text ≡ told_act (option_copied schema.entry) act.now) }
 {
     let mut text = Txt::new(alloc);
@@ -49,29 +66,57 @@ pub(crate) fn append_text_line(text: &str, out: &mut Txt) -> Result<(), Memory>
     out.append("\n")
 }
 
-fn append_json(
+// What is shown of an entry at this moment.
+#[tactic(auto, using(crate::proofs::QuestionLemmas::statement_shown, crate::proofs::QuestionLemmas::question_shown))]
+fn shown_at<'a>(
     alloc: Global,
     schema: Option<&Schema>,
-    entry: &Entry,
-    out: &mut Txt,
-) -> Result<(), Memory>
-    ensures { OnOk result (out.new ≡ out.old
-        ++ entry_by Format.Json (option_copied schema.entry) entry.now) }
+    entry: &'a Entry,
+    moment: Txt,
+) -> Result<Shown<'a>, Memory>
+    ensures { IfOk result (λ shown. Shows (option_copied schema.entry) entry.now.seq moment
+        entry.now.act shown) }
 {
-    let text = entry_json(alloc, schema, entry)?;
+    match question_of(&entry.act) {
+        None => {
+            let told = Told::Made(told_text(alloc, schema, &entry.act)?);
+            Ok(Shown {
+                entry: entry.seq,
+                moment,
+                told,
+            })
+        }
+        Some(question) => Ok(Shown {
+            entry: entry.seq,
+            moment,
+            told: Told::Asked(question),
+        }),
+    }
+}
+
+fn shown_of<'a>(
+    alloc: Global,
+    schema: Option<&Schema>,
+    entry: &'a Entry,
+) -> Result<Shown<'a>, Memory>
+    ensures { IfOk result (λ shown. Shows (option_copied schema.entry) entry.now.seq
+        (moment_text entry.now.moment) entry.now.act shown) }
+{
+    let moment = moment_of(alloc, &entry.moment)?;
+    shown_at(alloc, schema, entry, moment)
+}
+
+fn append_json(alloc: Global, shown: &Shown<'_>, out: &mut Txt) -> Result<(), Memory>
+    ensures { OnOk result (out.new ≡ out.old ++ json_line (shown_data shown.now)) }
+{
+    let text = entry_json(alloc, shown)?;
     append_text_line(text.as_str(), out)
 }
 
-fn append_csv(
-    alloc: Global,
-    schema: Option<&Schema>,
-    entry: &Entry,
-    out: &mut Txt,
-) -> Result<(), Memory>
-    ensures { OnOk result (out.new ≡ out.old
-        ++ entry_by Format.Csv (option_copied schema.entry) entry.now) }
+fn append_csv(alloc: Global, shown: &Shown<'_>, out: &mut Txt) -> Result<(), Memory>
+    ensures { OnOk result (out.new ≡ out.old ++ csv_line (shown_fields shown.now)) }
 {
-    let fields = entry_record(alloc, schema, entry)?;
+    let fields = entry_record(alloc, shown)?;
     append_record(alloc, &fields, out)
 }
 
@@ -88,7 +133,13 @@ pub fn append_entry(
 {
     match format {
         Format::Text => entry_line(alloc, schema, entry, out),
-        Format::Json => append_json(alloc, schema, entry, out),
-        Format::Csv => append_csv(alloc, schema, entry, out),
+        Format::Json => {
+            let shown = shown_of(alloc, schema, entry)?;
+            append_json(alloc, &shown, out)
+        }
+        Format::Csv => {
+            let shown = shown_of(alloc, schema, entry)?;
+            append_csv(alloc, &shown, out)
+        }
     }
 }

@@ -1,4 +1,5 @@
 pub mod Arguments
+pub mod Endings
 pub mod Lines
 pub mod Saying
 pub mod Starting

@@ -26,8 +26,9 @@ use Rattle.hippo_effects.specs.Effects.{judgement_effect, effect_of}
 use Rattle.hippo_effects.specs.Ledgers.{reads_kept}
 use Rattle.hippo_words.specs.declared.calls.Job.{Job}
 use Rattle.hippo_words.specs.declared.calls.Setting.{Setting}
-use Rattle.hippo_running.specs.declared.endings.Ending.{Ending}
-use Rattle.hippo_running.specs.Endings.{as_line_call, EndsUnread}
+use Rattle.hippo_programs.specs.declared.endings.Ending.{Ending}
+use Rattle.hippo_programs.specs.Endings.{part_as_call}
+use Rattle.hippo_running.specs.Endings.{EndsUnread}
 use Rattle.hippo_running.specs.Loads.{at_line, asked_lines}
 use Rattle.hippo_running.specs.Outside.{Told, Outside, outside}
 use Rattle.hippo_running.specs.Runs.{ForInput, HasReadFront, LinesEnd, HasReplied, Turn}
@@ -99,8 +100,8 @@ module _ (job : Job) (moment : Moment) (first : asked_lines job [] ≡ text_line
         (λ carries writes. (λ e. cc, λ e. cc, λ e. cc, λ e. cc, λ e. cc))
         (λ number carries. ((λ e. cc, λ e. cc, λ e. cc, λ e. cc, λ e. cc), (λ e. cc, λ e. cc, λ e. cc, λ e. cc, λ e. cc))) result turn
 
-    pub first_call : IsAfterCall true false (as_line_call result) keeper keeper'
-    first_call = by_turn engine engine' keeper keeper' output output' steps steps' (λ r. IsAfterCall true false (as_line_call r) keeper keeper') (command_of line)
+    pub first_call : IsAfterCall true false (part_as_call result) keeper keeper'
+    first_call = by_turn engine engine' keeper keeper' output output' steps steps' (λ r. IsAfterCall true false (part_as_call r) keeper keeper') (command_of line)
         (λ carries writes. carries.call)
         (λ carries writes. carries.call)
         (λ carries writes. carries.call)

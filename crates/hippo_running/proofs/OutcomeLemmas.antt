@@ -15,9 +15,9 @@ use Rattle.hippo_programs.specs.Starting.{Stops}
 use Rattle.hippo_programs.proofs.StartLemmas.{ends_by_stop}
 use Rattle.hippo_words.specs.declared.calls.Job.{Job}
 use Rattle.hippo_words.specs.declared.calls.Setting.{Setting}
-use Rattle.hippo_running.specs.declared.endings.Ending.{Ending}
-use Rattle.hippo_running.specs.declared.endings.Ending.TheVariants.{Served, Refused, KeeperFault, ReadFault, WriteFault, Damaged, NoMemory, TooMuch}
-use Rattle.hippo_running.specs.Endings.{stop_ending}
+use Rattle.hippo_programs.specs.declared.endings.Ending.{Ending}
+use Rattle.hippo_programs.specs.declared.endings.Ending.TheVariants.{Served, Refused, KeeperFault, ReadFault, WriteFault, Damaged, NoMemory, TooMuch}
+use Rattle.hippo_programs.specs.Endings.{stop_ending}
 use Rattle.hippo_running.specs.Keeping.{KeepsHistory}
 use Rattle.hippo_running.specs.Outcomes.{FromFound, RunEnds, CheckEnds}
 use Rattle.hippo_running.specs.Outside.{Told, Outside, outside}

@@ -2,9 +2,10 @@
 use Rattle.std.proofs.Common.{◌≡◌, ◌≢◌, ◌⊎◌, ℕ, Any, arith, refl}
 use Rattle.hippo_values.specs.Texts.{Txt}
 use Rattle.hippo_programs.specs.Starting.{SaysDamaged, BeginsDamaged}
-use Rattle.hippo_running.specs.declared.endings.Ending.{Ending}
-use Rattle.hippo_running.specs.declared.endings.Ending.TheVariants.{Served, Refused, KeeperFault, ReadFault, WriteFault, Damaged, NoMemory, TooMuch}
-use Rattle.hippo_running.specs.Endings.{status_of, statuses}
+use Rattle.hippo_programs.specs.declared.endings.Ending.{Ending}
+use Rattle.hippo_programs.specs.declared.endings.Ending.TheVariants.{Served, Refused, KeeperFault, ReadFault, WriteFault, Damaged, NoMemory, TooMuch}
+use Rattle.hippo_programs.specs.Endings.{status_of}
+use Rattle.hippo_running.specs.Endings.{statuses}
 use Rattle.hippo_running.specs.Outcomes.{FromFound, IsCounted, BeginsCount, CheckEnds}
 use Rattle.hippo_running.specs.Outside.{Outside}
 

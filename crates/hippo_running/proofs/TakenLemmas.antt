@@ -11,9 +11,9 @@ use Rattle.hippo_keeper.specs.Keeping.{KeeperState}
 use Rattle.hippo_commands.specs.Commands.{input_command}
 use Rattle.hippo_engine.specs.declared.engine.Engine.{Engine}
 use Rattle.hippo_words.specs.declared.calls.Job.{Job}
-use Rattle.hippo_running.specs.declared.endings.Ending.{Ending}
-use Rattle.hippo_running.specs.declared.endings.Ending.TheVariants.{Served, KeeperFault, WriteFault, Damaged}
-use Rattle.hippo_running.specs.Endings.{status_of}
+use Rattle.hippo_programs.specs.declared.endings.Ending.{Ending}
+use Rattle.hippo_programs.specs.declared.endings.Ending.TheVariants.{Served, KeeperFault, WriteFault, Damaged}
+use Rattle.hippo_programs.specs.Endings.{status_of}
 use Rattle.hippo_running.specs.Loads.{asked_line, counted_line}
 use Rattle.hippo_running.specs.Runs.{HasTakenBytes, IsHandingOut, Turn}
 use Rattle.hippo_running.proofs.TurnLemmas.{by_line}

@@ -26,9 +26,9 @@ use Rattle.hippo_engine.specs.Carrying.{AtWork, Carries}
 use Rattle.hippo_engine.proofs.CarryingLemmas.{IsTimely-begun, Holds-opening}
 use Rattle.hippo_words.specs.declared.calls.Job.{Job}
 use Rattle.hippo_words.specs.declared.calls.Setting.{Setting}
-use Rattle.hippo_running.specs.declared.endings.Ending.{Ending}
-use Rattle.hippo_running.specs.declared.endings.Ending.TheVariants.{Served, Refused, KeeperFault, ReadFault, WriteFault, Damaged, NoMemory}
-use Rattle.hippo_running.specs.Endings.{as_line_call}
+use Rattle.hippo_programs.specs.declared.endings.Ending.{Ending}
+use Rattle.hippo_programs.specs.declared.endings.Ending.TheVariants.{Served, Refused, KeeperFault, ReadFault, WriteFault, Damaged, NoMemory}
+use Rattle.hippo_programs.specs.Endings.{part_as_call}
 use Rattle.hippo_running.specs.Loads.{asked_line, counted_line}
 use Rattle.hippo_running.specs.Outside.{Told, Outside, outside}
 use Rattle.hippo_running.specs.Runs.{ForInput, IsServed, LinesEnd, HasServed, Turn}
@@ -125,9 +125,9 @@ module _ (job : Job) (line : Option LineText) (result : Option Ending) (engine e
   no_read_fault = by_line (λ r. r ≢ Some ReadFault) (λ is. λ e. cc) (λ text is carries writes. λ e. cc) (λ text is carries writes. λ e. cc) (λ text is carries writes. λ e. cc)
       (λ text is number carries. (λ e. cc, λ e. cc))
 
-  pub call_of_turn : IsReady true keeper → IsAfterCall true false (as_line_call result) keeper keeper'
-  call_of_turn ready = by_line (λ r. IsAfterCall true false (as_line_call r) keeper keeper')
-      (λ is. subst (λ (k : KeeperState). IsAfterCall true false (as_line_call (Some Served)) keeper k) (sym (same is)) (IsAfterCall-none (well Fault) keeper refl ready))
+  pub call_of_turn : IsReady true keeper → IsAfterCall true false (part_as_call result) keeper keeper'
+  call_of_turn ready = by_line (λ r. IsAfterCall true false (part_as_call r) keeper keeper')
+      (λ is. subst (λ (k : KeeperState). IsAfterCall true false (part_as_call (Some Served)) keeper k) (sym (same is)) (IsAfterCall-none (well Fault) keeper refl ready))
       (λ text is carries writes. carries.call)
       (λ text is carries writes. carries.call)
       (λ text is carries writes. carries.call)

@@ -7,8 +7,8 @@ use Rattle.hippo_model.specs.Versions.{versions}
 use Rattle.hippo_keeper.specs.Keeping.{Store}
 use Rattle.hippo_words.specs.declared.calls.Job.{Job}
 use Rattle.hippo_words.specs.declared.calls.Setting.{Setting}
-use Rattle.hippo_running.specs.declared.endings.Ending.{Ending}
-use Rattle.hippo_running.specs.declared.endings.Ending.TheVariants.{Served, Refused, KeeperFault, ReadFault, WriteFault, Damaged, NoMemory, TooMuch}
+use Rattle.hippo_programs.specs.declared.endings.Ending.{Ending}
+use Rattle.hippo_programs.specs.declared.endings.Ending.TheVariants.{Served, Refused, KeeperFault, ReadFault, WriteFault, Damaged, NoMemory, TooMuch}
 use Rattle.hippo_programs.specs.Starting.{HoldsOfStored, IsIdle, SaysDamaged, BeginsDamaged}
 use Rattle.hippo_running.specs.Saying.{entries_line}
 use Rattle.hippo_running.specs.Keeping.{KeepsHistory}

@@ -23,8 +23,8 @@ use Rattle.hippo_effects.specs.Ledgers.{reads_kept, RunSum}
 use Rattle.hippo_effects.specs.Runs.{IsRun, audits_in, replies, history_after, world_after}
 use Rattle.hippo_words.specs.declared.calls.Job.{Job}
 use Rattle.hippo_words.specs.declared.calls.Setting.{Setting}
-use Rattle.hippo_running.specs.declared.endings.Ending.{Ending}
-use Rattle.hippo_running.specs.declared.endings.Ending.TheVariants.{Served, KeeperFault, ReadFault, WriteFault, Damaged, TooMuch}
+use Rattle.hippo_programs.specs.declared.endings.Ending.{Ending}
+use Rattle.hippo_programs.specs.declared.endings.Ending.TheVariants.{Served, KeeperFault, ReadFault, WriteFault, Damaged, TooMuch}
 use Rattle.hippo_running.specs.Keeping.{KeepsHistory, KeepsEither}
 use Rattle.hippo_running.specs.Loads.{asked_line, asked_lines}
 use Rattle.hippo_running.specs.Outside.{Told, Outside}

@@ -15,16 +15,16 @@ ghost use Rattle.hippo_commands.specs.Commands.{command_of};
 ghost use Rattle.hippo_engine.specs.Carrying.{Holds, AtWork};
 ghost use Rattle.hippo_effects.specs.Effects.{effect_of};
 ghost use Rattle.hippo_programs.specs.Saying.{Says};
-ghost use Rattle.hippo_running.specs.declared.endings.Ending.TheVariants.{Served, WriteFault, NoMemory};
+ghost use Rattle.hippo_programs.specs.declared.endings.Ending.TheVariants.{Served, WriteFault, NoMemory};
 ghost use Rattle.hippo_running.specs.Drilling.{drill_limit, summary, HasDone, HasDrilled};
 
-use crate::endings::Ending;
 use hippo_carrying::answer_line;
 use hippo_drill::{Counts, Drill};
 use hippo_engine::Engine;
 use hippo_io::{Failed, Line, Sink, write_whole};
 use hippo_keeper::{Keeper, KeeperFails, MemoryKeeper, Steps};
 use hippo_model::StoredList;
+use hippo_programs::Ending;
 use hippo_replay::State;
 use hippo_report::Format;
 use hippo_values::{Memory, Txt};

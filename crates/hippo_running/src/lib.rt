@@ -3,13 +3,11 @@
 #![tactic(auto)]
 
 mod drilling;
-mod endings;
 mod loads;
 mod printing;
 mod running;
 mod serving;
 
 pub use drilling::drill;
-pub use endings::Ending;
 pub use printing::refuse;
 pub use running::{check, run};

@@ -2,35 +2,22 @@
 ghost use Rattle.std.specs.Prelude.{◌≡◌, ◌≢◌, ℕ, List, Option, Some, false};
 ghost use Rattle.hippo_io.specs.Faults.{HasRisen};
 ghost use Rattle.hippo_keeper.specs.Keeping.{IsReady, IsAfterCall};
-ghost use Rattle.hippo_programs.specs.Starting.{IsIdle, Stops};
-ghost use Rattle.hippo_running.specs.declared.endings.Ending.TheVariants.{Served, Refused, ReadFault, WriteFault, Damaged, NoMemory, TooMuch};
-ghost use Rattle.hippo_running.specs.Endings.{status_of, ending_as_call, stop_ending};
+ghost use Rattle.hippo_programs.specs.Starting.{IsIdle};
+ghost use Rattle.hippo_programs.specs.declared.endings.Ending.TheVariants.{Refused, ReadFault, WriteFault, Damaged, NoMemory, TooMuch};
+ghost use Rattle.hippo_programs.specs.Endings.{status_of, ending_as_call};
 ghost use Rattle.hippo_running.specs.Outcomes.{RunEnds, CheckEnds};
 ghost use Rattle.hippo_running.specs.Outside.{outside};
 ghost use Rattle.hippo_running.specs.Runs.{HasTakenBytes};
 
-use crate::endings::Ending;
-use crate::printing::{say_damaged, say_entries};
+use crate::printing::say_entries;
 use crate::serving::serve;
 use hippo_io::{Sink, Source};
 use hippo_keeper::{Keeper, Steps};
-use hippo_replay::{LoadFault, State, load};
+use hippo_programs::{Ending, stop};
+use hippo_replay::{State, load};
 use hippo_words::{Job, Setting};
 use std::alloc::Global;
 use std::sync::ledger::Ledger;
-
-// How the program ends where what is kept was not loaded.
-fn stop<K: Sink>(fault: LoadFault, sink: &mut K) -> Ending
-    ensures status { (result ≢ Served) × (result ≢ TooMuch) }
-    ensures stops { Stops stop_ending WriteFault fault result (sink.new ≡ sink.old)
-        (K.written sink.old) (K.written sink.new) (K.faults sink.old) (K.faults sink.new) }
-{
-    match fault {
-        LoadFault::Keeper => Ending::KeeperFault,
-        LoadFault::Damaged(place) => say_damaged(sink, place),
-        LoadFault::Memory => Ending::NoMemory,
-    }
-}
 
 // Lets a state go, and answers how many entries it has.
 fn count_of(state: State) -> u64

@@ -14,21 +14,21 @@ ghost use Rattle.hippo_world.specs.Holding.{world_of};
 ghost use Rattle.hippo_sessions.specs.Worlds.{opening};
 ghost use Rattle.hippo_engine.specs.Carrying.{Holds, AtWork};
 ghost use Rattle.hippo_words.specs.declared.calls.Setting.{Setting};
-ghost use Rattle.hippo_running.specs.declared.endings.Ending.TheVariants.{Served, Refused, ReadFault, WriteFault, NoMemory};
-ghost use Rattle.hippo_running.specs.Endings.{status_of, ending_as_call, as_line_call, EndsUnread};
+ghost use Rattle.hippo_programs.specs.declared.endings.Ending.TheVariants.{Served, Refused, ReadFault, WriteFault, NoMemory};
+ghost use Rattle.hippo_programs.specs.Endings.{status_of, ending_as_call, part_as_call};
+ghost use Rattle.hippo_running.specs.Endings.{EndsUnread};
 ghost use Rattle.hippo_running.specs.Keeping.{KeepsHistory};
 ghost use Rattle.hippo_running.specs.Loads.{record_line, asked_line, asked_lines, limited_line, counted_line};
 ghost use Rattle.hippo_running.specs.Outside.{Told, telling, outside};
 ghost use Rattle.hippo_running.specs.Runs.{opening_after, HasTakenBytes, IsHandingOut, LinesEnd, HasReplied, HasServed, Turn};
 
-use crate::endings::Ending;
 use crate::loads::{MadeText, make_clock, make_load};
-use crate::printing::say_damaged;
 use hippo_carrying::carry_out_line;
 use hippo_effects::EngineFault;
 use hippo_engine::Engine;
 use hippo_io::{Line, LineFault, LineReader, Sink, Source};
 use hippo_keeper::{Keeper, Steps};
+use hippo_programs::{Ending, say_damaged};
 use hippo_replay::State;
 use hippo_values::{LINE_LIMIT, Memory, Name};
 use hippo_words::{Job, Setting};
@@ -150,7 +150,7 @@ fn serve_first<K: Sink, P: Keeper, L: Ledger>(
 ) -> Option<Ending>
     requires at_work { AtWork engine.old (P.state keeper.old) }
     ensures status { MatchOption result (AtWork engine.new (P.state keeper.new)) EndsUnread }
-    ensures call { IsAfterCall true false (as_line_call result) (P.state keeper.old)
+    ensures call { IsAfterCall true false (part_as_call result) (P.state keeper.old)
         (P.state keeper.new) }
     ensures served { (P.state keeper.new).tells
         → (setting : Setting) (history : History) (before : Told) →
@@ -200,7 +200,7 @@ fn serve_line<S: Source, K: Sink, P: Keeper, L: Ledger>(
         × (bytes_handed_out reader.old < bytes_handed_out reader.new)
         × (reader.new.taken ≤ input_limit)) }
     ensures at_work { IfNone result (AtWork engine.new (P.state keeper.new)) }
-    ensures call { IsAfterCall true false (as_line_call result) (P.state keeper.old)
+    ensures call { IsAfterCall true false (part_as_call result) (P.state keeper.old)
         (P.state keeper.new) }
     ensures read { (input : List ℕ) → IsHandingOut input reader.old (S.left source.old) →
         MatchOption result (IsHandingOut input reader.new (S.left source.new))

@@ -1,5 +1,5 @@
 -- A script is cut into its lines.
-use Rattle.std.proofs.Common.{◌≡◌, ◌∙◌, ℕ, ◌+◌, ◌-◌, ◌/◌, ◌%◌, ◌<◌, Bool, true, false, not, ◌&&◌, List, [], ◌∷◌, ◌++◌, filter, flat_map, length, map, Option, Some, None, refl, sym, ap, subst, inl, inr, arith, codes}
+use Rattle.std.proofs.Common.{◌≡◌, ◌∙◌, ℕ, ◌+◌, ◌-◌, ◌/◌, ◌%◌, ◌<◌, Bool, true, false, not, ◌&&◌, List, [], ◌∷◌, ◌++◌, filter, flat_map, length, map, Option, Some, None, refl, sym, ap, subst, arith, codes}
 use Rattle.std.specs.Prelude.{◌==◌, IsUtf8, if◌then◌else◌, nat_le, nat_lt, option_and_then, slice_index}
 use Rattle.std.specs.Io.BufRead.{ends_with_byte, strip_last}
 use Rattle.std.specs.List.{last_or, list_all}
@@ -40,7 +40,7 @@ use Rattle.hippo_script_laws.proofs.AskingTheorem.{bare-parts}
 use Rattle.hippo_script_laws.proofs.InnerLemmas.{AreInner, both, inner-day, inner-digit, inner-name, is_inner, is_simple, said}
 use Rattle.hippo_script_laws.proofs.LineLemmas.{moment-fits}
 use Rattle.hippo_script_laws.proofs.LinesTheorem.{fed, scripts_are_lines}
-use Rattle.hippo_script_laws.proofs.ScriptTheorem.{follows, may, scripted-so, scripts_make_histories, stated-lines}
+use Rattle.hippo_script_laws.proofs.ScriptTheorem.{follows, may, scripts_make_histories, stated-lines}
 use Rattle.hippo_script_laws.proofs.ToldTheorem.{told-inner}
 
 -- in a moment no line ends
@@ -222,20 +222,15 @@ script-are : (before : History) → is_valid meaning before ≡ true → (act : 
     → act_is_keepable act ≡ true → is_acceptable meaning before act ≡ true
     → (schema : Option Schema) → schema ≡ option_and_then (schema_at before) (table_named act)
     → is_scripted schema act ≡ true → list_all is_line (act_script schema act) ≡ true
-script-are before valid act kept fit schema same scripted = elim (scripted-so schema act scripted) [
-  | inl stated ↦
-      let told : AreInner (told_act schema act) =
-      subst (λ (s : Option Schema). is_stated s act ≡ true → AreInner (told_act s act))
-      (sym same) (told-inner meaning before valid act kept fit) stated in
-      let line : AreInner (codes "0 " ++ told_act schema act) =
-      both (codes "0 ") (told_act schema act) (said refl) told in
-      ap (list_all is_line) (stated-lines schema act stated)
-      ∙ and_from _ _ (inner-line _ line) refl
-  | inr asked ↦
-      let kept_so = subst (λ (a : Act). act_is_keepable a ≡ true) asked.is kept in
-      ap (λ (a : Act). list_all is_line (act_script schema a)) asked.is
-      ∙ question-are asked.user asked.purpose asked.recipient asked.text kept_so asked.bare
-]
+script-are before valid (Asked user purpose recipient text) kept fit schema same bare =
+    question-are user purpose recipient text kept bare
+script-are before valid act kept fit schema same stated =
+    let told : AreInner (told_act schema act) =
+    subst (λ (s : Option Schema). is_stated s act ≡ true → AreInner (told_act s act)) (sym same)
+    (told-inner meaning before valid act kept fit) stated in
+    let line : AreInner (codes "0 " ++ told_act schema act) =
+    both (codes "0 ") (told_act schema act) (said refl) told in
+    ap (list_all is_line) (stated-lines schema act stated) ∙ and_from _ _ (inner-line _ line) refl
 
 both-are : (first second : List Txt) → list_all is_line first ≡ true → list_all is_line second ≡ true
     → list_all is_line (first ++ second) ≡ true

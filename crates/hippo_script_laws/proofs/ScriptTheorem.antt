@@ -1,5 +1,5 @@
 -- The lines of a valid history's script make it again.
-use Rattle.std.proofs.Common.{◌≡◌, ◌⊎◌, ◌∙◌, suc, ◌+◌, ◌≤◌, ◌<◌, true, false, not, ◌&&◌, List, [], ◌∷◌, ◌++◌, length, map, Option, Some, None, refl, sym, ap, subst, inl, inr, arith, codes}
+use Rattle.std.proofs.Common.{◌≡◌, ◌∙◌, suc, ◌+◌, ◌≤◌, ◌<◌, true, false, not, ◌&&◌, List, [], ◌∷◌, ◌++◌, length, map, Option, Some, None, refl, sym, ap, subst, arith, codes}
 use Rattle.std.specs.Prelude.{◌==◌, ◌||◌, if◌then◌else◌, int_le, nat_lt}
 use Rattle.std.specs.List.{filter}
 use Rattle.std.specs.Option.{option_map_or}
@@ -38,7 +38,7 @@ use Rattle.hippo_telling.specs.Telling.{schema_before, told_act}
 use Rattle.hippo_telling_laws.specs.TellingLaws.{MakesAgain, is_stated}
 use Rattle.hippo_telling_laws.proofs.EntryTheorem.{entries_are_made_again}
 use Rattle.hippo_showing.specs.Showing.{stands_at}
-use Rattle.hippo_script_laws.specs.ScriptLaws.{RunsBeginFree, ScriptsMakeHistories, act_script, are_scripted, entry_lines, is_bare, is_free, is_scripted, history_by_rules, script_lines, finds_free_session, starts_before}
+use Rattle.hippo_script_laws.specs.ScriptLaws.{RunsBeginFree, ScriptsMakeHistories, act_script, are_scripted, entry_lines, is_free, is_scripted, history_by_rules, script_lines, finds_free_session, starts_before}
 use Rattle.hippo_script_laws.proofs.LineLemmas.{Begins, is_whole, sets-it, split-word, makes_statement-it}
 use Rattle.hippo_script_laws.proofs.JudgingLemmas.{change-judged, clock-judged}
 use Rattle.hippo_script_laws.proofs.AskingTheorem.{question-makes}
@@ -75,27 +75,7 @@ told-begins schema (Revoke purpose recipient table places) stated =
 told-begins schema (Choice subject item agreed) stated = begins (codes "CHOICE") _ refl refl refl
 told-begins schema (Asked user purpose recipient text) stated = absurd cc
 
--- an act that a script makes again is a statement, or a question
-pub record IsAsked (act : Act) : Type 0 where
-  pub user : Name
-  pub purpose : Name
-  pub recipient : Name
-  pub text : Txt
-  pub is : act ≡ Asked user purpose recipient text
-  pub bare : is_bare text ≡ true
-
-pub scripted-so : (schema : Option Schema) (act : Act) → is_scripted schema act ≡ true
-    → (is_stated schema act ≡ true) ⊎ IsAsked act
-scripted-so schema (Asked user purpose recipient text) scripted = inr (record {
-  user = user;
-  purpose = purpose;
-  recipient = recipient;
-  text = text;
-  is = refl;
-  bare = scripted;
-})
-scripted-so schema act scripted = inl scripted
-
+-- a statement has one line
 pub stated-lines : (schema : Option Schema) (act : Act) → is_stated schema act ≡ true
     → act_script schema act ≡ (codes "0 " ++ told_act schema act) ∷ []
 stated-lines schema (Asked user purpose recipient text) stated = absurd cc
@@ -140,11 +120,11 @@ module _ (before later : History) (entry : Entry)
       let number : length before + 1 ≡ entry.seq = sym (next_number meaning before entry may) in
       λ i. record { seq = number i; moment = clock i; act = entry.act }
 
-  abbrev made_effect : World → Effect
-  made_effect world =
+  abbrev made_effect : World → Entry → Effect
+  made_effect world made =
       record {
         reply = number_line 0 (codes "ok") (length before + 1);
-        added = entry ∷ [];
+        added = made ∷ [];
         world = world;
       }
 
@@ -152,7 +132,7 @@ module _ (before later : History) (entry : Entry)
       → is_stated (schema_before whole entry) entry.act ≡ true
       → effect_of before world
       (command_of (text_line (codes "0 " ++ told_act (schema_before whole entry) entry.act)))
-      ≡ made_effect world
+      ≡ made_effect world entry
   line-makes world clock room stated =
       let schema : Option Schema = schema_before whole entry in
       let again : MakesAgain before schema entry.act =
@@ -166,17 +146,9 @@ module _ (before later : History) (entry : Entry)
       change-judged before world again.back.statement text again.back.wanted entry.act
       again.unrefused again.back.wants again.back.comes room in
       let next = made-entry world clock in
-      let last : made_effect_of world (next_entry before world entry.act) ≡ made_effect world =
-      ap (made_effect_of world) next in
+      let last : made_effect world (next_entry before world entry.act) ≡ made_effect world entry =
+      ap (made_effect world) next in
       ap (effect_of before world) commands ∙ ap (judgement_effect before world Console) judges ∙ last
-    where
-      made_effect_of : World → Entry → Effect
-      made_effect_of world made =
-          record {
-            reply = number_line 0 (codes "ok") (length before + 1);
-            added = made ∷ [];
-            world = world;
-          }
 
   -- its lines make it, whatever lines come behind them
   entry-makes : (world : World) → world.clock ≡ entry.moment → length before < world.limit
@@ -184,31 +156,32 @@ module _ (before later : History) (entry : Entry)
       → (not (is_question entry.act) || is_free world) ≡ true → (more : List LineText)
       → history_by_rules before world (map text_line (entry_lines whole entry) ++ more)
       ≡ history_by_rules (before ++ entry ∷ []) world more
-  entry-makes world clock room scripted served more =
-      let schema : Option Schema = schema_before whole entry in
-      elim (scripted-so schema entry.act scripted) [
-        | inl stated ↦
-            ap (λ (written : List Txt). history_by_rules before world (map text_line written ++ more))
-            (stated-lines schema entry.act stated)
-            ∙ ap (λ (e : Effect). history_by_rules (before ++ e.added) e.world more)
-            (line-makes world clock room stated)
-        | inr asked ↦
-            let act : entry.act ≡ Asked asked.user asked.purpose asked.recipient asked.text =
-            asked.is in
-            let free : is_free world ≡ true =
-            subst (λ (a : Act). (not (is_question a) || is_free world) ≡ true) act served in
-            let kept = subst (λ (a : Act). act_is_keepable a ≡ true) act
-            (keepable meaning before entry may) in
-            let fit = subst (λ (a : Act). is_acceptable meaning before a ≡ true) act
-            (acceptable meaning before entry may) in
-            ap (λ (a : Act). history_by_rules before world (map text_line (act_script schema a) ++ more)) act
-            ∙ question-makes before world asked.user asked.purpose asked.recipient asked.text free
-            kept fit asked.bare room more
-            ∙ ap (λ (a : Act). history_by_rules (before ++ next_entry before world a ∷ []) world more)
-            (sym act)
-            ∙ ap (λ (made : Entry). history_by_rules (before ++ made ∷ []) world more)
-            (made-entry world clock)
-      ]
+  entry-makes world clock room scripted served more = by_act entry.act refl scripted
+    where
+      by_act : (act : Act) → entry.act ≡ act → is_scripted (schema_before whole entry) act ≡ true
+          → history_by_rules before world (map text_line (entry_lines whole entry) ++ more)
+          ≡ history_by_rules (before ++ entry ∷ []) world more
+      by_act (Asked user purpose recipient text) act bare =
+          let schema : Option Schema = schema_before whole entry in
+          let free : is_free world ≡ true =
+          subst (λ (a : Act). (not (is_question a) || is_free world) ≡ true) act served in
+          let kept = subst (λ (a : Act). act_is_keepable a ≡ true) act
+          (keepable meaning before entry may) in
+          let fit = subst (λ (a : Act). is_acceptable meaning before a ≡ true) act
+          (acceptable meaning before entry may) in
+          ap (λ (a : Act). history_by_rules before world (map text_line (act_script schema a) ++ more)) act
+          ∙ question-makes before world user purpose recipient text free kept fit bare room more
+          ∙ ap (λ (a : Act). history_by_rules (before ++ next_entry before world a ∷ []) world more)
+          (sym act)
+          ∙ ap (λ (made : Entry). history_by_rules (before ++ made ∷ []) world more)
+          (made-entry world clock)
+      by_act other act is_stated_so =
+          let schema : Option Schema = schema_before whole entry in
+          let stated = subst (λ (a : Act). is_stated schema a ≡ true) (sym act) is_stated_so in
+          ap (λ (written : List Txt). history_by_rules before world (map text_line written ++ more))
+          (stated-lines schema entry.act stated)
+          ∙ ap (λ (e : Effect). history_by_rules (before ++ e.added) e.world more)
+          (line-makes world clock room stated)
 
   clock-moves : (world : World) → int_le world.clock entry.moment ≡ true
       → effect_of before world (command_of (text_line (codes "at " ++ moment_text entry.moment)))

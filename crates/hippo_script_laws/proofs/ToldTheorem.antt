@@ -33,6 +33,7 @@ use Rattle.hippo_telling_laws.proofs.ChangeTheorem.{sets_within}
 use Rattle.hippo_telling_laws.proofs.EntryTheorem.{has, key-within}
 use Rattle.hippo_telling_laws.proofs.NamePlaces.{all_within, names_folded}
 use Rattle.hippo_telling_laws.proofs.ReadingTheorem.{three-names}
+use Rattle.hippo_telling_laws.proofs.RuleParts.{allow-fits, allow-kept, names-kept, rule-fits}
 use Rattle.hippo_telling_laws.proofs.TableTheorem.{HasNames, has-names, is_table, subject_named}
 use Rattle.hippo_script_laws.proofs.InnerLemmas.{AreInner, both, inner-decimal, inner-separated_text, inner-literal, inner-name, inner-number, is_plain_value, said}
 
@@ -284,24 +285,10 @@ module _ (meaning : Meaning) (before : History) (valid : is_valid meaning before
       (names_folded schema.columns schema.key named
       (key-within meaning before valid table schema made.is)))
   told-inner (Allow purpose recipient table places item days) kept fit stated =
-      let outer =
-      and_parts (rule_fits before purpose recipient table places && item_fits before table item)
-      (days_fit days) fit in
-      let rule = (and_parts (rule_fits before purpose recipient table places)
-      (item_fits before table item) outer.0).0 in
-      let passes =
-      (and_parts (pair_exists before purpose recipient)
-      (table_passes before (has_columns places) table) rule).1 in
-      let made = passes_so (has_columns places) (schema_at before table) passes in
+      let may = allow-fits purpose recipient table places item days before fit in
+      let able = allow-kept purpose recipient table places item days kept in
+      let made = passes_so (has_columns places) (schema_at before table) may.rule.passes in
       let schema : Schema = made.what in
-      let whole =
-      and_parts (rule_is_keepable purpose recipient table places && item_is_keepable item)
-      (days_are_keepable days) kept in
-      let first =
-      and_parts (rule_is_keepable purpose recipient table places) (item_is_keepable item) whole.0 in
-      let names =
-      (and_parts (is_folded_name purpose && is_folded_name recipient && is_folded_name table)
-      (places_are_keepable places) first.0).0 in
       let named =
       names_folded schema.columns places (has meaning before valid table schema made.is).columns_fit
       (and_parts _ (all_within schema.columns places) made.fits).1 in
@@ -309,25 +296,21 @@ module _ (meaning : Meaning) (before : History) (valid : is_valid meaning before
       (told_act s (Allow purpose recipient table places item days))) (sym made.is)
       (both (codes "ALLOW ") _ (said refl)
       (both (rule_text schema.columns purpose recipient table places) _
-      (rule-inner schema.columns purpose recipient table places names named)
-      (both (with_text item) (retention_text days) (with-inner item first.1)
-      (retention-inner days outer.1))))
+      (rule-inner schema.columns purpose recipient table places able.names named)
+      (both (with_text item) (retention_text days) (with-inner item able.with_item)
+      (retention-inner days may.with_days))))
   told-inner (Revoke purpose recipient table places) kept fit stated =
-      let passes =
-      (and_parts (pair_exists before purpose recipient)
-      (table_passes before (has_columns places) table) fit).1 in
-      let made = passes_so (has_columns places) (schema_at before table) passes in
+      let may = rule-fits purpose recipient table places before fit in
+      let made = passes_so (has_columns places) (schema_at before table) may.passes in
       let schema : Schema = made.what in
-      let names =
-      (and_parts (is_folded_name purpose && is_folded_name recipient && is_folded_name table)
-      (places_are_keepable places) kept).0 in
       let named =
       names_folded schema.columns places (has meaning before valid table schema made.is).columns_fit
       (and_parts _ (all_within schema.columns places) made.fits).1 in
       subst (λ (s : Option Schema). AreInner (told_act s (Revoke purpose recipient table places)))
       (sym made.is)
       (both (codes "REVOKE ") _ (said refl)
-      (rule-inner schema.columns purpose recipient table places names named))
+      (rule-inner schema.columns purpose recipient table places (names-kept purpose recipient table places kept)
+      named))
   told-inner (Purpose purpose) kept fit stated =
       both (codes "CREATE PURPOSE ") purpose (said refl) (inner-name purpose kept)
   told-inner (Recipient recipient) kept fit stated =

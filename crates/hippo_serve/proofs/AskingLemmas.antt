@@ -11,10 +11,10 @@ use Rattle.hippo_programs.specs.Starting.{IsIdle}
 use Rattle.hippo_words.specs.declared.calls.Call.{Call}
 use Rattle.hippo_words.specs.declared.calls.Job.{Job}
 use Rattle.hippo_words.specs.declared.calls.Job.TheVariants.{Drill}
-use Rattle.hippo_running.specs.declared.endings.Ending.{Ending}
-use Rattle.hippo_running.specs.declared.endings.Ending.TheVariants.{Served, WriteFault, NoMemory}
+use Rattle.hippo_programs.specs.declared.endings.Ending.{Ending}
+use Rattle.hippo_programs.specs.declared.endings.Ending.TheVariants.{Served, WriteFault, NoMemory}
 use Rattle.hippo_running.specs.Drilling.{summary}
-use Rattle.hippo_running.specs.Endings.{status_of}
+use Rattle.hippo_programs.specs.Endings.{status_of}
 use Rattle.hippo_serve.specs.Asking.{store_of, job_of}
 use Rattle.hippo_running.specs.Outcomes.{CheckEnds}
 use Rattle.hippo_running.specs.Outside.{Outside}

@@ -18,7 +18,8 @@ ghost use Rattle.hippo_serve.specs.Asking.{job_of, store_of, AskToServe};
 
 use hippo_io::{Sink, Source};
 use hippo_keeper::{Keeper, Steps};
-use hippo_running::{Ending, check, drill, refuse, run};
+use hippo_programs::Ending;
+use hippo_running::{check, drill, refuse, run};
 use hippo_values::Txt;
 use hippo_words::{Job, call_of};
 use std::alloc::Global;

@@ -16,8 +16,8 @@ use Rattle.hippo_entry.specs.Forms.{IsEntryOf}
 use Rattle.hippo_catalog.specs.Catalogs.{KnownNames}
 use Rattle.hippo_programs.specs.Saying.{Says}
 use Rattle.hippo_showing.specs.declared.asking.Excerpt.{Excerpt}
-use Rattle.hippo_showing.specs.declared.endings.Ending.{Ending}
-use Rattle.hippo_showing.specs.declared.endings.Ending.TheVariants.{WriteFault, Damaged, NoMemory}
+use Rattle.hippo_programs.specs.declared.endings.Ending.{Ending}
+use Rattle.hippo_programs.specs.declared.endings.Ending.TheVariants.{WriteFault, Damaged, NoMemory}
 use Rattle.hippo_showing.specs.Endings.{cuts}
 use Rattle.hippo_showing.specs.Saying.{Writes, CountsWrites}
 use Rattle.hippo_showing.specs.ByNames.{shown_as, entry_shown, clock_after, entries_shown, clock_at_end}
@@ -153,14 +153,3 @@ module _ (known : KnownNames) (excerpt : Excerpt) (kept : StoredEntry) (clock cl
           other : Damaged ≢ WriteFault
           other e = cc
       by_writes (inr front) = record { cause = λ e. front.2; unfailed = λ e. absurd (e (ap Some front.0)) }
-
-  -- memory was short
-  pub of_unread : ShowsKept known excerpt (kept ∷ []) (Some NoMemory) clock clock' written written faults faults
-  of_unread = record {
-    ends = refl;
-    writes = CountsWrites-same (Some NoMemory) faults (λ e. cc);
-    whole = λ on. absurd cc;
-    moment = λ on. absurd cc;
-    front = λ entries forms. none_of written (entries_shown known excerpt clock entries);
-    damaged = λ is. absurd cc;
-  }

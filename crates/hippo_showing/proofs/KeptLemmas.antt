@@ -15,8 +15,8 @@ use Rattle.hippo_catalog.specs.Catalogs.{KnownNames}
 use Rattle.hippo_keeper.specs.Keeping.{Store, RisesAbove, last_number}
 use Rattle.hippo_replay.proofs.TakingInLemmas.{take_at_entry}
 use Rattle.hippo_showing.specs.declared.asking.Excerpt.{Excerpt}
-use Rattle.hippo_showing.specs.declared.endings.Ending.{Ending}
-use Rattle.hippo_showing.specs.declared.endings.Ending.TheVariants.{NoMemory}
+use Rattle.hippo_programs.specs.declared.endings.Ending.{Ending}
+use Rattle.hippo_programs.specs.declared.endings.Ending.TheVariants.{NoMemory}
 use Rattle.hippo_showing.specs.ByNames.{entry_shown, clock_after, entries_shown, clock_at_end}
 use Rattle.hippo_showing.specs.Progress.{HasForms, ShowsKept}
 use Rattle.hippo_programs.proofs.WriteLemmas.{front_of_more, whole_and_front, both_whole}
@@ -78,8 +78,9 @@ module _ (known : KnownNames) (excerpt : Excerpt) where
       no_entries [] forms = refl
       no_entries (entry ∷ entries) forms = absurd (let no : stored entry ∷ map stored entries ≡ [] = forms.forms in cc)
 
-  pub ShowsKept-unread : (clock : Option Moment) (written : Option Txt) (faults : ℕ) → ShowsKept known excerpt [] (Some NoMemory) clock clock written written faults faults
-  ShowsKept-unread clock written faults = record {
+  -- memory was short
+  pub ShowsKept-unread : (store : Store) (clock : Option Moment) (written : Option Txt) (faults : ℕ) → ShowsKept known excerpt store (Some NoMemory) clock clock written written faults faults
+  ShowsKept-unread store clock written faults = record {
     ends = refl;
     writes = CountsWrites-same (Some NoMemory) faults (λ e. cc);
     whole = λ on. absurd cc;

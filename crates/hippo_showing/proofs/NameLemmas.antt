@@ -34,7 +34,7 @@ use Rattle.hippo_showing.specs.declared.asking.Scope.{Scope}
 use Rattle.hippo_showing.specs.declared.asking.Scope.TheVariants.{Whole, Table}
 use Rattle.hippo_formats.specs.Formats.{entry_by}
 use Rattle.hippo_showing.specs.ByNames.{schema_named, shown_as, entry_shown, clock_after, entries_shown}
-use Rattle.hippo_showing.specs.Showing.{is_in_scope, is_of, is_in_excerpt, act_lines, clock_line, told_as, is_told, entry_told, clock_then, entries_told}
+use Rattle.hippo_showing.specs.Showing.{is_in_scope, is_of, is_in_excerpt, act_lines, clock_line, told_as, is_told, entry_where, clock_where, entries_told}
 
 found_there : {A : Type 0} (test : A → Bool) (found : Option A) → option_map_or test found false ≡ true → ((x : A) × (found ≡ Some x))
 found_there test None passes = absurd (false≢true passes)
@@ -100,10 +100,10 @@ module _ (history : History) (excerpt : Excerpt) (entry : Entry) (finds : FindsS
   as_told (Listing format) = ap (λ (schema : Option Schema). entry_by format schema entry) finds.schema
   as_told Script = ap (λ (schema : Option Schema). clock_line clock entry.moment ++ act_lines schema entry.act) finds.schema
 
-  entry_same : entry_shown (known_at history) excerpt clock entry ≡ entry_told history excerpt clock entry
+  entry_same : entry_shown (known_at history) excerpt clock entry ≡ entry_where (is_told history excerpt) (told_as history excerpt.form) clock entry
   entry_same = λ i. cond (finds.asked i) (as_told excerpt.form i) []
 
-  clock_same : clock_after (known_at history) excerpt clock entry ≡ clock_then history excerpt clock entry
+  clock_same : clock_after (known_at history) excerpt clock entry ≡ clock_where (is_told history excerpt) clock entry
   clock_same = λ i. cond (finds.asked i) (Some entry.moment) clock
 
 told_behind : (front later history : History) → front ++ later ≡ history → is_valid meaning history ≡ true → (excerpt : Excerpt) (clock : Option Moment)
@@ -111,9 +111,9 @@ told_behind : (front later history : History) → front ++ later ≡ history →
 told_behind front [] history parts valid excerpt clock = refl
 told_behind front (entry ∷ later) history parts valid excerpt clock =
     let finds = subst (λ (h : History). FindsSame h excerpt entry) parts (finds_same front entry later (ap (is_valid meaning) parts ∙ valid) excerpt) in
-    let next = clock_then history excerpt clock entry in
+    let next = clock_where (is_told history excerpt) clock entry in
     (λ i. entry_same history excerpt entry finds clock i ++ entries_shown (known_at history) excerpt (clock_same history excerpt entry finds clock i) later)
-    ∙ ap (λ (rest : Txt). entry_told history excerpt clock entry ++ rest) (told_behind (front ++ entry ∷ []) later history (append_assoc front (entry ∷ []) later ∙ parts) valid excerpt next)
+    ∙ ap (λ (rest : Txt). entry_where (is_told history excerpt) (told_as history excerpt.form) clock entry ++ rest) (told_behind (front ++ entry ∷ []) later history (append_assoc front (entry ∷ []) later ∙ parts) valid excerpt next)
 
 -- the entries of a valid history are shown by the names of the whole history as by those that each entry found
 pub told_by_names : (history : History) → is_valid meaning history ≡ true → (excerpt : Excerpt) (clock : Option Moment)

@@ -23,9 +23,10 @@ use Rattle.hippo_keeper.proofs.Results.{ok_of, err_of}
 use Rattle.hippo_programs.specs.Starting.{Stops}
 use Rattle.hippo_programs.proofs.StartLemmas.{ends_by_stop}
 use Rattle.hippo_showing.specs.declared.asking.View.{View}
-use Rattle.hippo_showing.specs.declared.endings.Ending.{Ending}
-use Rattle.hippo_showing.specs.declared.endings.Ending.TheVariants.{Shown, Refused, KeeperFault, WriteFault, Damaged, NoMemory}
-use Rattle.hippo_showing.specs.Endings.{showing_as_call, showing_stop}
+use Rattle.hippo_programs.specs.declared.endings.Ending.{Ending}
+use Rattle.hippo_programs.specs.declared.endings.Ending.TheVariants.{Served, Refused, KeeperFault, ReadFault, WriteFault, Damaged, NoMemory, TooMuch}
+use Rattle.hippo_programs.specs.Endings.{ending_as_call, stop_ending}
+use Rattle.hippo_showing.specs.Endings.{ends_showing}
 use Rattle.hippo_showing.specs.Saying.{CountsWrites}
 use Rattle.hippo_showing.specs.Showing.{shown_text}
 use Rattle.hippo_showing.specs.Progress.{HasForms, ShowsLoaded}
@@ -57,7 +58,7 @@ module _ (name : Txt) (view : View) (state : State) (before loaded after : Keepe
     (written written' : Option Txt) (faults faults' start mid end : ℕ)
     (loads : Loads name (ok_of LoadFault state) before loaded start mid)
     (shows : ShowsLoaded state view result loaded after written written' faults faults' mid end) where
-  pub show_call : IsAfterCall after.started after.closed (showing_as_call result) before after
+  pub show_call : IsAfterCall after.started after.closed (ending_as_call result) before after
   show_call =
       let ready = Loads-ready name (ok_of LoadFault state) before loaded start mid loads refl in
       let first : IsAfterCall {A = Unit {0}} true false (Ok tt) before loaded = record {
@@ -68,7 +69,7 @@ module _ (name : Txt) (view : View) (state : State) (before loaded after : Keepe
         told = loads.call.told;
         faults = loads.call.faults;
       } in
-      as_it_is true false (showing_as_call result) before after (IsAfterCall-then {A = Unit {0}} false (Ok tt) (showing_as_call result) before loaded after refl first shows.call)
+      as_it_is true false (ending_as_call result) before after (IsAfterCall-then {A = Unit {0}} false (Ok tt) (ending_as_call result) before loaded after refl first shows.call)
 
   module _ (tells : after.tells) where
     abbrev told : loaded.tells
@@ -109,15 +110,20 @@ module _ (name : Txt) (view : View) (state : State) (before loaded after : Keepe
     front : FromKept name (λ history. AppendsFront written written' (shown_text view history)) before after
     front = from_kept (λ history. AppendsFront written written' (shown_text view history)) (shows.front tells is_loaded.history is_loaded.stands forms)
 
-    whole : result ≡ Shown → FromKept name (λ history. Appends written written' (shown_text view history)) before after
+    whole : result ≡ Served → FromKept name (λ history. Appends written written' (shown_text view history)) before after
     whole is = from_kept (λ history. Appends written written' (shown_text view history)) (shows.whole is tells is_loaded.history is_loaded.stands forms)
 
     undamaged : result ≡ Damaged → ⊥
     undamaged is = shows.damaged is tells is_loaded.history forms
 
+    unlisted : {ending : Ending} → result ≡ ending → ends_showing (Some ending) ≡ false → ⊥
+    unlisted is not = false≢true (sym not ∙ sym (ap (λ (e : Ending). ends_showing (Some e)) is) ∙ shows.status)
+
     by_ending : (ending : Ending) (unwritten : Type 0) → result ≡ ending → Ends ending unwritten view name before after written written'
-    by_ending Shown unwritten is = whole is
-    by_ending Refused unwritten is = shows.status is
+    by_ending Served unwritten is = whole is
+    by_ending Refused unwritten is = unlisted is refl
+    by_ending ReadFault unwritten is = unlisted is refl
+    by_ending TooMuch unwritten is = unlisted is refl
     by_ending KeeperFault unwritten is = inr front
     by_ending WriteFault unwritten is = inr front
     by_ending Damaged unwritten is = absurd (undamaged is)
@@ -128,16 +134,16 @@ module _ (name : Txt) (view : View) (state : State) (before loaded after : Keepe
 
 module _ (name : Txt) (view : View) (before after : KeeperState) (written written' : Option Txt) (faults faults' start end : ℕ) where
   -- what was not loaded
-  pub stop_ends : (fault : LoadFault) (result : Ending) (unwritten : Type 0) → Stops showing_stop WriteFault fault result unwritten written written' faults faults'
+  pub stop_ends : (fault : LoadFault) (result : Ending) (unwritten : Type 0) → Stops stop_ending WriteFault fault result unwritten written written' faults faults'
       → Loads name (err_of State fault) before after start end → after.tells → Ends result unwritten view name before after written written'
   stop_ends fault result unwritten =
-      ends_by_stop name before after start end showing_stop WriteFault (λ r. Ends r unwritten view name before after written written') unwritten written written' faults faults'
+      ends_by_stop name before after start end stop_ending WriteFault (λ r. Ends r unwritten view name before after written written') unwritten written written' faults faults'
       (λ same idle. inl (same, idle)) (λ same idle. inl (same, idle)) (λ place said. said) (λ begun. inl begun) fault result
 
   other_than : {ending : Ending} (result : Ending) → result ≡ ending → ending ≢ WriteFault → Some result ≢ Some WriteFault
   other_than result is other e = other (sym is ∙ same_Some result WriteFault e)
 
-  pub stop_writes : (fault : LoadFault) (result : Ending) (unwritten : Type 0) → Stops showing_stop WriteFault fault result unwritten written written' faults faults' → CountsWrites (Some result) faults faults'
+  pub stop_writes : (fault : LoadFault) (result : Ending) (unwritten : Type 0) → Stops stop_ending WriteFault fault result unwritten written written' faults faults' → CountsWrites (Some result) faults faults'
   stop_writes Keeper result unwritten stops = record { cause = λ e. absurd (other_than result stops.0 (λ e. cc) e); unfailed = λ e. stops.2 }
   stop_writes (DamagedAt place) result unwritten stops =
       elim stops [
@@ -146,28 +152,28 @@ module _ (name : Txt) (view : View) (before after : KeeperState) (written writte
       ]
   stop_writes Memory result unwritten stops = record { cause = λ e. absurd (other_than result stops.0 (λ e. cc) e); unfailed = λ e. stops.2 }
 
-  pub stop_status : (fault : LoadFault) (result : Ending) (unwritten : Type 0) → Stops showing_stop WriteFault fault result unwritten written written' faults faults' → result ≢ Refused
-  stop_status Keeper result unwritten stops is = absurd (let e : KeeperFault ≡ Refused = sym stops.0 ∙ is in cc)
-  stop_status (DamagedAt place) result unwritten stops is =
+  pub stop_status : (fault : LoadFault) (result : Ending) (unwritten : Type 0) → Stops stop_ending WriteFault fault result unwritten written written' faults faults' → ends_showing (Some result) ≡ true
+  stop_status Keeper result unwritten stops = ap (λ (e : Ending). ends_showing (Some e)) stops.0
+  stop_status (DamagedAt place) result unwritten stops =
       elim stops [
-        | inl all ↦ absurd (let e : Damaged ≡ Refused = sym all.0 ∙ is in cc)
-        | inr front ↦ absurd (let e : WriteFault ≡ Refused = sym front.0 ∙ is in cc)
+        | inl all ↦ ap (λ (e : Ending). ends_showing (Some e)) all.0
+        | inr front ↦ ap (λ (e : Ending). ends_showing (Some e)) front.0
       ]
-  stop_status Memory result unwritten stops is = absurd (let e : NoMemory ≡ Refused = sym stops.0 ∙ is in cc)
+  stop_status Memory result unwritten stops = ap (λ (e : Ending). ends_showing (Some e)) stops.0
 
-  pub stop_call : (fault : LoadFault) (result : Ending) (unwritten : Type 0) → Stops showing_stop WriteFault fault result unwritten written written' faults faults'
-      → Loads name (err_of State fault) before after start end → IsAfterCall after.started after.closed (showing_as_call result) before after
+  pub stop_call : (fault : LoadFault) (result : Ending) (unwritten : Type 0) → Stops stop_ending WriteFault fault result unwritten written written' faults faults'
+      → Loads name (err_of State fault) before after start end → IsAfterCall after.started after.closed (ending_as_call result) before after
   stop_call Keeper result unwritten stops loads =
-      subst (λ (r : Ending). IsAfterCall after.started after.closed (showing_as_call r) before after) (sym stops.0) (as_it_is _ _ (showing_as_call KeeperFault) before after loads.call)
+      subst (λ (r : Ending). IsAfterCall after.started after.closed (ending_as_call r) before after) (sym stops.0) (as_it_is _ _ (ending_as_call KeeperFault) before after loads.call)
   stop_call (DamagedAt place) result unwritten stops loads =
       elim stops [
-        | inl all ↦ subst (λ (r : Ending). IsAfterCall after.started after.closed (showing_as_call r) before after) (sym all.0) (as_it_is _ _ (showing_as_call Damaged) before after loads.call)
-        | inr front ↦ subst (λ (r : Ending). IsAfterCall after.started after.closed (showing_as_call r) before after) (sym front.0) (as_it_is _ _ (showing_as_call WriteFault) before after loads.call)
+        | inl all ↦ subst (λ (r : Ending). IsAfterCall after.started after.closed (ending_as_call r) before after) (sym all.0) (as_it_is _ _ (ending_as_call Damaged) before after loads.call)
+        | inr front ↦ subst (λ (r : Ending). IsAfterCall after.started after.closed (ending_as_call r) before after) (sym front.0) (as_it_is _ _ (ending_as_call WriteFault) before after loads.call)
       ]
   stop_call Memory result unwritten stops loads =
-      subst (λ (r : Ending). IsAfterCall after.started after.closed (showing_as_call r) before after) (sym stops.0) (of_memory loads.call)
+      subst (λ (r : Ending). IsAfterCall after.started after.closed (ending_as_call r) before after) (sym stops.0) (of_memory loads.call)
     where
-      of_memory : {started closed : Bool} → IsAfterCall started closed (as_load_call (err_of State Memory)) before after → IsAfterCall after.started after.closed (showing_as_call NoMemory) before after
+      of_memory : {started closed : Bool} → IsAfterCall started closed (as_load_call (err_of State Memory)) before after → IsAfterCall after.started after.closed (ending_as_call NoMemory) before after
       of_memory call = record {
         is_sound = call.is_sound;
         started_is = refl;

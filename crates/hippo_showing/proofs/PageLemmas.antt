@@ -13,9 +13,10 @@ use Rattle.hippo_replay.specs.declared.state.State.{State}
 use Rattle.hippo_showing.specs.declared.asking.Excerpt.{Excerpt}
 use Rattle.hippo_showing.specs.declared.asking.Page.{Page}
 use Rattle.hippo_showing.specs.declared.asking.View.TheVariants.{Entries, Rules}
-use Rattle.hippo_showing.specs.declared.endings.Ending.{Ending}
-use Rattle.hippo_showing.specs.declared.endings.Ending.TheVariants.{Shown, Refused, KeeperFault, WriteFault, Damaged, NoMemory}
-use Rattle.hippo_showing.specs.Endings.{showing_as_call}
+use Rattle.hippo_programs.specs.declared.endings.Ending.{Ending}
+use Rattle.hippo_programs.specs.declared.endings.Ending.TheVariants.{Served, Refused, KeeperFault, ReadFault, WriteFault, Damaged, NoMemory, TooMuch}
+use Rattle.hippo_programs.specs.Endings.{ending_as_call}
+use Rattle.hippo_showing.specs.Endings.{ends_showing}
 use Rattle.hippo_showing.specs.Ruling.{rules_by_names}
 use Rattle.hippo_showing.specs.Saying.{Writes}
 use Rattle.hippo_showing.specs.ByNames.{entries_shown}
@@ -98,12 +99,12 @@ module _ (state : State) (written written' : Option Txt) (faults faults' : ℕ) 
     front writes history stands = subst (AppendsFront written written') (named history stands) (writes.front history stands.book)
 
     -- what cut the text short
-    cut_short : (ending : Ending) → ending ≢ Refused → ending ≢ Shown → has_failed (showing_as_call ending) ≡ false
+    cut_short : (ending : Ending) → ends_showing (Some ending) ≡ true → ending ≢ Served → has_failed (ending_as_call ending) ≡ false
         → WritesPage (BookStandsFor state.book) text (Some ending) written written' faults faults' → Loaded ending
-    cut_short ending unrefused unended fine writes = record {
-      call = IsAfterCall-none (showing_as_call ending) keeper fine ready;
+    cut_short ending listed unended fine writes = record {
+      call = IsAfterCall-none (ending_as_call ending) keeper fine ready;
       stays = λ tells. KeepsSame-here keeper;
-      status = unrefused;
+      status = listed;
       writes = writes.writes;
       whole = λ is. absurd (unended is);
       front = λ tells history stands forms. front writes history stands;
@@ -111,20 +112,22 @@ module _ (state : State) (written written' : Option Txt) (faults faults' : ℕ) 
       steps = λ tells. omega arith;
     }
 
-    pub loaded_rules : (cut : Option Ending) → WritesPage (BookStandsFor state.book) text cut written written' faults faults' → Loaded (unwrap_or cut Shown)
+    pub loaded_rules : (cut : Option Ending) → WritesPage (BookStandsFor state.book) text cut written written' faults faults' → Loaded (unwrap_or cut Served)
     loaded_rules None writes = record {
-      call = IsAfterCall-none (showing_as_call Shown) keeper refl ready;
+      call = IsAfterCall-none (ending_as_call Served) keeper refl ready;
       stays = λ tells. KeepsSame-here keeper;
-      status = λ e. cc;
+      status = refl;
       writes = record { cause = λ e. absurd cc; unfailed = λ e. writes.writes.unfailed (λ e. cc) };
       whole = λ is tells history stands forms. subst (Appends written written') (named history stands) (writes.whole refl history stands.book);
       front = λ tells history stands forms. front writes history stands;
       damaged = λ is. absurd cc;
       steps = λ tells. omega arith;
     }
-    loaded_rules (Some WriteFault) writes = cut_short WriteFault (λ e. cc) (λ e. cc) refl writes
-    loaded_rules (Some NoMemory) writes = cut_short NoMemory (λ e. cc) (λ e. cc) refl writes
+    loaded_rules (Some WriteFault) writes = cut_short WriteFault refl (λ e. cc) refl writes
+    loaded_rules (Some NoMemory) writes = cut_short NoMemory refl (λ e. cc) refl writes
     loaded_rules (Some Damaged) writes = absurd (writes.sound refl)
-    loaded_rules (Some Shown) writes = absurd (false≢true writes.ends)
+    loaded_rules (Some Served) writes = absurd (false≢true writes.ends)
     loaded_rules (Some Refused) writes = absurd (false≢true writes.ends)
     loaded_rules (Some KeeperFault) writes = absurd (false≢true writes.ends)
+    loaded_rules (Some ReadFault) writes = absurd (false≢true writes.ends)
+    loaded_rules (Some TooMuch) writes = absurd (false≢true writes.ends)

@@ -1,5 +1,5 @@
 -- The rules after the first entries speak of what these entries created alone.
-use Rattle.std.proofs.Common.{◌≡◌, ◌∙◌, ℕ, Bool, true, false, cond, not, ◌&&◌, List, [], ◌∷◌, ◌++◌, flat_map, length, take, drop, Option, Some, None, refl, sym, ap, subst, append_assoc}
+use Rattle.std.proofs.Common.{◌≡◌, ◌∙◌, ℕ, ◌+◌, ◌-◌, ◌<◌, Bool, true, false, cond, not, ◌&&◌, List, [], ◌∷◌, ◌++◌, flat_map, length, take, drop, Option, Some, None, refl, sym, ap, subst, append_assoc}
 use Rattle.std.specs.Prelude.{◌||◌, is_some, is_none, nat_eq, nat_lt, bytes_eq, count_by}
 use Rattle.std.specs.Bool.{then_some}
 use Rattle.std.specs.List.{list_any, range_with_len}
@@ -27,6 +27,7 @@ use Rattle.hippo_typing.proofs.CatalogTheorem.{names_grow, valid_names}
 use Rattle.hippo_typing.proofs.LastingNames.{extends_later}
 use Rattle.hippo_report.specs.declared.format.Format.{Format}
 use Rattle.hippo_showing.specs.declared.asking.Scope.{Scope}
+use Rattle.hippo_showing.proofs.LoopLemmas.{place_passes, place_fails}
 use Rattle.hippo_showing.proofs.NameLemmas.{acceptable}
 use Rattle.hippo_showing.specs.Ruling.{column_rule, is_ruled, columns_shown, has_table, table_shown, tables_shown, rules_by_names, rules_shown}
 
@@ -212,3 +213,15 @@ rules_of_first history valid n format scope =
     ap (λ (h : History). rules_by_names (known_at h) format scope (take n history)) (sym nothing)
     ∙ same_behind (take n history) first format scope [] (drop n history) (ap (is_valid meaning) nothing ∙ valid)
     ∙ ap (λ (h : History). rules_by_names (known_at h) format scope (take n history)) (append-nil (take n history))
+
+-- whether some column has a rule, at one of them
+module _ (history : History) (purpose recipient : Name) (schema : Schema) (place : Place) (within : place < length schema.columns) where
+  abbrev has_rule : Place → Bool
+  has_rule at = is_some (column_rule history purpose recipient schema at)
+
+  module _ (so_far : list_any has_rule (range_with_len place (length schema.columns - place)) ≡ is_ruled history purpose recipient schema) where
+    pub column_ruled : true ≡ has_rule place → true ≡ is_ruled history purpose recipient schema
+    column_ruled is = place_passes has_rule (is_ruled history purpose recipient schema) place (length schema.columns) within so_far is
+
+    pub column_unruled : false ≡ has_rule place → list_any has_rule (range_with_len (place + 1) (length schema.columns - (place + 1))) ≡ is_ruled history purpose recipient schema
+    column_unruled is = place_fails has_rule (is_ruled history purpose recipient schema) place (length schema.columns) within so_far is

@@ -18,9 +18,10 @@ use Rattle.hippo_keeper.proofs.CallLemmas.{KeepsSame-here, KeepsSame-then, Keeps
 use Rattle.hippo_keeper.proofs.Results.{err_of}
 use Rattle.hippo_replay.proofs.ReadingLemmas.{versions-append}
 use Rattle.hippo_showing.specs.declared.asking.Excerpt.{Excerpt}
-use Rattle.hippo_showing.specs.declared.endings.Ending.{Ending}
-use Rattle.hippo_showing.specs.declared.endings.Ending.TheVariants.{Shown, Refused, KeeperFault, WriteFault, Damaged, NoMemory}
-use Rattle.hippo_showing.specs.Endings.{showing_as_call, as_part, ending_of, cuts, cut_of}
+use Rattle.hippo_programs.specs.declared.endings.Ending.{Ending}
+use Rattle.hippo_programs.specs.declared.endings.Ending.TheVariants.{Served, Refused, KeeperFault, ReadFault, WriteFault, Damaged, NoMemory, TooMuch}
+use Rattle.hippo_programs.specs.Endings.{ending_as_call, part_as_call}
+use Rattle.hippo_showing.specs.Endings.{ends_showing, ending_of, cuts, cut_of}
 use Rattle.hippo_showing.specs.Saying.{CountsWrites}
 use Rattle.hippo_showing.specs.ByNames.{entries_shown}
 use Rattle.hippo_showing.specs.Progress.{HasForms, ShowsKept, IsReadUpTo, ShowsNext, IsShowing, ShowsAll}
@@ -29,18 +30,20 @@ use Rattle.hippo_showing.proofs.KeptLemmas.{ShowsKept-none, ShowsKept-unread, Sh
 -- what entries may end the program with
 record Cuts (result : Option Ending) : Type 0 where
   same : cut_of result ≡ result
-  unrefused : result ≢ Some Refused
-  unended : result ≢ Some Shown
-  fine : has_failed (as_part result) ≡ false
+  listed : ends_showing result ≡ true
+  unended : result ≢ Some Served
+  fine : has_failed (part_as_call result) ≡ false
 
 cuts_so : (result : Option Ending) → cuts result ≡ true → Cuts result
-cuts_so None is = record { same = refl; unrefused = λ e. cc; unended = λ e. cc; fine = refl }
-cuts_so (Some WriteFault) is = record { same = refl; unrefused = λ e. cc; unended = λ e. cc; fine = refl }
-cuts_so (Some Damaged) is = record { same = refl; unrefused = λ e. cc; unended = λ e. cc; fine = refl }
-cuts_so (Some NoMemory) is = record { same = refl; unrefused = λ e. cc; unended = λ e. cc; fine = refl }
-cuts_so (Some Shown) is = absurd (false≢true is)
+cuts_so None is = record { same = refl; listed = refl; unended = λ e. cc; fine = refl }
+cuts_so (Some WriteFault) is = record { same = refl; listed = refl; unended = λ e. cc; fine = refl }
+cuts_so (Some Damaged) is = record { same = refl; listed = refl; unended = λ e. cc; fine = refl }
+cuts_so (Some NoMemory) is = record { same = refl; listed = refl; unended = λ e. cc; fine = refl }
+cuts_so (Some Served) is = absurd (false≢true is)
 cuts_so (Some Refused) is = absurd (false≢true is)
 cuts_so (Some KeeperFault) is = absurd (false≢true is)
+cuts_so (Some ReadFault) is = absurd (false≢true is)
+cuts_so (Some TooMuch) is = absurd (false≢true is)
 
 module _ (known : KnownNames) (excerpt : Excerpt) (max number : ℕ) (before after : KeeperState) (piece : Store) (steps steps' : ℕ)
     (reads : ReadsEntries is_any number max (Ok piece) before after) (counted : steps' ≡ steps + stored_versions piece) where
@@ -54,11 +57,11 @@ module _ (known : KnownNames) (excerpt : Excerpt) (max number : ℕ) (before aft
 
   -- nothing was left
   pub ShowsNext-end : (clock : Option Moment) (written : Option Txt) (faults : ℕ) → 0 < max → piece ≡ []
-      → ShowsNext known excerpt (Some Shown) before after number number clock clock written written faults faults steps steps'
+      → ShowsNext known excerpt (Some Served) before after number number clock clock written written faults faults steps steps'
   ShowsNext-end clock written faults some none = record {
-    call = IsAfterCall-as true false (Ok piece) (as_part (Some Shown)) before after refl reads.call;
+    call = IsAfterCall-as true false (Ok piece) (part_as_call (Some Served)) before after refl reads.call;
     stays = λ tells. KeepsSame-Stays before after (reads.stays tells);
-    status = λ e. cc;
+    status = refl;
     piece = piece;
     shows = subst (λ (p : Store). ShowsKept known excerpt p None clock clock written written faults faults) (sym none) (ShowsKept-none known excerpt clock written faults);
     steps = counted;
@@ -77,9 +80,9 @@ module _ (known : KnownNames) (excerpt : Excerpt) (max number : ℕ) (before aft
   ShowsNext-piece result number' clock clock' written written' faults faults' room some shows last =
       let may = cuts_so result shows.ends in
       record {
-        call = IsAfterCall-as true false (Ok piece) (as_part result) before after may.fine reads.call;
+        call = IsAfterCall-as true false (Ok piece) (part_as_call result) before after may.fine reads.call;
         stays = λ tells. KeepsSame-Stays before after (reads.stays tells);
-        status = may.unrefused;
+        status = may.listed;
         piece = piece;
         shows = subst (λ (r : Option Ending). ShowsKept known excerpt piece r clock clock' written written' faults faults') (sym may.same) shows;
         steps = counted;
@@ -93,14 +96,14 @@ module _ (known : KnownNames) (excerpt : Excerpt) (max number : ℕ) (before aft
 -- the keeper did not answer
 module _ (known : KnownNames) (excerpt : Excerpt) (max number : ℕ) (before after : KeeperState) (steps steps' : ℕ) where
   -- nothing was read, and the program ends
-  ends_unread : (ending : Ending) (fault : Fault) (clock : Option Moment) (written : Option Txt) (faults : ℕ) → ending ≢ Refused → ending ≢ Shown
-      → has_failed (showing_as_call ending) ≡ has_failed (err_of Store fault) → ShowsKept known excerpt [] (cut_of (Some ending)) clock clock written written faults faults
+  ends_unread : (ending : Ending) (fault : Fault) (clock : Option Moment) (written : Option Txt) (faults : ℕ) → ends_showing (Some ending) ≡ true → ending ≢ Served
+      → has_failed (ending_as_call ending) ≡ has_failed (err_of Store fault) → ShowsKept known excerpt [] (cut_of (Some ending)) clock clock written written faults faults
       → ReadsEntries is_any number max (Err fault) before after → steps' ≡ steps + 0
       → ShowsNext known excerpt (Some ending) before after number number clock clock written written faults faults steps steps'
-  ends_unread ending fault clock written faults unrefused unended same shows reads counted = record {
-    call = IsAfterCall-as true false (err_of Store fault) (as_part (Some ending)) before after same reads.call;
+  ends_unread ending fault clock written faults listed unended same shows reads counted = record {
+    call = IsAfterCall-as true false (err_of Store fault) (part_as_call (Some ending)) before after same reads.call;
     stays = λ tells. KeepsSame-Stays before after (reads.stays tells);
-    status = λ e. unrefused (same_Some ending Refused e);
+    status = listed;
     piece = [];
     shows = shows;
     steps = counted;
@@ -108,16 +111,16 @@ module _ (known : KnownNames) (excerpt : Excerpt) (max number : ℕ) (before aft
     more = λ e. absurd cc;
     told = λ tells read rest upto. (rest, refl);
     nothing = λ e. refl;
-    ended = λ e. absurd (unended (same_Some ending Shown e));
+    ended = λ e. absurd (unended (same_Some ending Served e));
   }
 
   pub ShowsNext-fault : (fault : Fault) (clock : Option Moment) (written : Option Txt) (faults : ℕ)
       → ReadsEntries is_any number max (Err fault) before after → steps' ≡ steps + 0
       → ShowsNext known excerpt (Some (ending_of fault)) before after number number clock clock written written faults faults steps steps'
   ShowsNext-fault keeper_faults.Failed clock written faults =
-      ends_unread KeeperFault keeper_faults.Failed clock written faults (λ e. cc) (λ e. cc) refl (ShowsKept-none known excerpt clock written faults)
+      ends_unread KeeperFault keeper_faults.Failed clock written faults refl (λ e. cc) refl (ShowsKept-none known excerpt clock written faults)
   ShowsNext-fault keeper_faults.Memory clock written faults =
-      ends_unread NoMemory keeper_faults.Memory clock written faults (λ e. cc) (λ e. cc) refl (ShowsKept-unread known excerpt clock written faults)
+      ends_unread NoMemory keeper_faults.Memory clock written faults refl (λ e. cc) refl (ShowsKept-unread known excerpt [] clock written faults)
 
 module _ (known : KnownNames) (excerpt : Excerpt) (before now after : KeeperState) where
   -- before anything is read
@@ -163,8 +166,8 @@ module _ (known : KnownNames) (excerpt : Excerpt) (before now after : KeeperStat
       -- one piece more
       pub IsShowing-on : result ≡ None → IsShowing known excerpt before after number' clock' start written' faults faults'' steps steps''
       IsShowing-on on = record {
-        call = IsAfterCall-as true false (as_part None) (Ok tt) before after refl
-            (subst (λ (r : Option Ending). IsAfterCall true false (as_part r) before after) on called);
+        call = IsAfterCall-as true false (part_as_call None) (Ok tt) before after refl
+            (subst (λ (r : Option Ending). IsAfterCall true false (part_as_call r) before after) on called);
         stays = λ tells. KeepsSame-then before now after (so_far.stays (next.call.told tells)) (next.stays tells);
         read = so_far.read ++ next.piece;
         last = last-both 0 so_far.read next.piece ∙ ap (λ (n : ℕ). last_number n next.piece) so_far.last ∙ sym (next.last on);
@@ -173,8 +176,8 @@ module _ (known : KnownNames) (excerpt : Excerpt) (before now after : KeeperStat
         told = longer;
       }
         where
-          called : IsAfterCall true false (as_part result) before after
-          called = IsAfterCall-then {A = Unit {0}} false (Ok tt) (as_part result) before now after refl so_far.call next.call
+          called : IsAfterCall true false (part_as_call result) before after
+          called = IsAfterCall-then {A = Unit {0}} false (Ok tt) (part_as_call result) before now after refl so_far.call next.call
 
     -- the end
     module _ (ending : Ending) (next : ShowsNext known excerpt (Some ending) now after number number' clock clock' written written' faults' faults'' steps' steps'') where
@@ -187,7 +190,7 @@ module _ (known : KnownNames) (excerpt : Excerpt) (before now after : KeeperStat
           front_so known excerpt (so_far.read ++ next.piece) there.0 (cut_of (Some ending)) None clock' start written' faults faults'' all entries
           (subst (λ (s : Store). HasForms s entries) there.1 forms)
 
-      whole_there : ending ≡ Shown → after.tells → (entries : History) → HasForms before.kept entries → Appends start written' (entries_shown known excerpt None entries)
+      whole_there : ending ≡ Served → after.tells → (entries : History) → HasForms before.kept entries → Appends start written' (entries_shown known excerpt None entries)
       whole_there is tells entries forms =
           let front = so_far.told (next.call.told tells) in
           let nothing_left : front.0 ≡ [] = next.ended (ap Some is) tells so_far.read front.0 (up_to (next.call.told tells) front.0 front.1) in
@@ -211,9 +214,9 @@ module _ (known : KnownNames) (excerpt : Excerpt) (before now after : KeeperStat
 
       pub ShowsAll-end : ShowsAll known excerpt ending before after start written' faults faults'' steps steps''
       ShowsAll-end = record {
-        call = IsAfterCall-then {A = Unit {0}} false (Ok tt) (showing_as_call ending) before now after refl so_far.call next.call;
+        call = IsAfterCall-then {A = Unit {0}} false (Ok tt) (ending_as_call ending) before now after refl so_far.call next.call;
         stays = λ tells. KeepsSame-then before now after (so_far.stays (next.call.told tells)) (next.stays tells);
-        status = λ is. next.status (ap Some is);
+        status = next.status;
         writes = writes_of ending all.writes;
         whole = whole_there;
         front = front_there;
@@ -222,12 +225,14 @@ module _ (known : KnownNames) (excerpt : Excerpt) (before now after : KeeperStat
       }
         where
           writes_of : (ending : Ending) → CountsWrites (cut_of (Some ending)) faults faults'' → CountsWrites (Some ending) faults faults''
-          writes_of Shown writes = record { cause = λ e. absurd cc; unfailed = λ other. writes.unfailed (λ e. cc) }
+          writes_of Served writes = record { cause = λ e. absurd cc; unfailed = λ other. writes.unfailed (λ e. cc) }
           writes_of KeeperFault writes = record { cause = λ e. absurd cc; unfailed = λ other. writes.unfailed (λ e. cc) }
           writes_of Refused writes = writes
           writes_of WriteFault writes = writes
           writes_of Damaged writes = writes
           writes_of NoMemory writes = writes
+          writes_of ReadFault writes = writes
+          writes_of TooMuch writes = writes
 
 -- a keeper is ready where showing goes on
 pub showing_ready : (known : KnownNames) (excerpt : Excerpt) (before now : KeeperState) (number : ℕ) (clock : Option Moment) (start written : Option Txt) (faults faults' steps steps' : ℕ)

@@ -3,8 +3,8 @@ use Rattle.std.proofs.Common.{◌≡◌, ◌≢◌, ℕ, [], ◌++◌, length, t
 use Rattle.std.proofs.lemmas.List.{append-nil, take_at}
 use Rattle.hippo_values.specs.Texts.{Txt}
 use Rattle.hippo_io.specs.Told.{Appends, AppendsFront}
-use Rattle.hippo_showing.specs.declared.endings.Ending.{Ending}
-use Rattle.hippo_showing.specs.declared.endings.Ending.TheVariants.{WriteFault}
+use Rattle.hippo_programs.specs.declared.endings.Ending.{Ending}
+use Rattle.hippo_programs.specs.declared.endings.Ending.TheVariants.{WriteFault}
 use Rattle.hippo_showing.specs.Saying.{CountsWrites}
 
 -- nothing is written

@@ -1,6 +1,6 @@
 -- What is shown of entries by some names, whatever entry found them: a valid history's entries are
 -- shown so by the names of the whole history.
-use Rattle.std.specs.Prelude.{[], ◌∷◌, ◌++◌, Option, Some, option_and_then, if◌then◌else◌}
+use Rattle.std.specs.Prelude.{[], ◌∷◌, ◌++◌, Option, option_and_then}
 use Rattle.hippo_values.specs.Texts.{Txt}
 use Rattle.hippo_values.specs.declared.moments.Moment.{Moment}
 use Rattle.hippo_model.specs.declared.entry.Act.{Act}
@@ -13,7 +13,7 @@ use Rattle.hippo_showing.specs.declared.asking.Excerpt.{Excerpt}
 use Rattle.hippo_showing.specs.declared.asking.Form.{Form}
 use Rattle.hippo_showing.specs.declared.asking.Form.TheVariants.{Listing, Script}
 use Rattle.hippo_formats.specs.Formats.{entry_by}
-use Rattle.hippo_showing.specs.Showing.{is_in_excerpt, act_lines, clock_line}
+use Rattle.hippo_showing.specs.Showing.{is_in_excerpt, act_lines, clock_line, entry_where, clock_where, entries_where}
 
 -- the schema of the table that an act names
 abbrev pub schema_named : KnownNames → Act → Option Schema
@@ -27,18 +27,15 @@ shown_as known Script clock entry =
 
 abbrev pub entry_shown : KnownNames → Excerpt → Option Moment → Entry → Txt
 entry_shown known excerpt clock entry =
-    if is_in_excerpt known excerpt entry then shown_as known excerpt.form clock entry else []
+    entry_where (is_in_excerpt known excerpt) (shown_as known excerpt.form) clock entry
 
 abbrev pub clock_after : KnownNames → Excerpt → Option Moment → Entry → Option Moment
-clock_after known excerpt clock entry =
-    if is_in_excerpt known excerpt entry then Some entry.moment else clock
+clock_after known excerpt clock entry = clock_where (is_in_excerpt known excerpt) clock entry
 
 -- entries one after the other
 abbrev pub entries_shown : KnownNames → Excerpt → Option Moment → History → Txt
-entries_shown known excerpt clock [] = []
-entries_shown known excerpt clock (entry ∷ later) =
-    entry_shown known excerpt clock entry
-    ++ entries_shown known excerpt (clock_after known excerpt clock entry) later
+entries_shown known excerpt clock entries =
+    entries_where (is_in_excerpt known excerpt) (shown_as known excerpt.form) clock entries
 
 abbrev pub clock_at_end : KnownNames → Excerpt → Option Moment → History → Option Moment
 clock_at_end known excerpt clock [] = clock

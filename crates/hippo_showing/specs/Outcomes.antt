@@ -7,8 +7,8 @@ use Rattle.hippo_keeper.specs.Keeping.{KeeperState}
 use Rattle.hippo_replay.specs.Loading.{KeepsFound}
 use Rattle.hippo_programs.specs.Starting.{HoldsOfStored, IsIdle, SaysDamaged, BeginsDamaged}
 use Rattle.hippo_showing.specs.declared.asking.View.{View}
-use Rattle.hippo_showing.specs.declared.endings.Ending.{Ending}
-use Rattle.hippo_showing.specs.declared.endings.Ending.TheVariants.{Shown, Refused, KeeperFault, WriteFault, Damaged, NoMemory}
+use Rattle.hippo_programs.specs.declared.endings.Ending.{Ending}
+use Rattle.hippo_programs.specs.declared.endings.Ending.TheVariants.{Served, KeeperFault, WriteFault, Damaged, NoMemory}
 use Rattle.hippo_showing.specs.Showing.{shown_text}
 
 -- the stored forms of a valid history were found and are kept, and this holds of each history of
@@ -31,9 +31,8 @@ BeginsView view name before after written written' =
 -- how showing ends; unwritten says that the sink is as before
 abbrev pub Ends : Ending → Type 0 → View → Txt → KeeperState → KeeperState → Option Txt → Option Txt
     → Type 0
-Ends Shown unwritten view name before after written written' =
+Ends Served unwritten view name before after written written' =
     ShowsView view name before after written written'
-Ends Refused unwritten view name before after written written' = ⊥
 Ends KeeperFault unwritten view name before after written written' =
     (unwritten × IsIdle name before after) ⊎ BeginsView view name before after written written'
 Ends WriteFault unwritten view name before after written written' =
@@ -43,3 +42,4 @@ Ends Damaged unwritten view name before after written written' =
     SaysDamaged name before after written written'
 Ends NoMemory unwritten view name before after written written' =
     (unwritten × IsIdle name before after) ⊎ BeginsView view name before after written written'
+Ends ending unwritten view name before after written written' = ⊥

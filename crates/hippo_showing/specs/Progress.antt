@@ -9,18 +9,24 @@ use Rattle.hippo_model.specs.Keepable.{is_keepable}
 use Rattle.hippo_model.specs.StoredForms.{stored}
 use Rattle.hippo_model.specs.Terms.{History}
 use Rattle.hippo_catalog.specs.Catalogs.{KnownNames}
-use Rattle.hippo_keeper.specs.Keeping.{Store, RisesAbove, last_number, KeeperState, IsAfterCall, KeepsSame}
+use Rattle.hippo_keeper.specs.Keeping.{Store, RisesAbove, last_number, KeeperState, IsReady, IsAfterCall, KeepsSame}
 use Rattle.hippo_keeper.specs.Selecting.{stored_versions}
 use Rattle.hippo_replay.specs.Standing.{StandsFor}
 use Rattle.hippo_replay.specs.declared.state.State.{State}
 use Rattle.hippo_showing.specs.declared.asking.Excerpt.{Excerpt}
 use Rattle.hippo_showing.specs.declared.asking.View.{View}
-use Rattle.hippo_showing.specs.declared.endings.Ending.{Ending}
-use Rattle.hippo_showing.specs.declared.endings.Ending.TheVariants.{Shown, Refused, Damaged}
-use Rattle.hippo_showing.specs.Endings.{showing_as_call, as_part, cuts, cut_of}
+use Rattle.hippo_programs.specs.declared.endings.Ending.{Ending}
+use Rattle.hippo_programs.specs.declared.endings.Ending.TheVariants.{Served, Damaged}
+use Rattle.hippo_programs.specs.Endings.{ending_as_call, part_as_call}
+use Rattle.hippo_showing.specs.Endings.{ends_showing, cuts, cut_of}
 use Rattle.hippo_showing.specs.Saying.{CountsWrites}
 use Rattle.hippo_showing.specs.ByNames.{entry_shown, clock_after, entries_shown, clock_at_end}
 use Rattle.hippo_showing.specs.Showing.{shown_text}
+
+-- the keeper was started, and the numbers that it keeps rise
+pub record IsReadable (keeper : KeeperState) : Type 0 where
+  pub ready : IsReady true keeper
+  pub order : keeper.tells → RisesAbove 0 keeper.kept
 
 -- these entries can be kept, and these are their stored forms
 pub record HasForms (store : Store) (entries : History) : Type 0 where
@@ -67,9 +73,9 @@ pub record ShowsNext (known : KnownNames) (excerpt : Excerpt) (result : Option E
     (number number' : ℕ) (clock clock' : Option Moment) (written written' : Option Txt)
     (faults faults' : ℕ)
     (ticks ticks' : ℕ) : Type 0 where
-  pub call : IsAfterCall true false (as_part result) before after
+  pub call : IsAfterCall true false (part_as_call result) before after
   pub stays : after.tells → KeepsSame before after
-  pub status : result ≢ Some Refused
+  pub status : ends_showing result ≡ true
   pub piece : Store
   pub shows : ShowsKept known excerpt piece (cut_of result) clock clock' written written' faults
       faults'
@@ -78,8 +84,8 @@ pub record ShowsNext (known : KnownNames) (excerpt : Excerpt) (result : Option E
   pub more : result ≡ None → (number < number') × (number < 2 ^ 64)
   pub told : after.tells → (read rest : Store) → IsReadUpTo number before read rest
       → ((behind : Store) × (rest ≡ piece ++ behind))
-  pub nothing : result ≡ Some Shown → piece ≡ []
-  pub ended : result ≡ Some Shown → after.tells → (read rest : Store)
+  pub nothing : result ≡ Some Served → piece ≡ []
+  pub ended : result ≡ Some Served → after.tells → (read rest : Store)
       → IsReadUpTo number before read rest → rest ≡ []
 
 -- a front of what is kept is read and shown
@@ -99,11 +105,11 @@ pub record IsShowing (known : KnownNames) (excerpt : Excerpt) (before now : Keep
 pub record ShowsAll (known : KnownNames) (excerpt : Excerpt) (result : Ending)
     (before after : KeeperState)
     (written written' : Option Txt) (faults faults' ticks ticks' : ℕ) : Type 0 where
-  pub call : IsAfterCall true false (showing_as_call result) before after
+  pub call : IsAfterCall true false (ending_as_call result) before after
   pub stays : after.tells → KeepsSame before after
-  pub status : result ≢ Refused
+  pub status : ends_showing (Some result) ≡ true
   pub writes : CountsWrites (Some result) faults faults'
-  pub whole : result ≡ Shown → after.tells → (entries : History) → HasForms before.kept entries
+  pub whole : result ≡ Served → after.tells → (entries : History) → HasForms before.kept entries
       → Appends written written' (entries_shown known excerpt None entries)
   pub front : after.tells → (entries : History) → HasForms before.kept entries
       → AppendsFront written written' (entries_shown known excerpt None entries)
@@ -126,11 +132,11 @@ pub record WritesPage (IsSo : History → Type 0) (page : History → Txt) (resu
 -- it
 pub record ShowsLoaded (state : State) (view : View) (result : Ending) (before after : KeeperState)
     (written written' : Option Txt) (faults faults' ticks ticks' : ℕ) : Type 0 where
-  pub call : IsAfterCall true false (showing_as_call result) before after
+  pub call : IsAfterCall true false (ending_as_call result) before after
   pub stays : after.tells → KeepsSame before after
-  pub status : result ≢ Refused
+  pub status : ends_showing (Some result) ≡ true
   pub writes : CountsWrites (Some result) faults faults'
-  pub whole : result ≡ Shown → after.tells → (history : History) → StandsFor state history
+  pub whole : result ≡ Served → after.tells → (history : History) → StandsFor state history
       → HasForms before.kept history
       → Appends written written' (shown_text view history)
   pub front : after.tells → (history : History) → StandsFor state history

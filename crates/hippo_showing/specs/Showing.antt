@@ -88,24 +88,27 @@ told_as history (Listing format) clock entry = entry_by format (schema_before hi
 told_as history Script clock entry =
     clock_line clock entry.moment ++ act_lines (schema_before history entry) entry.act
 
--- where it is asked for, by the names that it found
+-- the entry, where it passes, and the clock behind it
+abbrev pub entry_where : (Entry → Bool) → (Option Moment → Entry → Txt) → Option Moment → Entry → Txt
+entry_where passes lines clock entry = if passes entry then lines clock entry else []
+
+abbrev pub clock_where : (Entry → Bool) → Option Moment → Entry → Option Moment
+clock_where passes clock entry = if passes entry then Some entry.moment else clock
+
+-- entries of a history, one after the other
+abbrev pub entries_where : (Entry → Bool) → (Option Moment → Entry → Txt) → Option Moment → History → Txt
+entries_where passes lines clock [] = []
+entries_where passes lines clock (entry ∷ later) =
+    entry_where passes lines clock entry
+    ++ entries_where passes lines (clock_where passes clock entry) later
+
+-- whether an entry is asked for, by the names that it found; and all that are
 abbrev pub is_told : History → Excerpt → Entry → Bool
 is_told history excerpt entry = is_in_excerpt (known_at (before_entry entry history)) excerpt entry
 
-abbrev pub entry_told : History → Excerpt → Option Moment → Entry → Txt
-entry_told history excerpt clock entry =
-    if is_told history excerpt entry then told_as history excerpt.form clock entry else []
-
-abbrev pub clock_then : History → Excerpt → Option Moment → Entry → Option Moment
-clock_then history excerpt clock entry =
-    if is_told history excerpt entry then Some entry.moment else clock
-
--- entries of a history, one after the other
 abbrev pub entries_told : History → Excerpt → Option Moment → History → Txt
-entries_told history excerpt clock [] = []
-entries_told history excerpt clock (entry ∷ later) =
-    entry_told history excerpt clock entry
-    ++ entries_told history excerpt (clock_then history excerpt clock entry) later
+entries_told history excerpt clock entries =
+    entries_where (is_told history excerpt) (told_as history excerpt.form) clock entries
 
 -- what is asked for of a history: an excerpt, or the rules in force after its first entries
 abbrev pub shown_text : View → History → Txt

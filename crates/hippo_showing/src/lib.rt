@@ -14,6 +14,5 @@ mod showing;
 mod top;
 
 pub use asking::{Acts, Call, Excerpt, Form, Page, Scope, View};
-pub use endings::Ending;
 pub use reading::asked_of;
 pub use top::history_top;

@@ -1,12 +1,10 @@
 //! What the program writes of its own, and the write of a text.
-ghost use Rattle.hippo_programs.specs.Lines.{damaged_line};
 ghost use Rattle.hippo_programs.specs.Saying.{Says};
-ghost use Rattle.hippo_showing.specs.declared.endings.Ending.TheVariants.{Refused, WriteFault, Damaged};
+ghost use Rattle.hippo_programs.specs.declared.endings.Ending.TheVariants.{Refused, WriteFault};
 ghost use Rattle.hippo_showing.specs.Saying.{showing_usage as usage, Writes};
 
-use crate::endings::Ending;
 use hippo_io::{Failed, Sink, write_whole};
-use hippo_programs::write_numbered;
+use hippo_programs::{Ending, say};
 
 const USAGE: &str =
     "usage: hippo_history --store NAME [--entry N | [--from N] [--to N]] [--table NAME] [--rules | [--tables] [--script]] \
@@ -18,21 +16,7 @@ pub(crate) fn refuse<K: Sink>(sink: &mut K) -> Ending
     ensures says { Says Refused usage WriteFault result
         (K.written sink.old) (K.written sink.new) (K.faults sink.old) (K.faults sink.new) }
 {
-    match write_whole(sink, USAGE.as_bytes()) {
-        Ok(()) => Ending::Refused,
-        Err(Failed) => Ending::WriteFault,
-    }
-}
-
-/// Writes at which place the kept entries are damaged.
-pub(crate) fn say_damaged<K: Sink>(sink: &mut K, place: u64) -> Ending
-    ensures says { Says Damaged (damaged_line place) WriteFault result
-        (K.written sink.old) (K.written sink.new) (K.faults sink.old) (K.faults sink.new) }
-{
-    match write_numbered(sink, "damaged ", place) {
-        Ok(()) => Ending::Damaged,
-        Err(Failed) => Ending::WriteFault,
-    }
+    say(sink, USAGE, Ending::Refused)
 }
 
 /// Writes the lines of an entry.

@@ -1,20 +1,21 @@
 //! The entries that a keeper keeps, read piece by piece and shown one after the other.
 ghost use Rattle.std.specs.Prelude.{◌≡◌, None, true, [], ◌∷◌};
-ghost use Rattle.hippo_keeper.specs.Keeping.{RisesAbove, last_number, IsReady};
+ghost use Rattle.hippo_keeper.specs.Keeping.{last_number, IsReady};
 ghost use Rattle.hippo_showing.specs.Saying.{Writes};
 ghost use Rattle.hippo_showing.specs.ByNames.{shown_as};
-ghost use Rattle.hippo_showing.specs.Progress.{ShowsEntry, ShowsKept, ShowsNext, ShowsAll};
+ghost use Rattle.hippo_showing.specs.Progress.{IsReadable, ShowsEntry, ShowsKept, ShowsNext, ShowsAll};
 
 use crate::asking::Excerpt;
-use crate::endings::{Ending, ending_of};
+use crate::endings::ending_of;
 use crate::lines::append_shown;
-use crate::printing::{say_damaged, write_lines};
+use crate::printing::write_lines;
 use crate::scope::is_asked;
 use hippo_catalog::Catalog;
 use hippo_entry::decode;
 use hippo_io::Sink;
 use hippo_keeper::{Keeper, Steps};
 use hippo_model::{Entry, StoredEntry};
+use hippo_programs::{Ending, say_damaged};
 use hippo_values::{Memory, Moment, Txt};
 use std::alloc::Global;
 use std::sync::ledger::Ledger;
@@ -139,7 +140,7 @@ fn show_next<K: Sink, P: Keeper, L: Ledger>(
     match keeper.read_all(guide.alloc, progress.number, PIECE, steps) {
         Ok(piece) => {
             if piece.is_empty() {
-                return Some(Ending::Shown);
+                return Some(Ending::Served);
             }
             let ending = show_piece(guide, piece.as_slice(), progress, sink);
             drop(piece);
@@ -156,8 +157,7 @@ pub(crate) fn show_all<K: Sink, P: Keeper, L: Ledger>(
     keeper: &mut P,
     steps: &mut Steps<L>,
 ) -> Ending
-    requires ready { IsReady true (P.state keeper.old) }
-    requires order { (P.state keeper.old).tells → RisesAbove 0 (P.state keeper.old).kept }
+    requires readable { IsReadable (P.state keeper.old) }
     ensures shows { ShowsAll guide.now.catalog.now.names guide.now.excerpt.now result
         (P.state keeper.old) (P.state keeper.new) (K.written sink.old) (K.written sink.new)
         (K.faults sink.old) (K.faults sink.new) steps.old steps.new }

@@ -3,66 +3,32 @@
 ghost use Rattle.std.specs.Prelude.{◌≡◌, ◌≢◌, ◌⊎◌, ◌+◌, ◌*◌, ◌≤◌, take, None, Some, true, false, Any};
 ghost use Rattle.hippo_io.specs.Faults.{HasRisen};
 ghost use Rattle.hippo_io.specs.Told.{Appends, AppendsFront};
-ghost use Rattle.hippo_keeper.specs.Keeping.{RisesAbove, IsReady, IsAfterCall};
+ghost use Rattle.hippo_keeper.specs.Keeping.{IsReady, IsAfterCall};
 ghost use Rattle.hippo_keeper.specs.Selecting.{stored_versions};
 ghost use Rattle.hippo_policy.specs.Books.{BookStandsFor};
-ghost use Rattle.hippo_programs.specs.Starting.{IsIdle, SaysDamaged, BeginsDamaged, Stops};
+ghost use Rattle.hippo_programs.specs.Starting.{IsIdle, SaysDamaged, BeginsDamaged};
 ghost use Rattle.hippo_showing.specs.Ruling.{rules_by_names};
-ghost use Rattle.hippo_showing.specs.Progress.{ShowsAll, WritesPage, ShowsLoaded};
+ghost use Rattle.hippo_showing.specs.Progress.{IsReadable, WritesPage, ShowsLoaded};
 ghost use Rattle.hippo_showing.specs.declared.asking.Call.{Call as AskedCall};
-ghost use Rattle.hippo_showing.specs.declared.endings.Ending.TheVariants.{Refused, WriteFault};
 ghost use Rattle.hippo_showing.specs.CommandLine.{asked_of};
-ghost use Rattle.hippo_showing.specs.Endings.{showing_as_call, showing_stop, showing_statuses};
+ghost use Rattle.hippo_programs.specs.Endings.{ending_as_call};
+ghost use Rattle.hippo_showing.specs.Endings.{showing_statuses, ends_showing};
 ghost use Rattle.hippo_showing.specs.Outcomes.{ShowsView, BeginsView, Ends};
 ghost use Rattle.hippo_showing.specs.Saying.{showing_usage, CountsWrites};
 
-use crate::asking::{Excerpt, Page, View};
-use crate::endings::{Ending, shown_or};
-use crate::printing::{refuse, say_damaged, write_lines};
+use crate::asking::{Page, View};
+use crate::endings::served_or;
+use crate::printing::{refuse, write_lines};
 use crate::reading::asked_of;
 use crate::rules::append_rules;
 use crate::showing::{Guide, show_all};
 use hippo_io::Sink;
 use hippo_keeper::{Keeper, Steps};
-use hippo_replay::{LoadFault, State, load};
+use hippo_programs::{Ending, stop};
+use hippo_replay::{State, load};
 use hippo_values::{Memory, Txt};
 use std::alloc::Global;
 use std::sync::ledger::Ledger;
-
-// How the program ends where what is kept was not loaded.
-fn stop<K: Sink>(fault: LoadFault, sink: &mut K) -> Ending
-    ensures stops { Stops showing_stop WriteFault fault result (sink.new ≡ sink.old)
-        (K.written sink.old) (K.written sink.new) (K.faults sink.old) (K.faults sink.new) }
-{
-    match fault {
-        LoadFault::Keeper => Ending::KeeperFault,
-        LoadFault::Damaged(place) => say_damaged(sink, place),
-        LoadFault::Memory => Ending::NoMemory,
-    }
-}
-
-// Shows some entries of the history that a state stands for, by the names that it holds.
-fn show_entries<K: Sink, P: Keeper, L: Ledger>(
-    alloc: Global,
-    excerpt: &Excerpt,
-    state: &State,
-    sink: &mut K,
-    keeper: &mut P,
-    steps: &mut Steps<L>,
-) -> Ending
-    requires ready { IsReady true (P.state keeper.old) }
-    requires order { (P.state keeper.old).tells → RisesAbove 0 (P.state keeper.old).kept }
-    ensures shows { ShowsAll state.now.catalog.names excerpt.now result
-        (P.state keeper.old) (P.state keeper.new) (K.written sink.old) (K.written sink.new)
-        (K.faults sink.old) (K.faults sink.new) steps.old steps.new }
-{
-    let guide = Guide {
-        alloc,
-        catalog: &state.catalog,
-        excerpt,
-    };
-    show_all(&guide, sink, keeper, steps)
-}
 
 // Writes the rules that are in force.
 fn write_rules<K: Sink>(alloc: Global, page: &Page, state: &State, sink: &mut K) -> Option<Ending>
@@ -78,29 +44,8 @@ fn write_rules<K: Sink>(alloc: Global, page: &Page, state: &State, sink: &mut K)
     }
 }
 
-// Shows what is asked for of the history that a state stands for.
-fn show_view<K: Sink, P: Keeper, L: Ledger>(
-    alloc: Global,
-    view: &View,
-    state: &State,
-    sink: &mut K,
-    keeper: &mut P,
-    steps: &mut Steps<L>,
-) -> Ending
-    requires ready { IsReady true (P.state keeper.old) }
-    requires order { (P.state keeper.old).tells → RisesAbove 0 (P.state keeper.old).kept }
-    ensures shows { ShowsLoaded state.now view.now result
-        (P.state keeper.old) (P.state keeper.new) (K.written sink.old) (K.written sink.new)
-        (K.faults sink.old) (K.faults sink.new) steps.old steps.new }
-{
-    match view {
-        View::Entries(excerpt) => show_entries(alloc, excerpt, state, sink, keeper, steps),
-        View::Rules(page) => shown_or(write_rules(alloc, page, state, sink)),
-    }
-}
-
 // Shows what is asked for of the history that a state stands for, and lets the state fall.
-fn show_loaded<K: Sink, P: Keeper, L: Ledger>(
+fn show_view<K: Sink, P: Keeper, L: Ledger>(
     alloc: Global,
     view: &View,
     state: State,
@@ -108,15 +53,29 @@ fn show_loaded<K: Sink, P: Keeper, L: Ledger>(
     keeper: &mut P,
     steps: &mut Steps<L>,
 ) -> Ending
-    requires ready { IsReady true (P.state keeper.old) }
-    requires order { (P.state keeper.old).tells → RisesAbove 0 (P.state keeper.old).kept }
+    requires readable { IsReadable (P.state keeper.old) }
     ensures shows { ShowsLoaded state view.now result
         (P.state keeper.old) (P.state keeper.new) (K.written sink.old) (K.written sink.new)
         (K.faults sink.old) (K.faults sink.new) steps.old steps.new }
 {
-    let ending = show_view(alloc, view, &state, sink, keeper, steps);
-    state.close();
-    ending
+    match view {
+        View::Entries(excerpt) => {
+            let guide = Guide {
+                alloc,
+                catalog: &state.catalog,
+                excerpt,
+            };
+            let ending = show_all(&guide, sink, keeper, steps);
+            state.close();
+            ending
+        }
+        View::Rules(page) => {
+            let cut = write_rules(alloc, page, &state, sink);
+            let ending = served_or(cut);
+            state.close();
+            ending
+        }
+    }
 }
 
 // Loads what a store keeps, and shows what is asked for.
@@ -129,9 +88,9 @@ fn show<K: Sink, P: Keeper, L: Ledger>(
     steps: &mut Steps<L>,
 ) -> Ending
     requires ready { IsReady false (P.state keeper.old) }
-    ensures status { result ≢ Refused }
+    ensures status { ends_showing (Some result) ≡ true }
     ensures call { IsAfterCall (P.state keeper.new).started (P.state keeper.new).closed
-        (showing_as_call result)
+        (ending_as_call result)
         (P.state keeper.old) (P.state keeper.new) }
     ensures ends { (P.state keeper.new).tells → Ends result (sink.new ≡ sink.old) view.now store.now
         (P.state keeper.old) (P.state keeper.new) (K.written sink.old) (K.written sink.new) }
@@ -142,7 +101,7 @@ fn show<K: Sink, P: Keeper, L: Ledger>(
         steps.new ≤ steps.old + 2 * stored_versions (P.state keeper.new).kept }
 {
     match load(keeper, alloc, store, steps) {
-        Ok(state) => show_loaded(alloc, view, state, sink, keeper, steps),
+        Ok(state) => show_view(alloc, view, state, sink, keeper, steps),
         Err(fault) => stop(fault, sink),
     }
 }

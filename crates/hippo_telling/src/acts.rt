@@ -1,35 +1,17 @@
 //! The statement that an act came of.
 ghost use Rattle.std.specs.Prelude.{◌≡◌, ◌++◌, option_copied, OnOk, OnErr};
 ghost use Rattle.hippo_text_forms.specs.Printing.{AddsText};
-ghost use Rattle.hippo_telling.specs.Telling.{columns_of, key_places, told_act, table_named};
+ghost use Rattle.hippo_telling.specs.Telling.{told_act, table_named};
 
-use crate::columns::append_named;
-use crate::rows::{append_delete, append_insert, append_update};
+use crate::columns::{append_named, columns_of};
+use crate::rows::Version;
 use crate::rules::{
     Rule, append_allow, append_asked, append_choice, append_grant, append_item, append_rule,
 };
 use crate::tables::append_create;
-use hippo_model::{Act, Column, Schema};
+use hippo_model::{Act, Schema};
 use hippo_values::{Memory, Name, RoomyTxt};
 use std::alloc::Global;
-
-fn columns_of(schema: Option<&Schema>) -> &[Column]
-    ensures { result.now ≡ columns_of (option_copied schema.entry) }
-{
-    match schema {
-        Some(schema) => schema.columns.as_slice(),
-        None => &[],
-    }
-}
-
-fn key_places(schema: Option<&Schema>) -> &[usize]
-    ensures { result.now ≡ key_places (option_copied schema.entry) }
-{
-    match schema {
-        Some(schema) => schema.key.as_slice(),
-        None => &[],
-    }
-}
 
 /// The table whose columns an act names by their places, or whose rows it changes: `tell_act` needs
 /// its schema.
@@ -55,12 +37,11 @@ fn append_act<const ROOM: usize>(
     ensures adds { AddsText (told_act (option_copied schema.entry) act.now) result out.old out.new }
 {
     let columns = columns_of(schema);
-    let key_places = key_places(schema);
     match act {
         Act::Create(made) => append_create(made, out),
-        Act::Insert { table, row } => append_insert(table, row, out),
-        Act::Update { table, row } => append_update(alloc, columns, key_places, table, row, out),
-        Act::Delete { table, key } => append_delete(columns, key_places, table, key, out),
+        Act::Insert { table, row } => Version::new(schema, table, row).insert(out),
+        Act::Update { table, row } => Version::new(schema, table, row).update(alloc, out),
+        Act::Delete { table, key } => Version::new(schema, table, key).delete(out),
         Act::Purpose(purpose) => append_named("CREATE PURPOSE ", purpose, out),
         Act::Recipient(recipient) => append_named("CREATE RECIPIENT ", recipient, out),
         Act::Item { item, kind } => append_item(item, *kind, out),
@@ -82,13 +63,7 @@ fn append_act<const ROOM: usize>(
             item,
             days,
         } => {
-            let places = places.as_slice();
-            let rule = Rule {
-                purpose,
-                recipient,
-                table,
-                places,
-            };
+            let rule = Rule::new(purpose, recipient, table, places.as_slice());
             append_allow(columns, &rule, item.as_ref(), *days, out)
         }
         Act::Revoke {
@@ -97,13 +72,7 @@ fn append_act<const ROOM: usize>(
             table,
             columns: places,
         } => {
-            let places = places.as_slice();
-            let rule = Rule {
-                purpose,
-                recipient,
-                table,
-                places,
-            };
+            let rule = Rule::new(purpose, recipient, table, places.as_slice());
             append_rule("REVOKE ", columns, &rule, out)
         }
         Act::Choice { subject, item, yes } => append_choice(subject, item, *yes, out),

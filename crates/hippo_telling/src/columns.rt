@@ -1,12 +1,22 @@
 //! Columns by their places, alone and with values.
-ghost use Rattle.std.specs.Prelude.{◌≡◌, ◌++◌, OnOk, OnErr};
+ghost use Rattle.std.specs.Prelude.{◌≡◌, ◌++◌, option_copied, OnOk, OnErr};
 ghost use Rattle.hippo_text_forms.specs.Printing.{AddsText, KeepsFront};
-ghost use Rattle.hippo_telling.specs.Telling.{name_at, names_text, assigned_text};
+ghost use Rattle.hippo_telling.specs.Telling.{columns_of, name_at, names_text, assigned_text};
 
 use crate::joining::{Spelling, append_joined};
 use crate::literals::append_literal;
-use hippo_model::Column;
+use hippo_model::{Column, Schema};
 use hippo_values::{Memory, Name, RoomyTxt, Value};
+
+/// The columns of a table that is there.
+pub fn columns_of(schema: Option<&Schema>) -> &[Column]
+    ensures { result.now ≡ columns_of (option_copied schema.entry) }
+{
+    match schema {
+        Some(schema) => schema.columns.as_slice(),
+        None => &[],
+    }
+}
 
 /// Adds a word or some, and a name.
 pub fn append_named<const ROOM: usize>(

@@ -1,63 +1,48 @@
 //! Rows that are updated or deleted.
-ghost use Rattle.std.specs.Prelude.{◌≡◌, ◌++◌, filter, flat_map, nat_eq, IfOk, OnOk, OnErr, codes};
+ghost use Rattle.std.specs.Prelude.{◌≡◌, ◌++◌, filter, flat_map, nat_eq, option_copied, IfOk, OnOk, OnErr};
 ghost use Rattle.std.specs.List.{list_any, range_with_len, zip};
-ghost use Rattle.hippo_model.specs.Rows.{cell_at};
 ghost use Rattle.hippo_text_forms.specs.Printing.{AddsText, KeepsFront};
-ghost use Rattle.hippo_report.specs.Cells.{comma};
-ghost use Rattle.hippo_telling.specs.Telling.{is_set, assigned_text, literals_text, row_text, key_text, insert_text, update_text, delete_text};
+ghost use Rattle.hippo_telling.specs.Telling.{is_set, assigned_text, literals_text, columns_of, key_places, row_text, key_text, insert_text, update_text, delete_text};
 
-use crate::columns::{append_assigned, append_named};
+use crate::columns::{append_assigned, append_named, columns_of};
 use crate::joining::{Spelling, append_joined};
 use crate::literals::append_literals;
-use hippo_model::{Cells, Column, Places};
+use hippo_model::{Cells, Column, Places, Schema};
 use hippo_values::{Memory, Name, RoomyTxt, Value};
 use std::alloc::Global;
 
-fn append_cell<const ROOM: usize>(
-    columns: &[Column],
-    row: &[Value],
-    place: usize,
-    out: &mut RoomyTxt<ROOM>,
-) -> Result<(), Memory>
-    ensures adds { AddsText (assigned_text columns.now place (cell_at row.now place))
-        result out.old out.new }
+fn key_places(schema: Option<&Schema>) -> &[usize]
+    ensures { result.now ≡ key_places (option_copied schema.entry) }
 {
-    match row.get(place) {
-        Some(value) => append_assigned(columns, place, value, out),
-        None => append_assigned(columns, place, &Value::Null, out),
+    match schema {
+        Some(schema) => schema.key.as_slice(),
+        None => &[],
     }
+}
+
+/// A row, or the key of one that is deleted, with its table's name, columns and places of the key.
+#[derive(Clone, Copy)]
+pub struct Version<'a> {
+    table: &'a Name,
+    columns: &'a [Column],
+    key: &'a [usize],
+    cells: &'a [Value],
 }
 
 // A row's columns with their values, by their places.
-#[derive(Clone, Copy)]
-struct RowCells<'a> {
-    columns: &'a [Column],
-    row: &'a [Value],
-}
-
-impl<'a, const ROOM: usize> Spelling<usize, ROOM> for RowCells<'a> {
+impl<'a, const ROOM: usize> Spelling<usize, ROOM> for Version<'a> {
     ghost use Rattle.hippo_model.specs.Rows.{cell_at};
     ghost use Rattle.hippo_telling.specs.Telling.{assigned_text};
 
-    ghost text = { λ cells place. assigned_text cells.columns.now place
-        (cell_at cells.row.now place) };
+    ghost text = { λ version place. assigned_text version.columns.now place
+        (cell_at version.cells.now place) };
 
     fn spell(&self, place: &usize, out: &mut RoomyTxt<ROOM>) -> Result<(), Memory> {
-        append_cell(self.columns, self.row, *place, out)
+        match self.cells.get(*place) {
+            Some(value) => append_assigned(self.columns, *place, value, out),
+            None => append_assigned(self.columns, *place, &Value::Null, out),
+        }
     }
-}
-
-fn append_cells<const ROOM: usize>(
-    columns: &[Column],
-    row: &[Value],
-    separator: &str,
-    places: &[usize],
-    out: &mut RoomyTxt<ROOM>,
-) -> Result<(), Memory>
-    ensures adds { AddsText (row_text columns.now row.now separator.now places.now)
-        result out.old out.new }
-{
-    append_joined(&RowCells { columns, row }, separator, places, out)
 }
 
 fn append_pair<const ROOM: usize>(
@@ -91,6 +76,7 @@ fn append_key_later<const ROOM: usize>(
     Ok(())
 }
 
+// Adds the columns of a key with their values.
 fn append_key<const ROOM: usize>(
     columns: &[Column],
     places: &[usize],
@@ -149,126 +135,82 @@ fn append_values<const ROOM: usize>(
     out.append(behind)
 }
 
-fn append_inserted<const ROOM: usize>(
-    words: &str,
-    table: &Name,
-    before: &str,
-    row: &[Value],
-    behind: &str,
-    out: &mut RoomyTxt<ROOM>,
-) -> Result<(), Memory>
-    ensures adds { AddsText (words.now ++ (table.now ++ (before.now ++ (literals_text row.now
-        ++ behind.now)))) result out.old out.new }
-{
-    append_named(words, table, out)?;
-    append_values(before, row, behind, out)
-}
+impl<'a> Version<'a> {
+    /// The cells of a row or a key, where this is the schema of their table.
+    pub fn new(schema: Option<&'a Schema>, table: &'a Name, cells: &'a Cells) -> Version<'a>
+        ensures names { result.table.now ≡ table.now
+            × result.columns.now ≡ columns_of (option_copied schema.entry)
+            × result.key.now ≡ key_places (option_copied schema.entry)
+            × result.cells.now ≡ cells.now }
+    {
+        Version {
+            table,
+            columns: columns_of(schema),
+            key: key_places(schema),
+            cells: cells.as_slice(),
+        }
+    }
 
-/// Adds an INSERT of a row.
-pub fn append_insert<const ROOM: usize>(
-    table: &Name,
-    row: &Cells,
-    out: &mut RoomyTxt<ROOM>,
-) -> Result<(), Memory>
-    ensures adds { AddsText (insert_text table.now row.now) result out.old out.new }
-{
-    append_inserted("INSERT INTO ", table, " VALUES (", row.as_slice(), ")", out)
-}
+    /// Adds an INSERT of the row.
+    pub fn insert<const ROOM: usize>(&self, out: &mut RoomyTxt<ROOM>) -> Result<(), Memory>
+        ensures adds { AddsText (insert_text self.now.table.now self.now.cells.now)
+            result out.old out.new }
+    {
+        append_named("INSERT INTO ", self.table, out)?;
+        append_values(" VALUES (", self.cells, ")", out)
+    }
 
-fn append_set<const ROOM: usize>(
-    columns: &[Column],
-    row: &[Value],
-    places: &[usize],
-    out: &mut RoomyTxt<ROOM>,
-) -> Result<(), Memory>
-    ensures adds { AddsText (codes " SET " ++ row_text columns.now row.now comma places.now)
-        result out.old out.new }
-{
-    out.append(" SET ")?;
-    append_cells(columns, row, ", ", places, out)
-}
+    // Adds words, and the columns at some places with their values.
+    fn append_cells<const ROOM: usize>(
+        &self,
+        words: &str,
+        places: &[usize],
+        separator: &str,
+        out: &mut RoomyTxt<ROOM>,
+    ) -> Result<(), Memory>
+        ensures ok { OnOk result (out.new ≡ out.old ++ (words.now
+            ++ row_text self.now.columns.now self.now.cells.now separator.now places.now)) }
+        ensures err { OnErr result (KeepsFront out.old out.new) }
+    {
+        out.append(words)?;
+        append_joined(self, separator, places, out)
+    }
 
-fn append_where<const ROOM: usize>(
-    columns: &[Column],
-    row: &[Value],
-    key: &[usize],
-    out: &mut RoomyTxt<ROOM>,
-) -> Result<(), Memory>
-    ensures ok { OnOk result (out.new ≡ out.old ++ (codes " WHERE "
-        ++ row_text columns.now row.now (codes " AND ") key.now)) }
-    ensures err { OnErr result (KeepsFront out.old out.new) }
-{
-    out.append(" WHERE ")?;
-    append_cells(columns, row, " AND ", key, out)
-}
+    // Adds words, and the columns of the key with its values.
+    fn append_key<const ROOM: usize>(
+        &self,
+        words: &str,
+        out: &mut RoomyTxt<ROOM>,
+    ) -> Result<(), Memory>
+        ensures ok { OnOk result (out.new ≡ out.old ++ (words.now
+            ++ key_text self.now.columns.now self.now.key.now self.now.cells.now)) }
+        ensures err { OnErr result (KeepsFront out.old out.new) }
+    {
+        out.append(words)?;
+        append_key(self.columns, self.key, self.cells, out)
+    }
 
-/// Adds an UPDATE to a row, which sets each column that is none of the key's.
-pub fn append_update<const ROOM: usize>(
-    alloc: Global,
-    columns: &[Column],
-    key: &[usize],
-    table: &Name,
-    row: &Cells,
-    out: &mut RoomyTxt<ROOM>,
-) -> Result<(), Memory>
-    ensures adds { AddsText (update_text columns.now key.now table.now row.now)
-        result out.old out.new }
-{
-    let places = set_places(alloc, columns.len(), key)?;
-    append_named("UPDATE ", table, out)?;
-    append_set(columns, row.as_slice(), places.as_slice(), out)?;
-    append_where(columns, row.as_slice(), key, out)
-}
+    /// Adds an UPDATE to the row, which sets each column that is none of the key's.
+    pub fn update<const ROOM: usize>(
+        &self,
+        alloc: Global,
+        out: &mut RoomyTxt<ROOM>,
+    ) -> Result<(), Memory>
+        ensures adds { AddsText (update_text self.now.columns.now self.now.key.now
+            self.now.table.now self.now.cells.now) result out.old out.new }
+    {
+        let places = set_places(alloc, self.columns.len(), self.key)?;
+        append_named("UPDATE ", self.table, out)?;
+        self.append_cells(" SET ", places.as_slice(), ", ", out)?;
+        self.append_cells(" WHERE ", self.key, " AND ", out)
+    }
 
-fn append_keyed<const ROOM: usize>(
-    before: &str,
-    columns: &[Column],
-    places: &[usize],
-    key: &[Value],
-    out: &mut RoomyTxt<ROOM>,
-) -> Result<(), Memory>
-    ensures ok { OnOk result (out.new ≡ out.old
-        ++ (before.now ++ key_text columns.now places.now key.now)) }
-    ensures err { OnErr result (KeepsFront out.old out.new) }
-{
-    out.append(before)?;
-    append_key(columns, places, key, out)
-}
-
-fn append_deleted<const ROOM: usize>(
-    words: &str,
-    table: &Name,
-    before: &str,
-    columns: &[Column],
-    places: &[usize],
-    key: &[Value],
-    out: &mut RoomyTxt<ROOM>,
-) -> Result<(), Memory>
-    ensures adds { AddsText (words.now ++ (table.now ++ (before.now
-        ++ key_text columns.now places.now key.now))) result out.old out.new }
-{
-    append_named(words, table, out)?;
-    append_keyed(before, columns, places, key, out)
-}
-
-/// Adds a DELETE of the row with a key.
-pub fn append_delete<const ROOM: usize>(
-    columns: &[Column],
-    places: &[usize],
-    table: &Name,
-    key: &Cells,
-    out: &mut RoomyTxt<ROOM>,
-) -> Result<(), Memory>
-    ensures adds { AddsText (delete_text columns.now places.now table.now key.now)
-        result out.old out.new }
-{
-    append_deleted(
-        "DELETE FROM ",
-        table,
-        " WHERE ",
-        columns,
-        places,
-        key.as_slice(),
-        out,
-    )
+    /// Adds a DELETE of the row with the key.
+    pub fn delete<const ROOM: usize>(&self, out: &mut RoomyTxt<ROOM>) -> Result<(), Memory>
+        ensures adds { AddsText (delete_text self.now.columns.now self.now.key.now
+            self.now.table.now self.now.cells.now) result out.old out.new }
+    {
+        append_named("DELETE FROM ", self.table, out)?;
+        self.append_key(" WHERE ", out)
+    }
 }

@@ -65,6 +65,26 @@ pub struct Rule<'a> {
     pub places: &'a [usize],
 }
 
+impl<'a> Rule<'a> {
+    /// A rule by what it names.
+    pub fn new(
+        purpose: &'a Name,
+        recipient: &'a Name,
+        table: &'a Name,
+        places: &'a [usize],
+    ) -> Rule<'a>
+        ensures names { result.purpose.now ≡ purpose.now × result.recipient.now ≡ recipient.now
+            × result.table.now ≡ table.now × result.places.now ≡ places.now }
+    {
+        Rule {
+            purpose,
+            recipient,
+            table,
+            places,
+        }
+    }
+}
+
 /// Adds a word, and what a rule names. What it adds where memory is short is a front of it.
 pub fn append_rule<const ROOM: usize>(
     word: &str,

@@ -30,7 +30,7 @@ use Rattle.hippo_telling.specs.Telling.{name_at, assigned_text, row_text, is_set
 use Rattle.hippo_telling_laws.specs.TellingLaws.{ReadsAs, UpdatesReadBack}
 use Rattle.hippo_telling_laws.proofs.SayingLemmas.{Says, says-blank, says-word, says-name_first, says-nothing}
 use Rattle.hippo_telling_laws.proofs.SpellingLemmas.{EndsLiteral, says-comma, and-word, set-word, update-word, where-word}
-use Rattle.hippo_telling_laws.proofs.ListLemmas.{SaysSeparator, later_said, says-separated_text, list-read}
+use Rattle.hippo_telling_laws.proofs.ListLemmas.{SaysList, SaysSeparator, later_said, says-separated_text, list-read}
 use Rattle.hippo_telling_laws.proofs.FitLemmas.{is_calm, front-fit}
 use Rattle.hippo_telling_laws.proofs.NamePlaces.{all_within, places_again, names_folded}
 use Rattle.hippo_telling_laws.proofs.ReadingTheorem.{console-reads}
@@ -78,10 +78,7 @@ module _ (columns : List Column) (row : Row) where
 
     cells-say : SaysSeparator cell_text cell_said cell_meant cell_fits EndsLiteral separator kind
         → ((rest : Txt) → EndsLiteral (separator ++ rest))
-        → (place : Place) (places : List Place) (rest : Txt) (said : Kinds)
-        → list_all cell_fits (place ∷ places) ≡ true → EndsLiteral rest → Says rest said
-        → Says (row_text columns row separator (place ∷ places) ++ rest)
-        (cell_said place ++ cells_later places said)
+        → SaysList cell_text cell_said cell_meant cell_fits EndsLiteral separator kind
     cells-say says-separator ends-separator place places rest said fit ends more =
         says-separated_text cell_text cell_said cell_meant cell_fits EndsLiteral separator kind
         (λ one behind said fit ends more. pair-says columns (one, cell_at row one) behind said fit

@@ -40,6 +40,7 @@ use Rattle.hippo_telling_laws.proofs.KeyTheorem.{deletes_read_back}
 use Rattle.hippo_telling_laws.proofs.NamePlaces.{all_within, column_names}
 use Rattle.hippo_telling_laws.proofs.ReadingTheorem.{names_read_back}
 use Rattle.hippo_telling_laws.proofs.RowTheorem.{inserts_read_back}
+use Rattle.hippo_telling_laws.proofs.RuleParts.{allow-fits, allow-kept, names-kept, rule-fits}
 use Rattle.hippo_telling_laws.proofs.RuleTheorem.{allows_read_back, revokes_read_back}
 use Rattle.hippo_telling_laws.proofs.TableTheorem.{HasNames, IsTable, all_there, creates_read_back, draft, has-names, is_table, key_names, subject_name, there}
 use Rattle.hippo_telling_laws.proofs.UnrefusedLemmas.{all_kept, are_assigned, assignments_none, both_assigned, cells_fit, column_there, differ_kept, in_column_none, kinds_passed, names_at, none-repeated, none_and, none_of_key, none_unknown, none_unknown_in, not_repeated, nulls_passed, range_differs, refused_not, row_none, texts_passed, the_key}
@@ -439,61 +440,36 @@ module _ (meaning : Meaning) (before : History) (valid : is_valid meaning before
       subst (λ (s : Option Schema). MakesAgain before s (Delete table key)) (sym made.is)
       (delete-again table made.what made.is key kept made.fits)
   act-again (Allow purpose recipient table places item days) kept fit stated =
-      let outer =
-      and_parts (rule_fits before purpose recipient table places && item_fits before table item)
-      (days_fit days) fit in
-      let rule = (and_parts (rule_fits before purpose recipient table places)
-      (item_fits before table item) outer.0).0 in
-      let with_item =
-      (and_parts (rule_fits before purpose recipient table places) (item_fits before table item)
-      outer.0).1 in
-      let pair = (and_parts (pair_exists before purpose recipient)
-      (table_passes before (has_columns places) table) rule).0 in
-      let named =
-      (and_parts (pair_exists before purpose recipient)
-      (table_passes before (has_columns places) table) rule).1 in
-      let made = passes_so (has_columns places) (schema_at before table) named in
-      let whole =
-      and_parts (rule_is_keepable purpose recipient table places && item_is_keepable item)
-      (days_are_keepable days) kept in
-      let first =
-      and_parts (rule_is_keepable purpose recipient table places) (item_is_keepable item) whole.0 in
-      let names_fit =
-      (and_parts (is_folded_name purpose && is_folded_name recipient && is_folded_name table)
-      (places_are_keepable places) first.0).0 in
+      let may = allow-fits purpose recipient table places item days before fit in
+      let able = allow-kept purpose recipient table places item days kept in
+      let made = passes_so (has_columns places) (schema_at before table) may.rule.passes in
       subst (λ (s : Option Schema). MakesAgain before s
       (Allow purpose recipient table places item days)) (sym made.is)
       (record {
         back = allows_read_back before made.what purpose recipient table places item days
-            (places-named table made.what made.is places made.fits) names_fit first.1 outer.1;
+            (places-named table made.what made.is places made.fits) able.names able.with_item may.with_days;
         unrefused =
             none_and (none_and
             (none_and (none_and (table-known table made.what made.is)
-            (pair-known purpose recipient pair)) (items-known table item with_item))
+            (pair-known purpose recipient may.rule.pair)) (items-known table item may.with_item))
             (none-in_table table made.what made.is
             (rule_refused (names_at made.what (sound table made.what made.is).differ places))
             (rule-passes table made.what made.is places made.fits)))
             (none-in_table table made.what made.is (rule_item_refused item)
-            (item-passes table made.what made.is item with_item));
+            (item-passes table made.what made.is item may.with_item));
       })
   act-again (Revoke purpose recipient table places) kept fit stated =
-      let pair = (and_parts (pair_exists before purpose recipient)
-      (table_passes before (has_columns places) table) fit).0 in
-      let named =
-      (and_parts (pair_exists before purpose recipient)
-      (table_passes before (has_columns places) table) fit).1 in
-      let made = passes_so (has_columns places) (schema_at before table) named in
-      let names_fit =
-      (and_parts (is_folded_name purpose && is_folded_name recipient && is_folded_name table)
-      (places_are_keepable places) kept).0 in
+      let may = rule-fits purpose recipient table places before fit in
+      let made = passes_so (has_columns places) (schema_at before table) may.passes in
       subst (λ (s : Option Schema). MakesAgain before s (Revoke purpose recipient table places))
       (sym made.is)
       (record {
         back = revokes_read_back before made.what purpose recipient table places
-            (places-named table made.what made.is places made.fits) names_fit;
+            (places-named table made.what made.is places made.fits)
+            (names-kept purpose recipient table places kept);
         unrefused =
             none_and (none_and (table-known table made.what made.is)
-            (pair-known purpose recipient pair))
+            (pair-known purpose recipient may.pair))
             (none-in_table table made.what made.is
             (rule_refused (names_at made.what (sound table made.what made.is).differ places))
             (rule-passes table made.what made.is places made.fits));

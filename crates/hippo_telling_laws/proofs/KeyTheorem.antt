@@ -28,7 +28,7 @@ use Rattle.hippo_telling.specs.Telling.{name_at, assigned_text, key_text, delete
 use Rattle.hippo_telling_laws.specs.TellingLaws.{ReadsAs, DeletesReadBack}
 use Rattle.hippo_telling_laws.proofs.SayingLemmas.{Says, says-blank, says-word, says-name_first, says-nothing}
 use Rattle.hippo_telling_laws.proofs.SpellingLemmas.{EndsLiteral, literal_said, says-literal, literal-is, says-equal, and-word, delete-word, from-word, where-word}
-use Rattle.hippo_telling_laws.proofs.ListLemmas.{later_said, says-separated_text, list-read}
+use Rattle.hippo_telling_laws.proofs.ListLemmas.{SaysList, later_said, says-separated_text, list-read}
 use Rattle.hippo_telling_laws.proofs.FitLemmas.{is_calm, calm-append, front-fit}
 use Rattle.hippo_telling_laws.proofs.NamePlaces.{places_again, names_folded}
 use Rattle.hippo_telling_laws.proofs.ReadingTheorem.{console-reads}
@@ -71,10 +71,8 @@ module _ (columns : List Column) where
       (says-equal (32 ∷ (literal_text value ++ rest)) _
       (says-blank (literal_text value ++ rest) _ (says-literal value rest said parts.1 ends more))))
 
-  pub pairs-say : (pair : Assigned) (pairs : List Assigned) (rest : Txt) (said : Kinds)
-      → list_all pair_fits (pair ∷ pairs) ≡ true → EndsLiteral rest → Says rest said →
-      Says (separated_text pair_text conjunction (pair ∷ pairs) ++ rest)
-      (pair_said pair ++ pairs_later pairs said)
+  pub pairs-say : SaysList pair_text pair_said pair_meant pair_fits EndsLiteral conjunction
+      (Keyword KAnd)
   pairs-say pair pairs rest said fit ends more =
       says-separated_text pair_text pair_said pair_meant pair_fits EndsLiteral conjunction
       (Keyword KAnd) pair-says

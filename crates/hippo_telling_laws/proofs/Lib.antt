@@ -4,6 +4,7 @@ pub mod ListLemmas
 pub mod FitLemmas
 pub mod RowTheorem
 pub mod NamePlaces
+pub mod RuleParts
 pub mod RuleTheorem
 pub mod KeyTheorem
 pub mod ChangeTheorem

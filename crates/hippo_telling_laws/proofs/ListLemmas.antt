@@ -35,6 +35,13 @@ module _ {A X : Type 0} (text : A → Txt) (said_by : A → Kinds) (meant : A �
       append_assoc (separator ++ text part) (later_text parts) rest
       ∙ append_assoc separator (text part) (later_text parts ++ rest)
 
+  -- what members say one after the other
+  abbrev pub SaysList : Type 0
+  SaysList = (part : A) (parts : List A) (rest : Txt) (said : Kinds)
+      → list_all fits (part ∷ parts) ≡ true → Ends rest → Says rest said
+      → Says (separated_text text separator (part ∷ parts) ++ rest)
+      (said_by part ++ later_said parts said)
+
   module _ (says-part : SaysPart) (says-separator : SaysSeparator)
       (ends-separator : (rest : Txt) → Ends (separator ++ rest)) where
     ends-later : (parts : List A) (rest : Txt) → Ends rest → Ends (later_text parts ++ rest)
@@ -57,10 +64,7 @@ module _ {A X : Type 0} (text : A → Txt) (said_by : A → Kinds) (meant : A �
         (says-separator (text part ++ (later_text parts ++ rest))
         (said_by part ++ later_said parts said) first)
 
-    pub says-separated_text : (part : A) (parts : List A) (rest : Txt) (said : Kinds)
-        → list_all fits (part ∷ parts) ≡ true → Ends rest → Says rest said
-        → Says (separated_text text separator (part ∷ parts) ++ rest)
-        (said_by part ++ later_said parts said)
+    pub says-separated_text : SaysList
     says-separated_text part parts rest said fit ends more =
         let each = and_parts (fits part) (list_all fits parts) fit in
         let later = says-later parts rest said each.1 ends more in

@@ -30,7 +30,7 @@ use Rattle.hippo_telling.specs.Telling.{name_at, names_text, rule_text, with_tex
 use Rattle.hippo_telling_laws.specs.TellingLaws.{ReadsAs, RevokesReadBack, AllowsReadBack}
 use Rattle.hippo_telling_laws.proofs.SayingLemmas.{Says, EndsWord, says-blank, says-word, says-name, says-name_first, says-plain_word, says-nothing}
 use Rattle.hippo_telling_laws.proofs.SpellingLemmas.{says-number_first, says-comma, says-opening, says-closing, allow-word, on-word, revoke-word, to-word, with-word}
-use Rattle.hippo_telling_laws.proofs.ListLemmas.{later_said, says-separated_text, list-read}
+use Rattle.hippo_telling_laws.proofs.ListLemmas.{SaysList, later_said, says-separated_text, list-read}
 use Rattle.hippo_telling_laws.proofs.FitLemmas.{is_calm, front-fit}
 use Rattle.hippo_telling_laws.proofs.NamePlaces.{places_again, names_folded}
 use Rattle.hippo_telling_laws.proofs.ReadingTheorem.{console-reads, three-names}
@@ -48,10 +48,8 @@ module _ (columns : List Column) where
       later_said (name_at columns) name_said (name_at columns) is_named EndsWord comma
       (Symbol Comma) places said
 
-  pub names-say : (place : Place) (places : List Place) (rest : Txt) (said : Kinds)
-      → list_all is_named (place ∷ places) ≡ true → EndsWord rest → Says rest said →
-      Says (names_text columns (place ∷ places) ++ rest)
-      (name_said place ++ names_later places said)
+  pub names-say : SaysList (name_at columns) name_said (name_at columns) is_named EndsWord comma
+      (Symbol Comma)
   names-say place places rest said fit ends more =
       says-separated_text (name_at columns) name_said (name_at columns) is_named EndsWord comma
       (Symbol Comma)

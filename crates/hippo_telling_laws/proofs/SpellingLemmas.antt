@@ -1,5 +1,5 @@
 -- What numbers, days and literals say, and the words of statements.
-use Rattle.std.proofs.Common.{◌≡◌, ℕ, suc, ◌+◌, ◌/◌, ◌%◌, ◌<◌, ◌^◌, int_le, true, false, List, [], ◌∷◌, ◌++◌, refl, sym, ap, arith, ℤ, pos, negsuc, neg_ℤ, codes, decimal}
+use Rattle.std.proofs.Common.{◌≡◌, ◌∙◌, ℕ, suc, ◌+◌, ◌/◌, ◌%◌, ◌<◌, ◌^◌, int_le, true, false, List, [], ◌∷◌, ◌++◌, refl, sym, ap, arith, ℤ, pos, negsuc, neg_ℤ, codes, decimal}
 use Rattle.std.specs.Fmt.{signed_decimal}
 use Rattle.std.specs.Char.{is_ascii_digit}
 use Rattle.std.specs.List.{list_all}
@@ -9,7 +9,7 @@ use Rattle.std.proofs.lemmas.Bool.Decides.{nat_tests}
 use Rattle.std.proofs.lemmas.Fmt.{decimal_is_IsNumeral}
 use Rattle.std.proofs.lemmas.Int.{ints}
 use Rattle.std.proofs.lemmas.Str.Parse.{digit_at}
-use Rattle.hippo_text_forms.specs.Dates.{year_of, month_of, day_of_month, date_text, day_text}
+use Rattle.hippo_text_forms.specs.Dates.{year_of, month_of, day_of_month, two_digits, date_text, day_text}
 use Rattle.hippo_values.specs.Moments.{first_day, last_day, is_day, is_signed_number, IsSignedNumber, IsDayNumber}
 use Rattle.hippo_values.specs.Names.{keywords}
 use Rattle.hippo_text_forms.specs.Quoting.{is_quote, doubled_quotes, quoted_text}
@@ -89,20 +89,20 @@ says-closing rest said more =
 unquoted : (n : ℕ) → is_quote (48 + n) ≡ false
 unquoted n = ne_eqb (48 + n) 39 (λ same. absurd (omega arith))
 
+two-plain : (n : ℕ) (rest : Txt) → doubled_quotes (two_digits n ++ rest)
+    ≡ two_digits n ++ doubled_quotes rest
+two-plain n rest = rw (unquoted (n / 10), unquoted (n % 10)) refl
+
 date-plain : (y m d : ℕ) → doubled_quotes (date_text y m d) ≡ date_text y m d
 date-plain y m d =
-    rw (
-      unquoted (y / 100 / 10),
-      unquoted (y / 100 % 10),
-      unquoted (y % 100 / 10),
-      unquoted
-          (y % 100 % 10),
-      unquoted (m / 10),
-      unquoted (m % 10),
-      unquoted (d / 10),
-      unquoted (d % 10),
-    )
-    refl
+    let behind_month : doubled_quotes (two_digits d) ≡ two_digits d = two-plain d [] in
+    let behind_year : doubled_quotes (two_digits m ++ 45 ∷ two_digits d)
+    ≡ two_digits m ++ 45 ∷ two_digits d =
+    two-plain m (45 ∷ two_digits d) ∙ ap (λ (t : Txt). two_digits m ++ 45 ∷ t) behind_month in
+    two-plain (y / 100) (two_digits (y % 100) ++ 45 ∷ (two_digits m ++ 45 ∷ two_digits d))
+    ∙ ap (λ (t : Txt). two_digits (y / 100) ++ t)
+    (two-plain (y % 100) (45 ∷ (two_digits m ++ 45 ∷ two_digits d))
+    ∙ ap (λ (t : Txt). two_digits (y % 100) ++ 45 ∷ t) behind_year)
 
 day-plain : (day : ℤ) → doubled_quotes (day_text day) ≡ day_text day
 unfolding day_text

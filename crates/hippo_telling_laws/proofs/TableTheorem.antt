@@ -39,7 +39,7 @@ use Rattle.hippo_telling.specs.Telling.{kind_text, not_null_text, column_definit
 use Rattle.hippo_telling_laws.specs.TellingLaws.{ReadsAs, CreatesReadBack}
 use Rattle.hippo_telling_laws.proofs.SayingLemmas.{Says, EndsWord, says-blank, says-token, says-keyword, says-word, says-name, says-name_first, says-nothing}
 use Rattle.hippo_telling_laws.proofs.SpellingLemmas.{says-comma, says-opening, says-closing, create-word, integer-word, key-word, not-word, null-word, primary-word, subject-word, table-word, text-word}
-use Rattle.hippo_telling_laws.proofs.ListLemmas.{later_said, says-separated_text, list-read}
+use Rattle.hippo_telling_laws.proofs.ListLemmas.{SaysList, later_said, says-separated_text, list-read}
 use Rattle.hippo_telling_laws.proofs.WeightLemmas.{Weighs, weighs-calm, weighs-opening, weighs-not, weighs-more, weighs-front, weighs-fit}
 use Rattle.hippo_telling_laws.proofs.FitLemmas.{is_calm}
 use Rattle.hippo_telling_laws.proofs.NamePlaces.{column_names, all_within, place_at, places_again, names_folded, name_folded}
@@ -186,10 +186,8 @@ columns_later columns said =
     later_said column_definition column_said same_column column_named EndsColumn comma
     (Symbol Comma) columns said
 
-columns-say : (column : Column) (columns : List Column) (rest : Txt) (said : Kinds)
-    → list_all column_named (column ∷ columns) ≡ true → EndsColumn rest → Says rest said →
-    Says (separated_text column_definition comma (column ∷ columns) ++ rest)
-    (column_said column ++ columns_later columns said)
+columns-say : SaysList column_definition column_said same_column column_named EndsColumn comma
+    (Symbol Comma)
 columns-say column columns rest said fit ends more =
     says-separated_text column_definition column_said same_column column_named EndsColumn comma
     (Symbol Comma) column-says

@@ -1,6 +1,6 @@
 -- What was loaded is served, or why it was not loaded is said.
 use Rattle.std.proofs.Common.{ap, refl}
-use Rattle.hippo_running.specs.Endings.{status_of}
+use Rattle.hippo_programs.specs.Endings.{status_of}
 use Rattle.hippo_running.specs.Outside.{outside}
 use Rattle.hippo_running.proofs.OutcomeLemmas.{run_ends, never_damaged, stop_ends_run}
 use Rattle.hippo_running.proofs.StatusLemmas.{status-other}
@@ -32,5 +32,5 @@ returns-in-Err-clause-ends g c =
 
 pub returns-in-Err-clause-read : goal.returns-in-Err-clause-read
 returns-in-Err-clause-read g c = λ input is.
-    let other = status-other c.stop.result c.stop.ensures.status.0 c.stop.ensures.status.1 in
+    let other = status-other c.stop.result c.stop.ensures.status.0 c.stop.ensures.status.3 in
     none_taken (status_of c.stop.result) input (g.S.Source.left c.args.source.now) is other.0 other.1

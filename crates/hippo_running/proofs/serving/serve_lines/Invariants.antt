@@ -6,7 +6,7 @@ use Rattle.hippo_model.specs.Terms.{History}
 use Rattle.hippo_keeper.specs.Keeping.{IsAfterCall}
 use Rattle.hippo_engine.specs.Carrying.{AtWork}
 use Rattle.hippo_words.specs.declared.calls.Setting.{Setting}
-use Rattle.hippo_running.specs.Endings.{as_line_call}
+use Rattle.hippo_programs.specs.Endings.{part_as_call}
 use Rattle.hippo_running.specs.Outside.{Told, outside}
 use Rattle.hippo_running.specs.Runs.{IsHandingOut, HasServed}
 use Rattle.hippo_running.proofs.serving.serve_lines.Given as goal
@@ -17,7 +17,7 @@ invariant-loop-ending g l = record {
   limit : l.reader.taken ≤ input_limit;
   source_faults : g.S.Source.faults l.source ≡ g.S.Source.faults l.initial.source;
   sink_faults : g.K.Sink.faults l.sink ≡ g.K.Sink.faults l.initial.sink;
-  call : IsAfterCall true false (as_line_call None) (g.P.Keeper.state l.initial.keeper) (g.P.Keeper.state l.keeper);
+  call : IsAfterCall true false (part_as_call None) (g.P.Keeper.state l.initial.keeper) (g.P.Keeper.state l.keeper);
   at_work : AtWork l.engine (g.P.Keeper.state l.keeper);
   reading : (input : Txt) → IsHandingOut input l.initial.reader (g.S.Source.left l.initial.source) → IsHandingOut input l.reader (g.S.Source.left l.source);
   served : (g.P.Keeper.state l.keeper).tells → (setting : Setting) (history : History) (before : Told)

@@ -1,6 +1,8 @@
 -- The entry that has the form is shown; or none has it, and that is said; or memory was short.
+use Rattle.std.proofs.Common.{[], ◌∷◌}
 use Rattle.hippo_programs.specs.Lines.{damaged_line}
-use Rattle.hippo_showing.proofs.EntryLemmas.{of_entry, of_none, of_unread}
+use Rattle.hippo_showing.proofs.EntryLemmas.{of_entry, of_none}
+use Rattle.hippo_showing.proofs.KeptLemmas.{ShowsKept-unread}
 use Rattle.hippo_showing.proofs.showing.show_kept.Goals as goal
 
 pub returns-in-Ok-Some : goal.returns-in-Ok-Some
@@ -19,6 +21,5 @@ returns-in-Ok-None g c = record {
 
 pub returns-in-Err : goal.returns-in-Err
 returns-in-Err g c = record {
-  shows = of_unread c.args.guide.now.catalog.now.names c.args.guide.now.excerpt.now c.args.kept.now c.args.clock.now c.args.clock.now
-      (g.K.Sink.written c.args.sink.now) (g.K.Sink.written c.args.sink.now) (g.K.Sink.faults c.args.sink.now) (g.K.Sink.faults c.args.sink.now);
+  shows = ShowsKept-unread c.args.guide.now.catalog.now.names c.args.guide.now.excerpt.now (c.args.kept.now ∷ []) c.args.clock.now (g.K.Sink.written c.args.sink.now) (g.K.Sink.faults c.args.sink.now);
 }

@@ -1,8 +1,6 @@
--- The usage line is written.
+-- The text is written.
 use Rattle.std.proofs.Common.{refl, inl}
-use Rattle.hippo_showing.specs.Saying.{showing_usage}
-use Rattle.hippo_showing.proofs.printing.refuse.Goals as goal
+use Rattle.hippo_programs.proofs.stopping.say.Goals as goal
 
 pub returns-in-Ok : goal.returns-in-Ok
-unfolding showing_usage
 returns-in-Ok g c = record { says = inl (refl, rw c.as_bytes.ensures.value at c.in-Ok.ensures.ok, c.in-Ok.ensures.unfailed) }

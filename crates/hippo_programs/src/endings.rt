@@ -1,13 +1,14 @@
-//! How a call of the program ends.
+//! How a call of a program ends.
 ghost use Rattle.std.specs.Prelude.{◌≡◌};
-ghost use Rattle.hippo_running.specs.Endings.{status_of};
+ghost use Rattle.hippo_programs.specs.Endings.{status_of};
 
-/// How a call of the program ends, with its exit status.
+/// How a call of a program ends, with its exit status.
 #[derive(Clone, Copy, PartialEq, Eq)]
 pub enum Ending {
-    /// All was done: of a run, the input was read to its end, and every line has its reply.
+    /// All was done: what was asked for is shown; of a run, the input was read to its end, and
+    /// every line has its reply.
     Served = 0,
-    /// The words are not those of a command.
+    /// The words ask for nothing.
     Refused = 2,
     /// The keeper failed.
     KeeperFault = 3,
@@ -17,7 +18,7 @@ pub enum Ending {
     WriteFault = 5,
     /// The kept entries are those of no valid history.
     Damaged = 6,
-    /// Memory was short before the first byte was read.
+    /// Memory was short; of a run, before the first byte was read.
     NoMemory = 7,
     /// The input has more than 2^40 bytes.
     TooMuch = 8,
