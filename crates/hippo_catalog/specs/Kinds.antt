@@ -1,8 +1,10 @@
 -- The kinds of values, and texts that may not stand in a statement.
-use Rattle.std.specs.Prelude.{Bool, true, false, not, ◌||◌, Option, None, Some}
+use Rattle.std.specs.Prelude.{Bool, false, not, ◌||◌, Option, None, Some}
+use denote.Enum.Bare.{sameb}
 use Rattle.hippo_values.specs.Texts.{keeps_text_rule}
 use Rattle.hippo_values.specs.declared.values.Value.{Value}
 use Rattle.hippo_values.specs.declared.values.Value.TheVariants.{Null, Int, Text, Day}
+use Rattle.hippo_model.specs.contracts.schema.ColumnKind as column_kinds
 use Rattle.hippo_model.specs.declared.schema.ColumnKind.{ColumnKind}
 use Rattle.hippo_model.specs.declared.schema.ColumnKind.TheVariants.{Integer, Text as TextColumn, Date}
 use Rattle.hippo_model.specs.Conditions.{is_null}
@@ -16,10 +18,7 @@ kind_of (Text text) = Some TextColumn
 kind_of (Day day) = Some Date
 
 abbrev pub same_kind : ColumnKind → ColumnKind → Bool
-same_kind Integer Integer = true
-same_kind TextColumn TextColumn = true
-same_kind Date Date = true
-same_kind kind other = false
+same_kind kind other = sameb column_kinds.the_type kind other
 
 -- NULL is of each kind
 abbrev pub may_have_kind : ColumnKind → Value → Bool

@@ -3,7 +3,7 @@ ghost use Rattle.std.specs.Prelude.{◌≡◌, ◌↔◌, [], map, IsTrue};
 ghost use Rattle.hippo_values.specs.declared.truths.CompareOp.TheVariants.{Eq as Equal, Le as AtMost, Ge as AtLeast};
 ghost use Rattle.hippo_values.specs.declared.truths.Truth.TheVariants.{False as Untrue, True as Truly};
 ghost use Rattle.hippo_values.specs.declared.values.Value.TheVariants.{Int};
-ghost use Rattle.hippo_values.specs.Truths.{truth_and, truth_of, is_allowed, comparison};
+ghost use Rattle.hippo_values.specs.Truths.{truth_and, truth_of, comparison};
 ghost use Rattle.hippo_model.specs.Conditions.{greatest, is_null};
 ghost use Rattle.hippo_model.specs.Forms.{value_in};
 ghost use Rattle.hippo_eval.specs.LentCells.{lent_cell};
@@ -12,8 +12,9 @@ ghost use Rattle.hippo_model.specs.MaskedTruth.{masked_value, masked_truth};
 
 use crate::cells::{LentCell, cell, cell_by_rule, plain_value};
 use hippo_model::{ChoiceView, Combo, CondOf, Expr, Exprs};
-use hippo_values::{CompareOp, Sequence, Truth, Value, compare, truth_and, truth_not, truth_or};
-use std::cmp::Ordering;
+use hippo_values::{
+    CompareOp, Sequence, Truth, Value, compare, is_allowed, truth_and, truth_not, truth_or,
+};
 
 #[inline(always)]
 fn is_false(truth: Truth) -> bool
@@ -27,19 +28,6 @@ fn is_true(truth: Truth) -> bool
     ensures { IsTrue result ↔ (truth ≡ Truly) }
 {
     matches!(truth, Truth::True)
-}
-
-fn is_allowed(op: CompareOp, order: Ordering) -> bool
-    ensures { result ≡ is_allowed op order }
-{
-    match op {
-        CompareOp::Eq => order.is_eq(),
-        CompareOp::Ne => order.is_ne(),
-        CompareOp::Lt => order.is_lt(),
-        CompareOp::Le => order.is_le(),
-        CompareOp::Gt => order.is_gt(),
-        CompareOp::Ge => order.is_ge(),
-    }
 }
 
 // What a comparison of two numbers says.

@@ -8,7 +8,7 @@ use Rattle.std.specs.Str.Parse.{ParsesSigned, digits_value}
 use Rattle.std.proofs.lemmas.Bool.{cases_Bool, and_parts, eqb-true}
 use Rattle.std.proofs.lemmas.Str.Parse.{IsNumeralModel, numerals_by_value, parse_signed_minus, parse_signed_digits}
 use Rattle.std.proofs.lemmas.Int.{ints}
-use Rattle.hippo_values.specs.Moments.{least_number, greatest_number, is_signed_number, IsSignedNumber}
+use Rattle.hippo_values.specs.Moments.{signed_numbers, is_signed_number, IsSignedNumber}
 use Rattle.hippo_lexer.specs.Spelling.{is_minus}
 use Rattle.hippo_lexer.specs.Cutting.{number_of, IsNumeral}
 
@@ -21,7 +21,7 @@ if_ok (Ok x) P value test h to from = rw (from h.0, h.1) refl
 if_ok (Err e) P value test h to from = elim (cases_Bool test) [ inl passed ↦ absurd (h (to passed)) | inr failed ↦ rw failed refl ]
 
 pub fits-signed : (number : ℤ) → is_signed_number number ≡ true → IsSignedNumber number
-fits-signed number fits = let h = and_parts (int_le least_number number) (int_le number greatest_number) fits in grind (arith, ints)
+fits-signed number fits = let h = and_parts (int_le signed_numbers.0 number) (int_le number signed_numbers.1) fits in grind (arith, ints)
 
 pub signed-fits : (number : ℤ) → IsSignedNumber number → is_signed_number number ≡ true
 signed-fits number fits = grind (arith, ints)

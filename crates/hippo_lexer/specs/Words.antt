@@ -2,8 +2,11 @@
 -- lacks.
 use Rattle.std.specs.Prelude.{ℕ, ◌+◌, Bool, true, false, ◌||◌, List, length, take, count_by, position, nat_lt, Option, Some, None, Result, Ok, Err, if◌then◌else◌}
 use Rattle.std.specs.List.{list_any, range_with_len}
+use denote.Enum.Bare.{sameb}
 use Rattle.hippo_values.specs.Limits.{depth_limit}
 use Rattle.hippo_values.specs.declared.keywords.Keyword.TheVariants.{KNot}
+use Rattle.hippo_lexer.specs.contracts.kinds.Symbol as symbols
+use Rattle.hippo_lexer.specs.declared.kinds.Symbol.{Symbol}
 use Rattle.hippo_lexer.specs.declared.kinds.Symbol.TheVariants.{LeftParen, RightParen}
 use Rattle.hippo_lexer.specs.declared.kinds.TokenKind.TheVariants as kinds
 use Rattle.hippo_lexer.specs.declared.kinds.TokenKind.{TokenKind}
@@ -11,15 +14,21 @@ use Rattle.hippo_lexer.specs.declared.kinds.Token.{Token}
 use Rattle.hippo_lexer.specs.declared.faults.SyntaxFault.{SyntaxFault}
 use Rattle.hippo_lexer.specs.declared.faults.SyntaxFault.TheVariants.{TooDeep, Unsupported}
 
+abbrev pub same_symbol : Symbol → Symbol → Bool
+same_symbol one other = sameb symbols.the_type one other
+
+-- whether a token is a symbol, and this one
+abbrev pub is_symbol : Symbol → TokenKind → Bool
+is_symbol symbol (kinds.Symbol other) = same_symbol other symbol
+is_symbol symbol _ = false
+
 -- whether a token is `(`
 abbrev pub is_left_paren : TokenKind → Bool
-is_left_paren (kinds.Symbol LeftParen) = true
-is_left_paren _ = false
+is_left_paren kind = is_symbol LeftParen kind
 
 -- whether a token is `)`
 abbrev pub is_right_paren : TokenKind → Bool
-is_right_paren (kinds.Symbol RightParen) = true
-is_right_paren _ = false
+is_right_paren kind = is_symbol RightParen kind
 
 -- whether a token is NOT
 abbrev pub negates : TokenKind → Bool

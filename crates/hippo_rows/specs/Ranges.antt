@@ -36,10 +36,8 @@ stands_low set front past place =
 
 -- the operators that bound a value from below, or from above, strictly or not
 abbrev pub bounding : Bool → Bool → CompareOp
-bounding false false = Ge
-bounding false true = Gt
-bounding true false = Le
-bounding true true = Lt
+bounding above strict =
+    if above then (if strict then Lt else Le) else (if strict then Gt else Ge)
 
 -- whether the values that are equal to a bound stand before the end that it makes
 abbrev pub is_past : Bool → Bool → Bool

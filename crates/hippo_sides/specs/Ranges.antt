@@ -4,7 +4,7 @@ use Rattle.std.specs.List.{list_all}
 use Rattle.hippo_values.specs.Order.{value_cmp}
 use Rattle.hippo_values.specs.Truths.{is_allowed}
 use Rattle.hippo_values.specs.declared.truths.CompareOp.{CompareOp}
-use Rattle.hippo_values.specs.declared.truths.CompareOp.TheVariants.{Eq, Ne, Lt, Le, Gt, Ge}
+use Rattle.hippo_values.specs.declared.truths.CompareOp.TheVariants.{Lt, Le, Gt, Ge}
 use Rattle.hippo_values.specs.declared.values.Value.{Value}
 use Rattle.hippo_model.specs.declared.query.CondOf.{CondOf}
 use Rattle.hippo_model.specs.declared.query.Expr.{Expr}
@@ -20,12 +20,11 @@ use Rattle.hippo_lookups.specs.Ties.{holds}
 
 -- the operator that says the same of two values in the other order
 abbrev pub flipped_operator : CompareOp → CompareOp
-flipped_operator Eq = Eq
-flipped_operator Ne = Ne
 flipped_operator Lt = Gt
 flipped_operator Le = Ge
 flipped_operator Gt = Lt
 flipped_operator Ge = Le
+flipped_operator op = op
 
 -- with the rows that are chosen, a column stands so to a value, and is not null, wherever some
 -- parts hold

@@ -108,12 +108,11 @@ fn flipped(op: CompareOp) -> CompareOp
     ensures { result ≡ flipped_operator op }
 {
     match op {
-        CompareOp::Eq => CompareOp::Eq,
-        CompareOp::Ne => CompareOp::Ne,
         CompareOp::Lt => CompareOp::Gt,
         CompareOp::Le => CompareOp::Ge,
         CompareOp::Gt => CompareOp::Lt,
         CompareOp::Ge => CompareOp::Le,
+        CompareOp::Eq | CompareOp::Ne => op,
     }
 }
 

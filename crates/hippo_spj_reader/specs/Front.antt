@@ -6,13 +6,13 @@ use Rattle.hippo_values.specs.Texts.{Txt}
 use Rattle.hippo_values.specs.declared.values.Value.{Value}
 use Rattle.hippo_values.specs.declared.values.Value.TheVariants as value
 use Rattle.hippo_values.specs.contracts.keywords.Keyword as keywords
-use Rattle.hippo_lexer.specs.contracts.kinds.Symbol as symbols
 use Rattle.hippo_values.specs.declared.keywords.Keyword as words
 use Rattle.hippo_values.specs.declared.keywords.Keyword.TheVariants.{KNull}
 use Rattle.hippo_lexer.specs.declared.kinds.Symbol as signs
 use Rattle.hippo_lexer.specs.declared.kinds.Token.{Token}
 use Rattle.hippo_lexer.specs.declared.kinds.TokenKind.{TokenKind}
 use Rattle.hippo_lexer.specs.declared.kinds.TokenKind.TheVariants.{Word, Keyword, Number, Quoted, Day, Symbol}
+pub use Rattle.hippo_lexer.specs.Words.{same_symbol}
 
 -- what tokens say, one after the other
 abbrev pub Kinds : Type 0
@@ -32,9 +32,6 @@ kinds_between tokens first last = kinds (slice_range tokens first last)
 
 abbrev pub same_keyword : words.Keyword → words.Keyword → Bool
 same_keyword one other = sameb keywords.the_type one other
-
-abbrev pub same_symbol : signs.Symbol → signs.Symbol → Bool
-same_symbol one other = sameb symbols.the_type one other
 
 -- what follows the keyword, where it stands first
 abbrev pub after_keyword : words.Keyword → Kinds → Option Kinds

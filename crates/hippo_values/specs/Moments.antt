@@ -2,11 +2,8 @@
 use Rattle.std.specs.Prelude.{ℕ, ℤ, pos, negsuc, ◌≤ℤ◌, Bool, ◌&&◌, int_le}
 
 -- the least and the greatest number of 64 bits with a sign
-abbrev pub least_number : ℤ
-least_number = negsuc 9223372036854775807
-
-abbrev pub greatest_number : ℤ
-greatest_number = pos 9223372036854775807
+abbrev pub signed_numbers : ℤ × ℤ
+signed_numbers = (negsuc 9223372036854775807, pos 9223372036854775807)
 
 -- 0001-01-01 and 9999-12-31, in days from 1970-01-01
 abbrev pub first_day : ℤ
@@ -29,22 +26,29 @@ day_count = 3652059
 abbrev pub day_seconds : ℕ
 day_seconds = 86400
 
+-- a number from the first of two ends to the second, as a fact and as a test
+abbrev pub LiesBetween : ℤ × ℤ → ℤ → Type 0
+LiesBetween ends number = (ends.0 ≤ℤ number) × (number ≤ℤ ends.1)
+
+abbrev pub lies_between : ℤ × ℤ → ℤ → Bool
+lies_between ends number = int_le ends.0 number && int_le number ends.1
+
 -- as facts
 abbrev pub IsSignedNumber : ℤ → Type 0
-IsSignedNumber number = (least_number ≤ℤ number) × (number ≤ℤ greatest_number)
+IsSignedNumber number = LiesBetween signed_numbers number
 
 abbrev pub IsDayNumber : ℤ → Type 0
-IsDayNumber day = (first_day ≤ℤ day) × (day ≤ℤ last_day)
+IsDayNumber day = LiesBetween (first_day, last_day) day
 
 abbrev pub IsMoment : ℤ → Type 0
-IsMoment second = (first_moment ≤ℤ second) × (second ≤ℤ last_moment)
+IsMoment second = LiesBetween (first_moment, last_moment) second
 
 -- and as tests
 abbrev pub is_signed_number : ℤ → Bool
-is_signed_number number = int_le least_number number && int_le number greatest_number
+is_signed_number number = lies_between signed_numbers number
 
 abbrev pub is_day : ℤ → Bool
-is_day day = int_le first_day day && int_le day last_day
+is_day day = lies_between (first_day, last_day) day
 
 abbrev pub is_moment : ℤ → Bool
-is_moment second = int_le first_moment second && int_le second last_moment
+is_moment second = lies_between (first_moment, last_moment) second

@@ -14,16 +14,14 @@ use Rattle.hippo_values.specs.Order.{value_cmp}
 abbrev pub truth_and : Truth → Truth → Truth
 truth_and False b = False
 truth_and Unknown False = False
-truth_and Unknown Unknown = Unknown
-truth_and Unknown True = Unknown
+truth_and Unknown b = Unknown
 truth_and True b = b
 
 -- OR is the greatest
 abbrev pub truth_or : Truth → Truth → Truth
 truth_or False b = b
-truth_or Unknown False = Unknown
-truth_or Unknown Unknown = Unknown
 truth_or Unknown True = True
+truth_or Unknown b = Unknown
 truth_or True b = True
 
 -- NOT unknown is unknown
