@@ -11,7 +11,8 @@ use Rattle.hippo_keyed_rows.specs.RowSets.{KeyedRows, kept_at}
 use Rattle.hippo_model.specs.StoredForms.{table_changed}
 use Rattle.hippo_model.specs.Validity.{is_valid}
 use Rattle.hippo_model.specs.Versions.{is_version, versions}
-use Rattle.hippo_keeper.specs.Keeping.{KeeperState, IsReady, IsAfterCall}
+use Rattle.hippo_keeper.specs.Keeping.{KeeperState, IsReady}
+use Rattle.hippo_keeper.specs.Selecting.{HandsOver}
 use Rattle.hippo_keeper.specs.declared.faults.KeeperFault.{KeeperFault}
 use Rattle.hippo_backlog.specs.declared.faults.ReadFault.{ReadFault}
 use Rattle.hippo_backlog.specs.declared.faults.ReadFault.TheVariants.{Damaged, Memory}
@@ -91,7 +92,7 @@ module _ (schema : Schema) (number : ℕ) (before after : KeeperState) (steps_ol
   module _ (new : HeldVersions) where
     steps_within : {A : Type 0} (result : Result A ReadFault) → BringsUp schema number number result (no_versions schema.key) new before after steps_old steps_new → (meaning : Meaning) (history : History) → is_valid meaning history ≡ true → AreAt schema history new → steps_new ≤ steps_old + length (versions_of schema.name history)
     steps_within result brings meaning history valid there =
-        let steps = brings.reads.steps in
+        let steps = brings.reads.hands.steps in
         let counted = brings.reads.taken.counted in
         let within = handed_within schema meaning history new valid there in
         omega (arith, steps, counted, within)
@@ -99,10 +100,8 @@ module _ (schema : Schema) (number : ℕ) (before after : KeeperState) (steps_ol
     -- the rows as they were
     pub Snapshots-ok : BringsUp {A = Unit {0}} schema number number (Ok tt) (no_versions schema.key) new before after steps_old steps_new → Snapshots schema number (Ok new.rows) before after steps_old steps_new
     Snapshots-ok brings = record {
-      is_after = brings.reads.is_after;
-      stays = brings.reads.stays;
       handed = brings.reads.handed;
-      steps = brings.reads.steps;
+      hands = brings.reads.hands;
       damaged = λ place is. absurd cc;
       told = λ tells meaning history store created within.
           let there = brings.reads.keeps tells meaning history store within (AreAt-first schema meaning history store.valid created) in
@@ -116,10 +115,8 @@ module _ (schema : Schema) (number : ℕ) (before after : KeeperState) (steps_ol
     -- or a fault
     pub Snapshots-err : (fault : ReadFault) → BringsUp {A = Unit {0}} schema number number (Err fault) (no_versions schema.key) new before after steps_old steps_new → Snapshots schema number (Err fault) before after steps_old steps_new
     Snapshots-err fault brings = record {
-      is_after = subst (λ (r : Result (Unit {0}) KeeperFault). IsAfterCall true false r before after) (reading_as_call-fault (Unit {0}) KeyedRows fault) brings.reads.is_after;
-      stays = brings.reads.stays;
       handed = brings.reads.handed;
-      steps = brings.reads.steps;
+      hands = subst (λ (r : Result (Unit {0}) KeeperFault). HandsOver r brings.reads.handed before after steps_old steps_new) (reading_as_call-fault (Unit {0}) KeyedRows fault) brings.reads.hands;
       damaged = λ place is. brings.damaged place (as_unit place is) [] refl;
       told = λ tells meaning history store created within.
           let at_first = AreAt-first schema meaning history store.valid created in
@@ -147,10 +144,12 @@ module _ (schema : Schema) (number : ℕ) (before after : KeeperState) (steps_ol
 -- memory was short before anything was read
 pub Snapshots-none : (schema : Schema) (number : ℕ) (keeper : KeeperState) (steps : ℕ) → IsReady true keeper → Snapshots schema number (Err Memory) keeper keeper steps steps
 Snapshots-none schema number keeper steps ready = record {
-  is_after = IsAfterCall-none (reading_as_call (err_of KeyedRows Memory)) keeper refl ready;
-  stays = λ tells. KeepsSame-here keeper;
   handed = [];
-  steps = omega arith;
+  hands = record {
+    call = IsAfterCall-none (reading_as_call (err_of KeyedRows Memory)) keeper refl ready;
+    stays = λ tells. KeepsSame-here keeper;
+    steps = omega arith;
+  };
   damaged = λ place is. absurd cc;
   told = λ tells meaning history store created within. record { rows = tt; steps = omega arith; undamaged = λ place is. absurd cc };
 }

@@ -342,10 +342,12 @@ module _ (schema : Schema) (max end : ℕ) (old : HeldVersions) (before after : 
   -- a piece is read
   pub reads_piece : (piece : Store) → ReadsEntries (is_stored_version_of schema.name) old.ahead.reached max (Ok piece) before after → steps_new ≡ steps_old + stored_versions piece → (number : ℕ) → ReadsOn schema number end (reading_as_call (well ReadFault)) old (record { rows = old.rows; ahead = with_piece max end piece old.ahead; place = old.place }) before after steps_old steps_new
   reads_piece piece reads steps number = record {
-    is_after = IsAfterCall-as true false (Ok piece) (well KeeperFault) before after refl reads.call;
-    stays = λ tells. KeepsSame-Stays before after (reads.stays tells);
     handed = piece;
-    steps = steps;
+    hands = record {
+      call = IsAfterCall-as true false (Ok piece) (well KeeperFault) before after refl reads.call;
+      stays = λ tells. KeepsSame-Stays before after (reads.stays tells);
+      steps = steps;
+    };
     taken = record {
       taken = [];
       parts = ap (λ (s : Store). s ++ piece) used;
@@ -365,10 +367,12 @@ module _ (schema : Schema) (max end : ℕ) (old : HeldVersions) (before after : 
   -- or the read failed
   pub reads_fault : (fault : KeeperFault) → ReadsEntries (is_stored_version_of schema.name) old.ahead.reached max (Err fault) before after → steps_new ≡ steps_old + 0 → (number : ℕ) → ReadsOn schema number end (reading_as_call (err_of (Unit {0}) (read_fault fault))) old old before after steps_old steps_new
   reads_fault fault reads steps number = record {
-    is_after = IsAfterCall-as true false (err_of Store fault) (reading_as_call (err_of (Unit {0}) (read_fault fault))) before after (reading_as_call-read_fault (Unit {0}) Store fault) reads.call;
-    stays = λ tells. KeepsSame-Stays before after (reads.stays tells);
     handed = [];
-    steps = steps;
+    hands = record {
+      call = IsAfterCall-as true false (err_of Store fault) (reading_as_call (err_of (Unit {0}) (read_fault fault))) before after (reading_as_call-read_fault (Unit {0}) Store fault) reads.call;
+      stays = λ tells. KeepsSame-Stays before after (reads.stays tells);
+      steps = steps;
+    };
     taken = TakesInVersions-here schema number old;
     keeps = λ tells meaning history store within there. there;
   }
@@ -396,10 +400,12 @@ module _ (schema : Schema) (number end : ℕ) where
   -- nothing is read at first
   pub ReadsOn-first : (held : HeldVersions) (keeper : KeeperState) (steps : ℕ) → IsReady true keeper → ReadsOn schema number end (well KeeperFault) held held keeper keeper steps steps
   ReadsOn-first held keeper steps ready = record {
-    is_after = IsAfterCall-none (well KeeperFault) keeper refl ready;
-    stays = λ tells. KeepsSame-here keeper;
     handed = [];
-    steps = omega arith;
+    hands = record {
+      call = IsAfterCall-none (well KeeperFault) keeper refl ready;
+      stays = λ tells. KeepsSame-here keeper;
+      steps = omega arith;
+    };
     taken = TakesInVersions-here schema number held;
     keeps = λ tells meaning history store within there. there;
   }
@@ -408,10 +414,12 @@ module _ (schema : Schema) (number end : ℕ) where
     -- then what waits is taken in
     abbrev pub ReadsOn-waiting : {A : Type 0} (result : Result A ReadFault) → TakesWaiting schema number result mid new → ReadsOn schema number end (reading_as_call result) old new before now steps_old steps_now
     ReadsOn-waiting result takes = record {
-      is_after = IsAfterCall-as true false (well KeeperFault) (reading_as_call result) before now (reading_as_call-unfailed result takes.unfailed) so_far.is_after;
-      stays = so_far.stays;
       handed = so_far.handed;
-      steps = so_far.steps;
+      hands = record {
+        call = IsAfterCall-as true false (well KeeperFault) (reading_as_call result) before now (reading_as_call-unfailed result takes.unfailed) so_far.hands.call;
+        stays = so_far.hands.stays;
+        steps = so_far.hands.steps;
+      };
       taken = TakesInVersions-more schema number so_far.handed old mid new so_far.taken takes.taken;
       keeps = λ tells meaning history store within there. takes.keeps meaning history store.valid (so_far.keeps tells meaning history store within there);
     }
@@ -429,14 +437,16 @@ module _ (schema : Schema) (number end : ℕ) where
       -- or a piece is read
       abbrev pub ReadsOn-then : {A : Type 0} (call : Result A KeeperFault) → ReadsOn schema number end call mid new now after steps_now steps_new → ReadsOn schema number end call old new before after steps_old steps_new
       ReadsOn-then call reads = record {
-        is_after = IsAfterCall-then false (well KeeperFault) call before now after refl so_far.is_after reads.is_after;
-        stays = λ tells. KeepsSame-then before now after (so_far.stays (reads.is_after.told tells)) (reads.stays tells);
         handed = so_far.handed ++ reads.handed;
-        steps = omega (arith, so_far.steps, reads.steps, stored_versions-append so_far.handed reads.handed);
+        hands = record {
+          call = IsAfterCall-then false (well KeeperFault) call before now after refl so_far.hands.call reads.hands.call;
+          stays = λ tells. KeepsSame-then before now after (so_far.hands.stays (reads.hands.call.told tells)) (reads.hands.stays tells);
+          steps = omega (arith, so_far.hands.steps, reads.hands.steps, stored_versions-append so_far.handed reads.handed);
+        };
         taken = TakesInVersions-then schema number so_far.handed reads.handed old mid new so_far.taken reads.taken;
         keeps = λ tells meaning history store within there.
-            let tells_now = reads.is_after.told tells in
-            reads.keeps tells meaning history (subst (λ (s : Store). IsStoreOf meaning s history) (sym (so_far.stays tells_now).same) store) within (so_far.keeps tells_now meaning history store within there);
+            let tells_now = reads.hands.call.told tells in
+            reads.keeps tells meaning history (subst (λ (s : Store). IsStoreOf meaning s history) (sym (so_far.hands.stays tells_now).same) store) within (so_far.keeps tells_now meaning history store within there);
       }
 
       pub BringsUp-fault : (fault : ReadFault) → ReadsOn schema number end (reading_as_call (err_of (Unit {0}) fault)) mid new now after steps_now steps_new → ((place : ℕ) → err_of (Unit {0}) fault ≢ Err (Damaged place)) → BringsUp {A = Unit {0}} schema number end (Err fault) old new before after steps_old steps_new

@@ -12,8 +12,8 @@ use Rattle.hippo_model.specs.StoredForms.{table_changed, stored}
 use Rattle.hippo_model.specs.Stores.{IsStoreOf}
 use Rattle.hippo_model.specs.Validity.{is_valid}
 use Rattle.hippo_model.specs.Versions.{is_version}
-use Rattle.hippo_keeper.specs.Keeping.{Store, KeeperState, IsAfterCall, KeepsSame}
-use Rattle.hippo_keeper.specs.Selecting.{stored_versions}
+use Rattle.hippo_keeper.specs.Keeping.{Store, KeeperState}
+use Rattle.hippo_keeper.specs.Selecting.{stored_versions, HandsOver}
 use Rattle.hippo_keeper.specs.declared.faults.KeeperFault.{KeeperFault}
 use Rattle.hippo_backlog.specs.Calls.{reading_as_call}
 use Rattle.hippo_backlog.specs.ReadingAhead.{ReadAhead, nothing_read, IsAhead}
@@ -102,10 +102,8 @@ pub record TakesWaiting {A : Type 0} (schema : Schema) (number : ℕ) (result : 
 pub record ReadsOn {A : Type 0} (schema : Schema) (number end : ℕ) (call : Result A KeeperFault)
     (old new : HeldVersions)
     (before after : KeeperState) (steps_old steps_new : ℕ) : Type 0 where
-  pub is_after : IsAfterCall true false call before after
-  pub stays : after.tells → KeepsSame before after
   pub handed : Store
-  pub steps : steps_new ≡ steps_old + stored_versions handed
+  pub hands : HandsOver call handed before after steps_old steps_new
   pub taken : TakesInVersions schema number handed old new
   pub keeps : after.tells → (meaning : Meaning) (history : History)
       → IsStoreOf meaning before.kept history
@@ -137,10 +135,8 @@ pub record IsSnapshot (schema : Schema) (number : ℕ) (result : Result KeyedRow
 pub record Snapshots (schema : Schema) (number : ℕ) (result : Result KeyedRows ReadFault)
     (before after : KeeperState)
     (steps_old steps_new : ℕ) : Type 0 where
-  pub is_after : IsAfterCall true false (reading_as_call result) before after
-  pub stays : after.tells → KeepsSame before after
   pub handed : Store
-  pub steps : steps_new ≡ steps_old + stored_versions handed
+  pub hands : HandsOver (reading_as_call result) handed before after steps_old steps_new
   pub damaged : (place : ℕ) → result ≡ Err (Damaged place) → HasUnfit schema [] handed place
   pub told : after.tells → (meaning : Meaning) (history : History)
       → IsStoreOf meaning before.kept history

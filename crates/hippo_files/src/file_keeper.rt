@@ -5,8 +5,8 @@ ghost use Rattle.hippo_keeper.specs.Keeping.{Store, IsReady};
 ghost use Rattle.hippo_sqlite.specs.Openings.{IsFoundIn};
 ghost use Rattle.hippo_sqlite.specs.Standings.{finds_by};
 
-use hippo_keeper::{Keeper, KeeperFault, Sought, Steps};
-use hippo_model::{StoredEntry, StoredList};
+use hippo_keeper::{Keeper, KeeperFault, Lot, Sought, Steps};
+use hippo_model::StoredEntry;
 use hippo_sqlite::{FileOpener, SqliteKeeper};
 use hippo_values::Moment;
 use sqlite::{Start, Unknown};
@@ -53,23 +53,11 @@ impl Keeper for FileKeeper {
         self.keeper.append(alloc, entry)
     }
 
-    fn read<L: Ledger>(
-        &mut self,
-        alloc: Global,
-        sought: &Sought<'_>,
-        steps: &mut Steps<L>,
-    ) -> Result<StoredList, KeeperFault> {
+    fn read<L: Ledger>(&mut self, alloc: Global, sought: &Sought<'_>, steps: &mut Steps<L>) -> Lot {
         self.keeper.read(alloc, sought, steps)
     }
 
-    fn read_asked(
-        &mut self,
-        alloc: Global,
-        from: Moment,
-        to: Moment,
-        after: u64,
-        max: u64,
-    ) -> Result<StoredList, KeeperFault> {
+    fn read_asked(&mut self, alloc: Global, from: Moment, to: Moment, after: u64, max: u64) -> Lot {
         self.keeper.read_asked(alloc, from, to, after, max)
     }
 }

@@ -41,11 +41,11 @@ taken_and_unread meaning lives history valid fits =
 
 pub Advances-brings : {A : Type 0} (schema : Schema) (number end : ℕ) (result : Result A ReadFault) (old new : HeldVersions) (before after : KeeperState) (steps_old steps_new : ℕ) → old.place ≤ number → BringsUp schema number end result old new before after steps_old steps_new → Advances number end result (record { schema = schema; versions = old }) (record { schema = schema; versions = new }) before after steps_old steps_new
 Advances-brings schema number end result old new before after steps_old steps_new within brings =
-    let steps = brings.reads.steps in
+    let steps = brings.reads.hands.steps in
     let counted = brings.reads.taken.counted in
     record {
-      is_after = brings.reads.is_after;
-      stays = brings.reads.stays;
+      is_after = brings.reads.hands.call;
+      stays = brings.reads.hands.stays;
       schema_is = refl;
       forward = brings.reads.taken.rises;
       limit = brings.reads.taken.limit within;

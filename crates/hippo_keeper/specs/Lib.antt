@@ -2,3 +2,4 @@ pub mod Answering
 pub mod Keeping
 pub mod MemoryKeeping
 pub mod Selecting
+pub mod Standings

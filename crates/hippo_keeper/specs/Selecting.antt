@@ -1,9 +1,9 @@
 -- What the reads of a keeper hand over.
-use Rattle.std.specs.Prelude.{◌≡◌, ℕ, ◌≤◌, Bool, true, false, ◌&&◌, ◌||◌, ◌==◌, length, filter, take, count_by, nat_lt, int_le, bytes_eq, Result, Ok, Err, IfOk}
+use Rattle.std.specs.Prelude.{◌≡◌, ℕ, ◌+◌, ◌≤◌, Bool, true, false, ◌&&◌, ◌||◌, ◌==◌, length, filter, take, count_by, nat_lt, int_le, bytes_eq, Result, Ok, Err, IfOk}
 use Rattle.hippo_values.specs.declared.moments.Moment.{Moment}
 use Rattle.hippo_values.specs.declared.names.Name.{Name}
 use Rattle.hippo_model.specs.declared.stored.StoredEntry.{StoredEntry}
-use Rattle.hippo_keeper.specs.Keeping.{Store, RisesAbove, KeeperState, IsAfterCall, Stays}
+use Rattle.hippo_keeper.specs.Keeping.{Store, RisesAbove, KeeperState, IsAfterCall, Stays, KeepsSame}
 use Rattle.hippo_keeper.specs.declared.faults.KeeperFault.{KeeperFault}
 use Rattle.hippo_keeper.specs.declared.selection.Selection.{Selection}
 use Rattle.hippo_keeper.specs.declared.selection.Selection.TheVariants.{All, VersionsOf, AskedIn}
@@ -35,6 +35,13 @@ stored_versions list = count_by is_stored_version list
 abbrev pub versions_read : Result Store KeeperFault → ℕ
 versions_read (Ok list) = stored_versions list
 versions_read (Err fault) = 0
+
+-- a call that only reads: what is kept stays, and each version that was handed over is a step
+pub record HandsOver {A : Type 0} (result : Result A KeeperFault) (handed : Store)
+    (before after : KeeperState) (steps_old steps_new : ℕ) : Type 0 where
+  pub call : IsAfterCall true false result before after
+  pub stays : after.tells → KeepsSame before after
+  pub steps : steps_new ≡ steps_old + stored_versions handed
 
 -- the list that a read answers: the one that was asked for, where the keeper tells what it keeps,
 -- and always at most so many entries above the number, in order

@@ -4,9 +4,9 @@ ghost use Rattle.hippo_keeper.specs.Keeping.{KeeperState, IsReady, next_number, 
 ghost use Rattle.hippo_keeper.specs.Selecting.{is_any, is_stored_version_of, was_asked_in, is_selected, versions_read, ReadsEntries};
 
 use crate::faults::KeeperFault;
-use crate::selection::{Selection, Sought};
+use crate::selection::{Lot, Selection, Sought};
 use crate::steps::Steps;
-use hippo_model::{StoredEntry, StoredList};
+use hippo_model::StoredEntry;
 use hippo_values::{Moment, Name};
 use std::alloc::Global;
 use std::sync::ledger::Ledger;
@@ -36,12 +36,7 @@ pub trait Keeper {
 
     /// The first so many entries, from 1 to 1,000, that are sought. Each version among them is a
     /// step.
-    fn read<L: Ledger>(
-        &mut self,
-        alloc: Global,
-        sought: &Sought<'_>,
-        steps: &mut Steps<L>,
-    ) -> Result<StoredList, KeeperFault>
+    fn read<L: Ledger>(&mut self, alloc: Global, sought: &Sought<'_>, steps: &mut Steps<L>) -> Lot
         requires ready { IsReady true (state self.old) }
         requires some { 0 < sought.now.max }
         requires limit { sought.now.max ≤ 1000 }
@@ -51,14 +46,7 @@ pub trait Keeper {
 
     /// The first `max` questions, from 1 to 1,000, that were asked from one moment to another, both
     /// among them, and whose numbers are above `after`.
-    fn read_asked(
-        &mut self,
-        alloc: Global,
-        from: Moment,
-        to: Moment,
-        after: u64,
-        max: u64,
-    ) -> Result<StoredList, KeeperFault>
+    fn read_asked(&mut self, alloc: Global, from: Moment, to: Moment, after: u64, max: u64) -> Lot
         requires ready { IsReady true (state self.old) }
         requires some { 0 < max }
         requires limit { max ≤ 1000 }
@@ -73,7 +61,7 @@ pub trait Keeper {
         after: u64,
         max: u64,
         steps: &mut Steps<L>,
-    ) -> Result<StoredList, KeeperFault>
+    ) -> Lot
         requires ready { IsReady true (state self.old) }
         requires some { 0 < max }
         requires limit { max ≤ 1000 }
@@ -97,7 +85,7 @@ pub trait Keeper {
         after: u64,
         max: u64,
         steps: &mut Steps<L>,
-    ) -> Result<StoredList, KeeperFault>
+    ) -> Lot
         requires ready { IsReady true (state self.old) }
         requires some { 0 < max }
         requires limit { max ≤ 1000 }

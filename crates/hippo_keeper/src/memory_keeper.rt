@@ -1,13 +1,14 @@
 //! A keeper in memory that tells what it keeps, and fails where it is told to.
-ghost use Rattle.std.specs.Prelude.{◌≡◌, ℕ, ◌+◌, ◌≤◌, true, false, List, [], filter, Some, is_some, nat_lt, OnOk, OnErr};
+ghost use Rattle.std.specs.Prelude.{◌≡◌, ℕ, ◌+◌, ◌≤◌, true, false, List, [], filter, Some, is_some, nat_lt, IfOk, OnOk, OnErr, ⊤};
 ghost use Rattle.hippo_keeper.specs.Answering.{has_failed, wants_memory};
 ghost use Rattle.hippo_keeper.specs.Keeping.{Store, RisesAbove, next_number};
-ghost use Rattle.hippo_keeper.specs.MemoryKeeping.{new_store, next_failure, memory_after_call, memory_after_fault, memory_after_start, memory_after_append, with_entry, ReadsInMemory, FindsInMemory, SurvivesInMemory, memory_keeper_state};
-ghost use Rattle.hippo_keeper.specs.Selecting.{was_asked_in, is_selected, versions_read};
+ghost use Rattle.hippo_keeper.specs.MemoryKeeping.{new_store, next_failure, memory_after_call, memory_after_start, kept_after, memory_after_append, with_entry, ReadsInMemory, FindsInMemory, SurvivesInMemory, memory_keeper_state};
+ghost use Rattle.hippo_keeper.specs.Selecting.{was_asked_in, is_selected, versions_read, IsHandedOver};
 
+use crate::calls::KeeperCalls;
 use crate::faults::{KeeperFails, KeeperFault};
 use crate::keeper::Keeper;
-use crate::selection::{Selection, Sought, counted, select};
+use crate::selection::{Lot, Selection, Sought, counted, select};
 use crate::steps::Steps;
 use hippo_model::{StoredEntry, StoredList};
 use hippo_values::{Memory, Moment};
@@ -19,11 +20,7 @@ use std::sync::ledger::Ledger;
 #[derive(Drop)]
 pub struct MemoryKeeper {
     kept: StoredList,
-    failing: KeeperFails,
-    made: u64,
-    faults: u64,
-    started: bool,
-    spent: bool,
+    calls: KeeperCalls,
 }
 
 impl Model for MemoryKeeper {
@@ -32,16 +29,9 @@ impl Model for MemoryKeeper {
 
     ghost Value = { MemoryStore };
 
-    ghost view = { λ keeper. record {
-      kept = keeper.kept;
-      failing = keeper.failing;
-      made = keeper.made;
-      faults = keeper.faults;
-      started = keeper.started;
-      spent = keeper.spent;
-    } };
+    ghost view = { λ a. record { kept = a.kept; calls = a.calls } };
 
-    ghost invariant = { λ keeper. RisesAbove 0 keeper.kept };
+    ghost invariant = { λ a. RisesAbove 0 a.kept };
 }
 
 impl MemoryKeeper {
@@ -54,11 +44,7 @@ impl MemoryKeeper {
     {
         MemoryKeeper {
             kept,
-            failing,
-            made: 0,
-            faults: 0,
-            started: false,
-            spent: false,
+            calls: KeeperCalls::new(failing),
         }
     }
 
@@ -77,35 +63,8 @@ impl MemoryKeeper {
         ensures finds { (name : List ℕ) (store : Store)
             → FindsInMemory result name store → SurvivesInMemory self store }
     {
-        let mut failing = self.failing;
-        failing.clear();
+        let failing = self.calls.cleared();
         MemoryKeeper::new(self.kept, failing)
-    }
-
-    // Counts a call, and answers whether it is to fail, and whether an append then keeps its entry.
-    fn begin_call(&mut self) -> Option<bool>
-        ensures failure { result ≡ next_failure self.old }
-        ensures counted { self.new ≡ memory_after_call self.old }
-    {
-        self.made = self.made.saturating_add(1);
-        let number = self.made;
-        let failure = self
-            .failing
-            .as_slice()
-            .iter()
-            .find(|fail| fail.call == number);
-        failure.map(|fail| fail.keeps)
-    }
-
-    // Counts a fault, and makes no more calls.
-    fn fail(&mut self) -> KeeperFault
-        ensures fault { result ≡ KeeperFault.Failed }
-        ensures counted { self.new ≡ memory_after_fault self.old }
-        ensures rises { self.old.faults ≤ self.new.faults }
-    {
-        self.faults = self.faults.saturating_add(1);
-        self.spent = true;
-        KeeperFault::Failed
     }
 
     // The kept entries whose numbers are above this one.
@@ -118,13 +77,15 @@ impl MemoryKeeper {
         &kept[place..]
     }
 
-    // The kept entries that are sought.
-    fn find(&mut self, alloc: Global, sought: &Sought<'_>) -> Result<StoredList, KeeperFault>
-        ensures reads { ReadsInMemory (is_selected sought.now.selection) sought.now.after
-            sought.now.max result self.old self.new }
+    // The kept entries that are sought, where the call is not to fail.
+    fn find(&mut self, alloc: Global, sought: &Sought<'_>) -> Lot
+        ensures call { self.new ≡ memory_after_call self.old }
+        ensures fails { has_failed result ≡ is_some (next_failure self.old.calls) }
+        ensures read { IfOk result (IsHandedOver ⊤ (is_selected sought.now.selection)
+            sought.now.after sought.now.max self.old.kept) }
     {
-        if self.begin_call().is_some() {
-            return Err(self.fail());
+        if self.calls.begin_call().is_some() {
+            return Err(KeeperFault::Failed);
         }
         match select(
             alloc,
@@ -145,6 +106,29 @@ impl MemoryKeeper {
         self.kept.push(entry)?;
         Ok(())
     }
+
+    // Keeps one more entry, where the call is not to fail without it.
+    fn add(&mut self, entry: StoredEntry) -> Result<(), KeeperFault>
+        requires { entry.seq ≡ next_number self.old.kept }
+        ensures call { self.new ≡ record (memory_after_call self.old) {
+          kept = kept_after result entry self.old;
+        } }
+        ensures fails { wants_memory result ≡ false
+            → has_failed result ≡ is_some (next_failure self.old.calls) }
+        ensures keeps { next_failure self.old.calls ≡ Some false → has_failed result ≡ true }
+    {
+        let failure = self.calls.begin_call();
+        if failure == Some(false) {
+            return Err(KeeperFault::Failed);
+        }
+        if self.keep(entry).is_err() {
+            return Err(KeeperFault::Memory);
+        }
+        if failure.is_some() {
+            return Err(KeeperFault::Failed);
+        }
+        Ok(())
+    }
 }
 
 impl Keeper for MemoryKeeper {
@@ -152,60 +136,40 @@ impl Keeper for MemoryKeeper {
 
     fn start(&mut self, _alloc: Global, _name: &str) -> Result<(), KeeperFault>
         ensures store { self.new ≡ memory_after_start result self.old }
-        ensures fails { has_failed result ≡ is_some (next_failure self.old) }
-        ensures faults { self.old.faults ≤ self.new.faults }
+        ensures fails { has_failed result ≡ is_some (next_failure self.old.calls) }
+        ensures faults { self.old.calls.standing.faults ≤ self.new.calls.standing.faults }
         ensures order { OnOk result (RisesAbove 0 self.new.kept) }
         ensures memory { wants_memory result ≡ false }
     {
-        if self.begin_call().is_some() {
-            return Err(self.fail());
-        }
-        self.started = true;
-        Ok(())
+        let answer = match self.calls.begin_call() {
+            Some(_) => Err(KeeperFault::Failed),
+            None => Ok(()),
+        };
+        self.calls.standing.settle_start(answer)
     }
 
     fn append(&mut self, _alloc: Global, entry: StoredEntry) -> Result<(), KeeperFault>
         requires next { entry.seq ≡ next_number self.old.kept }
         ensures store { self.new ≡ memory_after_append result entry self.old }
         ensures fails { wants_memory result ≡ false
-            → has_failed result ≡ is_some (next_failure self.old) }
-        ensures faults { self.old.faults ≤ self.new.faults }
-        ensures keeps { next_failure self.old ≡ Some false → has_failed result ≡ true }
+            → has_failed result ≡ is_some (next_failure self.old.calls) }
+        ensures faults { self.old.calls.standing.faults ≤ self.new.calls.standing.faults }
+        ensures keeps { next_failure self.old.calls ≡ Some false → has_failed result ≡ true }
     {
-        let failure = self.begin_call();
-        if failure == Some(false) {
-            return Err(self.fail());
-        }
-        if self.keep(entry).is_err() {
-            return Err(KeeperFault::Memory);
-        }
-        if failure.is_some() {
-            return Err(self.fail());
-        }
-        Ok(())
+        let answer = self.add(entry);
+        self.calls.standing.settle(answer)
     }
 
-    fn read<L: Ledger>(
-        &mut self,
-        alloc: Global,
-        sought: &Sought<'_>,
-        steps: &mut Steps<L>,
-    ) -> Result<StoredList, KeeperFault>
+    fn read<L: Ledger>(&mut self, alloc: Global, sought: &Sought<'_>, steps: &mut Steps<L>) -> Lot
         ensures reads { ReadsInMemory (is_selected sought.now.selection) sought.now.after
             sought.now.max result self.old self.new }
         ensures steps { steps.new ≡ steps.old + versions_read result }
     {
-        counted(self.find(alloc, sought), steps)
+        let answer = counted(self.find(alloc, sought), steps);
+        self.calls.standing.settle(answer)
     }
 
-    fn read_asked(
-        &mut self,
-        alloc: Global,
-        from: Moment,
-        to: Moment,
-        after: u64,
-        max: u64,
-    ) -> Result<StoredList, KeeperFault>
+    fn read_asked(&mut self, alloc: Global, from: Moment, to: Moment, after: u64, max: u64) -> Lot
         ensures reads { ReadsInMemory (was_asked_in from to) after max result self.old self.new }
     {
         let sought = Sought {
@@ -213,6 +177,7 @@ impl Keeper for MemoryKeeper {
             after,
             max,
         };
-        self.find(alloc, &sought)
+        let answer = self.find(alloc, &sought);
+        self.calls.standing.settle(answer)
     }
 }

@@ -37,6 +37,9 @@ pub struct Sought<'a> {
     pub max: u64,
 }
 
+/// What a read hands over: a list of entries, or why there is none.
+pub type Lot = Result<StoredList, KeeperFault>;
+
 // Whether an entry inserts, updates or deletes a row.
 fn is_version(entry: &StoredEntry) -> bool
     ensures { result ≡ is_stored_version entry.now }
@@ -93,10 +96,7 @@ fn count_versions<L: Ledger>(entries: &[StoredEntry], steps: &mut Steps<L>)
 }
 
 /// What a read answers, with one step for each version in it.
-pub fn counted<L: Ledger>(
-    answer: Result<StoredList, KeeperFault>,
-    steps: &mut Steps<L>,
-) -> Result<StoredList, KeeperFault>
+pub fn counted<L: Ledger>(answer: Lot, steps: &mut Steps<L>) -> Lot
     ensures same { result ≡ answer }
     ensures steps { steps.new ≡ steps.old + versions_read result }
 {

@@ -1,17 +1,18 @@
 -- A search in a list in pieces: first for the piece, then in it.
-use Rattle.std.proofs.Common.{◌≡◌, ℕ, suc, ◌+◌, ◌-◌, ◌<◌, ◌≤◌, true, false, List, [], ◌∷◌, length, get_or, inl, inr, sym, ap, ◌∙◌, refl, subst, arith, add-zero}
+use Rattle.std.proofs.Common.{◌≡◌, ℕ, suc, ◌+◌, ◌-◌, ◌<◌, ◌≤◌, true, false, List, [], ◌∷◌, length, get_or, Result, Ok, Err, inl, inr, sym, ap, ◌∙◌, refl, subst, arith, add-zero}
 use Rattle.std.specs.Option.{option_map_or}
 use Rattle.std.specs.Ordering.{is_le, is_lt, ordering_index}
 use Rattle.std.specs.declared.cmp.Ordering.{Ordering}
 use Rattle.std.specs.declared.cmp.Ordering.TheVariants.{Less, Equal, Greater}
 use Rattle.std.specs.List.{AllWithin, HoldsAt}
-use Rattle.std.specs.List.Sorted.{IsNonDecreasingBy, IsPartitionPoint}
+use Rattle.std.specs.List.Sorted.{IsNonDecreasingBy, IsPartitionPoint, IsSearchInRange, IsBinarySearchResult}
 use Rattle.std.proofs.lemmas.Bool.{cases_lt, false≢true}
 use Rattle.std.proofs.lemmas.List.{length-map}
 use Rattle.std.proofs.lemmas.List.Concat.{get_or-flat_map}
 use Rattle.std.proofs.lemmas.Option.{slice_get-get_or}
 use Rattle.hippo_keyed_rows.specs.declared.pieces.Piece.{Piece}
 use Rattle.hippo_keyed_rows.specs.Pieces.{contents, all_members, start_of, AreFull, begins_low, ends_below, PartsLow}
+use Rattle.hippo_keyed_rows.specs.Searches.{place_behind}
 use Rattle.hippo_keyed_rows.proofs.PiecesLemmas.{some_member, full_at, piece_at, start_of-next, start_of-rises, start_of-end, start_of-within}
 
 greater_from : (o : Ordering) → 2 ≤ ordering_index o → o ≡ Greater
@@ -180,18 +181,31 @@ module _ {A : Type 0} (order : A → Ordering) where
       held : get_or (contents pieces) i [] ≡ piece.members.items
       held = piece_at pieces i piece in_pieces ∙ ap (λ (piece : Piece A). piece.members.items) (sym read)
 
-      pub ends_inside : start_of (contents pieces) i + length piece.members.items ≤ length rows
+      ends_inside : start_of (contents pieces) i + length piece.members.items ≤ length rows
       ends_inside = omega (arith, ap length whole, ap length held, start_of-next (contents pieces) i in_range, start_of-within (contents pieces) (suc i))
 
       -- the member is found in the last piece that begins low
-      pub found_in : (place : ℕ) → place < length piece.members.items → IsFound piece.members.items place → IsFound rows (start_of (contents pieces) i + place)
+      found_in : (place : ℕ) → place < length piece.members.items → IsFound piece.members.items place → IsFound rows (start_of (contents pieces) i + place)
       found_in place range equal = subst (λ (rows : List A). IsFound rows (start_of (contents pieces) i + place)) whole (λ d.
           ap order (get_or-flat_map (λ members. members) (contents pieces) i place [] d in_range (rw held range) ∙ ap (λ members. get_or members place d) held) ∙ equal d)
 
       -- or it would stand there
-      pub missing_in : (place : ℕ) → place ≤ length piece.members.items → Parts piece.members.items place → Parts rows (start_of (contents pieces) i + place)
+      missing_in : (place : ℕ) → place ≤ length piece.members.items → Parts piece.members.items place → Parts rows (start_of (contents pieces) i + place)
       missing_in place range missing = subst (λ (rows : List A). Parts rows (start_of (contents pieces) i + place)) whole (λ rises.
           let low : begins_low order (get_or (contents pieces) i []) ≡ true = ap (begins_low order) (piece_at pieces i piece in_pieces) ∙ (parted rises).0 i piece (omega arith) (omega arith) in
           let next : suc i < length (contents pieces) → begins_low order (get_or (contents pieces) (suc i) []) ≡ false = λ more. ap (begins_low order) (piece_at pieces (suc i) piece (omega (arith, size))) ∙ (parted rises).1 (suc i) piece (omega arith) (omega (arith, size)) in
           let parts = subst (λ (members : List A). Parts members place) (sym held) missing (rises_here (contents pieces) full rises i in_range low next) in
           (below (contents pieces) full rises i in_range low next place (rw held range) parts, above (contents pieces) full rises i in_range low next place (rw held range) parts))
+
+      -- what is found in the piece is found among all rows, behind those before it
+      pub range_behind : (found : Result ℕ ℕ) → IsSearchInRange found (length piece.members.items) → IsSearchInRange (place_behind (start_of (contents pieces) i) found) (length rows)
+      range_behind (Ok place) range = omega (arith, ends_inside, range)
+      range_behind (Err place) range = omega (arith, ends_inside, range)
+
+      pub few_behind : (limit : ℕ) → length rows ≤ limit → (found : Result ℕ ℕ) → IsSearchInRange found (length piece.members.items) → IsSearchInRange found (limit - start_of (contents pieces) i)
+      few_behind limit few (Ok place) range = omega (arith, ends_inside, range, few)
+      few_behind limit few (Err place) range = omega (arith, ends_inside, range, few)
+
+      pub found_behind : (found : Result ℕ ℕ) → IsSearchInRange found (length piece.members.items) → IsBinarySearchResult order piece.members.items found → IsBinarySearchResult order rows (place_behind (start_of (contents pieces) i) found)
+      found_behind (Ok place) range equal = found_in place range equal
+      found_behind (Err place) range missing = missing_in place range missing

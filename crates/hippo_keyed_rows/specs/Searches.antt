@@ -1,5 +1,6 @@
 -- What a search among a table's kept rows looks for.
-use Rattle.std.specs.Prelude.{List}
+use Rattle.std.specs.Prelude.{ℕ, ◌+◌, List, Result}
+use Rattle.std.specs.Result.{result_map_both}
 use Rattle.std.specs.declared.cmp.Ordering.{Ordering}
 use Rattle.hippo_values.specs.Order.{cells_cmp}
 use Rattle.hippo_model.specs.declared.born_row.BornRow.{BornRow}
@@ -16,3 +17,7 @@ key_sought places (ByRow row) = key_of places row.now
 -- a kept row against the one that is looked for, by their keys
 abbrev pub sought_order : List Place → Sought → BornRow → Ordering
 sought_order places sought kept = cells_cmp (key_of places kept.row) (key_sought places sought)
+
+-- what was found in a part of a list, as a place in the list, where the part begins at this place
+abbrev pub place_behind : ℕ → Result ℕ ℕ → Result ℕ ℕ
+place_behind start found = result_map_both (λ place. start + place) (λ place. start + place) found

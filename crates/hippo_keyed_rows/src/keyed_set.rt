@@ -1,5 +1,5 @@
 //! A table's rows in the order of their keys.
-ghost use Rattle.std.specs.Prelude.{◌≡◌, List, ◌∷◌, ◌<◌, ◌≤◌, ◌↔◌, [], true, length, map, option_map, slice_get, Some, IsTrue, OnOk, OnErr, IsSome, IfSome, MatchOption};
+ghost use Rattle.std.specs.Prelude.{◌≡◌, List, ◌∷◌, ◌-◌, ◌^◌, ◌<◌, ◌≤◌, ◌↔◌, [], true, length, map, option_map, slice_get, Some, IsTrue, OnOk, OnErr, IsSome, IfSome, MatchOption};
 ghost use Rattle.std.specs.List.Sorted.{IsSearchInRange, IsBinarySearchResult};
 ghost use Rattle.std.specs.declared.cmp.Ordering.TheVariants.{Equal};
 ghost use Rattle.hippo_values.specs.Order.{value_cmp, cells_cmp};
@@ -7,7 +7,7 @@ ghost use Rattle.hippo_model.specs.declared.born_row.BornRow.{BornRow};
 ghost use Rattle.hippo_model.specs.Rows.{cell_at, key_of};
 ghost use Rattle.hippo_keyed_rows.specs.Pieces.{begins_low, ends_below, PartsLow};
 ghost use Rattle.hippo_model.specs.Terms.{Place};
-ghost use Rattle.hippo_keyed_rows.specs.Searches.{key_sought, sought_order};
+ghost use Rattle.hippo_keyed_rows.specs.Searches.{key_sought, sought_order, place_behind};
 ghost use Rattle.hippo_keyed_rows.specs.RowSets.{IsAscending, IsFree, key_in, with_row, without_row, find_row, Puts};
 
 use crate::pieces::{Piece, Pieces, start};
@@ -182,6 +182,17 @@ fn stands_behind_all(rows: &Pieces<BornRow>, places: &[usize], sought: &Sought<'
     }
 }
 
+// What was found in a piece, as a place among all rows, of which so many stand before the piece.
+fn behind(start: usize, found: Result<usize, usize>) -> Result<usize, usize>
+    requires { IsSearchInRange found (2 ^ 64 - 1 - start) }
+    ensures { result ≡ place_behind start found }
+{
+    match found {
+        Ok(place) => Ok(start + place),
+        Err(place) => Err(start + place),
+    }
+}
+
 // Where a key stands among all rows, or where it would.
 fn search(rows: &Pieces<BornRow>, places: &[usize], sought: &Sought<'_>) -> Result<usize, usize>
     ensures range { IsSearchInRange result (length rows.now) }
@@ -197,10 +208,7 @@ fn search(rows: &Pieces<BornRow>, places: &[usize], sought: &Sought<'_>) -> Resu
         return Err(0);
     }
     let start = start(pieces, low - 1);
-    match search_piece(&pieces[low - 1], places, sought) {
-        Ok(place) => Ok(start + place),
-        Err(place) => Err(start + place),
-    }
+    behind(start, search_piece(&pieces[low - 1], places, sought))
 }
 
 // The number at a place of a row.

@@ -57,44 +57,44 @@ module _ (name : List ℕ) (before after : KeeperState) (steps : ℕ) where
 
 module _ (name : List ℕ) (before mid after : KeeperState) (steps_before steps_after : ℕ) (state : State) (starts : Starts name (well KeeperFault) before mid) where
   found_after : (all : Result (Unit {0}) LoadFault) → ReadsAllKept all mid after state steps_before steps_after → after.tells → KeepsFound (before.finds name) after
-  found_after all reads tells = KeepsFound-after (before.finds name) mid after (starts.ok (reads.call.told tells)) (reads.stays tells)
+  found_after all reads tells = KeepsFound-after (before.finds name) mid after (starts.ok (reads.hands.call.told tells)) (reads.hands.stays tells)
 
   steps_within : (all : Result (Unit {0}) LoadFault) → ReadsAllKept all mid after state steps_before steps_after → after.tells → steps_after ≤ steps_before + stored_versions after.kept
   steps_within all reads tells =
       let front = reads.told tells in
-      let kept : stored_versions after.kept ≡ stored_versions reads.read + stored_versions front.0 = ap stored_versions ((reads.stays tells).same ∙ front.1) ∙ versions-append reads.read front.0 in
-      let taken = reads.steps in
+      let kept : stored_versions after.kept ≡ stored_versions reads.read + stored_versions front.0 = ap stored_versions ((reads.hands.stays tells).same ∙ front.1) ∙ versions-append reads.read front.0 in
+      let taken = reads.hands.steps in
       omega arith
 
   -- the state of what is kept
   is_loaded : ReadsAllKept (Ok tt) mid after state steps_before steps_after → IsLoaded state after steps_before steps_after
   is_loaded reads =
       let loaded = reads.loaded in
-      let kept : after.tells → map stored loaded.history ≡ after.kept = λ tells. loaded.forms ∙ sym (reads.whole tells) ∙ sym (reads.stays tells).same in
+      let kept : after.tells → map stored loaded.history ≡ after.kept = λ tells. loaded.forms ∙ sym (reads.whole tells) ∙ sym (reads.hands.stays tells).same in
       record {
         history = loaded.history;
         stands = loaded.stands;
         told = kept;
         only = λ tells other store. one_history meaning after.kept other loaded.history store (record { forms = kept tells; valid = loaded.stands.valid });
-        steps = reads.steps ∙ ap (λ n. steps_before + n) (ap stored_versions (sym loaded.forms) ∙ stored_versions-stored loaded.history);
+        steps = reads.hands.steps ∙ ap (λ n. steps_before + n) (ap stored_versions (sym loaded.forms) ∙ stored_versions-stored loaded.history);
       }
 
   -- what comes of reading all
   pub Loads-started : (all : Result (Unit {0}) LoadFault) → ReadsAllKept all mid after state steps_before steps_after → Loads name (result_and all (Ok state)) before after steps_before steps_after
   Loads-started (Ok done) reads = record {
-    call = call_by (Ok tt) true false before after (IsAfterCall-then false (well KeeperFault) (well KeeperFault) before mid after refl starts.call reads.call) refl;
-    started = λ judged. reads.call.started_is;
+    call = call_by (Ok tt) true false before after (IsAfterCall-then false (well KeeperFault) (well KeeperFault) before mid after refl starts.call reads.hands.call) refl;
+    started = λ judged. reads.hands.call.started_is;
     found = λ started. found_after (Ok done) reads;
     ok = is_loaded reads;
     damaged = λ place is. absurd cc;
     steps = steps_within (Ok done) reads;
   }
   Loads-started (Err fault) reads = record {
-    call = by_fault fault reads.call;
-    started = λ judged. reads.call.started_is;
+    call = by_fault fault reads.hands.call;
+    started = λ judged. reads.hands.call.started_is;
     found = λ started. found_after (Err fault) reads;
     ok = tt;
-    damaged = λ place is tells. subst (λ (kept : Store). IsDamagedAt meaning kept place) (sym (reads.stays tells).same) (reads.damaged place (ap Err (same_Err fault (Damaged place) is)) tells);
+    damaged = λ place is tells. subst (λ (kept : Store). IsDamagedAt meaning kept place) (sym (reads.hands.stays tells).same) (reads.damaged place (ap Err (same_Err fault (Damaged place) is)) tells);
     steps = steps_within (Err fault) reads;
   }
     where

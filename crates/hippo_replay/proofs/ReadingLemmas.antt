@@ -9,8 +9,8 @@ use Rattle.hippo_model.specs.Stores.{IsDamagedAt}
 use Rattle.hippo_keeper.specs.declared.faults.KeeperFault.{KeeperFault}
 use Rattle.hippo_keeper.specs.declared.faults.KeeperFault.TheVariants as keeper_faults
 use Rattle.hippo_keeper.specs.Answering.{has_failed}
-use Rattle.hippo_keeper.specs.Keeping.{Store, RisesAbove, last_number, next_number as next_kept, KeeperState, IsReady, IsAfterCall, KeepsSame}
-use Rattle.hippo_keeper.specs.Selecting.{is_any, is_stored_version, stored_versions, handed_over, ReadsEntries}
+use Rattle.hippo_keeper.specs.Keeping.{Store, RisesAbove, last_number, next_number as next_kept, KeeperState, IsReady, IsAfterCall}
+use Rattle.hippo_keeper.specs.Selecting.{is_any, is_stored_version, stored_versions, handed_over, HandsOver, ReadsEntries}
 use Rattle.hippo_typing.specs.Meanings.{meaning}
 use Rattle.hippo_replay.specs.declared.faults.LoadFault.{LoadFault}
 use Rattle.hippo_replay.specs.declared.faults.LoadFault.TheVariants.{Keeper, Damaged, Memory}
@@ -80,10 +80,12 @@ module _ (max : ℕ) (before after : KeeperState) (old new : State) (steps_old s
   -- a piece was taken in
   reads_on-ok : (any : Bool) → 0 < max → old.count < 2 ^ 64 → IsSound old → (any ≡ false → piece ≡ []) → (any ≡ true → ¬ (piece ≡ [])) → TakesIn piece (well LoadFault) old new → ReadsPiece (Ok any) before after old new steps_old steps_new
   reads_on-ok any some room sound none more taken = record {
-    call = read_call (Ok any) (λ e. absurd cc);
-    stays = λ tells. KeepsSame-Stays before after (reads.stays tells);
     piece = piece;
-    steps = steps;
+    hands = record {
+      call = read_call (Ok any) (λ e. absurd cc);
+      stays = λ tells. KeepsSame-Stays before after (reads.stays tells);
+      steps = steps;
+    };
     told = λ tells store rest upto. (drop max rest, read_behind tells store rest upto);
     taken = taken.ok;
     ended = λ is tells store rest upto. nothing_taken max rest some (sym (read_told tells store rest upto) ∙ none (same_Ok any false is));
@@ -98,10 +100,12 @@ module _ (max : ℕ) (before after : KeeperState) (old new : State) (steps_old s
   -- or its damage was found, or memory was short
   reads_on-err : (fault : LoadFault) → TakesIn piece (err_of (Unit {0}) fault) old new → ReadsPiece (Err fault) before after old new steps_old steps_new
   reads_on-err fault taken = record {
-    call = read_call {B = Bool} (Err fault) (λ e. taken.unfailed (ap Err (same_Err fault Keeper e)));
-    stays = λ tells. KeepsSame-Stays before after (reads.stays tells);
     piece = piece;
-    steps = steps;
+    hands = record {
+      call = read_call {B = Bool} (Err fault) (λ e. taken.unfailed (ap Err (same_Err fault Keeper e)));
+      stays = λ tells. KeepsSame-Stays before after (reads.stays tells);
+      steps = steps;
+    };
     told = λ tells store rest upto. (drop max rest, read_behind tells store rest upto);
     taken = tt;
     ended = λ is. absurd cc;
@@ -131,10 +135,12 @@ some_by false piece is e = λ none. false≢true (is.1 none)
 -- a read that failed
 pub reads_on-fault : (max : ℕ) (before after : KeeperState) (old : State) (steps_old steps_new : ℕ) (fault : KeeperFault) → ReadsEntries is_any old.count max (Err fault) before after → steps_new ≡ steps_old + 0 → ReadsPiece (Err (load_fault fault)) before after old old steps_old steps_new
 reads_on-fault max before after old steps_old steps_new fault reads steps = record {
-  call = by_fault before after fault reads.call;
-  stays = λ tells. KeepsSame-Stays before after (reads.stays tells);
   piece = [];
-  steps = steps;
+  hands = record {
+    call = by_fault before after fault reads.call;
+    stays = λ tells. KeepsSame-Stays before after (reads.stays tells);
+    steps = steps;
+  };
   told = λ tells store rest upto. (rest, refl);
   taken = tt;
   ended = λ is. absurd cc;
@@ -154,12 +160,14 @@ reads_on-fault max before after old steps_old steps_new fault reads steps = reco
 -- nothing is read at first
 pub IsReading-first : (keeper : KeeperState) (state : State) (steps : ℕ) → IsReady true keeper → StandsFor state [] → IsReading keeper keeper state steps steps
 IsReading-first keeper state steps ready stands = record {
-  call = IsAfterCall-none (well KeeperFault) keeper refl ready;
-  stays = λ tells. KeepsSame-here keeper;
-  sound = record { history = []; stands = stands };
   read = [];
+  hands = record {
+    call = IsAfterCall-none (well KeeperFault) keeper refl ready;
+    stays = λ tells. KeepsSame-here keeper;
+    steps = omega arith;
+  };
+  sound = record { history = []; stands = stands };
   loaded = record { history = []; forms = refl; stands = stands };
-  steps = omega arith;
   told = λ tells. (keeper.kept, refl);
 }
 
@@ -168,39 +176,35 @@ module _ (before now after : KeeperState) (old new : State) (steps_first steps_o
   up_to : now.tells → (behind : Store) → before.kept ≡ so_far.read ++ behind → IsUpTo old now so_far.read behind
   up_to tells behind whole = record {
     loaded = so_far.loaded;
-    order = subst (λ (kept : Store). RisesAbove 0 kept) (sym (so_far.stays tells).same) (order (so_far.call.told tells));
-    whole = (so_far.stays tells).same ∙ whole;
+    order = subst (λ (kept : Store). RisesAbove 0 kept) (sym (so_far.hands.stays tells).same) (order (so_far.hands.call.told tells));
+    whole = (so_far.hands.stays tells).same ∙ whole;
   }
 
   module _ (result : Result Bool LoadFault) (reads : ReadsPiece result now after old new steps_old steps_new) where
-    call_then : IsAfterCall true false (load_as_call result) before after
-    call_then = IsAfterCall-then false (well KeeperFault) (load_as_call result) before now after refl so_far.call reads.call
-
-    stays_then : after.tells → KeepsSame before after
-    stays_then tells = KeepsSame-then before now after (so_far.stays (reads.call.told tells)) (reads.stays tells)
+    hands_then : HandsOver (load_as_call result) (so_far.read ++ reads.piece) before after steps_first steps_new
+    hands_then = record {
+      call = IsAfterCall-then false (well KeeperFault) (load_as_call result) before now after refl so_far.hands.call reads.hands.call;
+      stays = λ tells. KeepsSame-then before now after (so_far.hands.stays (reads.hands.call.told tells)) (reads.hands.stays tells);
+      steps =
+          let here = reads.hands.steps in
+          let there = so_far.hands.steps in
+          omega (arith, here, there, versions-append so_far.read reads.piece);
+    }
 
     told_then : after.tells → ((behind : Store) × (before.kept ≡ (so_far.read ++ reads.piece) ++ behind))
     told_then tells =
-        let rest = so_far.told (reads.call.told tells) in
-        let more = reads.told tells so_far.read rest.0 (up_to (reads.call.told tells) rest.0 rest.1) in
+        let rest = so_far.told (reads.hands.call.told tells) in
+        let more = reads.told tells so_far.read rest.0 (up_to (reads.hands.call.told tells) rest.0 rest.1) in
         (more.0, rest.1 ∙ ap (λ (behind : Store). so_far.read ++ behind) more.1 ∙ sym (append_assoc so_far.read reads.piece more.0))
-
-    steps_then : steps_new ≡ steps_first + stored_versions (so_far.read ++ reads.piece)
-    steps_then =
-        let here = reads.steps in
-        let there = so_far.steps in
-        omega (arith, here, there, versions-append so_far.read reads.piece)
 
     -- there is more to read
     pub IsReading-on : result ≡ Ok true → IsSound new → IsReading before after new steps_first steps_new
     IsReading-on is sound =
         record {
-          call = subst (λ (r : Result Bool LoadFault). IsAfterCall true false (load_as_call r) before after) is call_then;
-          stays = stays_then;
-          sound = sound;
           read = so_far.read ++ reads.piece;
+          hands = subst (λ (r : Result Bool LoadFault). HandsOver (load_as_call r) (so_far.read ++ reads.piece) before after steps_first steps_new) is hands_then;
+          sound = sound;
           loaded = (subst (λ (r : Result Bool LoadFault). OnOk r ((store : Store) → HasLoaded old store → HasLoaded new (store ++ reads.piece))) is reads.taken) so_far.read so_far.loaded;
-          steps = steps_then;
           told = told_then;
         }
 
@@ -208,15 +212,13 @@ module _ (before now after : KeeperState) (old new : State) (steps_first steps_o
     pub ReadsAllKept-end : result ≡ Ok false → ReadsAllKept (Ok tt) before after new steps_first steps_new
     ReadsAllKept-end is =
         record {
-          call = subst (λ (r : Result Bool LoadFault). IsAfterCall true false (load_as_call r) before after) is call_then;
-          stays = stays_then;
           read = so_far.read ++ reads.piece;
-          steps = steps_then;
+          hands = subst (λ (r : Result Bool LoadFault). HandsOver (load_as_call r) (so_far.read ++ reads.piece) before after steps_first steps_new) is hands_then;
           told = told_then;
           loaded = (subst (λ (r : Result Bool LoadFault). OnOk r ((store : Store) → HasLoaded old store → HasLoaded new (store ++ reads.piece))) is reads.taken) so_far.read so_far.loaded;
           whole = λ tells.
-              let rest = so_far.told (reads.call.told tells) in
-              let none = reads.ended is tells so_far.read rest.0 (up_to (reads.call.told tells) rest.0 rest.1) in
+              let rest = so_far.told (reads.hands.call.told tells) in
+              let none = reads.ended is tells so_far.read rest.0 (up_to (reads.hands.call.told tells) rest.0 rest.1) in
               rest.1 ∙ ap (λ (behind : Store). so_far.read ++ behind) (none ∙ sym (reads.nothing is));
           damaged = λ place e. absurd cc;
         }
@@ -225,20 +227,18 @@ module _ (before now after : KeeperState) (old new : State) (steps_first steps_o
     pub ReadsAllKept-fault : (fault : LoadFault) → result ≡ Err fault → ReadsAllKept (Err fault) before after new steps_first steps_new
     ReadsAllKept-fault fault is =
         record {
-          call = same_call fault (subst (λ (r : Result Bool LoadFault). IsAfterCall true false (load_as_call r) before after) is call_then);
-          stays = stays_then;
           read = so_far.read ++ reads.piece;
-          steps = steps_then;
+          hands = same_hands fault (subst (λ (r : Result Bool LoadFault). HandsOver (load_as_call r) (so_far.read ++ reads.piece) before after steps_first steps_new) is hands_then);
           told = told_then;
           loaded = tt;
           whole = tt;
           damaged = λ place e tells.
-              let rest = so_far.told (reads.call.told tells) in
-              let there = reads.damaged place (is ∙ ap Err (same_Err fault (Damaged place) e)) tells so_far.read rest.0 (up_to (reads.call.told tells) rest.0 rest.1) in
-              subst (λ (kept : Store). IsDamagedAt meaning kept place) (so_far.stays (reads.call.told tells)).same there;
+              let rest = so_far.told (reads.hands.call.told tells) in
+              let there = reads.damaged place (is ∙ ap Err (same_Err fault (Damaged place) e)) tells so_far.read rest.0 (up_to (reads.hands.call.told tells) rest.0 rest.1) in
+              subst (λ (kept : Store). IsDamagedAt meaning kept place) (so_far.hands.stays (reads.hands.call.told tells)).same there;
         }
       where
-        same_call : (fault : LoadFault) → IsAfterCall true false (load_as_call (err_of Bool fault)) before after → IsAfterCall true false (load_as_call (err_of (Unit {0}) fault)) before after
-        same_call Keeper call = call
-        same_call (Damaged place) call = call
-        same_call Memory call = call
+        same_hands : (fault : LoadFault) → HandsOver (load_as_call (err_of Bool fault)) (so_far.read ++ reads.piece) before after steps_first steps_new → HandsOver (load_as_call (err_of (Unit {0}) fault)) (so_far.read ++ reads.piece) before after steps_first steps_new
+        same_hands Keeper hands = hands
+        same_hands (Damaged place) hands = hands
+        same_hands Memory hands = hands

@@ -1,8 +1,8 @@
 -- What reading the kept entries, piece by piece, makes of a state.
-use Rattle.std.specs.Prelude.{◌≡◌, ℕ, ◌+◌, ◌^◌, ◌<◌, Bool, true, false, [], ◌++◌, Result, Ok, Err, OnOk}
+use Rattle.std.specs.Prelude.{◌≡◌, ℕ, ◌^◌, ◌<◌, Bool, true, false, [], ◌++◌, Result, Ok, Err, OnOk}
 use Rattle.hippo_model.specs.Stores.{IsDamagedAt}
-use Rattle.hippo_keeper.specs.Keeping.{Store, RisesAbove, KeeperState, IsAfterCall, KeepsSame}
-use Rattle.hippo_keeper.specs.Selecting.{stored_versions}
+use Rattle.hippo_keeper.specs.Keeping.{Store, RisesAbove, KeeperState}
+use Rattle.hippo_keeper.specs.Selecting.{HandsOver}
 use Rattle.hippo_keeper.specs.declared.faults.KeeperFault.{KeeperFault}
 use Rattle.hippo_keeper.specs.declared.faults.KeeperFault.TheVariants as keeper_faults
 use Rattle.hippo_typing.specs.Meanings.{meaning}
@@ -28,10 +28,8 @@ pub record IsUpTo (state : State) (keeper : KeeperState) (store rest : Store) : 
 pub record ReadsPiece (result : Result Bool LoadFault) (before after : KeeperState)
     (old new : State)
     (steps_old steps_new : ℕ) : Type 0 where
-  pub call : IsAfterCall true false (load_as_call result) before after
-  pub stays : after.tells → KeepsSame before after
   pub piece : Store
-  pub steps : steps_new ≡ steps_old + stored_versions piece
+  pub hands : HandsOver (load_as_call result) piece before after steps_old steps_new
   pub told : after.tells → (store rest : Store) → IsUpTo old before store rest
       → ((behind : Store) × (rest ≡ piece ++ behind))
   pub taken : OnOk result ((store : Store) → HasLoaded old store → HasLoaded new (store ++ piece))
@@ -45,22 +43,18 @@ pub record ReadsPiece (result : Result Bool LoadFault) (before after : KeeperSta
 -- a front of what is kept is read and taken in
 pub record IsReading (before now : KeeperState) (state : State) (steps_old steps_now : ℕ)
     : Type 0 where
-  pub call : IsAfterCall {A = Unit {0}} true false (Ok tt) before now
-  pub stays : now.tells → KeepsSame before now
-  pub sound : IsSound state
   pub read : Store
+  pub hands : HandsOver {A = Unit {0}} (Ok tt) read before now steps_old steps_now
+  pub sound : IsSound state
   pub loaded : HasLoaded state read
-  pub steps : steps_now ≡ steps_old + stored_versions read
   pub told : now.tells → ((behind : Store) × (before.kept ≡ read ++ behind))
 
 -- all that is kept is read and taken in, or a front of it
 pub record ReadsAllKept (result : Result (Unit {0}) LoadFault) (before after : KeeperState)
     (state : State)
     (steps_old steps_new : ℕ) : Type 0 where
-  pub call : IsAfterCall true false (load_as_call result) before after
-  pub stays : after.tells → KeepsSame before after
   pub read : Store
-  pub steps : steps_new ≡ steps_old + stored_versions read
+  pub hands : HandsOver (load_as_call result) read before after steps_old steps_new
   pub told : after.tells → ((behind : Store) × (before.kept ≡ read ++ behind))
   pub loaded : OnOk result (HasLoaded state read)
   pub whole : OnOk result (after.tells → before.kept ≡ read)

@@ -16,7 +16,8 @@ memory_contents it = record {
   tells = ⊤;
   kept = it.kept;
   survives = SurvivesInMemory it;
-  rests = (it.started ≡ true) × (it.spent ≡ false) × (it.failing ≡ []);
+  rests = (it.calls.standing.started ≡ true) × (it.calls.standing.closed ≡ false)
+      × (it.calls.standing.spent ≡ false) × (it.calls.failing ≡ []);
 }
 
 abbrev pub link_contents : {S : Type 0} → Ghosts S → Link S → Contents

@@ -6,9 +6,8 @@ ghost use Rattle.hippo_sqlite.specs.Standings.{finds_by, sqlite_keeper_state, Is
 
 use crate::link::Link;
 use crate::opener::Opener;
-use crate::standing::Standing;
-use hippo_keeper::{Keeper, KeeperFault, Sought, Steps};
-use hippo_model::{StoredEntry, StoredList};
+use hippo_keeper::{Keeper, KeeperFault, Lot, Sought, Standing, Steps};
+use hippo_model::StoredEntry;
 use hippo_values::Moment;
 use std::alloc::Global;
 use std::sync::ledger::Ledger;
@@ -83,24 +82,12 @@ impl<O: Opener> Keeper for SqliteKeeper<O> {
         self.standing.settle(answer)
     }
 
-    fn read<L: Ledger>(
-        &mut self,
-        alloc: Global,
-        sought: &Sought<'_>,
-        steps: &mut Steps<L>,
-    ) -> Result<StoredList, KeeperFault> {
+    fn read<L: Ledger>(&mut self, alloc: Global, sought: &Sought<'_>, steps: &mut Steps<L>) -> Lot {
         let answer = self.link.read(alloc, sought, steps);
         self.standing.settle(answer)
     }
 
-    fn read_asked(
-        &mut self,
-        alloc: Global,
-        from: Moment,
-        to: Moment,
-        after: u64,
-        max: u64,
-    ) -> Result<StoredList, KeeperFault> {
+    fn read_asked(&mut self, alloc: Global, from: Moment, to: Moment, after: u64, max: u64) -> Lot {
         let answer = self.link.read_asked(alloc, from, to, after, max);
         self.standing.settle(answer)
     }

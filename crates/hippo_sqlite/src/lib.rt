@@ -1,10 +1,10 @@
 //! The history in a SQLite store: a keeper over a file or over memory, and what opens its store.
 #![tactic(auto)]
 
+mod faults;
 mod keeper;
 mod link;
 mod opener;
-mod standing;
 
 pub use keeper::SqliteKeeper;
 pub use opener::{DisksOpener, FileOpener, Opener};

@@ -12,10 +12,10 @@ ghost use Rattle.hippo_history_table.specs.Queries.{insert_sql, read_sql, params
 ghost use Rattle.hippo_sqlite.specs.Standings.{IsStarted};
 ghost use Rattle.hippo_history_table.specs.Tables.{HistoryRow, row_of, values_of, stored_row, entries_in, AreInOrder, history_schema, is_foreign};
 
-use crate::standing::fault_of;
+use crate::faults::fault_of;
 use hippo_history_table::{create_history, entries_of, insert, select};
 use hippo_keeper::{
-    Keeper, KeeperFails, KeeperFault, MemoryKeeper, Selection, Sought, Steps, counted,
+    Keeper, KeeperFails, KeeperFault, Lot, MemoryKeeper, Selection, Sought, Steps, counted,
 };
 use hippo_model::{StoredEntry, StoredList};
 use hippo_values::Moment;
@@ -60,11 +60,7 @@ fn keep<S: Alter>(connection: &mut Connection<S>, entry: &StoredEntry) -> Result
 }
 
 // The kept entries that are sought.
-fn find<S: Alter>(
-    connection: &mut Connection<S>,
-    alloc: Global,
-    sought: &Sought<'_>,
-) -> Result<StoredList, KeeperFault>
+fn find<S: Alter>(connection: &mut Connection<S>, alloc: Global, sought: &Sought<'_>) -> Lot
     requires above { sought.now.after < 2 ^ 63 }
     requires limit { sought.now.max ≤ 1000 }
     ensures few { IfOk result (λ list. length list ≤ sought.now.max) }
@@ -156,7 +152,7 @@ impl<S: Alter + Drop> Linked<S> {
     }
 
     /// The kept entries that are sought.
-    fn read(&mut self, alloc: Global, sought: &Sought<'_>) -> Result<StoredList, KeeperFault>
+    fn read(&mut self, alloc: Global, sought: &Sought<'_>) -> Lot
         requires limit { sought.now.max ≤ 1000 }
         requires rests { (linked_contents S.Store self.old).rests }
         ensures { HasRead (is_selected sought.now.selection) sought.now.after sought.now.max result
@@ -227,7 +223,7 @@ impl<S: Alter + Drop> Link<S> {
         alloc: Global,
         sought: &Sought<'_>,
         steps: &mut Steps<L>,
-    ) -> Result<StoredList, KeeperFault>
+    ) -> Lot
         requires limit { sought.now.max ≤ 1000 }
         requires rests { (link_contents S.Store self.old).rests }
         ensures reads { HasRead (is_selected sought.now.selection) sought.now.after sought.now.max
@@ -249,7 +245,7 @@ impl<S: Alter + Drop> Link<S> {
         to: Moment,
         after: u64,
         max: u64,
-    ) -> Result<StoredList, KeeperFault>
+    ) -> Lot
         requires limit { max ≤ 1000 }
         requires rests { (link_contents S.Store self.old).rests }
         ensures reads { HasRead (was_asked_in from to) after max result

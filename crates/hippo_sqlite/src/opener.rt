@@ -7,7 +7,7 @@ ghost use Rattle.sqlite.specs.Held.{state};
 ghost use Rattle.sqlite.specs.Files.{image_of};
 ghost use Rattle.hippo_sqlite.specs.Openings.{IsFoundIn};
 
-use crate::standing::fault_of;
+use crate::faults::fault_of;
 use hippo_keeper::KeeperFault;
 use sqlite::{Alter, Connection, FileFrom, FileStore, Files, Options, Start, Unknown};
 use sqlite_disk::Disk;

@@ -10,16 +10,12 @@ returns-in-Ok c =
     let test = is_selected c.args.sought.now.selection in
     let above = c.entries_above.result.now in
     let is : c.in-Ok.list ≡ take c.args.sought.now.max (filter test above) = c.in-Ok.ensures in
-    let same : c.begin_call.new.self.kept ≡ c.args.self.now.kept = ap (λ store. store.kept) c.begin_call.ensures.counted in
     record {
-      reads = record {
-        store = search rules;
-        fails = search rules;
-        faults = search rules;
-        read = record {
-          told = λ told. is ∙ ap (λ entries. take c.args.sought.now.max (filter test entries)) c.entries_above.ensures.above ∙ ap (λ kept. handed_over test c.args.sought.now.after c.args.sought.now.max kept) same;
-          few = omega (arith, ap length is, length-take c.args.sought.now.max (filter test above));
-          order = subst (λ list. RisesAbove c.args.sought.now.after list) (sym is) (RisesAbove-take c.args.sought.now.max c.args.sought.now.after _ (RisesAbove-filter test c.args.sought.now.after above c.entries_above.ensures.order));
-        };
+      call = search rules;
+      fails = search rules;
+      read = record {
+        told = λ told. is ∙ ap (λ entries. take c.args.sought.now.max (filter test entries)) c.entries_above.ensures.above ∙ ap (λ store. handed_over test c.args.sought.now.after c.args.sought.now.max store.kept) c.self.view_is;
+        few = omega (arith, ap length is, length-take c.args.sought.now.max (filter test above));
+        order = subst (λ list. RisesAbove c.args.sought.now.after list) (sym is) (RisesAbove-take c.args.sought.now.max c.args.sought.now.after _ (RisesAbove-filter test c.args.sought.now.after above c.entries_above.ensures.order));
       };
     }
