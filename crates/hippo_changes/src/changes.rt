@@ -1,17 +1,15 @@
 //! What a statement that changes something asks for, or why it is refused.
-ghost use Rattle.std.specs.Prelude.{◌≡◌, false, if◌then◌else◌, Some, Err};
+ghost use Rattle.std.specs.Prelude.{◌≡◌, false, Err};
 ghost use Rattle.hippo_model.specs.declared.name_fault.NameFault.TheVariants as faults;
 ghost use Rattle.hippo_statements.specs.declared.statement.Stmt.TheVariants.{CreatePurpose, CreateRecipient, CreateItem, Choice, Insert};
-ghost use Rattle.hippo_model.specs.declared.wanted.Wanted.TheVariants.{Ready};
-ghost use Rattle.hippo_model.specs.declared.entry.Act.TheVariants as acts;
-ghost use Rattle.hippo_catalog.specs.Refusals.{Resolves, unknown_pair};
+ghost use Rattle.hippo_catalog.specs.Refusals.{Resolves};
 ghost use Rattle.hippo_catalog.specs.ChangesRefused.{known_name_refused, change_refused};
 ghost use Rattle.hippo_catalog.specs.ChangesWanted.{wanted_by, Grants, changes_something};
-ghost use Rattle.hippo_changes.specs.Checking.{Checks};
+ghost use Rattle.hippo_changes.specs.Checking.{Checks, ChecksGrant, grant_act};
 
 use crate::keys::{check_delete, check_update};
 use crate::names::{check_item, check_new, known_table};
-use crate::rules::{check_allow, check_revoke};
+use crate::rules::{check_revoke, check_rule};
 use crate::tables::check_create_table;
 use crate::values::check_new_row;
 use hippo_catalog::{Catalog, check_pair};
@@ -29,8 +27,7 @@ fn new_name(alloc: Global, is_there: bool, name: &Name) -> Result<Name, NameFaul
 }
 
 fn grant_act(is_given: bool, user: Name, purpose: Name, recipient: Name) -> Act
-    ensures { result ≡ (if is_given then acts.Authorize user purpose recipient
-        else acts.Deauthorize user purpose recipient) }
+    ensures { result ≡ grant_act is_given user purpose recipient }
 {
     if is_given {
         return Act::Authorize {
@@ -55,9 +52,7 @@ fn check_grant(
     purpose: &Name,
     recipient: &Name,
 ) -> Result<Wanted, NameFault>
-    ensures { Grants (unknown_pair catalog.now.names purpose.now recipient.now)
-        (Some (Ready (if is_given then acts.Authorize user.now purpose.now recipient.now
-        else acts.Deauthorize user.now purpose.now recipient.now))) result }
+    ensures { ChecksGrant catalog.now.names is_given user.now purpose.now recipient.now result }
 {
     check_pair(alloc, catalog, purpose, recipient)?;
     let user = user.copy(alloc)?;
@@ -162,8 +157,8 @@ pub fn check_change(alloc: Global, catalog: &Catalog, statement: &Stmt) -> Resul
             columns,
             item,
             days,
-        } => check_allow(
-            alloc, catalog, purpose, recipient, table, columns, item, *days,
+        } => check_rule(
+            alloc, catalog, true, purpose, recipient, table, columns, item, *days,
         ),
         Stmt::Revoke {
             purpose,

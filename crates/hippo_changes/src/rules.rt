@@ -1,11 +1,9 @@
 //! ALLOW and REVOKE.
 ghost use Rattle.std.specs.Prelude.{◌≡◌, IfOk};
-ghost use Rattle.hippo_model.specs.declared.entry.Act.TheVariants as acts;
-ghost use Rattle.hippo_statements.specs.declared.statement.Stmt.TheVariants.{Allow, Revoke};
-ghost use Rattle.hippo_model.specs.declared.wanted.Wanted.TheVariants.{Ready};
+ghost use Rattle.hippo_statements.specs.declared.statement.Stmt.TheVariants.{Revoke};
 ghost use Rattle.hippo_catalog.specs.Refusals.{Resolves};
 ghost use Rattle.hippo_catalog.specs.ChangesRefused.{rule_item_refused};
-ghost use Rattle.hippo_changes.specs.Checking.{Checks};
+ghost use Rattle.hippo_changes.specs.Checking.{Checks, ChecksRule, rule_act};
 
 use crate::columns::distinct_places;
 use crate::names::{check_item_if_any, known_table};
@@ -33,50 +31,42 @@ fn copied_if_any(alloc: Global, name: &Option<Name>) -> Result<Option<Name>, Mem
     }
 }
 
-fn allow(
+fn rule_act(
     alloc: Global,
+    is_shown: bool,
     purpose: &Name,
     recipient: &Name,
     table: &Name,
     columns: Places,
     item: &Option<Name>,
     days: Option<u32>,
-) -> Result<Wanted, Memory>
-    ensures { IfOk result (λ made. made ≡ Ready
-        (acts.Allow purpose.now recipient.now table.now columns item.now days)) }
+) -> Result<Act, Memory>
+    ensures { IfOk result (λ act. act ≡ rule_act is_shown purpose.now recipient.now table.now columns
+        item.now days) }
 {
-    Ok(Wanted::Ready(Act::Allow {
+    if is_shown {
+        return Ok(Act::Allow {
+            purpose: purpose.copy(alloc)?,
+            recipient: recipient.copy(alloc)?,
+            table: table.copy(alloc)?,
+            columns,
+            item: copied_if_any(alloc, item)?,
+            days,
+        });
+    }
+    Ok(Act::Revoke {
         purpose: purpose.copy(alloc)?,
         recipient: recipient.copy(alloc)?,
         table: table.copy(alloc)?,
         columns,
-        item: copied_if_any(alloc, item)?,
-        days,
-    }))
+    })
 }
 
-fn revoke(
-    alloc: Global,
-    purpose: &Name,
-    recipient: &Name,
-    table: &Name,
-    columns: Places,
-) -> Result<Wanted, Memory>
-    ensures { IfOk result (λ made. made ≡ Ready
-        (acts.Revoke purpose.now recipient.now table.now columns)) }
-{
-    Ok(Wanted::Ready(Act::Revoke {
-        purpose: purpose.copy(alloc)?,
-        recipient: recipient.copy(alloc)?,
-        table: table.copy(alloc)?,
-        columns,
-    }))
-}
-
-/// ALLOW: the columns that a rule shows.
-pub fn check_allow(
+/// ALLOW, where the columns are shown, and REVOKE, which names no item.
+pub fn check_rule(
     alloc: Global,
     catalog: &Catalog,
+    is_shown: bool,
     purpose: &Name,
     recipient: &Name,
     table: &Name,
@@ -84,15 +74,18 @@ pub fn check_allow(
     item: &Option<Name>,
     days: Option<u32>,
 ) -> Result<Wanted, NameFault>
-    ensures { Checks catalog.now.names
-        (Allow purpose.now recipient.now table.now columns.now item.now days) result }
+    ensures { ChecksRule catalog.now.names is_shown purpose.now recipient.now table.now columns.now
+        item.now days result }
 {
     let found = known_table(alloc, catalog, table)?;
     check_pair(alloc, catalog, purpose, recipient)?;
     check_item_if_any(alloc, catalog, item)?;
     let columns = distinct_places(alloc, found, columns.as_slice())?;
     check_subject(alloc, found.schema(), item)?;
-    Ok(allow(alloc, purpose, recipient, table, columns, item, days)?)
+    let act = rule_act(
+        alloc, is_shown, purpose, recipient, table, columns, item, days,
+    )?;
+    Ok(Wanted::Ready(act))
 }
 
 /// REVOKE: the columns that a rule no longer shows.
@@ -107,8 +100,7 @@ pub fn check_revoke(
     ensures { Checks catalog.now.names (Revoke purpose.now recipient.now table.now columns.now)
         result }
 {
-    let found = known_table(alloc, catalog, table)?;
-    check_pair(alloc, catalog, purpose, recipient)?;
-    let columns = distinct_places(alloc, found, columns.as_slice())?;
-    Ok(revoke(alloc, purpose, recipient, table, columns)?)
+    check_rule(
+        alloc, catalog, false, purpose, recipient, table, columns, &None, None,
+    )
 }

@@ -25,7 +25,8 @@ use Rattle.hippo_catalog.specs.StatementLimits.{too_many}
 use Rattle.hippo_catalog.specs.WrittenColumns.{place_of}
 use Rattle.hippo_typing.specs.ResolutionLaws.{NamesAreThoseOf}
 use Rattle.hippo_following.specs.Written.{has_members, columns_written}
-use Rattle.hippo_following.proofs.PlaceLemmas.{found_at, parted, length-places, places_within, names_differ, places_differ, no_more_than, below_more}
+use Rattle.hippo_catalog.proofs.DifferLemmas.{names_differ}
+use Rattle.hippo_following.proofs.PlaceLemmas.{found_at, parted, length-places, places_within, places_differ, no_more_than, below_more}
 use Rattle.hippo_following.proofs.RefusalLemmas.{none_of_both, not_refused, absent}
 
 module _ (table : Name) (columns : List Column) (key : List Name) (subject : Option Name) where

@@ -1,23 +1,23 @@
 -- The places of columns that a statement names.
-use Rattle.std.proofs.Common.{◌≡◌, ℕ, suc, ◌<◌, ◌≤◌, Bool, true, false, List, [], ◌∷◌, ◌++◌, length, get_or, Option, Some, None, refl, sym, ap, subst, ◌∙◌, arith}
+use Rattle.std.proofs.Common.{◌≡◌, ℕ, suc, ◌<◌, ◌≤◌, true, false, List, [], ◌∷◌, length, get_or, Option, Some, None, refl, sym, ap, subst, ◌∙◌, arith}
 use Rattle.std.specs.Prelude.{not, ◌||◌, nat_eq, nat_lt, slice_get, position, is_none, bytes_eq}
 use Rattle.std.specs.Cmp.Lexicographic.{nat_list_eq_equiv}
-use Rattle.std.specs.List.{list_any, list_all, cons_option, AllByRecursion, IsDistinct}
+use Rattle.std.specs.List.{list_any, list_all, cons_option}
 use Rattle.std.proofs.lemmas.Bool.{and_parts, and_from, or_parts, ltb-true, lt-ltb, eqb-true, not-true, not_from_false, false_from_ne_true, false≢true, or_from}
 use Rattle.std.proofs.lemmas.List.Quantifiers.{position-Some}
 use Rattle.std.proofs.lemmas.Map.Steps.{length-le_from_distinct_below}
 use Rattle.std.proofs.lemmas.Option.{slice_get-get_or}
 use Rattle.std.proofs.lemmas.Slice.Eq.{bytes_eq-Decides}
 use Rattle.hippo_values.specs.declared.names.Name.{Name}
-use Rattle.hippo_model.specs.declared.name_fault.NameFault.TheVariants.{UnknownColumn, RepeatedName}
+use Rattle.hippo_model.specs.declared.name_fault.NameFault.TheVariants.{UnknownColumn}
 use Rattle.hippo_model.specs.declared.schema.Column.{Column}
 use Rattle.hippo_model.specs.declared.schema.Schema.{Schema}
 use Rattle.hippo_model.specs.Terms.{Place}
 use Rattle.hippo_model.specs.Validity.{all_differ}
 use Rattle.hippo_catalog.specs.ChangesRefused.{places_named, unknown_columns}
-use Rattle.hippo_catalog.specs.Refusals.{fault_if, repeated_after, repeated_names}
+use Rattle.hippo_catalog.specs.Refusals.{fault_if}
 use Rattle.hippo_catalog.specs.WrittenColumns.{place_of}
-use Rattle.hippo_following.proofs.RefusalLemmas.{none_of_both, not_refused}
+use Rattle.hippo_catalog.proofs.DifferLemmas.{none_of_both, distinct_so}
 
 -- the column at the place of a name
 pub record IsColumnAt (schema : Schema) (name : Name) (place : Place) : Type 0 where
@@ -71,38 +71,6 @@ places_within schema (name ∷ rest) =
       | Some place ↦ λ e. and_from _ _ (lt-ltb place (length schema.columns) (found_at schema name place e).within) (places_within schema rest)
     ] refl
 
--- what is not among some and one more
-none_of_two : (before : List Name) (name other : Name) → list_any (bytes_eq other) (before ++ name ∷ []) ≡ false → (list_any (bytes_eq other) before ≡ false) × (bytes_eq other name ≡ false)
-none_of_two [] name other none = (refl, (or_parts (bytes_eq other name) false none).0)
-none_of_two (first ∷ before) name other none =
-    let parts = or_parts (bytes_eq other first) (list_any (bytes_eq other) (before ++ name ∷ [])) none in
-    let later = none_of_two before name other parts.1 in
-    (or_from (bytes_eq other first) (list_any (bytes_eq other) before) parts.0 later.0, later.1)
-
-abbrev are_new : List Name → List Name → Bool
-are_new before names = list_all (λ other. not (list_any (bytes_eq other) before)) names
-
-new_of_two : (before : List Name) (name : Name) (rest : List Name) → are_new (before ++ name ∷ []) rest ≡ true → (list_any (bytes_eq name) rest ≡ false) × (are_new before rest ≡ true)
-new_of_two before name [] all = (refl, refl)
-new_of_two before name (other ∷ rest) all =
-    let both = and_parts (not (list_any (bytes_eq other) (before ++ name ∷ []))) (are_new (before ++ name ∷ []) rest) all in
-    let here = none_of_two before name other (not-true _ both.0) in
-    let later = new_of_two before name rest both.1 in
-    (or_from (bytes_eq name other) (list_any (bytes_eq name) rest) (nat_list_eq_equiv.symm name other ∙ here.1) later.0, and_from _ _ (not_from_false (list_any (bytes_eq other) before) here.0) later.1)
-
-differ_after : (before names : List Name) → repeated_after before names ≡ [] → (are_new before names ≡ true) × (all_differ bytes_eq names ≡ true)
-differ_after before [] none = (refl, refl)
-differ_after before (name ∷ rest) none =
-    let both = none_of_both (fault_if (list_any (bytes_eq name) before) (RepeatedName name)) (repeated_after (before ++ name ∷ []) rest) none in
-    let new = not_refused (list_any (bytes_eq name) before) (RepeatedName name) both.0 in
-    let later = differ_after (before ++ name ∷ []) rest both.1 in
-    let parts = new_of_two before name rest later.0 in
-    (and_from _ _ (not_from_false (list_any (bytes_eq name) before) new) parts.1, and_from _ _ (not_from_false (list_any (bytes_eq name) rest) parts.0) later.1)
-
--- names of which none is repeated differ
-pub names_differ : (names : List Name) → repeated_names names ≡ [] → all_differ bytes_eq names ≡ true
-names_differ names none = (differ_after [] names none).1
-
 -- one place is that of one name
 one_name : (schema : Schema) (name other : Name) (place : Place) → place_of schema name ≡ Some place → place_of schema other ≡ Some place → bytes_eq name other ≡ true
 one_name schema name other place is too =
@@ -139,19 +107,6 @@ places_differ schema (name ∷ rest) differ =
       | Some place ↦ λ e. and_from _ _ (not_from_false _ (other_places schema name place e rest (not-true _ parts.0))) later
     ] refl
 
-all_apart : (place : Place) (places : List Place) → list_any (nat_eq place) places ≡ false → AllByRecursion (λ other. nat_eq place other ≡ false) places
-all_apart place [] none = tt
-all_apart place (other ∷ rest) none =
-    let parts = or_parts (nat_eq place other) (list_any (nat_eq place) rest) none in
-    (parts.0, all_apart place rest parts.1)
-
-distinct_so : (places : List Place) → all_differ nat_eq places ≡ true → IsDistinct nat_eq places
-unfolding IsDistinct
-distinct_so [] differ = tt
-distinct_so (place ∷ rest) differ =
-    let parts = and_parts (not (list_any (nat_eq place) rest)) (all_differ nat_eq rest) differ in
-    (all_apart place rest (not-true _ parts.0), distinct_so rest parts.1)
-
 below : (count : ℕ) (places : List Place) → list_all (λ (place : Place). nat_lt place count) places ≡ true → (other : Place) → list_any (nat_eq other) places ≡ true → other < count
 below count [] all other among = absurd cc
 below count (place ∷ rest) all other among =
@@ -163,7 +118,7 @@ below count (place ∷ rest) all other among =
 
 -- places that differ are no more than there are columns
 pub no_more_than : (count : ℕ) (places : List Place) → all_differ nat_eq places ≡ true → list_all (λ (place : Place). nat_lt place count) places ≡ true → length places ≤ count
-no_more_than count places differ all = length-le_from_distinct_below places count (distinct_so places differ) (below count places all)
+no_more_than count places differ all = length-le_from_distinct_below places count (distinct_so nat_eq places differ) (below count places all)
 
 -- places below some number are below a greater one
 pub below_more : (count limit : ℕ) (places : List Place) → count ≤ limit → list_all (λ (place : Place). nat_lt place count) places ≡ true → list_all (λ (place : Place). nat_lt place limit) places ≡ true

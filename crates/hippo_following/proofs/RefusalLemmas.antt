@@ -4,14 +4,7 @@ use Rattle.std.specs.Prelude.{is_none, is_some, not, option_map}
 use Rattle.std.specs.Option.{option_map_or}
 use Rattle.hippo_model.specs.declared.name_fault.NameFault.{NameFault}
 use Rattle.hippo_catalog.specs.Refusals.{fault_if}
-
-pub none_of_both : {A : Type 0} (first second : List A) → first ++ second ≡ [] → (first ≡ []) × (second ≡ [])
-none_of_both [] second none = (refl, none)
-none_of_both (x ∷ rest) second none = absurd cc
-
-pub not_refused : (test : Bool) (fault : NameFault) → fault_if test fault ≡ [] → test ≡ false
-not_refused true fault none = absurd cc
-not_refused false fault none = refl
+pub use Rattle.hippo_catalog.proofs.DifferLemmas.{none_of_both, not_refused}
 
 pub passed : (test : Bool) (fault : NameFault) → fault_if (not test) fault ≡ [] → test ≡ true
 passed true fault none = refl

@@ -19,7 +19,8 @@ use Rattle.hippo_catalog.specs.Refusals.{fault_if, repeated_names, unknown_item}
 use Rattle.hippo_typing.specs.ResolutionLaws.{NamesAreThoseOf}
 use Rattle.hippo_following.specs.Written.{has_members}
 use Rattle.hippo_following.proofs.NameActs.{known_item}
-use Rattle.hippo_following.proofs.PlaceLemmas.{length-places, places_within, names_differ, places_differ, no_more_than, below_more}
+use Rattle.hippo_catalog.proofs.DifferLemmas.{names_differ}
+use Rattle.hippo_following.proofs.PlaceLemmas.{length-places, places_within, places_differ, no_more_than, below_more}
 use Rattle.hippo_following.proofs.RefusalLemmas.{none_of_both}
 
 -- a table that can be kept has at most 64 columns

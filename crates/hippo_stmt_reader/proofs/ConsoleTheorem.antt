@@ -21,7 +21,7 @@ use Rattle.hippo_audit_reader.specs.AuditGrammar.{IsAudit}
 use Rattle.hippo_audit_reader.specs.AuditFinder.{leading_audit}
 use Rattle.hippo_audit_reader.proofs.AuditTheorem as auditing
 use Rattle.hippo_stmt_reader.specs.StatementGrammar.{IsColumnDef, IsSubject, AreSettings, IsConsole, create_table, create_purpose, create_recipient, create_opt_in, create_opt_out, authorize, deauthorize, allow, revoke, choice_yes, choice_no, insert, update, delete, console_explain, console_audit, console_begin_audit, console_watch, IsEnd, no_semicolon, semicolon}
-use Rattle.hippo_stmt_reader.specs.StatementFinder.{end_left, leading_column_def, after_column, leading_names, leading_subject, leading_with_item, leading_retention, leading_number, leading_grant, leading_disclosure, create_table_of, create_purpose_of, create_recipient_of, one_of, create_item_of, create_of, authorize_of, deauthorize_of, allow_of, revoke_of, choice_of, insert_of, update_of, delete_of, explain_of, audit_statement_of, begin_audit_of, watch_of, console_behind, console_by_keyword, console_of}
+use Rattle.hippo_stmt_reader.specs.StatementFinder.{end_left, leading_column_def, after_column, leading_names, leading_subject, leading_with_item, leading_retention, leading_number, leading_grant, leading_disclosure, create_table_of, create_purpose_of, create_recipient_of, one_of, create_item_of, create_of, authorization_of, allow_of, revoke_of, choice_of, insert_of, update_of, delete_of, explain_of, audit_statement_of, begin_audit_of, watch_of, console_behind, console_by_keyword, console_of}
 use Rattle.hippo_stmt_reader.proofs.PartTheorem.{end_found, end_complete, number_found, column_defs_found, column_defs_complete, names_then, names_whole, subject_found, subject_complete, with_found, with_complete, retention_found, retention_complete, retention-no_with, settings_found, settings_complete, keys_found, keys_complete, literals_found, literals_complete, name_behind_then, assigned_then, grant_then, disclosure_then}
 
 -- the tokens are a statement of the console up to the end
@@ -79,14 +79,14 @@ create_found tokens s e =
     rw (is_recipient, is_name, ← same_Some _ s e) (rest, create_recipient, end_found rest end is_end))))
     (λ _ e. keyword_then KItem tokens _ _ e (λ behind is_item e. rw is_item (create_item_found behind s e)))))
 
-authorize_found : (tokens : List TokenKind) (s : Stmt) → authorize_of tokens ≡ Some s → IsRead (Keyword KAuthorize ∷ tokens) s
-unfolding authorize_of
+authorize_found : (tokens : List TokenKind) (s : Stmt) → authorization_of true tokens ≡ Some s → IsRead (Keyword KAuthorize ∷ tokens) s
+unfolding authorization_of
 authorize_found tokens s e =
     found_then (leading_grant tokens) _ _ e (λ grant grant_is e. found_then (end_left grant.1) _ _ e (λ end is_end e.
     grant_then tokens grant.0 grant.1 grant_is (λ is_grant. rw (is_grant, ← same_Some _ s e) (grant.1, authorize, end_found grant.1 end is_end))))
 
-deauthorize_found : (tokens : List TokenKind) (s : Stmt) → deauthorize_of tokens ≡ Some s → IsRead (Keyword KDeauthorize ∷ tokens) s
-unfolding deauthorize_of
+deauthorize_found : (tokens : List TokenKind) (s : Stmt) → authorization_of false tokens ≡ Some s → IsRead (Keyword KDeauthorize ∷ tokens) s
+unfolding authorization_of
 deauthorize_found tokens s e =
     found_then (leading_grant tokens) _ _ e (λ grant grant_is e. found_then (end_left grant.1) _ _ e (λ end is_end e.
     grant_then tokens grant.0 grant.1 grant_is (λ is_grant. rw (is_grant, ← same_Some _ s e) (grant.1, deauthorize, end_found grant.1 end is_end))))
@@ -217,7 +217,7 @@ audit_during _ a rest (audits.audit_expression e s cs ts w is) = (_, refl)
 
 -- each statement of the console is found
 pub console_complete : (tokens : List TokenKind) (s : Stmt) (rest : List TokenKind) → IsConsole tokens s rest → IsEnd rest → console_of tokens ≡ Some s
-unfolding console_of console_behind create_of create_table_of create_purpose_of create_recipient_of create_item_of authorize_of deauthorize_of leading_grant allow_of revoke_of leading_disclosure choice_of insert_of update_of delete_of explain_of audit_statement_of begin_audit_of watch_of
+unfolding console_of console_behind create_of create_table_of create_purpose_of create_recipient_of create_item_of authorization_of leading_grant allow_of revoke_of leading_disclosure choice_of insert_of update_of delete_of explain_of audit_statement_of begin_audit_of watch_of
 console_complete _ _ rest (create_table {columns = columns} {key = key} {subject = subject} {defs = defs} {keys = keys} {behind = behind} are_defs are_names is_subject) end =
     rw (column_defs_complete defs columns _ are_defs refl refl, names_whole keys key behind are_names, subject_complete behind subject (Symbol RightParen ∷ rest) is_subject refl, end_complete rest end) refl
 console_complete _ _ rest create_purpose end = rw (end_complete rest end) refl

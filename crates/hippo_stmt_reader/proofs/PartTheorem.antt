@@ -22,9 +22,10 @@ use Rattle.hippo_spj_reader.proofs.ListTheorem.{parts_found, list_complete}
 use Rattle.hippo_spj_reader.proofs.NameTheorem.{names_found, names_complete}
 use Rattle.hippo_spj_reader.proofs.OperandTheorem.{literal_found, literal_complete, literal_shorter}
 use Rattle.hippo_stmt_reader.specs.declared.policies.Disclosure.{Disclosure}
-use Rattle.hippo_stmt_reader.specs.declared.policies.Grant.{Grant}
-use Rattle.hippo_stmt_reader.specs.StatementGrammar.{IsColumnKind, integer, text, date, IsColumnDef, nullable, not_null, IsSubject, no_subject, subject, IsWith, no_item, with_item, IsRetention, no_retention, retain, IsAssignment, assignment, AreKeys, AreSettings, AreNames, IsEnd, no_semicolon, semicolon, assigned_columns, assigned_values}
-use Rattle.hippo_stmt_reader.specs.StatementFinder.{nothing_left, end_left, column_kind_of, leading_column_kind, leading_column_def, after_column, leading_names, leading_subject, leading_with_item, leading_number, days_of, leading_retention, leading_name_behind, leading_assignment, leading_assigned, leading_grant, leading_disclosure}
+use Rattle.hippo_stmt_reader.specs.declared.changes.Assignments.{Assignments}
+use Rattle.hippo_stmt_reader.specs.declared.policies.Grantee.{Grantee}
+use Rattle.hippo_stmt_reader.specs.StatementGrammar.{IsColumnKind, integer, text, date, IsColumnDef, nullable, not_null, IsSubject, no_subject, subject, IsWith, no_item, with_item, IsRetention, no_retention, retain, IsAssignment, assignment, AreKeys, AreSettings, AreNames, IsEnd, no_semicolon, semicolon}
+use Rattle.hippo_stmt_reader.specs.StatementFinder.{nothing_left, end_left, column_kind_of, leading_column_kind, leading_column_def, after_column, leading_names, leading_subject, leading_with_item, leading_number, days_of, leading_retention, leading_name_behind, leading_assignment, leading_assigned, assignments_of, leading_grant, leading_disclosure}
 
 -- a list that is found is one of the grammar, where its parts are and what leads to the next is a separator
 list_found : {X : Type 0} (leading : List TokenKind → Option (X × List TokenKind)) (after : List TokenKind → Option (List TokenKind)) (IsPart : List TokenKind → X → List TokenKind → Type 0) (separator : TokenKind) →
@@ -237,8 +238,8 @@ name_behind_then keyword tokens next y e follow =
     follow named.0 named.1 (rw (is_keyword, leading_name-some behind named.1 named.0 is_name) refl) e))
 
 -- what comes behind a keyword and assignments
-pub assigned_then : {B P : Type 0} (keyword : words.Keyword) (after : List TokenKind → Option (List TokenKind)) (tokens : List TokenKind) (next : (List (List ℕ) × List Value) × List TokenKind → Option B) (y : B) → (leading_assigned keyword after tokens >>= next) ≡ Some y →
-    ((behind : List TokenKind) (list : List (List ℕ × Value)) (rest : List TokenKind) → tokens ≡ Keyword keyword ∷ behind → leading_list leading_assignment after behind ≡ Some (list, rest) → next ((assigned_columns list, assigned_values list), rest) ≡ Some y → P) → P
+pub assigned_then : {B P : Type 0} (keyword : words.Keyword) (after : List TokenKind → Option (List TokenKind)) (tokens : List TokenKind) (next : Assignments × List TokenKind → Option B) (y : B) → (leading_assigned keyword after tokens >>= next) ≡ Some y →
+    ((behind : List TokenKind) (list : List (List ℕ × Value)) (rest : List TokenKind) → tokens ≡ Keyword keyword ∷ behind → leading_list leading_assignment after behind ≡ Some (list, rest) → next (assignments_of list, rest) ≡ Some y → P) → P
 assigned_then keyword after tokens next y e follow =
     found_then (leading_assigned keyword after tokens) next y e (λ assigned assigned_is e.
     keyword_then keyword tokens _ _ assigned_is (λ behind is_keyword assigned_is.
@@ -246,7 +247,7 @@ assigned_then keyword after tokens next y e follow =
     follow behind found.0 found.1 is_keyword found_is (rw (same_Some _ assigned assigned_is) e))))
 
 -- u FOR p "," r
-pub grant_then : {P : Type 0} (tokens : List TokenKind) (g : Grant) (rest : List TokenKind) → leading_grant tokens ≡ Some (g, rest) →
+pub grant_then : {P : Type 0} (tokens : List TokenKind) (g : Grantee) (rest : List TokenKind) → leading_grant tokens ≡ Some (g, rest) →
     (tokens ≡ Word g.user ∷ Keyword KFor ∷ Word g.purpose ∷ Symbol Comma ∷ Word g.recipient ∷ rest → P) → P
 unfolding leading_grant
 grant_then tokens g rest e next =

@@ -23,8 +23,9 @@ use Rattle.hippo_spj_reader.specs.Front.{Kinds, Finder, kinds, after_keyword, af
 use Rattle.hippo_spj_reader.specs.ListFinder.{leading_list}
 use Rattle.hippo_spj_reader.specs.SelectFinder.{leading_select}
 use Rattle.hippo_audit_reader.specs.AuditFinder.{leading_audit}
+use Rattle.hippo_stmt_reader.specs.declared.changes.Assignments.{Assignments}
 use Rattle.hippo_stmt_reader.specs.declared.policies.Disclosure.{Disclosure}
-use Rattle.hippo_stmt_reader.specs.declared.policies.Grant.{Grant}
+use Rattle.hippo_stmt_reader.specs.declared.policies.Grantee.{Grantee}
 use Rattle.hippo_stmt_reader.specs.StatementGrammar.{assigned_columns, assigned_values}
 
 abbrev pub nothing_left : Kinds → Option (Unit {0})
@@ -123,13 +124,15 @@ leading_assignment tokens = do
   v ← leading_literal behind
   Some ((c.0, v.0), v.1)
 
--- behind this keyword, the columns and the values of the assignments with such a thing between them
-abbrev pub leading_assigned : words.Keyword → (Kinds → Option Kinds)
-    → Finder (List Name × List Value)
+abbrev pub assignments_of : List (Name × Value) → Assignments
+assignments_of list = record { columns = assigned_columns list; values = assigned_values list }
+
+-- behind this keyword, the assignments with such a thing between them
+abbrev pub leading_assigned : words.Keyword → (Kinds → Option Kinds) → Finder Assignments
 leading_assigned keyword after tokens = do
   behind ← after_keyword keyword tokens
   found ← leading_list leading_assignment after behind
-  Some ((assigned_columns found.0, assigned_values found.0), found.1)
+  Some (assignments_of found.0, found.1)
 
 -- behind CREATE TABLE
 unfoldable pub create_table_of : Kinds → Option Stmt
@@ -170,7 +173,7 @@ create_of tokens =
     (after_keyword KItem tokens >>= create_item_of)))
 
 -- u FOR p "," r
-unfoldable pub leading_grant : Finder Grant
+unfoldable pub leading_grant : Finder Grantee
 leading_grant tokens = do
   user ← leading_name tokens
   purpose ← leading_name_behind KFor user.1
@@ -178,17 +181,15 @@ leading_grant tokens = do
   recipient ← leading_name behind
   Some (record { user = user.0; purpose = purpose.0; recipient = recipient.0 }, recipient.1)
 
--- behind AUTHORIZE
-unfoldable pub authorize_of : Kinds → Option Stmt
-authorize_of tokens = do
-  grant ← leading_grant tokens
-  with_end (stmt.Authorize grant.0.user grant.0.purpose grant.0.recipient) grant.1
+-- AUTHORIZE, where a grant is given, or DEAUTHORIZE
+abbrev pub grant_statement : Bool → Grantee → Stmt
+grant_statement is_given grant =
+    if is_given then stmt.Authorize grant.user grant.purpose grant.recipient
+    else stmt.Deauthorize grant.user grant.purpose grant.recipient
 
--- behind DEAUTHORIZE
-unfoldable pub deauthorize_of : Kinds → Option Stmt
-deauthorize_of tokens = do
-  grant ← leading_grant tokens
-  with_end (stmt.Deauthorize grant.0.user grant.0.purpose grant.0.recipient) grant.1
+-- behind AUTHORIZE, where a grant is given, and behind DEAUTHORIZE
+unfoldable pub authorization_of : Bool → Kinds → Option Stmt
+authorization_of is_given tokens = of_part (grant_statement is_given) (leading_grant tokens)
 
 abbrev pub disclosure_of : Name → Name → Name → List Name → Disclosure
 disclosure_of purpose recipient table columns =
@@ -245,14 +246,14 @@ update_of tokens = do
   table ← leading_name tokens
   set ← leading_assigned KSet (after_symbol Comma) table.1
   keys ← leading_assigned KWhere (after_keyword KAnd) set.1
-  with_end (stmt.Update table.0 set.0.0 set.0.1 keys.0.0 keys.0.1) keys.1
+  with_end (stmt.Update table.0 set.0.columns set.0.values keys.0.columns keys.0.values) keys.1
 
 -- behind DELETE
 unfoldable pub delete_of : Kinds → Option Stmt
 delete_of tokens = do
   table ← leading_name_behind KFrom tokens
   keys ← leading_assigned KWhere (after_keyword KAnd) table.1
-  with_end (stmt.Delete table.0 keys.0.0 keys.0.1) keys.1
+  with_end (stmt.Delete table.0 keys.0.columns keys.0.values) keys.1
 
 -- behind EXPLAIN
 unfoldable pub explain_of : Kinds → Option Stmt
@@ -273,8 +274,8 @@ watch_of tokens = of_part stmt.Watch (leading_audit tokens)
 -- a statement of the console that begins with this keyword, behind it
 unfoldable pub console_behind : words.Keyword → Kinds → Option Stmt
 console_behind KCreate tokens = create_of tokens
-console_behind KAuthorize tokens = authorize_of tokens
-console_behind KDeauthorize tokens = deauthorize_of tokens
+console_behind KAuthorize tokens = authorization_of true tokens
+console_behind KDeauthorize tokens = authorization_of false tokens
 console_behind KAllow tokens = allow_of tokens
 console_behind KRevoke tokens = revoke_of tokens
 console_behind KChoice tokens = choice_of tokens

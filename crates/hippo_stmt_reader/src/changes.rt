@@ -71,12 +71,19 @@ impl Separator for Ands {
     }
 }
 
+// Assignments, as lists of their columns and of their values.
+#[derive(Drop)]
+struct Assignments {
+    columns: Names,
+    values: Cells,
+}
+
 fn columns_and_values(
     alloc: Global,
     assignments: Sequence<Assignment>,
-) -> Result<(Names, Cells), Memory>
-    ensures columns { IfOk result (λ x. x.0 ≡ assigned_columns assignments) }
-    ensures values { IfOk result (λ x. x.1 ≡ assigned_values assignments) }
+) -> Result<Assignments, Memory>
+    ensures columns { IfOk result (λ made. made.columns ≡ assigned_columns assignments) }
+    ensures values { IfOk result (λ made. made.values ≡ assigned_values assignments) }
 {
     let mut columns = Sequence::new(alloc);
     let mut values = Sequence::new(alloc);
@@ -84,7 +91,7 @@ fn columns_and_values(
         columns.push(column)?;
         values.push(value)?;
     }
-    Ok((columns, values))
+    Ok(Assignments { columns, values })
 }
 
 // The columns and the values that are assigned behind the keyword that has to stand first, and the
@@ -93,7 +100,7 @@ fn assigned<S: Separator>(
     alloc: Global,
     keyword: Keyword,
     tokens: &[Token],
-) -> Result<((Names, Cells), &[Token]), SyntaxFault>
+) -> Result<(Assignments, &[Token]), SyntaxFault>
     ensures { Reads (leading_assigned keyword S.after) tokens.now result }
 {
     let rest = expect_keyword(tokens, keyword)?;
@@ -121,15 +128,15 @@ pub fn update(alloc: Global, tokens: &[Token]) -> Result<Stmt, SyntaxFault>
     ensures { Gives (λ s. s) result (update_of (kinds tokens.now)) }
 {
     let (table, rest) = name(alloc, tokens)?;
-    let ((columns, values), rest) = assigned::<Commas>(alloc, Keyword::KSet, rest)?;
-    let ((key_columns, key_values), rest) = assigned::<Ands>(alloc, Keyword::KWhere, rest)?;
+    let (set, rest) = assigned::<Commas>(alloc, Keyword::KSet, rest)?;
+    let (key, rest) = assigned::<Ands>(alloc, Keyword::KWhere, rest)?;
     with_end(
         Stmt::Update {
             table,
-            columns,
-            values,
-            key_columns,
-            key_values,
+            columns: set.columns,
+            values: set.values,
+            key_columns: key.columns,
+            key_values: key.values,
         },
         rest,
     )
@@ -141,12 +148,12 @@ pub fn delete(alloc: Global, tokens: &[Token]) -> Result<Stmt, SyntaxFault>
     ensures { Gives (λ s. s) result (delete_of (kinds tokens.now)) }
 {
     let (table, rest) = name_behind(alloc, Keyword::KFrom, tokens)?;
-    let ((key_columns, key_values), rest) = assigned::<Ands>(alloc, Keyword::KWhere, rest)?;
+    let (key, rest) = assigned::<Ands>(alloc, Keyword::KWhere, rest)?;
     with_end(
         Stmt::Delete {
             table,
-            key_columns,
-            key_values,
+            key_columns: key.columns,
+            key_values: key.values,
         },
         rest,
     )

@@ -3,7 +3,7 @@ ghost use Rattle.std.specs.Prelude.{◌≡◌, true, false, ◌<◌};
 ghost use Rattle.hippo_values.specs.declared.keywords.Keyword.TheVariants.{KNo, KYes};
 ghost use Rattle.hippo_spj_reader.specs.Promises.{Gives, Reads};
 ghost use Rattle.hippo_spj_reader.specs.Front.{kinds};
-ghost use Rattle.hippo_stmt_reader.specs.StatementFinder.{leading_grant, authorize_of, deauthorize_of, leading_disclosure, leading_with_item, days_of, leading_retention, allow_of, revoke_of, one_of, choice_of};
+ghost use Rattle.hippo_stmt_reader.specs.StatementFinder.{leading_grant, grant_statement, authorization_of, leading_disclosure, leading_with_item, days_of, leading_retention, allow_of, revoke_of, one_of, choice_of};
 
 use crate::parts::{name_behind, names, number, with_end};
 use hippo_lexer::{Keyword, Symbol, SyntaxFault, Token};
@@ -17,14 +17,14 @@ use std::alloc::Global;
 
 // Whom AUTHORIZE and DEAUTHORIZE speak of.
 #[derive(Drop)]
-struct Grant {
+struct Grantee {
     user: Name,
     purpose: Name,
     recipient: Name,
 }
 
 #[tactic(auto, unfolding(crate::specs::StatementFinder::leading_grant))]
-fn authorization(alloc: Global, tokens: &[Token]) -> Result<(Grant, &[Token]), SyntaxFault>
+fn authorization(alloc: Global, tokens: &[Token]) -> Result<(Grantee, &[Token]), SyntaxFault>
     ensures { Reads leading_grant tokens.now result }
 {
     let (user, rest) = name(alloc, tokens)?;
@@ -32,7 +32,7 @@ fn authorization(alloc: Global, tokens: &[Token]) -> Result<(Grant, &[Token]), S
     let rest = expect_symbol(rest, Symbol::Comma)?;
     let (recipient, rest) = name(alloc, rest)?;
     Ok((
-        Grant {
+        Grantee {
             user,
             purpose,
             recipient,
@@ -41,36 +41,38 @@ fn authorization(alloc: Global, tokens: &[Token]) -> Result<(Grant, &[Token]), S
     ))
 }
 
-/// The statement that the tokens behind AUTHORIZE have to be.
-#[tactic(auto, unfolding(crate::specs::StatementFinder::authorize_of))]
-pub fn authorize(alloc: Global, tokens: &[Token]) -> Result<Stmt, SyntaxFault>
-    ensures { Gives (λ s. s) result (authorize_of (kinds tokens.now)) }
+// AUTHORIZE, where the grant is given, or DEAUTHORIZE. It is a part of its caller, as `with_end` is.
+#[inline(always)]
+fn grant_statement(is_given: bool, grant: Grantee) -> Stmt
+    ensures { result ≡ grant_statement is_given grant }
 {
-    let (grant, rest) = authorization(alloc, tokens)?;
-    with_end(
-        Stmt::Authorize {
-            user: grant.user,
-            purpose: grant.purpose,
-            recipient: grant.recipient,
-        },
-        rest,
-    )
+    let Grantee {
+        user,
+        purpose,
+        recipient,
+    } = grant;
+    if is_given {
+        return Stmt::Authorize {
+            user,
+            purpose,
+            recipient,
+        };
+    }
+    Stmt::Deauthorize {
+        user,
+        purpose,
+        recipient,
+    }
 }
 
-/// The statement that the tokens behind DEAUTHORIZE have to be.
-#[tactic(auto, unfolding(crate::specs::StatementFinder::deauthorize_of))]
-pub fn deauthorize(alloc: Global, tokens: &[Token]) -> Result<Stmt, SyntaxFault>
-    ensures { Gives (λ s. s) result (deauthorize_of (kinds tokens.now)) }
+/// The statement that the tokens behind AUTHORIZE have to be, where a grant is given, or those
+/// behind DEAUTHORIZE.
+#[tactic(auto, unfolding(crate::specs::StatementFinder::authorization_of))]
+pub fn grant(alloc: Global, is_given: bool, tokens: &[Token]) -> Result<Stmt, SyntaxFault>
+    ensures { Gives (λ s. s) result (authorization_of is_given (kinds tokens.now)) }
 {
     let (grant, rest) = authorization(alloc, tokens)?;
-    with_end(
-        Stmt::Deauthorize {
-            user: grant.user,
-            purpose: grant.purpose,
-            recipient: grant.recipient,
-        },
-        rest,
-    )
+    with_end(grant_statement(is_given, grant), rest)
 }
 
 // What ALLOW and REVOKE speak of.

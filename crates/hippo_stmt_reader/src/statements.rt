@@ -9,7 +9,7 @@ ghost use Rattle.hippo_stmt_reader.specs.StatementFinder.{console_behind, consol
 
 use crate::changes::{delete, insert, update};
 use crate::parts::{number, with_end};
-use crate::policies::{allow, authorize, choice, deauthorize, revoke};
+use crate::policies::{allow, choice, grant, revoke};
 use crate::schemas::create;
 use hippo_audit_reader::audit;
 use hippo_lexer::{Keyword, SyntaxFault, Token, TokenKind, Tokens, check_words};
@@ -57,8 +57,8 @@ fn console_behind(alloc: Global, keyword: Keyword, tokens: &[Token]) -> Result<S
 {
     match keyword {
         Keyword::KCreate => create(alloc, tokens),
-        Keyword::KAuthorize => authorize(alloc, tokens),
-        Keyword::KDeauthorize => deauthorize(alloc, tokens),
+        Keyword::KAuthorize => grant(alloc, true, tokens),
+        Keyword::KDeauthorize => grant(alloc, false, tokens),
         Keyword::KAllow => allow(alloc, tokens),
         Keyword::KRevoke => revoke(alloc, tokens),
         Keyword::KChoice => choice(alloc, tokens),

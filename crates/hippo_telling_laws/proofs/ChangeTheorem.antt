@@ -153,29 +153,20 @@ update-reads columns table row (place ∷ places) (first ∷ key) is some some_k
     (cells-are columns row (first ∷ key) i)))
 
 -- the places that are set are places of columns
-all_below : (low n limit : Place) → low + n ≤ limit
-    → list_all (λ (place : Place). nat_lt place limit) (range_with_len low n) ≡ true
-all_below low zero limit small = refl
-all_below low (suc n) limit small =
-    and_from _ _ (lt-ltb low limit (omega (arith, small)))
-    (all_below (low + 1) n limit (omega (arith, small)))
-
-all_filtered : (test kept : Place → Bool) (places : List Place) → list_all test places ≡ true
-    → list_all test (filter kept places) ≡ true
-all_filtered test kept [] all = refl
-all_filtered test kept (place ∷ places) all =
-    let parts = and_parts (test place) (list_all test places) all in
-    elim (cases_Bool (kept place)) [
-      | inl is ↦ rw is (and_from _ _ parts.0 (all_filtered test kept places parts.1))
-      | inr is ↦ rw is (all_filtered test kept places parts.1)
-    ]
+kept_below : (kept : Place → Bool) (low n limit : Place) → low + n ≤ limit
+    → list_all (λ (place : Place). nat_lt place limit) (filter kept (range_with_len low n)) ≡ true
+kept_below kept low zero limit small = refl
+kept_below kept low (suc n) limit small = elim (cases_Bool (kept low)) [
+  | inl is ↦ rw is
+      (and_from _ _ (lt-ltb low limit (omega (arith, small)))
+      (kept_below kept (low + 1) n limit (omega (arith, small))))
+  | inr is ↦ rw is (kept_below kept (low + 1) n limit (omega (arith, small)))
+]
 
 pub sets_within : (columns : List Column) (key : List Place)
     → all_within columns (set_places columns key) ≡ true
 sets_within columns key =
-    all_filtered (λ (place : Place). nat_lt place (length columns)) (is_set key)
-    (range_with_len 0 (length columns))
-    (all_below 0 (length columns) (length columns) (omega arith))
+    kept_below (is_set key) 0 (length columns) (length columns) (omega arith)
 
 -- a column that is not set is the key's
 not_kept : (kept : Place → Bool) (places : List Place) (place : Place)

@@ -12,13 +12,13 @@ returns-in_err-table c =
     let p = err_from_is_err_and c.from_residual.result c.from_residual.ensures.1 in
     rw (p.1, p.2) (fails_first c.in_err-table.field-0.0 (leading_name_behind KFrom (kinds c.args.tokens.now)) _ c.in_err-table.ensures.found)
 
-pub returns-in_err-key_columns : goal.returns-in_err-key_columns
+pub returns-in_err-key : goal.returns-in_err-key
 unfolding delete_of
-returns-in_err-key_columns c =
-    let p = err_from_is_err_and c.from_residual-in_err-key_columns.result c.from_residual-in_err-key_columns.ensures.1 in
-    rw (p.1, p.2, c.in_ok-table.ensures.found) (fails_first c.in_err-key_columns.field-0.0 (leading_assigned KWhere (after_keyword KAnd) (kinds c.in_ok-table.rest.now)) _ c.in_err-key_columns.ensures.found)
+returns-in_err-key c =
+    let p = err_from_is_err_and c.from_residual-in_err-key.result c.from_residual-in_err-key.ensures.1 in
+    rw (p.1, p.2, c.in_ok-table.ensures.found) (fails_first c.in_err-key.field-0.0 (leading_assigned KWhere (after_keyword KAnd) (kinds c.in_ok-table.rest.now)) _ c.in_err-key.ensures.found)
 
 pub returns : goal.returns
 unfolding delete_of
 returns c =
-    rw (c.in_ok-table.ensures.found, c.in_ok-key_columns.ensures.found) c.with_end.ensures
+    rw (c.in_ok-table.ensures.found, c.in_ok-key.ensures.found) c.with_end.ensures

@@ -3,7 +3,7 @@ use Rattle.std.proofs.lemmas.Result.{err_from_is_err_and}
 use Rattle.hippo_catalog.specs.Refusals.{unknown_table, unknown_pair}
 use Rattle.hippo_catalog.specs.ChangesRefused.{in_table, unknown_item_if_any, rule_refused, rule_item_refused}
 use Rattle.hippo_catalog.proofs.Refused.{first_with_more, with_four, first_of_three, first_of_four}
-use Rattle.hippo_changes.proofs.rules.check_allow.Goals as goal
+use Rattle.hippo_changes.proofs.rules.check_rule.Goals as goal
 
 pub returns-in_err-found : goal.returns-in_err-found
 returns-in_err-found c =
