@@ -1,14 +1,12 @@
 -- What an audit expression means where nothing of it is refused.
 use Rattle.std.proofs.Common.{◌≡◌, ◌∙◌, sym, ap, refl, subst, arith, ℕ, zero, suc, ◌+◌, ◌<◌, Bool, true, false, cond, List, [], ◌∷◌, ◌++◌, map, length, Option, None, Some}
-use Rattle.std.specs.Prelude.{◌||◌, nat_lt, slice_get, slice_index_or, position, is_some, is_none, filter_map, unwrap_or, option_map, bytes_eq}
-use Rattle.std.specs.Cmp.Lexicographic.{nat_list_eq_equiv}
-use Rattle.std.specs.List.{AllByRecursion, IsDistinct, list_any, flat_map, cons_option, enumerate_from}
+use Rattle.std.specs.Prelude.{nat_lt, slice_get, slice_index_or, position, is_some, is_none, filter_map, unwrap_or, option_map, bytes_eq}
+use Rattle.std.specs.List.{AllByRecursion, flat_map, cons_option, enumerate_from}
 use Rattle.std.specs.Option.{option_map_or}
-use Rattle.std.proofs.lemmas.Bool.{or_parts, lt-ltb}
+use Rattle.std.proofs.lemmas.Bool.{lt-ltb}
 use Rattle.std.proofs.lemmas.List.Quantifiers.{position-Some}
 use Rattle.hippo_values.specs.declared.names.Name.{Name}
-use Rattle.hippo_model.specs.declared.name_fault.NameFault.{NameFault}
-use Rattle.hippo_model.specs.declared.name_fault.NameFault.TheVariants.{RepeatedName, UnknownTable}
+use Rattle.hippo_model.specs.declared.name_fault.NameFault.TheVariants.{UnknownTable}
 use Rattle.hippo_model.specs.declared.query.Ref.{Ref}
 use Rattle.hippo_model.specs.declared.schema.Column.{Column}
 use Rattle.hippo_model.specs.declared.schema.Schema.{Schema}
@@ -20,49 +18,14 @@ use Rattle.hippo_model.specs.Validity.{is_valid}
 use Rattle.hippo_catalog.specs.declared.period.Period.{Period}
 use Rattle.hippo_catalog.specs.AuditExpressions.{audit_refused, audit_of}
 use Rattle.hippo_catalog.specs.Catalogs.{KnownNames, known_at, table_of, schemas_of}
-use Rattle.hippo_catalog.specs.Refusals.{fault_if, unknown_table, repeated_after, repeated_names}
+use Rattle.hippo_catalog.specs.Refusals.{fault_if, unknown_table}
+use Rattle.hippo_catalog.proofs.DifferLemmas.{none_of_both, names_differ, distinct_so}
 use Rattle.hippo_catalog.specs.WrittenColumns.{place_of, may_stand_in, home_in, homes, homes_refused, column_refused, column_of}
 use Rattle.hippo_typing.specs.ResolutionLaws.{NamesAreThoseOf}
 use Rattle.hippo_typing.specs.Meanings.{meaning}
 use Rattle.hippo_typing.proofs.CatalogTheorem.{valid_names}
 use Rattle.hippo_typing.proofs.LastingNames.{extends_later, audit_lasts}
 use Rattle.hippo_audit_job.specs.Examining.{IsColumnOf, IsAuditOf}
-
-both_none : {A : Type 0} (first second : List A) → first ++ second ≡ [] → (first ≡ []) × (second ≡ [])
-both_none [] second none = (refl, none)
-both_none (x ∷ rest) second none = absurd cc
-
-not_refused : (test : Bool) (fault : NameFault) → fault_if test fault ≡ [] → test ≡ false
-not_refused true fault none = absurd cc
-not_refused false fault none = refl
-
--- names of which none repeats one before it differ
-different : (before : List Name) (name other : Name) → list_any (bytes_eq other) (before ++ name ∷ []) ≡ false → (list_any (bytes_eq other) before ≡ false) × (bytes_eq name other ≡ false)
-different [] name other none = (refl, nat_list_eq_equiv.symm name other ∙ (or_parts (bytes_eq other name) false none).0)
-different (first ∷ before) name other none =
-    let parts = or_parts (bytes_eq other first) (list_any (bytes_eq other) (before ++ name ∷ [])) none in
-    let later = different before name other parts.1 in
-    (ap (λ (b : Bool). b || list_any (bytes_eq other) before) parts.0 ∙ later.0, later.1)
-
-apart : (before : List Name) (name : Name) (rest : List Name) → AllByRecursion (λ other. list_any (bytes_eq other) (before ++ name ∷ []) ≡ false) rest → AllByRecursion (λ other. bytes_eq name other ≡ false) rest × AllByRecursion (λ other. list_any (bytes_eq other) before ≡ false) rest
-apart before name [] all = (tt, tt)
-apart before name (other ∷ rest) all =
-    let here = different before name other all.0 in
-    let later = apart before name rest all.1 in
-    ((here.1, later.0), (here.0, later.1))
-
-names_after : (before names : List Name) → repeated_after before names ≡ [] → AllByRecursion (λ name. list_any (bytes_eq name) before ≡ false) names × IsDistinct bytes_eq names
-unfolding IsDistinct
-names_after before [] none = (tt, tt)
-names_after before (name ∷ rest) none =
-    let both = both_none (fault_if (list_any (bytes_eq name) before) (RepeatedName name)) (repeated_after (before ++ name ∷ []) rest) none in
-    let new = not_refused (list_any (bytes_eq name) before) (RepeatedName name) both.0 in
-    let later = names_after (before ++ name ∷ []) rest both.1 in
-    let parts = apart before name rest later.0 in
-    ((new, parts.1), (parts.0, later.1))
-
-pub names_differ : (names : List Name) → repeated_names names ≡ [] → IsDistinct bytes_eq names
-names_differ names none = (names_after [] names none).1
 
 -- the column stands in the schema at its table's place behind this one
 record StandsBehind (place : ℕ) (schemas : List Schema) (column : Ref) : Type 0 where
@@ -134,7 +97,7 @@ module _ (known : KnownNames) where
   table_there : (tables : List Name) → flat_map (unknown_table known) tables ≡ [] → (place : ℕ) (schema : Schema) → slice_get (schemas_of known tables) place ≡ Some schema → (place < length tables) × (table_of known (slice_index_or tables place []) ≡ Some schema)
   table_there [] none place schema is = absurd cc
   table_there (table ∷ rest) none place schema is =
-      let both = both_none (unknown_table known table) (flat_map (unknown_table known) rest) none in
+      let both = none_of_both (unknown_table known table) (flat_map (unknown_table known) rest) none in
       let first = known_table table both.0 in
       let schemas : schemas_of known (table ∷ rest) ≡ first.0 ∷ schemas_of known rest = ap (λ (o : Option Schema). cons_option o (schemas_of known rest)) first.1 in
       by place first.0 first.1 both.1 (sym (ap (λ (l : List Schema). slice_get l place) schemas) ∙ is) (λ later. table_there rest both.1 later schema)
@@ -161,27 +124,27 @@ module _ (history : History) (names : NamesAreThoseOf history) (tables : List Na
   are_columns [] fine = tt
   are_columns (first ∷ rest) fine =
       let schemas = schemas_of (known_at history) tables in
-      let both = both_none (column_refused schemas first) (flat_map (column_refused schemas) rest) fine in
+      let both = none_of_both (column_refused schemas first) (flat_map (column_refused schemas) rest) fine in
       (is_column (column_of schemas first) (found_there schemas first both.0), are_columns rest both.1)
 
 are_created : (history : History) (names : NamesAreThoseOf history) (tables : List Name) → flat_map (unknown_table (known_at history)) tables ≡ [] → AllByRecursion (λ table. is_some (schema_at history table) ≡ true) tables
 are_created history names [] none = tt
 are_created history names (table ∷ rest) none =
-    let both = both_none (unknown_table (known_at history) table) (flat_map (unknown_table (known_at history)) rest) none in
+    let both = none_of_both (unknown_table (known_at history) table) (flat_map (unknown_table (known_at history)) rest) none in
     (ap is_some (sym (names.tables table) ∙ (known_table (known_at history) table both.0).1), are_created history names rest both.1)
 
 is_audit : (history : History) (period : Period) (audit : RawAudit) → is_valid meaning history ≡ true → audit_refused (known_at history) period audit ≡ [] → IsAuditOf history (audit_of (known_at history) period audit)
 is_audit history period audit valid none =
     let names = valid_names meaning history valid in
-    let parts = (both_none _ _ none).0 in
-    let texts = (both_none _ _ parts).0 in
-    let kinds = (both_none _ _ texts).0 in
-    let operands = (both_none _ _ kinds).0 in
-    let columns = both_none _ _ (both_none _ _ operands).0 in
-    let repeats = both_none _ _ columns.0 in
-    let tables = (both_none _ _ repeats.0).0 in
+    let parts = (none_of_both _ _ none).0 in
+    let texts = (none_of_both _ _ parts).0 in
+    let kinds = (none_of_both _ _ texts).0 in
+    let operands = (none_of_both _ _ kinds).0 in
+    let columns = none_of_both _ _ (none_of_both _ _ operands).0 in
+    let repeats = none_of_both _ _ columns.0 in
+    let tables = (none_of_both _ _ repeats.0).0 in
     record {
-      differ = names_differ audit.tables repeats.1;
+      differ = distinct_so bytes_eq audit.tables (names_differ audit.tables repeats.1);
       created = are_created history names audit.tables tables;
       columns = are_columns history names audit.tables tables audit.columns columns.1;
     }

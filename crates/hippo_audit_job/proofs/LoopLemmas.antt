@@ -1,6 +1,6 @@
 -- The loops of a step: what its parts ask and leave.
-use Rattle.std.proofs.Common.{◌≡◌, ◌∙◌, ap, refl, arith, true, false, Bool, ℕ, ◌<◌, [], ◌∷◌, drop, length, slice_get, None, Some, Result, Ok}
-use Rattle.std.specs.Prelude.{◌&&◌}
+use Rattle.std.proofs.Common.{◌≡◌, ◌∙◌, ap, refl, subst, arith, true, false, Bool, ℕ, ◌<◌, ◌≤◌, [], ◌∷◌, drop, length, slice_get, None, Some, Result, Ok}
+use Rattle.std.specs.Prelude.{◌&&◌, ◌+◌, min}
 use Rattle.hippo_model.specs.declared.entry.Entry.{Entry}
 use Rattle.hippo_model.specs.declared.stored.StoredEntry.{StoredEntry}
 use Rattle.hippo_entry.specs.Forms.{IsEntryOf}
@@ -13,10 +13,11 @@ use Rattle.hippo_keeper.proofs.Results.{err_of, well}
 use Rattle.hippo_audit_job.specs.declared.jobs.Job.{Job}
 use Rattle.hippo_audit_job.specs.declared.past.Past.{Past}
 use Rattle.hippo_audit_job.specs.Examining.{Examination}
-use Rattle.hippo_audit_job.specs.Jobs.{MayLook, IsAsFar, LooksOn}
+use Rattle.hippo_audit_job.specs.Flagging.{IsFirstWaiting}
+use Rattle.hippo_audit_job.specs.Jobs.{open_audit, step_end, IsSoundJob, MayLook, IsAsFar, LooksOn, HasStepped}
 use Rattle.hippo_audit_job.proofs.JobLemmas.{IsSoundJob-marked, JobFits-marked}
 use Rattle.hippo_audit_job.proofs.StepLemmas.{LooksOn-none, LooksOn-then}
-use Rattle.hippo_audit_job.proofs.FlagLemmas.{LooksOn-as, LooksOn-fault}
+use Rattle.hippo_audit_job.proofs.FlagLemmas.{LooksOn-as, LooksOn-fault, number_above}
 
 -- nothing waits
 pub begins_none : (held : Store) (number : ℕ) → slice_get held 0 ≡ None → BeginsAbove number held
@@ -97,3 +98,36 @@ module _ {X : Type 0} (terms : Examination X) (upto : ℕ) (past : Past) where
           undamaged = over.undamaged;
         };
   }
+
+-- a job that may look up to a number, and what a step of it comes to
+module _ {X : Type 0} (terms : Examination X) where
+  -- the first question that waits may be looked at
+  pub MayLook-first : (upto : ℕ) (job : Job X) (keeper : KeeperState) → MayLook terms upto job keeper → (entry : Entry) → IsFirstWaiting job.questions entry → entry.seq ≤ upto → MayLook terms entry.seq job keeper
+  MayLook-first upto job keeper may entry first up =
+      let above = number_above terms job may.is_sound entry first in
+      let within = may.within in
+      record { ready = may.ready; is_sound = may.is_sound; forward = omega (arith, above); within = omega (arith, up, within) }
+
+  pub MayLook-step : (upto : ℕ) (job : Job X) (keeper : KeeperState) (count : ℕ) → IsReady true keeper → IsSoundJob terms job → upto ≡ step_end (open_audit job) count → MayLook terms upto job keeper
+  MayLook-step upto job keeper count ready sound end =
+      let within = sound.within in
+      let last : upto ≡ min (job.place + count) job.length = end in
+      record { ready = ready; is_sound = sound; forward = omega (arith, within, last); within = omega (arith, last) }
+
+  module _ (old : Job X) (count upto : ℕ) (end : upto ≡ step_end (open_audit old) count) (past : Past) (new : Job X) (before after : KeeperState) (one two : ℕ) where
+    as_step : (result : Result (Unit {0}) ReadFault) → LooksOn terms upto past result old new before after one two → LooksOn terms (step_end (open_audit old) count) past result old new before after one two
+    as_step result looks = subst (λ (n : ℕ). LooksOn terms n past result old new before after one two) end looks
+
+    pub HasStepped-done : LooksOn terms upto past (well ReadFault) old new before after one two → new.place ≡ upto → new.unbroken ≡ old.unbroken → HasStepped terms count past (well ReadFault) old new before after one two
+    HasStepped-done looks place unbroken = record {
+      looks = as_step (well ReadFault) looks;
+      place_is = place ∙ end;
+      unbroken_is = unbroken ∙ and_done old.unbroken;
+    }
+
+    pub HasStepped-failed : (fault : ReadFault) → LooksOn terms upto past (err_of (Unit {0}) fault) old new before after one two → HasStepped terms count past (err_of (Unit {0}) fault) old (record new { unbroken = false }) before after one two
+    HasStepped-failed fault looks = record {
+      looks = LooksOn-marked terms (step_end (open_audit old) count) past false (err_of (Unit {0}) fault) old new before after one two (as_step (err_of (Unit {0}) fault) looks);
+      place_is = tt;
+      unbroken_is = and_failed old.unbroken;
+    }

@@ -1,5 +1,5 @@
 -- The flag of a question that waits.
-use Rattle.std.specs.Prelude.{◌≡◌, ℕ, List, slice_get, Option, Some, option_and_then, Result}
+use Rattle.std.specs.Prelude.{◌≡◌, ◌≤◌, ℕ, List, slice_get, Option, Some, None, option_and_then, Result, Ok, Err}
 use Rattle.std.specs.Result.{result_map_both}
 use Rattle.hippo_model.specs.declared.audit.Audit.{Audit}
 use Rattle.hippo_model.specs.declared.audit.Flag.{Flag}
@@ -10,16 +10,29 @@ use Rattle.hippo_model.specs.Audits.{flag_by}
 use Rattle.hippo_entry.specs.Forms.{IsEntryOf}
 use Rattle.hippo_keeper.specs.Keeping.{KeeperState}
 use Rattle.hippo_backlog.specs.declared.faults.ReadFault.{ReadFault}
-use Rattle.hippo_backlog.specs.ReadingAhead.{ReadAhead}
+use Rattle.hippo_backlog.specs.ReadingAhead.{ReadAhead, BeginsAbove}
 use Rattle.hippo_audit_job.specs.declared.past.Past.{Past}
 use Rattle.hippo_audit_job.specs.Examining.{Examination}
-use Rattle.hippo_audit_job.specs.Looking.{LooksAt}
+use Rattle.hippo_audit_job.specs.Looking.{IsDecoded, LooksAt}
 
 -- the first stored form that waits is that of an entry
 pub record IsFirstWaiting (ahead : ReadAhead) (entry : Entry) : Type 0 where
   pub kept : StoredEntry
   pub stands : slice_get ahead.waiting 0 ≡ Some kept
   pub form : IsEntryOf kept (Some entry)
+
+-- the first stored form that waits is not that of an entry, or memory was short
+pub record IsUndecoded (ahead : ReadAhead) (fault : ReadFault) : Type 0 where
+  pub kept : StoredEntry
+  pub stands : slice_get ahead.waiting 0 ≡ Some kept
+  pub undecoded : IsDecoded kept (Err fault)
+
+-- the entry that waits first is found, where its number is at most this; none waits up to it, or
+-- its stored form is not that of an entry
+abbrev pub IsFirstUpTo : ℕ → ReadAhead → Result (Option Entry) ReadFault → Type 0
+IsFirstUpTo number ahead (Ok (Some entry)) = IsFirstWaiting ahead entry × (entry.seq ≤ number)
+IsFirstUpTo number ahead (Ok None) = BeginsAbove number ahead.waiting
+IsFirstUpTo number ahead (Err fault) = IsUndecoded ahead fault
 
 -- an entry is looked at, and where it shares something its flag is found
 pub record FindsFlag {X : Type 0} (terms : Examination X) (past : Past) (audit : Audit)

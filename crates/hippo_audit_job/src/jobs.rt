@@ -1,12 +1,12 @@
 //! Audit jobs, which look at the logged questions of a history in steps.
-ghost use Rattle.std.specs.Prelude.{◌≡◌, ◌==◌, ◌≤◌, ◌<◌, ◌+◌, min, true, false, [], length, option_map, Ok, OnOk, OnErr};
+ghost use Rattle.std.specs.Prelude.{◌≡◌, ◌==◌, ◌<◌, ◌+◌, min, true, [], option_map, OnOk, OnErr};
 ghost use Rattle.hippo_keeper.specs.Keeping.{IsReady};
 ghost use Rattle.hippo_audit_job.specs.Examining.{shown_count};
 
 use crate::examiner::Examiner;
 use crate::past::Past;
 use crate::questions::find_flag;
-use crate::reading::{decoded, has_read, read_ahead};
+use crate::reading::{first_up_to, has_read, read_ahead};
 use hippo_backlog::{Ahead, ReadFault};
 use hippo_keeper::{Keeper, Steps};
 use hippo_model::{Audit, Entry, Flag, Flags};
@@ -144,10 +144,8 @@ impl<X> Job<X> {
     ) -> Result<(), ReadFault>
     where
         X: Examiner<P>,
-        requires ready { IsReady true (P.state keeper.old) }
-        requires sound { IsSoundJob X.terms self.old }
+        requires may { MayLook X.terms entry.seq self.old (P.state keeper.old) }
         requires first { IsFirstWaiting self.old.questions entry }
-        requires within { entry.seq ≤ self.old.length }
         ensures looks { LooksOn X.terms entry.seq past.now result self.old self.new
             (P.state keeper.old) (P.state keeper.new) steps.old steps.new }
         ensures used { OnOk result (self.new.questions ≡ without_first self.old.questions) }
@@ -172,41 +170,6 @@ impl<X> Job<X> {
         }
     }
 
-    // Looks at the first question that was read ahead, if its number is at most this; whether there
-    // was one.
-    fn look_at_first<P: Keeper, L: Ledger>(
-        &mut self,
-        keeper: &mut P,
-        alloc: Global,
-        upto: u64,
-        past: &Past<'_>,
-        steps: &mut Steps<L>,
-    ) -> Result<bool, ReadFault>
-    where
-        X: Examiner<P>,
-        requires may { MayLook X.terms upto self.old (P.state keeper.old) }
-        ensures looks { LooksOn X.terms upto past.now result self.old self.new
-            (P.state keeper.old) (P.state keeper.new) steps.old steps.new }
-        ensures past { result ≡ Ok false → BeginsAbove upto self.new.questions.waiting }
-        ensures fewer { result ≡ Ok true
-            → length self.new.questions.waiting < length self.old.questions.waiting }
-        ensures others { IsAsFar self.old self.new }
-    {
-        let Some(kept) = self.questions.first() else {
-            return Ok(false);
-        };
-        if upto < kept.seq {
-            return Ok(false);
-        }
-        match decoded(alloc, kept) {
-            Ok(entry) => match self.look_at(entry, keeper, alloc, past, steps) {
-                Ok(()) => Ok(true),
-                Err(fault) => Err(fault),
-            },
-            Err(fault) => Err(fault),
-        }
-    }
-
     // Looks at the questions that were read ahead and are numbered up to this.
     fn look_at_waiting<P: Keeper, L: Ledger>(
         &mut self,
@@ -225,42 +188,12 @@ impl<X> Job<X> {
         ensures others { IsAsFar self.old self.new }
     {
         loop {
-            match self.look_at_first(keeper, alloc, upto, past, steps) {
-                Ok(true) => {}
-                Ok(false) => return Ok(()),
-                Err(fault) => return Err(fault),
-            }
-        }
-    }
-
-    // Looks at the numbers up to this one.
-    fn look_up_to<P: Keeper, L: Ledger>(
-        &mut self,
-        keeper: &mut P,
-        alloc: Global,
-        upto: u64,
-        past: &Past<'_>,
-        steps: &mut Steps<L>,
-    ) -> Result<(), ReadFault>
-    where
-        X: Examiner<P>,
-        requires may { MayLook X.terms upto self.old (P.state keeper.old) }
-        ensures looks { LooksOn X.terms upto past.now result self.old self.new
-            (P.state keeper.old) (P.state keeper.new) steps.old steps.new }
-        ensures place { OnOk result (self.new.place ≡ upto) }
-        ensures unbroken { self.new.unbroken ≡ self.old.unbroken }
-    {
-        loop {
-            match self.look_at_waiting(keeper, alloc, upto, past, steps) {
-                Ok(()) => {}
-                Err(fault) => return Err(fault),
-            }
-            if has_read(&self.questions, upto) {
-                self.place = upto;
-                return Ok(());
-            }
-            match read_ahead(&mut self.questions, keeper, alloc, &self.audit, self.length) {
-                Ok(()) => {}
+            match first_up_to(&self.questions, alloc, upto) {
+                Ok(Some(entry)) => match self.look_at(entry, keeper, alloc, past, steps) {
+                    Ok(()) => {}
+                    Err(fault) => return Err(fault),
+                },
+                Ok(None) => return Ok(()),
                 Err(fault) => return Err(fault),
             }
         }
@@ -289,11 +222,24 @@ impl<X> Job<X> {
             (P.state keeper.old) (P.state keeper.new) steps.old steps.new }
     {
         let upto = step_end(self.place, count, self.length);
-        match self.look_up_to(keeper, alloc, upto, past, steps) {
-            Ok(()) => Ok(()),
-            Err(fault) => {
-                self.unbroken = false;
-                Err(fault)
+        loop {
+            match self.look_at_waiting(keeper, alloc, upto, past, steps) {
+                Ok(()) => {}
+                Err(fault) => {
+                    self.unbroken = false;
+                    return Err(fault);
+                }
+            }
+            if has_read(&self.questions, upto) {
+                self.place = upto;
+                return Ok(());
+            }
+            match read_ahead(&mut self.questions, keeper, alloc, &self.audit, self.length) {
+                Ok(()) => {}
+                Err(fault) => {
+                    self.unbroken = false;
+                    return Err(fault);
+                }
             }
         }
     }

@@ -3,6 +3,7 @@ ghost use Rattle.std.specs.Prelude.{◌≡◌, true, []};
 ghost use Rattle.hippo_keeper.specs.Keeping.{IsReady};
 ghost use Rattle.hippo_backlog.specs.ReadingAhead.{has_read};
 ghost use Rattle.hippo_audit_job.specs.Looking.{ReadsAhead, IsDecoded};
+ghost use Rattle.hippo_audit_job.specs.Flagging.{IsFirstUpTo};
 
 use hippo_backlog::{Ahead, ReadFault, fault_of};
 use hippo_entry::decode;
@@ -21,14 +22,35 @@ pub(crate) fn has_read(questions: &Ahead, number: u64) -> bool
     number <= questions.reached() || questions.first().is_some()
 }
 
-/// The entry of a stored form, or `Damaged` with its number where it has none.
-pub(crate) fn decoded(alloc: Global, kept: &StoredEntry) -> Result<Entry, ReadFault>
+// The entry of a stored form, or `Damaged` with its number where it has none.
+fn decoded(alloc: Global, kept: &StoredEntry) -> Result<Entry, ReadFault>
     ensures { IsDecoded kept.now result }
 {
     match decode(alloc, kept) {
         Ok(Some(entry)) => Ok(entry),
         Ok(None) => Err(ReadFault::Damaged(kept.seq)),
         Err(Memory) => Err(ReadFault::Memory),
+    }
+}
+
+/// The entry of the first question that waits, if its number is at most this; `Damaged` with its
+/// number where its stored form has none.
+pub(crate) fn first_up_to(
+    questions: &Ahead,
+    alloc: Global,
+    number: u64,
+) -> Result<Option<Entry>, ReadFault>
+    ensures { IsFirstUpTo number questions.now result }
+{
+    let Some(kept) = questions.first() else {
+        return Ok(None);
+    };
+    if number < kept.seq {
+        return Ok(None);
+    }
+    match decoded(alloc, kept) {
+        Ok(entry) => Ok(Some(entry)),
+        Err(fault) => Err(fault),
     }
 }
 

@@ -1,5 +1,5 @@
 -- What bringing tables forward does to what is held of them, and to the keeper.
-use Rattle.std.specs.Prelude.{◌≡◌, ◌≢◌, ◌⊎◌, ℕ, true, false, ◌+◌, ◌<◌, ◌≤◌, ◌++◌, [], ◌∷◌, List, map, length, is_some, Option, Some, None, option_map, if◌then◌else◌, bytes_eq, Result, Err}
+use Rattle.std.specs.Prelude.{◌≡◌, ◌≢◌, ◌⊎◌, ℕ, true, false, ◌+◌, ◌<◌, ◌≤◌, ◌++◌, [], ◌∷◌, List, map, length, is_some, Option, Some, None, option_map, if◌then◌else◌, bytes_eq, Result, Err, OnOk}
 use Rattle.std.specs.List.{AllByRecursion, position_or_len}
 use Rattle.hippo_values.specs.declared.names.Name.{Name}
 use Rattle.hippo_model.specs.declared.schema.Schema.{Schema}
@@ -77,3 +77,10 @@ BringsOn forward result old new before after steps_old steps_new =
 
 abbrev pub AreBrought : Forward → List Name → List HeldLives → Type 0
 AreBrought forward names tables = AreHeldIfKnown forward.past.now forward.number names tables
+
+-- tables are brought on, and these, where they are all known, are held at the number
+pub record BringsNamed {A : Type 0} (forward : Forward) (names : List Name)
+    (result : Result A ReadFault) (old new : List HeldLives) (before after : KeeperState)
+    (steps_old steps_new : ℕ) : Type 0 where
+  pub brings : BringsOn forward result old new before after steps_old steps_new
+  pub held : OnOk result (AreBrought forward names new)

@@ -34,7 +34,7 @@ pub(crate) struct Forward<'a> {
 
 impl<'a> Forward<'a> {
     ghost use Rattle.std.specs.Prelude.{◌∷◌, [], OnOk};
-    ghost use Rattle.hippo_combine.specs.Bringing.{AreBrought, BringsOn, MayGo};
+    ghost use Rattle.hippo_combine.specs.Bringing.{AreBrought, BringsNamed, BringsOn, MayGo};
 
     // Brings a table forward, where it is known.
     fn bring<P: Keeper, L: Ledger>(
@@ -46,9 +46,8 @@ impl<'a> Forward<'a> {
         steps: &mut Steps<L>,
     ) -> Result<(), ReadFault>
         requires may { MayGo self.now tables.old.items (P.state keeper.old) }
-        ensures brings { BringsOn self.now result tables.old.items tables.new.items
-            (P.state keeper.old) (P.state keeper.new) steps.old steps.new }
-        ensures held { OnOk result (AreBrought self.now (table.now ∷ []) tables.new.items) }
+        ensures { BringsNamed self.now (table.now ∷ []) result tables.old.items
+            tables.new.items (P.state keeper.old) (P.state keeper.new) steps.old steps.new }
     {
         let Some(schema) = self.past.catalog.table(table) else {
             return Ok(());
@@ -70,9 +69,8 @@ impl<'a> Forward<'a> {
         steps: &mut Steps<L>,
     ) -> Result<(), ReadFault>
         requires may { MayGo self.now tables.old.items (P.state keeper.old) }
-        ensures brings { BringsOn self.now result tables.old.items tables.new.items
-            (P.state keeper.old) (P.state keeper.new) steps.old steps.new }
-        ensures held { OnOk result (AreBrought self.now names.now tables.new.items) }
+        ensures { BringsNamed self.now names.now result tables.old.items
+            tables.new.items (P.state keeper.old) (P.state keeper.new) steps.old steps.new }
     {
         for table in names {
             self.bring(tables, keeper, alloc, table, steps)?;

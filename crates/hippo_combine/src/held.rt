@@ -48,21 +48,33 @@ pub(crate) fn have_rows(tables: &[Lives], names: &[Name]) -> bool
     names.iter().all(|table| has_rows(tables, table))
 }
 
-/// The schemas of tables, of those that are held.
-pub(crate) fn schemas_of<'a>(
+/// What is lent of tables: their schemas, and their rows.
+#[derive(Drop)]
+pub(crate) struct LentTables<'a> {
+    pub schemas: LentSchemas<'a>,
+    pub sets: Sets<'a>,
+}
+
+/// The schemas and the rows of tables, of those that are held.
+pub(crate) fn tables_of<'a>(
     alloc: Global,
     tables: &'a [Lives],
     names: &[Name],
-) -> Result<LentSchemas<'a>, Memory>
-    ensures { IfOk result (λ schemas. schemas ≡ filter_map (schema_held tables.now) names.now) }
+) -> Result<LentTables<'a>, Memory>
+    ensures schemas { IfOk result (λ lent. lent.schemas
+        ≡ filter_map (schema_held tables.now) names.now) }
+    ensures sets { IfOk result (λ lent. lent.sets
+        ≡ filter_map (rows_held tables.now) names.now) }
 {
     let mut schemas = Lent::new(alloc);
+    let mut sets = Lent::new(alloc);
     for table in names {
         if let Some(lives) = lives_of(tables, table) {
             schemas.push(lives.schema())?;
+            sets.push(lives.rows())?;
         }
     }
-    Ok(schemas)
+    Ok(LentTables { schemas, sets })
 }
 
 /// The rows of tables, of those that are held.

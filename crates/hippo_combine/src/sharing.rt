@@ -7,7 +7,7 @@ ghost use Rattle.hippo_combine.specs.Held.{are_held};
 ghost use Rattle.hippo_combine.specs.Sharing.{HoldsBoth};
 
 use crate::asked::rules_asked;
-use crate::held::{have_rows, schemas_of, sets_of};
+use crate::held::{have_rows, sets_of, tables_of};
 use hippo_examining::shared_of;
 use hippo_intervals::Lives;
 use hippo_model::{Audit, Entry, Query, SharedTuple};
@@ -42,13 +42,11 @@ pub(crate) fn shared_with(
     if !have_all_rows(tables, query, audit) {
         return Ok(None);
     }
-    let names = query.tables.as_slice();
-    let schemas = schemas_of(alloc, tables, names)?;
-    let found = rules_asked(alloc, book, number, entry, &schemas)?;
+    let lent = tables_of(alloc, tables, query.tables.as_slice())?;
+    let found = rules_asked(alloc, book, number, entry, &lent.schemas)?;
     let Some(rules) = found else {
         return Ok(None);
     };
-    let query_sets = sets_of(alloc, tables, names)?;
     let audit_sets = sets_of(alloc, tables, audit.tables.as_slice())?;
     let choices = book.choices_at(number);
     shared_of(
@@ -56,7 +54,7 @@ pub(crate) fn shared_with(
         query,
         audit,
         &rules,
-        &query_sets,
+        &lent.sets,
         &audit_sets,
         &choices,
     )

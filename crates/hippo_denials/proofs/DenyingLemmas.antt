@@ -167,8 +167,8 @@ module _ (schema : Schema) (rules : RulesThen) (query : Query) (limit : ℕ) (be
       → ListsRows limit rules schema (denial_columns query schema) rows.rows listed old new
       → ReadsDenials Fits (one_table rules query schema) (one_count schema) limit (listed_as listed) old new before after steps steps'
   table_read rows listed old new snapshots lists = record {
-    call = IsAfterCall-as true false (reads.reading_as_call {A = KeyedRows} (Ok rows)) (listing_as_call (listed_as listed)) before after (listed_good listed) snapshots.is_after;
-    stays = snapshots.stays;
+    call = IsAfterCall-as true false (reads.reading_as_call {A = KeyedRows} (Ok rows)) (listing_as_call (listed_as listed)) before after (listed_good listed) snapshots.hands.call;
+    stays = snapshots.hands.stays;
     told = λ tells history store fit.
         let snapshot = snapshot_of snapshots tells history store fit in
         let rows_are : rows ≡ kept_at schema (take rules.count history) = snapshot.rows in
@@ -185,8 +185,8 @@ module _ (schema : Schema) (rules : RulesThen) (query : Query) (limit : ℕ) (be
   pub table_unread : (fault : ReadFault) (cells : List Denial) → Snapshots schema rules.count (Err fault) before after steps steps'
       → ReadsDenials Fits (one_table rules query schema) (one_count schema) limit (Err (Read fault)) cells cells before after steps steps'
   table_unread fault cells snapshots = record {
-    call = IsAfterCall-as true false (reads.reading_as_call (err_of KeyedRows fault)) (listing_as_call (err_of (Unit {0}) (Read fault))) before after (unread_same fault) snapshots.is_after;
-    stays = snapshots.stays;
+    call = IsAfterCall-as true false (reads.reading_as_call (err_of KeyedRows fault)) (listing_as_call (err_of (Unit {0}) (Read fault))) before after (unread_same fault) snapshots.hands.call;
+    stays = snapshots.hands.stays;
     told = λ tells history store fit.
         let snapshot = snapshot_of snapshots tells history store fit in
         record { adds = adds_unread limit (one_table rules query schema history) fault cells cells snapshot.undamaged; few = snapshot.steps };

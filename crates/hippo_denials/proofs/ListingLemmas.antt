@@ -1,17 +1,16 @@
 -- The denied cells of rows, row by row.
 use Rattle.std.proofs.Common.{◌≡◌, ◌∙◌, Bool, true, false, List, [], ◌∷◌, ◌++◌, ◌+◌, drop, filter, filter_map, Option, Some, None, Result, Ok, Err, refl, sym, ap, append_assoc}
-use Rattle.std.specs.Prelude.{if◌then◌else◌, is_err, OnOk, slice_get, option_map, unwrap_or}
+use Rattle.std.specs.Prelude.{if◌then◌else◌, is_err, OnOk, slice_get}
 use Rattle.std.specs.List.{flat_map, enumerate_from, cons_option}
 use Rattle.std.proofs.lemmas.Bool.{false≢true}
 use Rattle.hippo_values.specs.declared.memory.Memory.{Memory}
-use Rattle.hippo_values.specs.declared.moments.Moment.{Moment}
 use Rattle.hippo_model.specs.declared.born_row.BornRow.{BornRow}
 use Rattle.hippo_model.specs.declared.query.Query.{Query}
 use Rattle.hippo_model.specs.declared.schema.Column.{Column}
 use Rattle.hippo_model.specs.declared.schema.Schema.{Schema}
 use Rattle.hippo_model.specs.Denials.{Denial, is_listed, denial_by, row_denials, table_denials}
 use Rattle.hippo_model.specs.Rows.{table_rows}
-use Rattle.hippo_model.specs.Terms.{History, Place, Row}
+use Rattle.hippo_model.specs.Terms.{History, Place}
 use Rattle.hippo_model.specs.Verdicts.{Context, verdict}
 use Rattle.hippo_catalog.proofs.ListLemmas.{drop_at_item}
 use Rattle.hippo_denials.specs.Listing.{denial_columns, listed_denials, rows_denials}
@@ -35,15 +34,6 @@ module _ (history : History) (context : Context) (query : Query) (schema : Schem
   -- the denied cells of a table are those of its rows in the columns that are listed
   pub table_is : rows_denials history context schema (denial_columns query schema) (table_rows schema history) ≡ table_denials history context query schema
   table_is = sym (λ i. flat_map (λ kept. row_is kept i) (table_rows schema history))
-
-row_in : (found : Option BornRow) (row : Row) (born : Moment) → option_map (λ (kept : BornRow). kept.row) found ≡ Some row → option_map (λ (kept : BornRow). kept.born) found ≡ Some born → found ≡ Some (record { row = row; born = born })
-row_in None row born first second = absurd cc
-row_in (Some kept) row born first second = λ i. Some (record { row = unwrap_or (first i) kept.row; born = unwrap_or (second i) kept.born })
-
--- a row with its birth, from two look-ups
-pub born_row : (rows : List BornRow) (place : Place) (row : Row) (born : Moment) → option_map (λ (kept : BornRow). kept.row) (slice_get rows place) ≡ Some row
-    → option_map (λ (kept : BornRow). kept.born) (slice_get rows place) ≡ Some born → slice_get rows place ≡ Some (record { row = row; born = born })
-born_row rows place row born first second = row_in (slice_get rows place) row born first second
 
 -- what holds of what is Ok
 pub held_ok : (P : Type 0) (result : Result (Unit {0}) Memory) → is_err result ≡ false → OnOk result P → P

@@ -8,7 +8,7 @@ ghost use Rattle.hippo_denials.specs.Listing.{rules_context, denial_columns, lis
 
 use crate::columns::{Listed, listed_columns};
 use crate::faults::ListFault;
-use hippo_model::{Cells, Query, Schema, Verdict, copied_key};
+use hippo_model::{BornRow, Cells, Query, Schema, Verdict, copied_key};
 use hippo_policy::PolicyBook;
 use hippo_rows::RowSet;
 use hippo_values::{Memory, Moment, Name, Sequence};
@@ -50,43 +50,21 @@ pub struct RulesThen<'a> {
     pub recipient: &'a Name,
 }
 
-fn verdict(
-    rules: &RulesThen<'_>,
-    schema: &Schema,
-    row: &Cells,
-    born: Moment,
-    column: usize,
-) -> Verdict
-    ensures { (history : History) → BookStandsFor rules.now.book.now history
-        → result ≡ verdict (take rules.now.count history) (rules_context rules.now) schema.now
-        (record { row = row.now; born = born }) column }
-{
-    rules.book.verdict(
-        rules.count,
-        rules.moment,
-        rules.purpose,
-        rules.recipient,
-        schema,
-        row,
-        born,
-        column,
-    )
-}
-
 // The cell of a row, where the verdict denies it.
 fn denied_by<'a>(
     alloc: Global,
     schema: &'a Schema,
     column: &'a Name,
-    row: &Cells,
+    kept: &BornRow,
     verdict: Verdict,
 ) -> Result<Option<Denied<'a>>, Memory>
-    ensures { IfOk result (λ denied. denied ≡ denial_by schema.now row.now column.now verdict) }
+    ensures { IfOk result (λ denied.
+        denied ≡ denial_by schema.now kept.now.row column.now verdict) }
 {
     match verdict {
         Verdict::Shown => Ok(None),
         Verdict::Denied(rule) => {
-            let key = copied_key(alloc, schema.key.as_slice(), row.as_slice())?;
+            let key = copied_key(alloc, schema.key.as_slice(), kept.row.as_slice())?;
             Ok(Some(Denied {
                 table: &schema.name,
                 key,
@@ -97,28 +75,45 @@ fn denied_by<'a>(
     }
 }
 
-// Adds the denied cells of a row.
-fn list_row<'a>(
-    alloc: Global,
-    rules: &RulesThen<'_>,
-    schema: &'a Schema,
-    listed: &[Listed<'a>],
-    row: &Cells,
-    born: Moment,
-    cells: &mut Sequence<Denied<'a>>,
-) -> Result<(), Memory>
-    ensures { OnOk result ((history : History) → BookStandsFor rules.now.book.now history
-        → cells.new ≡ cells.old ++ listed_denials (take rules.now.count history)
-        (rules_context rules.now) schema.now
-        listed.now (record { row = row.now; born = born })) }
-{
-    for column in listed {
-        let verdict = verdict(rules, schema, row, born, column.place);
-        if let Some(denied) = denied_by(alloc, schema, &column.column.name, row, verdict)? {
-            cells.push(denied)?;
-        }
+impl RulesThen<'_> {
+    fn verdict(&self, schema: &Schema, kept: &BornRow, column: usize) -> Verdict
+        ensures { (history : History) → BookStandsFor self.now.book.now history
+            → result ≡ verdict (take self.now.count history) (rules_context self.now) schema.now
+            kept.now column }
+    {
+        self.book.verdict(
+            self.count,
+            self.moment,
+            self.purpose,
+            self.recipient,
+            schema,
+            &kept.row,
+            kept.born,
+            column,
+        )
     }
-    Ok(())
+
+    // Adds the denied cells of a row.
+    fn list_row<'a>(
+        &self,
+        alloc: Global,
+        schema: &'a Schema,
+        listed: &[Listed<'a>],
+        kept: &BornRow,
+        cells: &mut Sequence<Denied<'a>>,
+    ) -> Result<(), Memory>
+        ensures { OnOk result ((history : History) → BookStandsFor self.now.book.now history
+            → cells.new ≡ cells.old ++ listed_denials (take self.now.count history)
+            (rules_context self.now) schema.now listed.now kept.now) }
+    {
+        for column in listed {
+            let verdict = self.verdict(schema, kept, column.place);
+            if let Some(denied) = denied_by(alloc, schema, &column.column.name, kept, verdict)? {
+                cells.push(denied)?;
+            }
+        }
+        Ok(())
+    }
 }
 
 // Adds the denied cells of rows, while there are not more than so many.
@@ -137,8 +132,8 @@ fn list_rows<'a>(
     ensures within { OnOk result (length cells.new ≤ limit) }
 {
     for place in 0..rows.len() {
-        let row = rows.row(place);
-        if list_row(alloc, rules, schema, listed, row, rows.born(place), cells).is_err() {
+        let kept = rows.born_row(place);
+        if rules.list_row(alloc, schema, listed, kept, cells).is_err() {
             return Err(ListFault::Memory);
         }
         if cells.len() > limit {

@@ -20,9 +20,17 @@ module _ {A : Type 0} (test : A → Bool) (items : List A) (now whole : Bool) (s
   none-left none = sym (ap (λ (left : List A). list_any test left || now) none) ∙ so_far
 
   -- the same by their number
-  pub all-taken : (count : ℕ) → count ≡ length items → count ≡ 0 → now ≡ whole
+  all-taken : (count : ℕ) → count ≡ length items → count ≡ 0 → now ≡ whole
   all-taken count is none = none-left (empty items (sym is ∙ none))
     where
       empty : (left : List A) → length left ≡ 0 → left ≡ []
       empty [] none = refl
       empty (item ∷ left) none = absurd (omega (arith, none))
+
+-- the same of what depends on a place, such as a tuple's places
+module _ {P A : Type 0} (test : P → A → Bool) (items : List A) (now whole : P → Bool) (so_far : (place : P) → (list_any (test place) items || now place) ≡ whole place) where
+  pub each-taken : (item : A) (rest : List A) (later : P → Bool) → items ≡ item ∷ rest → ((place : P) → later place ≡ (test place item || now place)) → (place : P) → (list_any (test place) rest || later place) ≡ whole place
+  each-taken item rest later split added place = one-taken (test place) items (now place) (whole place) (so_far place) item rest (later place) split (added place)
+
+  pub each-of-all : (count : ℕ) → count ≡ length items → count ≡ 0 → (place : P) → now place ≡ whole place
+  each-of-all count is none place = all-taken (test place) items (now place) (whole place) (so_far place) count is none

@@ -1,7 +1,8 @@
 -- What is kept of a group's members, to know without which virtual tuples it changes.
-use Rattle.std.specs.Prelude.{◌≡◌, Bool, not, ◌&&◌, ◌||◌, List, [], ◌∷◌, ◌++◌, map, filter, take, drop, slice_index_or, if◌then◌else◌}
+use Rattle.std.specs.Prelude.{◌≡◌, Bool, not, ◌&&◌, ◌||◌, List, [], ◌∷◌, ◌++◌, map, filter, take, drop, slice_index_or, if◌then◌else◌, Result, OnOk}
 use Rattle.std.specs.List.{list_any}
 use Rattle.std.specs.Ordering.{is_eq}
+use Rattle.hippo_values.specs.declared.memory.Memory.{Memory}
 use Rattle.hippo_values.specs.declared.values.Value.{Value}
 use Rattle.hippo_values.specs.declared.values.Value.TheVariants.{Null}
 use Rattle.hippo_values.specs.Order.{value_cmp}
@@ -69,6 +70,15 @@ best_after old who value is_better places =
     if is_eq (value_cmp value old) then record { value = old; mark = mark_of (who ++ places ∷ []) }
     else if is_better then record { value = value; mark = mark_of (places ∷ []) }
     else record { value = old; mark = mark_of who }
+
+-- the value of one member more is taken into the best of the members' values
+abbrev pub TakesMember : (List Value → Value) → Value → List Place → Result (Unit {0}) Memory
+    → Best → Best → Type 0
+TakesMember best value places result old new =
+    (place : Place) (members : List PlacedRow) (member : PlacedRow)
+    → old ≡ best_by best place members → value ≡ shown_value place member.row
+    → places ≡ member.places
+    → OnOk result (new ≡ best_by best place (members ++ member ∷ []))
 
 -- whether a best value becomes another without the tuple of some places
 abbrev pub is_best_changed : List Place → Best → Bool

@@ -7,7 +7,7 @@ ghost use Rattle.hippo_model.specs.Forms.{least_value, greatest_value};
 ghost use Rattle.hippo_sides.specs.Finding.{has_places};
 ghost use Rattle.hippo_shared.specs.Marks.{mark_of};
 ghost use Rattle.hippo_examining.specs.declared.group_marks.GroupMarks as marks;
-ghost use Rattle.hippo_examining.specs.GroupMarks.{PlacedRow, shown_value, best_by, best_of, best_after, marks_of, is_best_changed, changes_without, AreJoinedBests};
+ghost use Rattle.hippo_examining.specs.GroupMarks.{PlacedRow, best_of, best_after, TakesMember, marks_of, is_best_changed, changes_without, AreJoinedBests};
 
 use hippo_groups::{is_greater, is_lesser, value_at};
 use hippo_model::{CellRow, Out, Outs, Places};
@@ -80,10 +80,7 @@ fn take(
 
 // Takes the value of one member more into the least.
 fn lower(alloc: Global, best: &mut Best, value: &Value, places: &Places) -> Result<(), Memory>
-    ensures { (place : Place) (members : List PlacedRow) (member : PlacedRow)
-        → best.old ≡ best_by least_value place members → value.now ≡ shown_value place member.row
-        → places.now ≡ member.places
-        → OnOk result (best.new ≡ best_by least_value place (members ++ member ∷ [])) }
+    ensures { TakesMember least_value value.now places.now result best.old best.new }
 {
     let is_better = is_lesser(value, &best.value);
     take(alloc, best, value, is_better, places)
@@ -91,10 +88,7 @@ fn lower(alloc: Global, best: &mut Best, value: &Value, places: &Places) -> Resu
 
 // Takes the value of one member more into the greatest.
 fn raise(alloc: Global, best: &mut Best, value: &Value, places: &Places) -> Result<(), Memory>
-    ensures { (place : Place) (members : List PlacedRow) (member : PlacedRow)
-        → best.old ≡ best_by greatest_value place members → value.now ≡ shown_value place member.row
-        → places.now ≡ member.places
-        → OnOk result (best.new ≡ best_by greatest_value place (members ++ member ∷ [])) }
+    ensures { TakesMember greatest_value value.now places.now result best.old best.new }
 {
     let is_better = is_greater(value, &best.value);
     take(alloc, best, value, is_better, places)

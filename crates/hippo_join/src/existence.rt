@@ -32,14 +32,14 @@ fn are_shown<C: ChoiceView>(choices: &C, seen: &[Expr], rows: &Combo<'_>) -> boo
     true
 }
 
-// Seeks a combination that shows what is to be seen.
+// Seeks a combination of a side's rows that shows what is to be seen.
 #[derive(Drop)]
-struct Seeker<'a, C> {
-    choices: &'a C,
-    seen: &'a [Expr],
+pub(crate) struct Seeker<'w, 'a, C> {
+    pub(crate) side: &'w Side<'a, C>,
+    pub(crate) seen: &'w [Expr],
 }
 
-impl<'a, C: ChoiceView> PlaceVisitor for Seeker<'a, C> {
+impl<'w, 'a, C: ChoiceView> PlaceVisitor for Seeker<'w, 'a, C> {
     ghost use Rattle.std.specs.Prelude.{◌≡◌};
     ghost use Rattle.std.specs.List.{list_any};
     ghost use Rattle.hippo_lookups.specs.Places.{chosen_rows};
@@ -48,7 +48,7 @@ impl<'a, C: ChoiceView> PlaceVisitor for Seeker<'a, C> {
     type State = bool;
 
     ghost Keeps = { λ seeker sets front visited is_found. is_found ≡ list_any (λ places.
-        are_shown (C.choices seeker.choices.now) seeker.seen.now (chosen_rows sets places))
+        are_shown (C.choices seeker.side.now.choices.now) seeker.seen.now (chosen_rows sets places))
         visited };
 
     fn visit(
@@ -58,7 +58,7 @@ impl<'a, C: ChoiceView> PlaceVisitor for Seeker<'a, C> {
         _slots: &[Option<usize>],
         rows: &Combo<'_>,
     ) -> Result<Onward, Memory> {
-        if are_shown(self.choices, self.seen, rows) {
+        if are_shown(self.side.choices, self.seen, rows) {
             *state = true;
             Ok(Onward::Enough)
         } else {
@@ -67,40 +67,36 @@ impl<'a, C: ChoiceView> PlaceVisitor for Seeker<'a, C> {
     }
 }
 
-// Whether some combination counts that has the rows that are chosen, and shows each cell that is to
-// be seen, along stages of the tables whose row is not chosen.
-pub(crate) fn has_along<C: ChoiceView>(
-    side: &Side<'_, C>,
-    alloc: Global,
-    stages: &[Stage],
-    seen: &[Expr],
-    slots: &mut [Option<usize>],
-) -> Result<bool, Memory>
-    requires { CanWalk (C.choices side.now.choices.now) side.now.query.now side.now.sets.now
-        false
-        stages.now slots.old }
-    ensures slots { OnOk result (slots.new ≡ slots.old) }
-    ensures one { Decides (HasOne (C.choices side.now.choices.now) side.now.query.now seen.now
-        side.now.sets.now
-        slots.old) result }
-{
-    let seeker = Seeker {
-        choices: side.choices,
-        seen,
-    };
-    if !are_there(side, slots) {
-        return Ok(false);
+impl<'w, 'a, C: ChoiceView> Seeker<'w, 'a, C> {
+    // Whether some combination counts that has the rows that are chosen, and shows each cell that
+    // is to be seen, along stages of the tables whose row is not chosen.
+    pub(crate) fn has_along(
+        &self,
+        alloc: Global,
+        stages: &[Stage],
+        slots: &mut [Option<usize>],
+    ) -> Result<bool, Memory>
+        requires { CanWalk (C.choices self.now.side.now.choices.now) self.now.side.now.query.now
+            self.now.side.now.sets.now false stages.now slots.old }
+        ensures slots { OnOk result (slots.new ≡ slots.old) }
+        ensures one { Decides (HasOne (C.choices self.now.side.now.choices.now)
+            self.now.side.now.query.now self.now.seen.now self.now.side.now.sets.now slots.old)
+            result }
+    {
+        if !are_there(self.side, slots) {
+            return Ok(false);
+        }
+        let mut rows = self.side.rows(alloc, slots)?;
+        let mut is_found = false;
+        let walk = Walk {
+            side: self.side,
+            alloc,
+            in_order: false,
+            visitor: self,
+        };
+        let _onward = walk.walk(stages, slots, &mut rows, &mut is_found)?;
+        Ok(is_found)
     }
-    let mut rows = side.rows(alloc, slots)?;
-    let mut is_found = false;
-    let walk = Walk {
-        side,
-        alloc,
-        in_order: false,
-        visitor: &seeker,
-    };
-    let _onward = walk.walk(stages, slots, &mut rows, &mut is_found)?;
-    Ok(is_found)
 }
 
 /// Whether some combination counts that has the rows that are chosen, and shows each cell that is
@@ -123,5 +119,6 @@ pub fn has<C: ChoiceView>(
         side.now.sets.now
         slots.old) result }
 {
-    has_along(side, alloc, stages, seen, slots)
+    let seeker = Seeker { side, seen };
+    seeker.has_along(alloc, stages, slots)
 }

@@ -10,7 +10,7 @@ ghost use Rattle.hippo_join.specs.Settling.{Settles};
 ghost use Rattle.hippo_sides.specs.Stages.{Reaches};
 ghost use Rattle.hippo_sides.specs.Walking.{following_places};
 
-use crate::existence::has_along;
+use crate::existence::Seeker;
 use hippo_lookups::is_open;
 use hippo_model::{ChoiceView, Expr};
 use hippo_sides::{Following, Side, listed, open_slots, push_if};
@@ -170,5 +170,6 @@ pub fn has_joined<C: ChoiceView>(
 {
     let left = still_open(alloc, order, slots)?;
     let stages = side.stages_behind(alloc, slots, &left, false)?;
-    has_along(side, alloc, &stages, seen, slots)
+    let seeker = Seeker { side, seen };
+    seeker.has_along(alloc, &stages, slots)
 }

@@ -86,8 +86,8 @@ module _ (past : Past) (number : ℕ) (table : Name) where
     -- a snapshot is added
     pub read_some : (set : KeyedRows) → Snapshots schema number (Ok set) before after s0 s1 → (result : Done) (old new : List KeyedRows) → IsPushed set result old new → ReadsRows past number (table ∷ []) result old new before after
     read_some set shot result old new pushed = record {
-      is_after = IsAfterCall-as true false (reading_as_call (ok_of set)) (reading_as_call result) before after (pushed_well set result old new pushed) shot.is_after;
-      stays = shot.stays;
+      is_after = IsAfterCall-as true false (reading_as_call (ok_of set)) (reading_as_call result) before after (pushed_well set result old new pushed) shot.hands.call;
+      stays = shot.hands.stays;
       many = pushed_one set result old new pushed;
       told = λ tells history kept its within.
           let rows = (shot.told tells meaning history (record { forms = kept; valid = its.valid }) (there history its) within).rows in
@@ -97,8 +97,8 @@ module _ (past : Past) (number : ℕ) (table : Name) where
     -- a snapshot that fails
     pub read_fault : (fault : ReadFault) (old : List KeyedRows) → Snapshots schema number (err_of KeyedRows fault) before after s0 s1 → ReadsRows past number (table ∷ []) (Err fault) old old before after
     read_fault fault old shot = record {
-      is_after = IsAfterCall-as true false (reading_as_call (err_of KeyedRows fault)) (reading_as_call (err_of (Unit {0}) fault)) before after (ap has_failed (reading_as_call-fault (Unit {0}) KeyedRows fault)) shot.is_after;
-      stays = shot.stays;
+      is_after = IsAfterCall-as true false (reading_as_call (err_of KeyedRows fault)) (reading_as_call (err_of (Unit {0}) fault)) before after (ap has_failed (reading_as_call-fault (Unit {0}) KeyedRows fault)) shot.hands.call;
+      stays = shot.hands.stays;
       many = tt;
       told = λ tells history kept its within.
           let undamaged = (shot.told tells meaning history (record { forms = kept; valid = its.valid }) (there history its) within).undamaged in

@@ -24,7 +24,7 @@ use Rattle.hippo_commons.specs.Commons.{common_tables, place_in}
 use Rattle.hippo_shared.specs.Sharing.{rows_named, virtual_tuples_in, query_has}
 use Rattle.hippo_shared.proofs.CommonLemmas.{common-in-audit}
 use Rattle.hippo_shared.proofs.TupleLemmas.{AllStandIn, set_at}
-use Rattle.hippo_removal.specs.Removing.{tuple_of, unmasked_query, is_shared}
+use Rattle.hippo_removal.specs.Removing.{tuple_of, unmasked_query, is_shared, first_removed}
 use Rattle.hippo_removal.proofs.NeedingLemmas.{audit_needs_by}
 
 -- ---- the rows of the common tables
@@ -118,15 +118,20 @@ module _ (test : List SharedRow → Bool) (make : Combination → List SharedRow
       by (Some tuple) none = absurd cc
 
 -- ---- what is found by removal is what is needed first
-module _ (choices : Choices) (query : Masked) (form : Form) (audit : Audit) (seen : List Expr) (query_sets audit_sets : List KeyedRows) (long : length audit_sets ≡ length audit.tables) where
-  pub first_by_removal : (common : List Name) → common ≡ common_tables query.tables audit.tables → (sets : List KeyedRows) → sets ≡ filter_map (λ (name : Name). slice_get audit_sets (place_in audit.tables name)) common
+module _ (choices : Choices) (query : Masked) (form : Form) (audit : Audit) (seen : List Expr) (query_sets audit_sets : List KeyedRows) where
+  abbrev these : List Name
+  these = common_tables query.tables audit.tables
+
+  pub first_by_removal : (common : List Name) → common ≡ these → (sets : List KeyedRows) → sets ≡ filter_map (λ (name : Name). slice_get audit_sets (place_in audit.tables name)) common
       → (unmasked : Masked) → unmasked ≡ unmasked_query audit
-      → find (is_shared choices query form unmasked seen query_sets audit_sets) (map (tuple_of common sets) (product (rows_of sets))) ≡ first_needed choices query form audit seen query_sets audit_sets
+      → find (is_shared choices query form unmasked seen query_sets audit_sets) (map (tuple_of common sets) (product (rows_of sets))) ≡ first_removed choices query form audit seen query_sets audit_sets
   first_by_removal common common_is sets sets_is unmasked unmasked_is =
-      let these = common_tables query.tables audit.tables in
-      let named = map (rows_named audit.tables audit_sets) these in
-      let sets_named : sets ≡ named = sets_is ∙ ap (filter_map (λ (name : Name). slice_get audit_sets (place_in audit.tables name))) common_is
-      ∙ sets_found audit.tables audit_sets long these (common-in-audit query.tables audit.tables) in
-      (λ i. find (is_shared choices query form (unmasked_is i) seen query_sets audit_sets) (map (tuple_of (common_is i) (sets_named i)) (product (rows_of (sets_named i)))))
+      let sets_are : sets ≡ filter_map (λ (name : Name). slice_get audit_sets (place_in audit.tables name)) these = sets_is ∙ ap (filter_map (λ (name : Name). slice_get audit_sets (place_in audit.tables name))) common_is in
+      λ i. find (is_shared choices query form (unmasked_is i) seen query_sets audit_sets) (map (tuple_of (common_is i) (sets_are i)) (product (rows_of (sets_are i))))
+
+  pub removed-needed : length audit_sets ≡ length audit.tables → first_removed choices query form audit seen query_sets audit_sets ≡ first_needed choices query form audit seen query_sets audit_sets
+  removed-needed long =
+      let sets_named = sets_found audit.tables audit_sets long these (common-in-audit query.tables audit.tables) in
+      (λ i. find (is_shared choices query form (unmasked_query audit) seen query_sets audit_sets) (map (tuple_of these (sets_named i)) (product (rows_of (sets_named i)))))
       ∙ ap (find (is_shared choices query form (unmasked_query audit) seen query_sets audit_sets)) (tuples_of audit.tables audit_sets these)
       ∙ (λ i. find (λ (tuple : List SharedRow). needs_by choices query form query_sets tuple && query_has choices query seen query_sets tuple && audit_needs_by choices audit audit_sets tuple i) (virtual_tuples_in audit.tables audit_sets these))

@@ -1,6 +1,6 @@
 -- What is left of a query's answer when the combinations that have a virtual tuple are taken out;
 -- and the virtual tuple of some rows.
-use Rattle.std.specs.Prelude.{Bool, false, not, ◌&&◌, List, [], ◌∷◌, filter, map, Option, None, Some}
+use Rattle.std.specs.Prelude.{Bool, false, not, ◌&&◌, List, [], ◌∷◌, filter, filter_map, find, map, slice_get, Option, None, Some}
 use Rattle.hippo_values.specs.declared.names.Name.{Name}
 use Rattle.hippo_model.specs.declared.audit.Audit.{Audit}
 use Rattle.hippo_model.specs.declared.audit.SharedRow.{SharedRow}
@@ -14,6 +14,7 @@ use Rattle.hippo_model.specs.Answers.{product}
 use Rattle.hippo_model.specs.Forms.{rows_by_form}
 use Rattle.hippo_model.specs.Masking.{Choices, is_guarded, masked_passes}
 use Rattle.hippo_keyed_rows.specs.RowSets.{KeyedRows, key_in}
+use Rattle.hippo_commons.specs.Commons.{common_tables, place_in}
 use Rattle.hippo_eval.specs.Answering.{masked_rows}
 use Rattle.hippo_eval.specs.Unmasked.{unmasked_condition}
 use Rattle.hippo_eval.specs.Walks.{rows_of}
@@ -72,3 +73,13 @@ tuple_of (table ∷ tables) [] rows = []
 tuple_of (table ∷ tables) (set ∷ sets) [] = []
 tuple_of (table ∷ tables) (set ∷ sets) (kept ∷ rows) =
     record { table = table; key = key_in set.key kept } ∷ tuple_of tables sets rows
+
+-- the first tuple of the common tables that a query and an audit share, each in turn taken out of
+-- both
+abbrev pub first_removed : Choices → Masked → Form → Audit → List Expr → List KeyedRows
+    → List KeyedRows → Option (List SharedRow)
+first_removed choices query form audit seen query_sets audit_sets =
+    let common = common_tables query.tables audit.tables in
+    let sets = filter_map (λ table. slice_get audit_sets (place_in audit.tables table)) common in
+    find (is_shared choices query form (unmasked_query audit) seen query_sets audit_sets)
+    (map (tuple_of common sets) (product (rows_of sets)))

@@ -5,7 +5,7 @@ ghost use Rattle.hippo_audit_job.specs.Examining.{IsServing};
 ghost use Rattle.hippo_removal.specs.Removals.{have_rows, AreThen};
 
 use crate::sharing::first_serving;
-use crate::snapshots::{BothRows, Rows, lent, read_both, schemas_of};
+use crate::snapshots::{BothRows, Rows, lend_both, read_both, schemas_of};
 use hippo_audit_job::{Examiner, Past};
 use hippo_backlog::ReadFault;
 use hippo_combine::{as_read, number_before, rules_asked};
@@ -65,18 +65,9 @@ fn shared_over(
     let Some(rules) = found else {
         return Ok(None);
     };
-    let query_sets = lent(alloc, &both.query)?;
-    let audit_sets = lent(alloc, &both.audit)?;
+    let sets = lend_both(alloc, both)?;
     let choices = past.book.choices_at(number);
-    first_serving(
-        alloc,
-        query,
-        audit,
-        &rules,
-        &query_sets,
-        &audit_sets,
-        &choices,
-    )
+    first_serving(alloc, query, audit, &rules, &sets, &choices)
 }
 
 impl<P: Keeper> Examiner<P> for Removal {

@@ -3,12 +3,12 @@ ghost use Rattle.std.specs.Prelude.{◌≡◌, map, IfOk, bytes_eq, filter_map, 
 ghost use Rattle.std.specs.List.{list_any};
 ghost use Rattle.hippo_model.specs.declared.query.Expr.TheVariants.{Keep};
 ghost use Rattle.hippo_commons.specs.Commons.{common_tables, place_in};
-ghost use Rattle.hippo_shared.specs.Comparing.{needed_between};
 ghost use Rattle.hippo_examining.specs.Examining.{ServesFirst};
-ghost use Rattle.hippo_removal.specs.Removing.{tuple_of, unmasked_query};
+ghost use Rattle.hippo_removal.specs.Removing.{tuple_of, unmasked_query, first_removed};
 
 use crate::needing::needs;
 use crate::seeing::has_seen;
+use crate::snapshots::BothSets;
 use crate::tuples::key_of;
 use hippo_commons::place_in;
 use hippo_eval::{Onward, Visitor, unmasked_condition, walk};
@@ -20,7 +20,6 @@ use hippo_model::{
 };
 use hippo_rewrite::rewrite;
 use hippo_rows::{RowSet, Sets};
-use hippo_shared::{Audited, Compared};
 use hippo_values::{Duplicate, Memory, Name, Sequence};
 use std::alloc::Global;
 
@@ -221,35 +220,34 @@ impl<'a, C: ChoiceView> Visitor for Sides<'a, C> {
     }
 }
 
-// The first virtual tuple that both need, with all shown that is to be seen.
-fn first_needed<C: ChoiceView>(
+// The first tuple of the common tables that a query of this form and an audit need, with all shown
+// that is to be seen: each in turn is taken out of both.
+fn first_removed<C: ChoiceView>(
     alloc: Global,
     form: &Form,
-    compared: &Compared<'_, C>,
+    masked: &Masked,
+    seen: &Exprs,
+    audit: &Audit,
+    sets: &BothSets<'_>,
+    choices: &C,
 ) -> Result<Option<SharedTuple>, Memory>
-    requires audit_sets { length compared.now.audited.now.audit_sets.now
-        ≡ length compared.now.audited.now.audit.now.tables }
-    ensures { IfOk result (λ shared. shared ≡ needed_between C.choices form.now compared.now) }
+    ensures { IfOk result (λ shared. shared ≡ first_removed (C.choices choices.now) masked.now
+        form.now audit.now seen.now sets.now.query sets.now.audit) }
 {
-    let tables = compared.audited.audit.tables.as_slice();
-    let common = common_tables(alloc, compared.query.tables.as_slice(), tables)?;
-    let common_sets = sets_named(
-        alloc,
-        tables,
-        compared.audited.audit_sets,
-        common.as_slice(),
-    )?;
-    let unmasked = unmasked_query(alloc, compared.audited.audit)?;
+    let tables = audit.tables.as_slice();
+    let common = common_tables(alloc, masked.tables.as_slice(), tables)?;
+    let common_sets = sets_named(alloc, tables, &sets.audit, common.as_slice())?;
+    let unmasked = unmasked_query(alloc, audit)?;
     let sides = Sides {
-        query: &*compared.query,
+        query: &*masked,
         form: &*form,
         audit: &unmasked,
-        seen: &*compared.seen,
-        query_sets: &*compared.audited.query_sets,
-        audit_sets: &*compared.audited.audit_sets,
+        seen: &*seen,
+        query_sets: &sets.query,
+        audit_sets: &sets.audit,
         common: common.as_slice(),
         common_sets: &common_sets,
-        choices: &*compared.audited.choices,
+        choices: &*choices,
     };
     sides.first_shared(alloc)
 }
@@ -262,31 +260,18 @@ pub(crate) fn first_serving<C: ChoiceView>(
     query: &Query,
     audit: &Audit,
     rules: &RulesInForce,
-    query_sets: &Sets<'_>,
-    audit_sets: &Sets<'_>,
+    sets: &BothSets<'_>,
     choices: &C,
 ) -> Result<Option<SharedTuple>, Memory>
-    requires audit_sets { length audit_sets.now ≡ length audit.now.tables }
-    ensures { IfOk result (λ shared. ServesFirst query.now audit.now rules.now query_sets.now
-        audit_sets.now
-        (C.choices choices.now) shared) }
+    requires many { length sets.now.audit ≡ length audit.now.tables }
+    ensures { IfOk result (λ shared. ServesFirst query.now audit.now rules.now sets.now.query
+        sets.now.audit (C.choices choices.now) shared) }
 {
     needed_serves_first();
-    let audited = Audited {
-        audit: &*audit,
-        query_sets: &*query_sets,
-        audit_sets: &*audit_sets,
-        choices: &*choices,
-    };
-    let masked = rewrite(alloc, query, rules)?;
     let seen = to_be_seen(alloc, query, audit, rules)?;
-    let compared = Compared {
-        query: &masked,
-        seen: &seen,
-        audited: &audited,
-    };
-    let shared = first_needed(alloc, &query.form, &compared);
-    drop(seen);
+    let masked = rewrite(alloc, query, rules)?;
+    let shared = first_removed(alloc, &query.form, &masked, &seen, audit, sets, choices);
     drop(masked);
+    drop(seen);
     shared
 }

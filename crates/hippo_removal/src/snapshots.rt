@@ -107,8 +107,15 @@ pub(crate) fn read_both<P: Keeper, L: Ledger>(
     Ok(both)
 }
 
-/// Lends the rows of each table.
-pub(crate) fn lent(alloc: Global, rows: &Rows) -> Result<Sets<'_>, Memory>
+/// The rows of both, lent.
+#[derive(Drop)]
+pub(crate) struct BothSets<'a> {
+    pub query: Sets<'a>,
+    pub audit: Sets<'a>,
+}
+
+// Lends the rows of each table.
+fn lent(alloc: Global, rows: &Rows) -> Result<Sets<'_>, Memory>
     ensures { IfOk result (λ sets. sets ≡ rows.now) }
 {
     let mut sets = Lent::new(alloc);
@@ -116,6 +123,16 @@ pub(crate) fn lent(alloc: Global, rows: &Rows) -> Result<Sets<'_>, Memory>
         sets.push(set)?;
     }
     Ok(sets)
+}
+
+/// Lends the rows of a query's tables and of an audit's.
+pub(crate) fn lend_both(alloc: Global, both: &BothRows) -> Result<BothSets<'_>, Memory>
+    ensures query { IfOk result (λ sets. sets.query ≡ both.now.query) }
+    ensures audit { IfOk result (λ sets. sets.audit ≡ both.now.audit) }
+{
+    let query = lent(alloc, &both.query)?;
+    let audit = lent(alloc, &both.audit)?;
+    Ok(BothSets { query, audit })
 }
 
 /// The schemas of tables, of those that are known.

@@ -69,15 +69,19 @@ pub record IsSearchReady {C : Type 0} (choices : C → Choices) (sides : Search 
   pub query_open : AreOpen (query_tables left) query
   pub audit_open : AreOpen (audit_tables left) audit
 
--- the first places of the common tables that are left are found, and the slots are as they were
-pub record FindsFirst {C : Type 0} (choices : C → Choices) (sides : Search C)
-    (left : List CommonStages)
+-- the first places that share are found, and the slots are as they were
+pub record FindsFirstOf (shares : List Place → Type 0)
     (query audit query_after audit_after : Slots) (result : Result (Option (Vec ℕ)) Memory)
     : Type 0 where
   pub same_query : OnOk result (query_after ≡ query)
   pub same_audit : OnOk result (audit_after ≡ audit)
-  pub first : IfOk result (λ found.
-      IsFirst (Shared choices sides left query audit) (option_map (λ places. places.items) found))
+  pub first : IfOk result (λ found. IsFirst shares (option_map (λ places. places.items) found))
+
+-- so are the first places of the common tables that are left
+abbrev pub FindsFirst : {C : Type 0} → (C → Choices) → Search C → List CommonStages → Slots → Slots
+    → Slots → Slots → Result (Option (Vec ℕ)) Memory → Type 0
+FindsFirst choices sides left query audit query_after audit_after result =
+    FindsFirstOf (Shared choices sides left query audit) query audit query_after audit_after result
 
 -- with these places of some tables of each side, where no row is chosen, both sides have a
 -- combination

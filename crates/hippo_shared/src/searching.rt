@@ -1,10 +1,10 @@
 //! The first places of the common tables' rows with which both sides have a combination.
-ghost use Rattle.std.specs.Prelude.{◌≡◌, ◌<◌, [], ◌∷◌, None, Some, OnOk, IfOk, length, option_copied, option_map, replicate, slice_set, true, ◌⊎◌};
+ghost use Rattle.std.specs.Prelude.{◌≡◌, ◌<◌, [], ◌∷◌, None, Some, IfOk, length, option_copied, option_map, replicate, slice_set, true, ◌⊎◌};
 ghost use Rattle.std.specs.List.{All};
 ghost use Rattle.std.specs.List.Sorted.{IsNonDecreasing, IsPermutation};
 ghost use Rattle.hippo_join.specs.Existence.{Decides};
 ghost use Rattle.hippo_shared.specs.FirstPlaces.{AreCommon, IsFirst, IsFirstAmong, with_rows};
-ghost use Rattle.hippo_shared.specs.Searching.{AreWholeOf, BeginWith, FindsFirst, HasOneOf, HaveCommon, IsSearchReady, IsStageOf, ReachesOf, Shared, SharedBy, SharedPlaces};
+ghost use Rattle.hippo_shared.specs.Searching.{AreWholeOf, BeginWith, FindsFirst, FindsFirstOf, HasOneOf, HaveCommon, IsSearchReady, IsStageOf, ReachesOf, Shared, SharedBy, SharedPlaces};
 
 use crate::sides::Sides;
 use hippo_commons::{CommonPlaces, CommonStages, common_stages, order_from};
@@ -138,12 +138,10 @@ impl<'a, C: ChoiceView> Search<'a, C> {
         audit: &mut [Option<usize>],
     ) -> Result<Option<Vec<usize>>, Memory>
         requires { IsSearchReady C.choices self.now (stages.now ∷ rest.now) query.old audit.old }
-        ensures query { OnOk result (query.new ≡ query.old) }
-        ensures audit { OnOk result (audit.new ≡ audit.old) }
-        ensures first { IfOk result (λ found. IsFirst (Shared C.choices self.now rest.now
+        ensures { FindsFirstOf (Shared C.choices self.now rest.now
             (slice_set query.old stages.now.query.now.table (Some place))
             (slice_set audit.old stages.now.audit.now.table (Some place)))
-            (option_map (λ places. places.items) found)) }
+            query.old audit.old query.new audit.new result }
     {
         query[stages.query.table] = Some(place);
         audit[stages.audit.table] = Some(place);

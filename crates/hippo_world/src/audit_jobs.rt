@@ -90,7 +90,7 @@ impl AuditJob {
         &mut self,
         keeper: &mut P,
         alloc: Global,
-        count: u64,
+        count: u32,
         past: &Past<'_>,
         steps: &mut Steps<L>,
     ) -> Result<(), ReadFault>
@@ -98,6 +98,6 @@ impl AuditJob {
         ensures stepped { HasStepped combine_terms count past.now result self.old self.new
             (P.state keeper.old) (P.state keeper.new) steps.old steps.new }
     {
-        self.job.step(keeper, alloc, count, past, steps)
+        self.job.step(keeper, alloc, u64::from(count), past, steps)
     }
 }

@@ -27,21 +27,21 @@ pub shared_of-requires : goal.shared_of-requires
 shared_of-requires c =
     let rows : (are_held c.args.tables.now c.args.audit.now.tables && are_held c.args.tables.now c.args.query.now.tables) ≡ true = search rules in
     record {
-      query_sets = query_many c.args.tables.now c.args.query.now.tables c.args.audit.now.tables c.in_ok-query_sets.query_sets c.in_ok-audit_sets.audit_sets (search rules) (search rules) rows;
-      audit_sets = audit_many c.args.tables.now c.args.query.now.tables c.args.audit.now.tables c.in_ok-query_sets.query_sets c.in_ok-audit_sets.audit_sets (search rules) (search rules) rows;
+      query_sets = query_many c.args.tables.now c.args.query.now.tables c.args.audit.now.tables c.in_ok-lent.lent.sets c.in_ok-audit_sets.audit_sets (search rules) (search rules) rows;
+      audit_sets = audit_many c.args.tables.now c.args.query.now.tables c.args.audit.now.tables c.in_ok-lent.lent.sets c.in_ok-audit_sets.audit_sets (search rules) (search rules) rows;
       tables = c.requires.differ;
-      rows = rows_same c.args.tables.now c.args.query.now.tables c.args.audit.now.tables c.in_ok-query_sets.query_sets c.in_ok-audit_sets.audit_sets (search rules) (search rules) rows;
+      rows = rows_same c.args.tables.now c.args.query.now.tables c.args.audit.now.tables c.in_ok-lent.lent.sets c.in_ok-audit_sets.audit_sets (search rules) (search rules) rows;
     }
 
 pub returns : goal.returns
 returns c =
     let rows : (are_held c.args.tables.now c.args.audit.now.tables && are_held c.args.tables.now c.args.query.now.tables) ≡ true = search rules in
     IfOk-weaker c.shared_of.result
-    (λ (shared : Option (List SharedRow)). ServesFirst c.args.query.now c.args.audit.now c.in-Some.rules c.in_ok-query_sets.query_sets c.in_ok-audit_sets.audit_sets _ shared)
+    (λ (shared : Option (List SharedRow)). ServesFirst c.args.query.now c.args.audit.now c.in-Some.rules c.in_ok-lent.lent.sets c.in_ok-audit_sets.audit_sets _ shared)
     (λ (shared : Option (List SharedRow)). (history : History) → HoldsBoth c.args.book.now c.args.tables.now c.args.number history c.args.query.now c.args.audit.now → IsServing (take c.args.number history) c.args.audit.now c.args.entry.now c.args.query.now shared)
     (λ shared serves history holds user purpose recipient text is.
     let context : Context = record { purpose = purpose; recipient = recipient; moment = c.args.entry.now.moment } in
     serves meaning (take c.args.number history) context
-    (those_of c.args.book.now c.args.tables.now c.args.number c.args.query.now c.args.audit.now c.in_ok-query_sets.query_sets c.in_ok-audit_sets.audit_sets (search rules) (search rules) rows c.in_ok-schemas.schemas (search rules)
+    (those_of c.args.book.now c.args.tables.now c.args.number c.args.query.now c.args.audit.now c.in_ok-lent.lent.sets c.in_ok-audit_sets.audit_sets (search rules) (search rules) rows c.in_ok-lent.lent.schemas (search rules)
     history holds context c.in-Some.rules _ (same_Some _ _ (sym c.in-Some.is ∙ c.in_ok-found.ensures history holds.book_is user purpose recipient text is)) (c.choices_at-choices.ensures history holds.book_is)))
     c.shared_of.ensures

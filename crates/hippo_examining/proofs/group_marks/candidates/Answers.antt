@@ -5,7 +5,7 @@ use Rattle.std.specs.Vec.Iter.{into_iter_items}
 use Rattle.std.proofs.Math.Bool.{or-false}
 use Rattle.hippo_sides.specs.Finding.{has_places}
 use Rattle.hippo_examining.specs.GroupMarks.{changes_without}
-use Rattle.hippo_examining.proofs.TakenLemmas.{one-taken, all-taken}
+use Rattle.hippo_examining.proofs.TakenLemmas.{each-taken, each-of-all}
 use Rattle.hippo_examining.proofs.group_marks.candidates.Goals as goal
 
 pub loop-group-init : goal.loop-group-init
@@ -14,11 +14,7 @@ loop-group-init c = λ places.
     ∙ or-false (list_any (changes_without places) c.args.groups.items)
 
 pub loop-group-preserved : goal.loop-group-preserved
-loop-group-preserved c = λ places.
-    one-taken (changes_without places) (into_iter_items c.loop-group.group-iterator) (has_places places c.loop-group.candidates.keys) _ (c.loop-group.invariant places)
-    c.in-Some.group (into_iter_items c.next.new.self) (has_places places c.add_of_group.new.candidates.keys) c.in-Some.ensures.steps.0 (c.in_ok-add_of_group.ensures places)
+loop-group-preserved c = each-taken changes_without (into_iter_items c.loop-group.group-iterator) (λ places. has_places places c.loop-group.candidates.keys) _ c.loop-group.invariant c.in-Some.group (into_iter_items c.next.new.self) (λ places. has_places places c.add_of_group.new.candidates.keys) c.in-Some.ensures.steps.0 c.in_ok-add_of_group.ensures
 
 pub returns : goal.returns
-returns c = λ places.
-    all-taken (changes_without places) (into_iter_items c.loop-group.group-iterator) (has_places places c.loop-group.candidates.keys) _ (c.loop-group.invariant places)
-    c.loop-group.group-iterator.rest.len c.loop-group.group-iterator.rest.ok.0 c.in-None.ensures.steps.0
+returns c = each-of-all changes_without (into_iter_items c.loop-group.group-iterator) (λ places. has_places places c.loop-group.candidates.keys) _ c.loop-group.invariant c.loop-group.group-iterator.rest.len c.loop-group.group-iterator.rest.ok.0 c.in-None.ensures.steps.0

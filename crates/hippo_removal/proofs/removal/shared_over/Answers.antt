@@ -24,12 +24,12 @@ returns-in_default c = λ history those user purpose recipient text is.
 pub returns : goal.returns
 returns c =
     IfOk-weaker c.first_serving.result
-    (λ (shared : Option (List SharedRow)). ServesFirst c.args.query.now c.args.audit.now c.in-Some.rules c.in_ok-query_sets.query_sets c.in_ok-audit_sets.audit_sets _ shared)
+    (λ (shared : Option (List SharedRow)). ServesFirst c.args.query.now c.args.audit.now c.in-Some.rules c.in_ok-sets.sets.query c.in_ok-sets.sets.audit _ shared)
     (λ (shared : Option (List SharedRow)). (history : History) → AreThen c.args.past.now c.args.number history c.args.query.now c.args.audit.now c.args.both.now.query c.args.both.now.audit → IsServing (take c.args.number history) c.args.audit.now c.args.entry.now c.args.query.now shared)
     (λ shared serves history those user purpose recipient text is.
     let context : Context = record { purpose = purpose; recipient = recipient; moment = c.args.entry.now.moment } in
     serves meaning (take c.args.number history) context
-    (rw (c.in_ok-query_sets.ensures, c.in_ok-audit_sets.ensures)
+    (rw (c.in_ok-sets.ensures.query, c.in_ok-sets.ensures.audit)
     (those_of c.args.past.now c.args.number c.args.query.now c.args.audit.now c.args.both.now.query c.args.both.now.audit (search rules) c.in_ok-schemas.schemas (search rules)
     history those context c.in-Some.rules _ (same_Some _ _ (sym c.in-Some.is ∙ c.in_ok-found.ensures history those.past_is.book user purpose recipient text is)) (c.choices_at-choices.ensures history those.past_is.book))))
     c.first_serving.ensures

@@ -1,8 +1,16 @@
--- What is needed first serves first in each history that rules, rows and choices are those of.
+-- What is found by removal is needed first, and serves first in each history that rules, rows and choices are those of.
+use Rattle.std.proofs.Common.{◌≡◌, List, Option, subst}
+use Rattle.std.specs.Prelude.{IfOk}
+use Rattle.hippo_model.specs.declared.audit.SharedRow.{SharedRow}
 use Rattle.hippo_examining.proofs.ExaminingLemmas.{needed-serves-first}
+use Rattle.hippo_removal.proofs.TupleLemmas.{removed-needed}
 use Rattle.hippo_removal.proofs.sharing.first_serving.Goals as goal
 
 pub returns : goal.returns
 returns g c =
-    needed-serves-first c.needed_serves_first.ensures c.args.query.now c.args.audit.now c.args.rules.now c.args.query_sets.now c.args.audit_sets.now (g.C.ChoiceView.choices c.args.choices.now)
-    _ _ c.first_needed-shared.result c.in_ok-masked.ensures c.in_ok-seen.ensures c.first_needed-shared.ensures
+    let choices = g.C.ChoiceView.choices c.args.choices.now in
+    needed-serves-first c.needed_serves_first.ensures c.args.query.now c.args.audit.now c.args.rules.now c.args.sets.now.query c.args.sets.now.audit choices
+    c.in_ok-masked.masked c.in_ok-seen.seen c.first_removed-shared.result c.in_ok-masked.ensures c.in_ok-seen.ensures
+    (subst (λ (needed : Option (List SharedRow)). IfOk c.first_removed-shared.result (λ shared. shared ≡ needed))
+    (removed-needed choices c.in_ok-masked.masked c.args.query.now.form c.args.audit.now c.in_ok-seen.seen c.args.sets.now.query c.args.sets.now.audit c.requires.many)
+    c.first_removed-shared.ensures)

@@ -3,10 +3,10 @@ use Rattle.std.proofs.Common.{Ok, length}
 use Rattle.hippo_audit_job.specs.Jobs.{IsAsFar, LooksOn}
 use Rattle.hippo_audit_job.proofs.jobs.Job.look_at_waiting.Given as goal
 
-abbrev pub invariant-loop-fault : goal.invariant-loop-fault
-invariant-loop-fault g l =
+abbrev pub invariant-loop-entry : goal.invariant-loop-entry
+invariant-loop-entry g l =
     LooksOn {A = Unit {0}} g.X.Examiner.terms l.upto l.past (Ok tt) l.initial.self l.self (g.P.Keeper.state l.initial.keeper) (g.P.Keeper.state l.keeper) l.initial.steps l.steps
     × IsAsFar l.initial.self l.self
 
-abbrev pub decreases-loop-fault : goal.decreases-loop-fault
-decreases-loop-fault g l = length l.self.questions.waiting
+abbrev pub decreases-loop-entry : goal.decreases-loop-entry
+decreases-loop-entry g l = length l.self.questions.waiting

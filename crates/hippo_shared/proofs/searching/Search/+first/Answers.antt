@@ -28,12 +28,12 @@ first-returns-in-Some-2 g t c =
     first-made g.C.ChoiceView.choices c.args.self.now c.args.common.now c.in-Some.stages.now c.in-Some.rest.now c.in-Some.ensures.cases.0 c.args.query.now c.args.audit.now c.requires
     c.deref-place-items.result.now c.in_ok-places.places.items c.deref-place-items.ensures.value c.in_ok-places.ensures.order c.in_ok-places.ensures.reach
     c.loop-place.query c.loop-place.audit c.loop-place.invariant.same_query c.loop-place.invariant.same_audit c.in_ok-others.field-0 c.loop-place.place-index c.in_ok-others.ensures.first c.loop-place.invariant.so_far
-    c.first_behind.new.query c.first_behind.new.audit c.in_ok-others.ensures.query c.in_ok-others.ensures.audit (omega (arith, c.loop-place-test.true)) c.in-Some-2.others c.in-Some-2.is c.in_ok-with_first.field-0 c.in_ok-with_first.ensures
+    c.first_behind.new.query c.first_behind.new.audit c.in_ok-others.ensures.same_query c.in_ok-others.ensures.same_audit (omega (arith, c.loop-place-test.true)) c.in-Some-2.others c.in-Some-2.is c.in_ok-with_first.field-0 c.in_ok-with_first.ensures
 
 pub first-loop-place-preserved : goal.first-loop-place-preserved
 first-loop-place-preserved g t c = record {
-  same_query = c.in_ok-others.ensures.query ∙ c.loop-place.invariant.same_query;
-  same_audit = c.in_ok-others.ensures.audit ∙ c.loop-place.invariant.same_audit;
+  same_query = c.in_ok-others.ensures.same_query ∙ c.loop-place.invariant.same_query;
+  same_audit = c.in_ok-others.ensures.same_audit ∙ c.loop-place.invariant.same_audit;
   so_far =
       none-more g.C.ChoiceView.choices c.args.self.now c.args.common.now c.in-Some.stages.now c.in-Some.rest.now c.in-Some.ensures.cases.0 c.args.query.now c.args.audit.now c.requires
       c.deref-place-items.result.now c.in_ok-places.places.items c.deref-place-items.ensures.value c.in_ok-places.ensures.order c.in_ok-places.ensures.reach
@@ -55,32 +55,26 @@ pub first_behind-first-requires : goal.first_behind-first-requires
 first_behind-first-requires g t c κs within =
     (omega arith, (within, ready-next g.C.ChoiceView.choices c.args.self.now c.args.stages.now c.args.rest.now c.args.query.now c.args.audit.now c.args.place c.requires))
 
-pub first_behind-returns-clause-query : goal.first_behind-returns-clause-query
-first_behind-returns-clause-query g t c =
-    reset c.args.query.now c.if-branch.query c.args.stages.now.query.now.table c.args.place c.requires.query_open.0
-    (elim c.if-branch.branch as (λ _. c.if-branch.query ≡ slice_set c.args.query.now c.args.stages.now.query.now.table (Some c.args.place)) [
-      | first_behind-then-branch+in_ok-found w ↦ w.query-is ∙ w.in_ok-found.ensures.same_query
-      | first_behind-else-branch w ↦ w.query-is
-    ])
-
-pub first_behind-returns-clause-audit : goal.first_behind-returns-clause-audit
-first_behind-returns-clause-audit g t c =
-    reset c.args.audit.now c.if-branch.audit c.args.stages.now.audit.now.table c.args.place c.requires.audit_open.0
-    (elim c.if-branch.branch as (λ _. c.if-branch.audit ≡ slice_set c.args.audit.now c.args.stages.now.audit.now.table (Some c.args.place)) [
-      | first_behind-then-branch+in_ok-found w ↦ w.audit-is ∙ w.in_ok-found.ensures.same_audit
-      | first_behind-else-branch w ↦ w.audit-is
-    ])
-
-pub first_behind-returns-clause-first : goal.first_behind-returns-clause-first
-first_behind-returns-clause-first g t c =
+pub first_behind-returns : goal.first_behind-returns
+first_behind-returns g t c =
     let query = slice_set c.args.query.now c.args.stages.now.query.now.table (Some c.args.place) in
     let audit = slice_set c.args.audit.now c.args.stages.now.audit.now.table (Some c.args.place) in
     let ready = ready-next g.C.ChoiceView.choices c.args.self.now c.args.stages.now c.args.rest.now c.args.query.now c.args.audit.now c.args.place c.requires in
+    let query_again = reset c.args.query.now c.if-branch.query c.args.stages.now.query.now.table c.args.place c.requires.query_open.0 in
+    let audit_again = reset c.args.audit.now c.if-branch.audit c.args.stages.now.audit.now.table c.args.place c.requires.audit_open.0 in
     elim c.if-branch.branch [
-      | first_behind-then-branch+in_ok-found w ↦ first-same g.C.ChoiceView.choices c.args.self.now c.args.rest.now query audit c.if-branch.found _ w.found-is w.in_ok-found.ensures.first
-      | first_behind-else-branch w ↦
-          first-same g.C.ChoiceView.choices c.args.self.now c.args.rest.now query audit c.if-branch.found None w.found-is
-          (none-may g.C.ChoiceView.choices c.args.self.now c.args.rest.now query audit ready c.in_ok-may_share.field-0 c.in_ok-may_share.ensures w.if-branch.false)
+      | first_behind-then-branch+in_ok-found w ↦ record {
+        same_query = query_again (w.query-is ∙ w.in_ok-found.ensures.same_query);
+        same_audit = audit_again (w.audit-is ∙ w.in_ok-found.ensures.same_audit);
+        first = first-same g.C.ChoiceView.choices c.args.self.now c.args.rest.now query audit c.if-branch.found _ w.found-is w.in_ok-found.ensures.first;
+      }
+      | first_behind-else-branch w ↦ record {
+        same_query = query_again w.query-is;
+        same_audit = audit_again w.audit-is;
+        first =
+            first-same g.C.ChoiceView.choices c.args.self.now c.args.rest.now query audit c.if-branch.found None w.found-is
+            (none-may g.C.ChoiceView.choices c.args.self.now c.args.rest.now query audit ready c.in_ok-may_share.field-0 c.in_ok-may_share.ensures w.if-branch.false);
+      }
     ]
 
 pub first-first_behind-requires : goal.first-first_behind-requires

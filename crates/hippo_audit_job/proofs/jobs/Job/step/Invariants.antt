@@ -1,7 +1,7 @@
 -- Pieces are read and looked at, one after the other.
 use Rattle.std.proofs.Common.{◌≡◌, ◌-◌, Ok}
 use Rattle.hippo_audit_job.specs.Jobs.{LooksOn}
-use Rattle.hippo_audit_job.proofs.jobs.Job.look_up_to.Given as goal
+use Rattle.hippo_audit_job.proofs.jobs.Job.step.Given as goal
 
 abbrev pub invariant-loop-fault : goal.invariant-loop-fault
 invariant-loop-fault g l =
