@@ -11,6 +11,7 @@ ghost use Rattle.hippo_rewrite.specs.Rewriting.{rewritten_query};
 ghost use Rattle.hippo_answering.specs.States.{AreStateOf, answer_from, rules_from};
 ghost use Rattle.hippo_answering.specs.Lines.{IsSaid};
 
+use crate::inquiry::Inquiry;
 use crate::lines::{Lines, lines_of, walked_lines};
 use crate::sizes::sizes_of;
 use crate::standpoint::Standpoint;
@@ -19,8 +20,8 @@ use hippo_eval::{ANSWER_LIMIT, EvalFault};
 use hippo_groups::grouped;
 use hippo_join::{is_in_order, plan, run};
 use hippo_model::{Answer, ChoiceView, Form, Masked, Names, Query, RulesInForce};
+use hippo_policy::ChoicesAt;
 use hippo_rewrite::rewrite;
-use hippo_rows::Sets;
 use hippo_tables::{schemas_of, sets_of};
 use hippo_values::Memory;
 use std::alloc::Global;
@@ -62,26 +63,59 @@ fn masked_query(alloc: Global, standpoint: &Standpoint<'_>, query: &Query) -> Re
     rewrite(alloc, query, &rules)
 }
 
-// The rows of an answer, by its form.
-fn formed<C: ChoiceView>(
+// A query from a standpoint, with the rules written into it.
+fn inquiry_of<'s>(
     alloc: Global,
-    form: &Form,
-    query: &Masked,
-    sets: &Sets<'_>,
-    choices: &C,
-) -> Result<Answer, EvalFault>
-    requires { length sets.now ≡ length query.now.tables }
-    ensures { let rows = masked_answer (C.choices choices.now) query.now (rows_of sets.now) in
-        IsAnswered ANSWER_LIMIT (rows_by_form form.now rows) result }
+    standpoint: &'s Standpoint<'_>,
+    query: &Query,
+) -> Result<Inquiry<'s>, Memory>
+    requires { AreKeptTables standpoint.now.tables.now query.now.tables }
+    ensures tables { IfOk result (λ inquiry. length inquiry.sets ≡ length inquiry.query.tables) }
+    ensures answers { IfOk result (λ inquiry. (meaning : Meaning) (history : History)
+        → AreStateOf meaning standpoint.now history
+        → rows_by_form query.now.form (masked_answer
+        (⟦<ChoicesAt<'static> as ChoiceView>⟧.choices inquiry.choices) inquiry.query
+        (rows_of inquiry.sets)) ≡ answer_from standpoint.now history query.now) }
+{
+    let sets = sets_of(alloc, standpoint.tables, &query.tables)?;
+    let masked = masked_query(alloc, standpoint, query)?;
+    let choices = standpoint.book.choices_at(standpoint.count);
+    Ok(Inquiry {
+        query: masked,
+        sets,
+        choices,
+    })
+}
+
+// The rows of an answer, by its form.
+fn formed(alloc: Global, form: &Form, inquiry: &Inquiry<'_>) -> Result<Answer, EvalFault>
+    requires { length inquiry.now.sets ≡ length inquiry.now.query.tables }
+    ensures { IsAnswered ANSWER_LIMIT (rows_by_form form.now (masked_answer
+        (⟦<ChoicesAt<'static> as ChoiceView>⟧.choices inquiry.now.choices) inquiry.now.query
+        (rows_of inquiry.now.sets))) result }
 {
     match form {
         Form::Plain => {
-            let sizes = sizes_of(alloc, sets)?;
-            let plan = plan(alloc, query, &sizes)?;
-            run(alloc, &plan, query, sets, choices)
+            let sizes = sizes_of(alloc, &inquiry.sets)?;
+            let plan = plan(alloc, &inquiry.query, &sizes)?;
+            run(
+                alloc,
+                &plan,
+                &inquiry.query,
+                &inquiry.sets,
+                &inquiry.choices,
+            )
         }
-        Form::Distinct => distinct(alloc, query, sets, choices),
-        Form::Grouped(shape) => grouped(alloc, query, shape, sets, choices),
+        Form::Distinct => distinct(alloc, &inquiry.query, &inquiry.sets, &inquiry.choices),
+        Form::Grouped(shape) => {
+            grouped(
+                alloc,
+                &inquiry.query,
+                shape,
+                &inquiry.sets,
+                &inquiry.choices,
+            )
+        }
     }
 }
 
@@ -96,50 +130,46 @@ fn said(alloc: Global, session: u8, answer: Result<Answer, EvalFault>) -> Result
 
 // The lines of all rows of an answer, by joins: printed as they are found where the plan has the
 // order of the answer.
-fn joined_lines<C: ChoiceView>(
-    alloc: Global,
-    session: u8,
-    query: &Masked,
-    sets: &Sets<'_>,
-    choices: &C,
-) -> Result<Lines, EvalFault>
-    requires { length sets.now ≡ length query.now.tables }
-    ensures { IsSaid ANSWER_LIMIT session (masked_answer (C.choices choices.now) query.now
-        (rows_of sets.now)) result }
+fn joined_lines(alloc: Global, session: u8, inquiry: &Inquiry<'_>) -> Result<Lines, EvalFault>
+    requires { length inquiry.now.sets ≡ length inquiry.now.query.tables }
+    ensures { IsSaid ANSWER_LIMIT session (masked_answer
+        (⟦<ChoicesAt<'static> as ChoiceView>⟧.choices inquiry.now.choices) inquiry.now.query
+        (rows_of inquiry.now.sets)) result }
 {
-    let sizes = sizes_of(alloc, sets)?;
-    let plan = plan(alloc, query, &sizes)?;
+    let sizes = sizes_of(alloc, &inquiry.sets)?;
+    let plan = plan(alloc, &inquiry.query, &sizes)?;
     if is_in_order(&plan) {
-        walked_lines(alloc, session, query, sets, choices)
+        walked_lines(alloc, session, inquiry)
     } else {
-        said(alloc, session, run(alloc, &plan, query, sets, choices))
+        let answer = run(
+            alloc,
+            &plan,
+            &inquiry.query,
+            &inquiry.sets,
+            &inquiry.choices,
+        );
+        said(alloc, session, answer)
     }
 }
 
 // The lines of the rows of an answer, by its form.
-fn formed_lines<C: ChoiceView>(
-    alloc: Global,
-    session: u8,
-    form: &Form,
-    query: &Masked,
-    sets: &Sets<'_>,
-    choices: &C,
-) -> Result<Lines, EvalFault>
-    requires { length sets.now ≡ length query.now.tables }
-    ensures { let rows = masked_answer (C.choices choices.now) query.now (rows_of sets.now) in
-        IsSaid ANSWER_LIMIT session (rows_by_form form.now rows) result }
+fn lines(alloc: Global, session: u8, form: &Form, inquiry: &Inquiry<'_>) -> Result<Lines, EvalFault>
+    requires { length inquiry.now.sets ≡ length inquiry.now.query.tables }
+    ensures { IsSaid ANSWER_LIMIT session (rows_by_form form.now (masked_answer
+        (⟦<ChoicesAt<'static> as ChoiceView>⟧.choices inquiry.now.choices) inquiry.now.query
+        (rows_of inquiry.now.sets))) result }
 {
     match form {
-        Form::Plain => joined_lines(alloc, session, query, sets, choices),
-        _ => said(alloc, session, formed(alloc, form, query, sets, choices)),
+        Form::Plain => joined_lines(alloc, session, inquiry),
+        _ => said(alloc, session, formed(alloc, form, inquiry)),
     }
 }
 
 /// The answer of a query from a standpoint, for its purpose and recipient at its moment: what it
 /// answers over the views of its tables, after the entries that the book and the tables stand for.
-/// The rules in force are
-/// written into the query (LeFevre and others, Limiting Disclosure in Hippocratic Databases, VLDB
-/// 2004), and it is answered over the rows as they are. Wants a query whose tables are created.
+/// The rules in force are written into the query (LeFevre and others, Limiting Disclosure in
+/// Hippocratic Databases, VLDB 2004), and it is answered over the rows as they are. Wants a query
+/// whose tables are created.
 /// TooManyRows exactly where the answer has more than 100,000 rows.
 ///
 /// Over `patient (pid, name, phone)` with the row `1, 'Ada', '555-1'`, where `pid` and `name` are
@@ -159,11 +189,9 @@ pub fn answer(
     ensures { (meaning : Meaning) (history : History) → AreStateOf meaning standpoint.now history
         → IsAnswered ANSWER_LIMIT (answer_from standpoint.now history query.now) result }
 {
-    let sets = sets_of(alloc, standpoint.tables, &query.tables)?;
-    let masked = masked_query(alloc, standpoint, query)?;
-    let choices = standpoint.book.choices_at(standpoint.count);
-    let answer = formed(alloc, &query.form, &masked, &sets, &choices);
-    drop(masked);
+    let inquiry = inquiry_of(alloc, standpoint, query)?;
+    let answer = formed(alloc, &query.form, &inquiry);
+    drop(inquiry);
     answer
 }
 
@@ -180,10 +208,8 @@ pub fn answer_as_lines(
     ensures { (meaning : Meaning) (history : History) → AreStateOf meaning standpoint.now history
         → IsSaid ANSWER_LIMIT session (answer_from standpoint.now history query.now) result }
 {
-    let sets = sets_of(alloc, standpoint.tables, &query.tables)?;
-    let masked = masked_query(alloc, standpoint, query)?;
-    let choices = standpoint.book.choices_at(standpoint.count);
-    let lines = formed_lines(alloc, session, &query.form, &masked, &sets, &choices);
-    drop(masked);
+    let inquiry = inquiry_of(alloc, standpoint, query)?;
+    let lines = lines(alloc, session, &query.form, &inquiry);
+    drop(inquiry);
     lines
 }

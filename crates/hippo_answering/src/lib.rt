@@ -2,6 +2,7 @@
 #![tactic(auto)]
 
 mod answers;
+mod inquiry;
 mod lines;
 mod sizes;
 mod standpoint;

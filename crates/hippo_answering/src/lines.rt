@@ -8,11 +8,12 @@ ghost use Rattle.hippo_eval.specs.LentCells.{lent_cell};
 ghost use Rattle.hippo_eval.specs.Walks.{rows_of};
 ghost use Rattle.hippo_answering.specs.Lines.{AreLinesOf, IsSaid};
 
+use crate::inquiry::Inquiry;
 use hippo_eval::{ANSWER_LIMIT, EvalFault, LentCell, Onward, Visitor, cell};
 use hippo_join::walk_joined;
 use hippo_model::{Cell, CellRow, ChoiceView, Combo, Expr, Masked};
+use hippo_policy::ChoicesAt;
 use hippo_report::{Printed, answer_lines};
-use hippo_rows::Sets;
 use hippo_values::{Memory, RoomyTxt, Value};
 use itoa::Buffer;
 use std::alloc::Global;
@@ -179,25 +180,31 @@ fn within_limit(lines: Lines) -> Result<Lines, EvalFault>
 /// The lines of the rows that a query with the policy written into it makes, over unmasked rows and
 /// patients' choices, printed as a walk in the order of FROM finds them. TooManyRows exactly where
 /// these are more than 100,000.
-pub(crate) fn walked_lines<C: ChoiceView>(
+pub(crate) fn walked_lines(
     alloc: Global,
     session: u8,
-    query: &Masked,
-    sets: &Sets<'_>,
-    choices: &C,
+    inquiry: &Inquiry<'_>,
 ) -> Result<Lines, EvalFault>
-    ensures { IsSaid ANSWER_LIMIT session (masked_answer (C.choices choices.now) query.now
-        (rows_of sets.now)) result }
+    ensures { IsSaid ANSWER_LIMIT session (masked_answer
+        (⟦<ChoicesAt<'static> as ChoiceView>⟧.choices inquiry.now.choices) inquiry.now.query
+        (rows_of inquiry.now.sets)) result }
 {
     let mut buffer = Buffer::new();
     let printer = RowPrinter {
-        query,
-        choices,
+        query: &inquiry.query,
+        choices: &inquiry.choices,
         session,
         digits: buffer.format(session),
     };
     let mut lines = Lines::new(alloc)?;
-    match walk_joined(alloc, query, sets, choices, &printer, &mut lines) {
+    match walk_joined(
+        alloc,
+        &inquiry.query,
+        &inquiry.sets,
+        &inquiry.choices,
+        &printer,
+        &mut lines,
+    ) {
         Ok(()) => within_limit(lines),
         Err(Memory) => Err(EvalFault::Memory),
     }

@@ -1,5 +1,5 @@
 -- What performing does that was found of a command.
-use Rattle.std.specs.Prelude.{◌≡◌, ◌⊎◌, ◌≤◌, ℕ, length, Some, Result, Ok, Err, OnOk}
+use Rattle.std.specs.Prelude.{◌≡◌, ◌≢◌, ◌⊎◌, ◌≤◌, ℕ, length, Some, Result, Ok, Err, OnOk}
 use Rattle.hippo_values.specs.Texts.{Txt}
 use Rattle.hippo_model.specs.declared.entry.Entry.{Entry}
 use Rattle.hippo_keeper.specs.Keeping.{KeeperState}
@@ -19,6 +19,7 @@ use Rattle.hippo_world.specs.Holding.{world_of}
 use Rattle.hippo_judging.specs.Findings.{Does}
 use Rattle.hippo_engine.specs.declared.engine.Engine.{Engine}
 use Rattle.hippo_effects.specs.declared.faults.EngineFault.{EngineFault}
+use Rattle.hippo_effects.specs.declared.faults.EngineFault.TheVariants.{Write}
 use Rattle.hippo_engine.specs.Carrying.{Carries}
 use Rattle.hippo_findings.specs.Explaining.{explaining_end, TellsEntry}
 
@@ -70,3 +71,10 @@ pub record SaysUnjudged (who : Speaker) (unjudged : Unjudged)
   pub state : new.state ≡ old.state
   pub world : new.world ≡ old.world
   pub says : SaysReason who unjudged result new.reply
+
+-- a command is carried out, and its reply is not written yet
+pub record CarriesUnwritten (command : Command) (result : Result (Unit {0}) EngineFault)
+    (old new : Engine)
+    (before after : KeeperState) (steps steps' : ℕ) : Type 0 where
+  pub carries : Carries command result old new before after steps steps'
+  pub unwritten : result ≢ Err Write

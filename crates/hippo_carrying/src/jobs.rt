@@ -43,7 +43,7 @@ pub(crate) fn step_job<P: Keeper, L: Ledger>(
                 book: &engine.state.book,
                 count: engine.state.count,
             };
-            let looked = job.step(keeper, alloc, u64::from(count), &past, steps);
+            let looked = job.step(keeper, alloc, count, &past, steps);
             let told = tell_step(
                 alloc,
                 engine.world.format,

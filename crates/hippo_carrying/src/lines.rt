@@ -4,11 +4,9 @@ ghost use Rattle.hippo_io.specs.Faults.{HasRisen};
 ghost use Rattle.hippo_io.specs.LineTexts.{line_text};
 ghost use Rattle.hippo_io.specs.Told.{Appends, AppendsFront};
 ghost use Rattle.hippo_commands.specs.Commands.{input_command};
-ghost use Rattle.hippo_commands.specs.Lent.{command};
 ghost use Rattle.hippo_effects.specs.declared.faults.EngineFault.TheVariants.{Write as WriteFailed};
-ghost use Rattle.hippo_judging.specs.Findings.{IsOfLine};
 ghost use Rattle.hippo_engine.specs.Carrying.{IsText, AtWork, is_carried, Carries};
-ghost use Rattle.hippo_carrying.specs.Performing.{Needs, Performs};
+ghost use Rattle.hippo_carrying.specs.Performing.{Needs, Performs, CarriesUnwritten};
 
 use crate::auditing::audit_history;
 use crate::cursors::hand_out;
@@ -16,7 +14,7 @@ use crate::explaining::explain;
 use crate::jobs::step_job;
 use crate::questions::answer_question;
 use crate::refusing::refuse_unjudged;
-use hippo_commands::{Command, command_of};
+use hippo_commands::command_of;
 use hippo_effects::EngineFault;
 use hippo_engine::Engine;
 use hippo_io::{Line, Sink};
@@ -85,32 +83,11 @@ fn perform<P: Keeper, L: Ledger>(
     Ok(())
 }
 
-// Carries out what a line commands: it is judged, and what is found is performed, or the
-// refusal is said.
-fn carry_out<P: Keeper, L: Ledger>(
-    engine: &mut Engine,
-    alloc: Global,
-    keeper: &mut P,
-    found: Command<'_>,
-    steps: &mut Steps<L>,
-) -> Result<(), EngineFault>
-    requires at_work { AtWork engine.old (P.state keeper.old) }
-    requires of_line { IsOfLine (command found) }
-    ensures carries { Carries (command found.entry) result engine.old engine.new
-        (P.state keeper.old) (P.state keeper.new) steps.old steps.new }
-    ensures unwritten { result ≢ Err WriteFailed }
-{
-    let who = who_commands(&found);
-    match judge(alloc, &engine.state, &engine.world, keeper, found, steps) {
-        Ok(deed) => perform(engine, alloc, keeper, deed, steps),
-        Err(unjudged) => refuse_unjudged(engine, who, unjudged),
-    }
-}
-
-/// Carries out a line and makes its reply whole in memory; what it adds to the history is kept
-/// when the call returns. Answers `Keeper` only where the keeper's count of faults rose: the
-/// engine is then of no more use. Answers `Damaged` only where the keeper does not tell what it
-/// keeps. Each version that is read counts as a step. The end of the input commands nothing.
+/// Carries out a line and makes its reply whole in memory: its command is judged, and what is found
+/// is performed, or the refusal is said. What it adds to the history is kept when the call returns.
+/// Answers `Keeper` only where the keeper's count of faults rose: the engine is then of no more
+/// use. Answers `Damaged` only where the keeper does not tell what it keeps. Each version that is
+/// read counts as a step. The end of the input commands nothing.
 pub fn answer_line<P: Keeper, L: Ledger>(
     engine: &mut Engine,
     alloc: Global,
@@ -119,13 +96,16 @@ pub fn answer_line<P: Keeper, L: Ledger>(
     steps: &mut Steps<L>,
 ) -> Result<(), EngineFault>
     requires at_work { AtWork engine.old (P.state keeper.old) }
-    ensures carries { Carries (input_command (line_text line.entry)) result engine.old engine.new
+    ensures { CarriesUnwritten (input_command (line_text line.entry)) result engine.old engine.new
         (P.state keeper.old) (P.state keeper.new) steps.old steps.new }
-    ensures unwritten { result ≢ Err WriteFailed }
 {
     has_text(&line);
     let found = command_of(alloc, line);
-    carry_out(engine, alloc, keeper, found, steps)
+    let who = who_commands(&found);
+    match judge(alloc, &engine.state, &engine.world, keeper, found, steps) {
+        Ok(deed) => perform(engine, alloc, keeper, deed, steps),
+        Err(unjudged) => refuse_unjudged(engine, who, unjudged),
+    }
 }
 
 /// Carries out a line, as `answer_line` does, and writes its reply, if it was carried out. Answers

@@ -12,10 +12,10 @@ use Rattle.hippo_values.specs.Texts.{Txt}
 use Rattle.hippo_report.specs.declared.format.Format.{Format}
 use Rattle.hippo_report.specs.declared.format.Format.TheVariants as formats
 use Rattle.hippo_programs.specs.declared.arguments.Argument.{Argument}
-use Rattle.hippo_programs.specs.declared.arguments.Argument.TheVariants.{Word, Text, Needed, Number, Flag}
+use Rattle.hippo_programs.specs.declared.arguments.Argument.TheVariants.{Word, Text, Needed, Number, Entry, Flag}
 
 -- an argument: a word that must be there, a text behind its name, one that must be there, a number,
--- a name alone
+-- the number of an entry, a name alone
 abbrev pub word : Txt → Rule
 word name = record (new_rule name) { required = true }
 
@@ -28,6 +28,9 @@ needed_option name = record (text_option name) { required = true }
 abbrev pub number_option : Txt → ℕ → ℕ → Rule
 number_option name least most = record (text_option name) { parser = Some (Unsigned least most) }
 
+abbrev pub entry_option : Txt → Rule
+entry_option name = number_option name 1 4000000
+
 abbrev pub flag : Txt → Rule
 flag name = record (text_option name) { action = Some SetTrue }
 
@@ -36,6 +39,7 @@ rule_by (Word name) = word name.now
 rule_by (Text name) = text_option name.now
 rule_by (Needed name) = needed_option name.now
 rule_by (Number name least most) = number_option name.now least most
+rule_by (Entry name) = entry_option name.now
 rule_by (Flag name) = flag name.now
 
 -- a command of some arguments, as clap is told of it

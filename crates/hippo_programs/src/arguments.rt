@@ -19,6 +19,8 @@ pub enum Argument<'a> {
     Needed(&'a str),
     /// A number behind its name, within bounds.
     Number(&'a str, u64, u64),
+    /// Such a number that an entry may have.
+    Entry(&'a str),
     /// A name that stands alone, `--NAME`.
     Flag(&'a str),
 }
@@ -46,6 +48,7 @@ fn arg_of<'a>(alloc: Global, argument: &Argument<'a>) -> Arg<'a>
         Argument::Text(name) => text_option(alloc, name),
         Argument::Needed(name) => text_option(alloc, name).required(true),
         Argument::Number(name, least, most) => number_option(alloc, name, least, most),
+        Argument::Entry(name) => number_option(alloc, name, 1, 4_000_000),
         Argument::Flag(name) => text_option(alloc, name).action(ArgAction::SetTrue),
     }
 }

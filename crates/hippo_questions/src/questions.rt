@@ -84,29 +84,42 @@ fn take_in(alloc: Global, state: &mut State, entry: &Entry)
     state.add(alloc, entry).unwrap();
 }
 
+// A question of a session in a world.
+#[derive(Clone, Copy)]
+struct SessionQuestion<'a> {
+    world: &'a World,
+    session: u8,
+    asking: &'a Asking<'a>,
+}
+
 // Keeps a question's entry, answers the question as of before, and takes the entry in.
 fn keep_entry<P: Keeper>(
     alloc: Global,
     keeper: &mut P,
     state: &mut State,
-    world: &World,
-    session: u8,
-    asking: &Asking<'_>,
+    question: &SessionQuestion<'_>,
     entry: &Entry,
 ) -> Result<Result<Answered, EvalFault>, KeeperFault>
     requires backed { IsBacked state.old (P.state keeper.old) }
     requires number { entry.now.seq < 2 ^ 63 }
     requires follows { MayFollow state.old entry.now }
     requires room { takes_no_memory entry.now.act ≡ true }
-    requires answerable { IsAnswerable state.old asking.now.query }
-    ensures asks { Asks entry.now (world_of world.now) (question_of session asking.now)
-        asking.now.delivery result
+    requires answerable { IsAnswerable state.old question.now.asking.now.query }
+    ensures asks { Asks entry.now (world_of question.now.world.now)
+        (question_of question.now.session question.now.asking.now)
+        question.now.asking.now.delivery result
         state.old state.new (P.state keeper.old) (P.state keeper.new) }
 {
     match state.keep(alloc, keeper, entry) {
         Ok(()) => {
-            state.order_for(alloc, &asking.query);
-            let answer = answer_of(alloc, state, world, session, asking);
+            state.order_for(alloc, &question.asking.query);
+            let answer = answer_of(
+                alloc,
+                state,
+                question.world,
+                question.session,
+                question.asking,
+            );
             take_in(alloc, state, entry);
             Ok(answer)
         }
@@ -135,7 +148,12 @@ pub fn keep_and_answer<P: Keeper>(
 {
     match entry_of(alloc, state, &world.clock, asking) {
         Ok(entry) => {
-            let answer = keep_entry(alloc, keeper, state, world, session, asking, &entry);
+            let question = SessionQuestion {
+                world,
+                session,
+                asking,
+            };
+            let answer = keep_entry(alloc, keeper, state, &question, &entry);
             drop(entry);
             answer
         }

@@ -1,13 +1,9 @@
 -- Each status is that of one ending.
-use Rattle.std.proofs.Common.{◌≡◌, ◌≢◌, ◌⊎◌, ℕ, Any, arith, refl}
-use Rattle.hippo_values.specs.Texts.{Txt}
-use Rattle.hippo_programs.specs.Starting.{SaysDamaged, BeginsDamaged}
+use Rattle.std.proofs.Common.{◌≡◌, ◌≢◌, ℕ, Any, arith, refl}
 use Rattle.hippo_programs.specs.declared.endings.Ending.{Ending}
 use Rattle.hippo_programs.specs.declared.endings.Ending.TheVariants.{Served, Refused, KeeperFault, ReadFault, WriteFault, Damaged, NoMemory, TooMuch}
 use Rattle.hippo_programs.specs.Endings.{status_of}
 use Rattle.hippo_running.specs.Endings.{statuses}
-use Rattle.hippo_running.specs.Outcomes.{FromFound, IsCounted, BeginsCount, CheckEnds}
-use Rattle.hippo_running.specs.Outside.{Outside}
 
 -- an ending's status is one of eight
 pub status-listed : (ending : Ending) (status : ℕ) → status ≡ status_of ending → Any (λ listed. status ≡ listed) statuses
@@ -41,19 +37,3 @@ status-7 WriteFault e = absurd (omega (arith, e))
 status-7 Damaged e = absurd (omega (arith, e))
 status-7 NoMemory e = refl
 status-7 TooMuch e = absurd (omega (arith, e))
-
--- what a check comes to, by its status
-module _ (name : Txt) (before after : Outside) (unwritten : Type 0) where
-  abbrev pub ByStatus : ℕ → Type 0
-  ByStatus status = (status ≡ 0 → FromFound name IsCounted before after)
-      × (status ≡ 3 → unwritten)
-      × (status ≡ 5 → BeginsDamaged name before.keeper after.keeper before.told.written after.told.written ⊎ FromFound name BeginsCount before after)
-      × (status ≡ 6 → SaysDamaged name before.keeper after.keeper before.told.written after.told.written)
-
-  pub check-by-status : (ending : Ending) → CheckEnds ending unwritten name before after → ByStatus (status_of ending)
-  check-by-status Served ends = (λ e. ends, λ e. absurd (omega (arith, e)), λ e. absurd (omega (arith, e)), λ e. absurd (omega (arith, e)))
-  check-by-status KeeperFault ends = (λ e. absurd (omega (arith, e)), λ e. ends.0, λ e. absurd (omega (arith, e)), λ e. absurd (omega (arith, e)))
-  check-by-status WriteFault ends = (λ e. absurd (omega (arith, e)), λ e. absurd (omega (arith, e)), λ e. ends, λ e. absurd (omega (arith, e)))
-  check-by-status Damaged ends = (λ e. absurd (omega (arith, e)), λ e. absurd (omega (arith, e)), λ e. absurd (omega (arith, e)), λ e. ends)
-  check-by-status NoMemory ends = (λ e. absurd (omega (arith, e)), λ e. absurd (omega (arith, e)), λ e. absurd (omega (arith, e)), λ e. absurd (omega (arith, e)))
-  check-by-status ending ends = absurd ends

@@ -12,23 +12,34 @@ use Rattle.hippo_words.specs.declared.calls.Call.{Call}
 use Rattle.hippo_words.specs.declared.calls.Job.{Job}
 use Rattle.hippo_words.specs.declared.calls.Job.TheVariants.{Drill}
 use Rattle.hippo_programs.specs.declared.endings.Ending.{Ending}
-use Rattle.hippo_programs.specs.declared.endings.Ending.TheVariants.{Served, WriteFault, NoMemory}
+use Rattle.hippo_programs.specs.declared.endings.Ending.TheVariants.{Served, Refused, KeeperFault, ReadFault, WriteFault, Damaged, NoMemory, TooMuch}
 use Rattle.hippo_running.specs.Drilling.{summary}
 use Rattle.hippo_programs.specs.Endings.{status_of}
-use Rattle.hippo_serve.specs.Asking.{store_of, job_of}
+use Rattle.hippo_serve.specs.Asking.{store_of, job_of, EndsAs}
 use Rattle.hippo_running.specs.Outcomes.{CheckEnds}
 use Rattle.hippo_running.specs.Outside.{Outside}
-use Rattle.hippo_running.proofs.StatusLemmas.{ByStatus, check-by-status}
+
+-- what holds of an ending holds by its status
+pub by_status : (ends : Ending → Type 0) (ending : Ending) → ends ending → EndsAs ends (status_of ending)
+by_status ends Served holds = (λ e. holds, λ e. absurd (omega (arith, e)), λ e. absurd (omega (arith, e)), λ e. absurd (omega (arith, e)), λ e. absurd (omega (arith, e)), λ e. absurd (omega (arith, e)), λ e. absurd (omega (arith, e)), λ e. absurd (omega (arith, e)))
+by_status ends Refused holds = (λ e. absurd (omega (arith, e)), λ e. holds, λ e. absurd (omega (arith, e)), λ e. absurd (omega (arith, e)), λ e. absurd (omega (arith, e)), λ e. absurd (omega (arith, e)), λ e. absurd (omega (arith, e)), λ e. absurd (omega (arith, e)))
+by_status ends KeeperFault holds = (λ e. absurd (omega (arith, e)), λ e. absurd (omega (arith, e)), λ e. holds, λ e. absurd (omega (arith, e)), λ e. absurd (omega (arith, e)), λ e. absurd (omega (arith, e)), λ e. absurd (omega (arith, e)), λ e. absurd (omega (arith, e)))
+by_status ends ReadFault holds = (λ e. absurd (omega (arith, e)), λ e. absurd (omega (arith, e)), λ e. absurd (omega (arith, e)), λ e. holds, λ e. absurd (omega (arith, e)), λ e. absurd (omega (arith, e)), λ e. absurd (omega (arith, e)), λ e. absurd (omega (arith, e)))
+by_status ends WriteFault holds = (λ e. absurd (omega (arith, e)), λ e. absurd (omega (arith, e)), λ e. absurd (omega (arith, e)), λ e. absurd (omega (arith, e)), λ e. holds, λ e. absurd (omega (arith, e)), λ e. absurd (omega (arith, e)), λ e. absurd (omega (arith, e)))
+by_status ends Damaged holds = (λ e. absurd (omega (arith, e)), λ e. absurd (omega (arith, e)), λ e. absurd (omega (arith, e)), λ e. absurd (omega (arith, e)), λ e. absurd (omega (arith, e)), λ e. holds, λ e. absurd (omega (arith, e)), λ e. absurd (omega (arith, e)))
+by_status ends NoMemory holds = (λ e. absurd (omega (arith, e)), λ e. absurd (omega (arith, e)), λ e. absurd (omega (arith, e)), λ e. absurd (omega (arith, e)), λ e. absurd (omega (arith, e)), λ e. absurd (omega (arith, e)), λ e. holds, λ e. absurd (omega (arith, e)))
+by_status ends TooMuch holds = (λ e. absurd (omega (arith, e)), λ e. absurd (omega (arith, e)), λ e. absurd (omega (arith, e)), λ e. absurd (omega (arith, e)), λ e. absurd (omega (arith, e)), λ e. absurd (omega (arith, e)), λ e. absurd (omega (arith, e)), λ e. holds)
 
 module _ (words : List Txt) (call : Call) (asked : call_of words ≡ Some call) (store : Txt) (named : store ≡ call.store) where
   store_is : store ≡ store_of words
   store_is = named ∙ sym (ap (λ (c : Option Call). option_map_or (λ (d : Call). d.store) c []) asked)
 
   -- what a check came to
-  pub check_as_asked : (ending : Ending) (unwritten : Type 0) (before after : Outside) → CheckEnds ending unwritten store before after
-      → ByStatus (store_of words) before after unwritten (status_of ending)
-  check_as_asked ending unwritten before after ends =
-      check-by-status (store_of words) before after unwritten ending (subst (λ (name : Txt). CheckEnds ending unwritten name before after) store_is ends)
+  pub check_as_asked : (ending : Ending) (status : ℕ) → status ≡ status_of ending → (unwritten : Type 0) (before after : Outside) → CheckEnds ending unwritten store before after
+      → EndsAs (λ one. CheckEnds one unwritten (store_of words) before after) status
+  check_as_asked ending status is unwritten before after ends =
+      subst (λ (n : ℕ). EndsAs (λ one. CheckEnds one unwritten (store_of words) before after) n) (sym is)
+      (by_status (λ one. CheckEnds one unwritten (store_of words) before after) ending (subst (λ (name : Txt). CheckEnds ending unwritten name before after) store_is ends))
 
   pub idle_as_asked : (before after : KeeperState) → IsIdle store before after → IsIdle (store_of words) before after
   idle_as_asked before after idle = subst (λ (name : Txt). IsIdle name before after) store_is idle

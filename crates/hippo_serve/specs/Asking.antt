@@ -1,11 +1,13 @@
--- What the words of a call ask for.
-use Rattle.std.specs.Prelude.{◌≡◌, List, [], Option, Some, None, option_map}
+-- What the words of a call ask for, and how the call ends.
+use Rattle.std.specs.Prelude.{◌≡◌, ℕ, List, [], Option, Some, None, option_map}
 use Rattle.std.specs.Option.{option_map_or}
 use Rattle.hippo_values.specs.Texts.{Txt}
 use Rattle.hippo_words.specs.CommandLine.{call_of}
 use Rattle.hippo_words.specs.declared.calls.Job.{Job}
 use Rattle.hippo_words.specs.declared.calls.Job.TheVariants.{Run, Load}
 use Rattle.hippo_words.specs.declared.calls.Setting.{Setting}
+use Rattle.hippo_programs.specs.declared.endings.Ending.{Ending}
+use Rattle.hippo_programs.specs.declared.endings.Ending.TheVariants.{Served, Refused, KeeperFault, ReadFault, WriteFault, Damaged, NoMemory, TooMuch}
 
 -- the job that words ask for
 abbrev pub job_of : List Txt → Option Job
@@ -25,3 +27,10 @@ setting_of job = None
 pub record AskToServe (words : List Txt) (job : Job) (setting : Setting) : Type 0 where
   pub asked : job_of words ≡ Some job
   pub serves : setting_of job ≡ Some setting
+
+-- of the ending that has the call's status this holds
+abbrev pub EndsAs : (Ending → Type 0) → ℕ → Type 0
+EndsAs ends status =
+    (status ≡ 0 → ends Served) × (status ≡ 2 → ends Refused) × (status ≡ 3 → ends KeeperFault)
+    × (status ≡ 4 → ends ReadFault) × (status ≡ 5 → ends WriteFault) × (status ≡ 6 → ends Damaged)
+    × (status ≡ 7 → ends NoMemory) × (status ≡ 8 → ends TooMuch)

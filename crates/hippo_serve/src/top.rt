@@ -3,18 +3,18 @@ ghost use Rattle.std.specs.Prelude.{◌≡◌, ◌≢◌, ◌⊎◌, ℕ, List, 
 ghost use Rattle.hippo_io.specs.Faults.{HasRisen};
 ghost use Rattle.hippo_io.specs.Told.{Appends, AppendsFront};
 ghost use Rattle.hippo_keeper.specs.Keeping.{IsReady};
-ghost use Rattle.hippo_programs.specs.Starting.{IsIdle, SaysDamaged, BeginsDamaged};
+ghost use Rattle.hippo_programs.specs.Starting.{IsIdle, SaysDamaged};
 ghost use Rattle.hippo_words.specs.CommandLine.{call_of};
 ghost use Rattle.hippo_words.specs.declared.calls.Setting.{Setting};
 ghost use Rattle.hippo_words.specs.declared.calls.Job.{Job};
 ghost use Rattle.hippo_words.specs.declared.calls.Job.TheVariants.{Check, Drill};
 ghost use Rattle.hippo_running.specs.Drilling.{summary};
 ghost use Rattle.hippo_running.specs.Endings.{statuses};
-ghost use Rattle.hippo_running.specs.Outcomes.{FromFound, IsCounted, BeginsCount};
-ghost use Rattle.hippo_running.specs.Outside.{Outside, outside};
-ghost use Rattle.hippo_running.specs.Runs.{HasTakenBytes, IsServed, IsBrokenOff, IsReadCut, IsUnwritten, HasTooMuch};
+ghost use Rattle.hippo_running.specs.Outcomes.{RunEnds, CheckEnds};
+ghost use Rattle.hippo_running.specs.Outside.{outside};
+ghost use Rattle.hippo_running.specs.Runs.{HasTakenBytes};
 ghost use Rattle.hippo_running.specs.Saying.{usage};
-ghost use Rattle.hippo_serve.specs.Asking.{job_of, store_of, AskToServe};
+ghost use Rattle.hippo_serve.specs.Asking.{job_of, store_of, AskToServe, EndsAs};
 
 use hippo_io::{Sink, Source};
 use hippo_keeper::{Keeper, Steps};
@@ -80,44 +80,13 @@ pub fn hippo_top<S: Source, K: Sink, P: Keeper, L: Ledger>(
     ensures usage_cut { call_of words.now ≡ None → result ≡ 5 →
         AppendsFront (K.written sink.old) (K.written sink.new) usage }
 
-    // What a run or a load comes to, where the keeper tells, from what a start may find; of an
-    // input and an output that are told, which lines were read, and what is written.
-    ensures served { (job : Job) (setting : Setting) → AskToServe words.now job setting
-        → result ≡ 0 →
-        (P.state keeper.new).tells → FromFound (store_of words.now) (IsServed setting job)
+    // What a run or a load comes to by its status, where the keeper tells, from what a start may
+    // find; of an input and an output that are told, which lines were read, and what is written.
+    ensures served { (job : Job) (setting : Setting) → AskToServe words.now job setting →
+        (P.state keeper.new).tells → EndsAs (λ ending. RunEnds ending
+        (source.new ≡ source.old) (sink.new ≡ sink.old) setting job (store_of words.now)
         (outside (S.left source.old) (K.written sink.old) (P.state keeper.old) steps.old)
-        (outside (S.left source.new) (K.written sink.new) (P.state keeper.new) steps.new) }
-    ensures keeper_cut { (job : Job) (setting : Setting) → AskToServe words.now job setting
-        → result ≡ 3 →
-        (P.state keeper.new).tells →
-        let before : Outside = outside (S.left source.old) (K.written sink.old) (P.state keeper.old)
-        steps.old in
-        let after : Outside = outside (S.left source.new) (K.written sink.new) (P.state keeper.new)
-        steps.new in
-        ((source.new ≡ source.old) × (sink.new ≡ sink.old)
-        × IsIdle (store_of words.now) (P.state keeper.old) (P.state keeper.new))
-        ⊎ FromFound (store_of words.now) (IsBrokenOff setting job) before after }
-    ensures read_cut { (job : Job) (setting : Setting) → AskToServe words.now job setting
-        → result ≡ 4 →
-        (P.state keeper.new).tells → FromFound (store_of words.now) (IsReadCut setting job)
-        (outside (S.left source.old) (K.written sink.old) (P.state keeper.old) steps.old)
-        (outside (S.left source.new) (K.written sink.new) (P.state keeper.new) steps.new) }
-    ensures write_cut { (job : Job) (setting : Setting) → AskToServe words.now job setting
-        → result ≡ 5 →
-        (P.state keeper.new).tells →
-        let before : Outside = outside (S.left source.old) (K.written sink.old) (P.state keeper.old)
-        steps.old in
-        let after : Outside = outside (S.left source.new) (K.written sink.new) (P.state keeper.new)
-        steps.new in
-        ((source.new ≡ source.old)
-        × BeginsDamaged (store_of words.now) (P.state keeper.old) (P.state keeper.new)
-        (K.written sink.old) (K.written sink.new))
-        ⊎ FromFound (store_of words.now) (IsUnwritten setting job) before after }
-    ensures too_much { (job : Job) (setting : Setting) → AskToServe words.now job setting
-        → result ≡ 8 →
-        (P.state keeper.new).tells → FromFound (store_of words.now) (HasTooMuch setting job)
-        (outside (S.left source.old) (K.written sink.old) (P.state keeper.old) steps.old)
-        (outside (S.left source.new) (K.written sink.new) (P.state keeper.new) steps.new) }
+        (outside (S.left source.new) (K.written sink.new) (P.state keeper.new) steps.new)) result }
 
     // Of an input that is told, a run or a load takes all where it ends with 0, and more than are
     // read just where it ends with 8, whatever the keeper.
@@ -126,20 +95,10 @@ pub fn hippo_top<S: Source, K: Sink, P: Keeper, L: Ledger>(
         S.left source.old ≡ Some input → HasTakenBytes result input (S.left source.new) }
 
     // A check reads nothing and keeps what it finds.
-    ensures counted { job_of words.now ≡ Some Check → result ≡ 0 → (P.state keeper.new).tells →
-        FromFound (store_of words.now) IsCounted
+    ensures counted { job_of words.now ≡ Some Check → (P.state keeper.new).tells →
+        EndsAs (λ ending. CheckEnds ending (sink.new ≡ sink.old) (store_of words.now)
         (outside (S.left source.old) (K.written sink.old) (P.state keeper.old) steps.old)
-        (outside (S.left source.new) (K.written sink.new) (P.state keeper.new) steps.new) }
-    ensures count_cut { job_of words.now ≡ Some Check → result ≡ 5 → (P.state keeper.new).tells →
-        let before : Outside = outside (S.left source.old) (K.written sink.old) (P.state keeper.old)
-        steps.old in
-        let after : Outside = outside (S.left source.new) (K.written sink.new) (P.state keeper.new)
-        steps.new in
-        BeginsDamaged (store_of words.now) (P.state keeper.old) (P.state keeper.new)
-        (K.written sink.old) (K.written sink.new)
-        ⊎ FromFound (store_of words.now) BeginsCount before after }
-    ensures uncounted { job_of words.now ≡ Some Check → result ≡ 3 → (P.state keeper.new).tells →
-        sink.new ≡ sink.old }
+        (outside (S.left source.new) (K.written sink.new) (P.state keeper.new) steps.new)) result }
     ensures uncut { job_of words.now ≡ Some Check → (result ≢ 4) × (result ≢ 8) }
     ensures unread { job_of words.now ≡ Some Check → source.new ≡ source.old }
     ensures same { job_of words.now ≡ Some Check → (P.state keeper.new).tells

@@ -1,12 +1,12 @@
 -- The command line: which words the program takes, and what they ask for.
 use Rattle.std.specs.Prelude.{ℕ, Bool, true, false, not, ◌&&◌, ◌||◌, List, [], ◌∷◌, Option, Some, None, is_some, option_map, option_and_then, unwrap_or, if◌then◌else◌, codes, bytes_eq}
 use Rattle.std.specs.Option.{option_map_or}
-use Rattle.clap.specs.Words.{App, Rule, Row, first_of, matches_of}
+use Rattle.clap.specs.Words.{App, Row, first_of, matches_of}
 use Rattle.hippo_values.specs.Texts.{Txt}
 use Rattle.hippo_values.specs.Names.{name_of}
 use Rattle.hippo_report.specs.declared.format.Format.{Format}
 use Rattle.hippo_report.specs.declared.format.Format.TheVariants as formats
-use Rattle.hippo_programs.specs.Arguments.{text_option, needed_option, number_option, flag, command_with, is_taken, number_or, format_in}
+use Rattle.hippo_programs.specs.Arguments.{text_option, needed_option, entry_option, flag, command_with, is_taken, number_or, format_in}
 use Rattle.hippo_showing.specs.declared.asking.Acts.{Acts}
 use Rattle.hippo_showing.specs.declared.asking.Acts.TheVariants.{All, Tables}
 use Rattle.hippo_showing.specs.declared.asking.Call.{Call}
@@ -18,10 +18,6 @@ use Rattle.hippo_showing.specs.declared.asking.Scope.{Scope}
 use Rattle.hippo_showing.specs.declared.asking.Scope.TheVariants.{Whole, Table}
 use Rattle.hippo_showing.specs.declared.asking.View.{View}
 use Rattle.hippo_showing.specs.declared.asking.View.TheVariants.{Entries, Rules}
-
--- the number of an entry
-abbrev pub entry_option : Txt → Rule
-entry_option name = number_option name 1 4000000
 
 -- the command, as clap is told of it
 abbrev pub showing_command_line : App

@@ -1,35 +1,23 @@
-//! The command's arguments, and what they find in words.
-ghost use Rattle.std.specs.Prelude.{◌≡◌, map, IfOk};
+//! The command's arguments, and what is found behind them.
+ghost use Rattle.std.specs.Prelude.{◌≡◌};
 ghost use Rattle.clap.specs.Words.{rows_of, found_of};
-ghost use Rattle.hippo_programs.specs.Arguments.{FindsMatches};
-ghost use Rattle.hippo_showing.specs.CommandLine.{showing_command_line, is_on};
+ghost use Rattle.hippo_showing.specs.CommandLine.{is_on};
 
 use clap::ArgMatches;
-use hippo_programs::{Argument, matches_in, text_of};
-use hippo_values::Memory;
-use std::alloc::Global;
+use hippo_programs::{Argument, text_of};
 
-const ARGUMENTS: [Argument<'static>; 9] = [
+/// The arguments that the command has.
+pub(crate) const ARGUMENTS: [Argument<'static>; 9] = [
     Argument::Needed("store"),
-    Argument::Number("entry", 1, 4_000_000),
-    Argument::Number("from", 1, 4_000_000),
-    Argument::Number("to", 1, 4_000_000),
+    Argument::Entry("entry"),
+    Argument::Entry("from"),
+    Argument::Entry("to"),
     Argument::Text("table"),
     Argument::Flag("tables"),
     Argument::Flag("script"),
     Argument::Flag("rules"),
     Argument::Text("format"),
 ];
-
-/// What the command finds in words: nothing exactly where it does not take them.
-pub(crate) fn found_in<'w>(
-    alloc: Global,
-    words: &'w [&'w str],
-) -> Result<Option<ArgMatches<'w>>, Memory>
-    ensures { IfOk result (FindsMatches showing_command_line (map (λ word. word.now) words.now)) }
-{
-    matches_in(alloc, "hippo_history", &ARGUMENTS, words)
-}
 
 /// Whether a name that stands alone was written.
 pub(crate) fn is_on(matches: &ArgMatches<'_>, name: &str) -> bool

@@ -1,15 +1,23 @@
 //! What the words of a call ask for.
 ghost use Rattle.std.specs.Prelude.{◌≡◌, ◌||◌, codes, map, is_some, IfOk};
 ghost use Rattle.clap.specs.Words.{first_of, rows_of, found_of};
-ghost use Rattle.hippo_showing.specs.CommandLine.{first_in, last_in, has_end, entry_fits, has_form, rules_fit, options_fit, scope_of, is_text_format, format_fits, shown_form, acts_in, excerpt_in, page_in, view_in, call_with, call_in_format, showing_call, asked_of};
+ghost use Rattle.hippo_programs.specs.Arguments.{FindsMatches};
+ghost use Rattle.hippo_showing.specs.CommandLine.{showing_command_line, first_in, last_in, has_end, entry_fits, has_form, rules_fit, options_fit, scope_of, is_text_format, format_fits, shown_form, acts_in, excerpt_in, page_in, view_in, call_with, call_in_format, showing_call, asked_of};
 
-use crate::arguments::{found_in, is_on};
+use crate::arguments::{ARGUMENTS, is_on};
 use crate::asking::{Acts, Call, Excerpt, Form, Page, Scope, View};
 use clap::ArgMatches;
-use hippo_programs::{format_of, number_or, text_of, texts_of};
+use hippo_programs::{format_of, matches_in, number_or, text_of, texts_of};
 use hippo_report::Format;
 use hippo_values::{Memory, Name, Txt};
 use std::alloc::Global;
+
+// What the command finds in words: nothing exactly where it does not take them.
+fn found_in<'w>(alloc: Global, words: &'w [&'w str]) -> Result<Option<ArgMatches<'w>>, Memory>
+    ensures { IfOk result (FindsMatches showing_command_line (map (λ word. word.now) words.now)) }
+{
+    matches_in(alloc, "hippo_history", &ARGUMENTS, words)
+}
 
 fn is_there(matches: &ArgMatches<'_>, name: &str) -> bool
     ensures { result ≡ is_some (first_of name.now (rows_of (found_of matches.now))) }

@@ -5,7 +5,7 @@ use Rattle.hippo_values.specs.Texts.{Txt}
 use Rattle.hippo_values.specs.Names.{name_of}
 use Rattle.hippo_commands.specs.Moments.{moment_in}
 use Rattle.hippo_report.specs.declared.format.Format.{Format}
-use Rattle.hippo_programs.specs.Arguments.{word, text_option, number_option, command_with, is_taken, number_or, format_in}
+use Rattle.hippo_programs.specs.Arguments.{word, text_option, number_option, entry_option, command_with, is_taken, number_or, format_in}
 use Rattle.hippo_words.specs.declared.calls.Call.{Call}
 use Rattle.hippo_words.specs.declared.calls.Setting.{Setting}
 use Rattle.hippo_words.specs.declared.calls.Job.{Job}
@@ -14,7 +14,7 @@ use Rattle.hippo_words.specs.declared.calls.Job.TheVariants.{Run, Load, Check, D
 -- the command, as clap is told of it
 abbrev pub command_line : App
 command_line = command_with (codes "hippo")
-    (word (codes "job") ∷ text_option (codes "store") ∷ number_option (codes "history") 1 4000000
+    (word (codes "job") ∷ text_option (codes "store") ∷ entry_option (codes "history")
     ∷ number_option (codes "size") 2 20000 ∷ number_option (codes "number") 0 999
     ∷ text_option (codes "format")
     ∷ text_option (codes "table") ∷ text_option (codes "moment") ∷ [])

@@ -4,17 +4,24 @@ ghost use Rattle.clap.specs.Words.{first_of, rows_of, found_of};
 ghost use Rattle.hippo_values.specs.Names.{name_of};
 ghost use Rattle.hippo_commands.specs.Moments.{moment_in};
 ghost use Rattle.hippo_words.specs.declared.calls.Job.TheVariants.{Run, Drill};
-ghost use Rattle.hippo_programs.specs.Arguments.{number_or};
-ghost use Rattle.hippo_words.specs.CommandLine.{setting_with, load_with, job_named, job_in, call_in, call_of};
+ghost use Rattle.hippo_programs.specs.Arguments.{FindsMatches, number_or};
+ghost use Rattle.hippo_words.specs.CommandLine.{command_line, setting_with, load_with, job_named, job_in, call_in, call_of};
 
-use crate::arguments::{found_in, short_or};
+use crate::arguments::{ARGUMENTS, short_or};
 use crate::calls::{Call, Job, Setting};
 use clap::ArgMatches;
-use hippo_programs::{format_of, text_of, texts_of};
+use hippo_programs::{format_of, matches_in, text_of, texts_of};
 use hippo_report::Format;
 use hippo_text_forms::read_moment;
 use hippo_values::{Memory, Moment, Name, Txt};
 use std::alloc::Global;
+
+// What the command finds in words: nothing exactly where it does not take them.
+fn found_in<'w>(alloc: Global, words: &'w [&'w str]) -> Result<Option<ArgMatches<'w>>, Memory>
+    ensures { IfOk result (FindsMatches command_line (map (λ word. word.now) words.now)) }
+{
+    matches_in(alloc, "hippo", &ARGUMENTS, words)
+}
 
 fn setting_with(matches: &ArgMatches<'_>, format: Format) -> Result<Setting, Memory>
     ensures { IfOk result (λ setting. setting

@@ -1,4 +1,4 @@
 use Rattle.hippo_answering.proofs.answers.joined_lines.Goals as goal
 
 pub returns : goal.returns
-returns g c = c.said.ensures _ c.run.ensures
+returns c = c.said.ensures _ c.run-answer.ensures

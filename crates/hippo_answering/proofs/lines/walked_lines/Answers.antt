@@ -8,8 +8,8 @@ use Rattle.hippo_answering.specs.Lines.{AreLinesOf}
 use Rattle.hippo_answering.proofs.lines.walked_lines.Goals as goal
 
 pub returns-in-Ok : goal.returns-in-Ok
-returns-in-Ok g c =
+returns-in-Ok c =
     let counted = c.in-Ok.ensures [] (record { front = []; later = []; is = refl; holds = c.in_ok-lines.ensures c.args.session; whole = λ few. refl }) in
     c.within_limit.ensures c.args.session _
     (subst (λ (found : List ShownRow). IsGathered (AreLinesOf c.args.session) (λ rows. rows) ANSWER_LIMIT found c.walk_joined.new.state)
-    (counted-answer (g.C.ChoiceView.choices c.args.choices.now) c.args.query.now c.args.sets.now) counted)
+    (counted-answer _ c.args.inquiry.now.query c.args.inquiry.now.sets) counted)

@@ -17,8 +17,7 @@ returns-clause-carries g c =
     let before = g.P.Keeper.state c.args.keeper.now in
     let after = g.P.Keeper.state c.step-looked.new.keeper in
     subst (λ (number : ℕ). Carries (make_request Console (steps number c.args.count)) c.tell_step-told.result old new before after c.args.steps.now c.step-looked.new.steps) c.from-at.ensures
-    (subst (λ (count : ℕ). Carries (make_request Console (steps c.from-at.result count)) c.tell_step-told.result old new before after c.args.steps.now c.step-looked.new.steps) c.from.ensures
-    (Carries-job_step_effect c.from-at.result c.from.result _ c.step-looked.result old new before after c.args.steps.now c.step-looked.new.steps
+    (Carries-job_step_effect c.from-at.result c.args.count _ c.step-looked.result old new before after c.args.steps.now c.step-looked.new.steps
     (record {
       job = c.in-Some.job;
       mid = c.step-looked.new.self;
@@ -30,7 +29,7 @@ returns-clause-carries g c =
       world = λ i. record (old.world) { jobs = put_there i };
     })
     c.tell_step-told.result c.tell_step-told.ensures.ended c.requires.at_work
-    (λ history stands. record { valid = stands.valid; names = stands.names; book = stands.book; count = stands.count })))
+    (λ history stands. record { valid = stands.valid; names = stands.names; book = stands.book; count = stands.count }))
   where
     put_there : c.put.new.self ≡ with_at (with_at c.args.engine.now.world.jobs c.from-at.result None) c.from-at.result (Some c.tell_step-told.new.job)
     put_there = rw c.in-Some.ensures.left at c.put.ensures

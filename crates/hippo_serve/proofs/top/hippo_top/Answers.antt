@@ -1,5 +1,5 @@
 -- Each status is listed; what a check came to is by its status, over the store that the words name.
-use Rattle.std.proofs.Common.{refl, sym, subst, ◌∙◌}
+use Rattle.std.proofs.Common.{rules, refl, sym, subst, ◌∙◌}
 use Rattle.hippo_values.specs.Texts.{Txt}
 use Rattle.hippo_io.specs.Told.{Appends, AppendsFront}
 use Rattle.hippo_running.specs.Outside.{outside}
@@ -19,35 +19,24 @@ returns-in-Check-clause-status g c = status-listed c.check.result _ c.status-in-
 pub returns-clause-status : goal.returns-clause-status
 returns-clause-status g c = status-listed c.drill.result _ c.status-in-Drill.ensures
 
+pub returns-in-Run-clause-served : goal.returns-in-Run-clause-served
+returns-in-Run-clause-served g c = λ job setting asks tells. (search rules, search rules, search rules, search rules, search rules, search rules, search rules, search rules)
+
 pub returns-in-Check-clause-counted : goal.returns-in-Check-clause-counted
-returns-in-Check-clause-counted g c = λ job is tells. (check_as_asked c.args.words.now c.in-Some.call (sym c.in-Ok.ensures ∙ c.in-Some.is) c.as_str-store.result.now c.as_str-store.ensures
-    c.check.result _
+returns-in-Check-clause-counted g c = λ job tells. check_as_asked c.args.words.now c.in-Some.call (sym c.in-Ok.ensures ∙ c.in-Some.is) c.as_str-store.result.now c.as_str-store.ensures
+    c.check.result _ c.status-in-Check.ensures _
     (outside (g.S.Source.left c.args.source.now) (g.K.Sink.written c.args.sink.now) (g.P.Keeper.state c.args.keeper.now) c.args.steps.now)
     (outside (g.S.Source.left c.args.source.now) (g.K.Sink.written c.check.new.sink) (g.P.Keeper.state c.check.new.keeper) c.check.new.steps)
-    (c.check.ensures.ends tells (g.S.Source.left c.args.source.now))).0 (sym c.status-in-Check.ensures ∙ is)
-
-pub returns-in-Check-clause-uncounted : goal.returns-in-Check-clause-uncounted
-returns-in-Check-clause-uncounted g c = λ job is tells. (check_as_asked c.args.words.now c.in-Some.call (sym c.in-Ok.ensures ∙ c.in-Some.is) c.as_str-store.result.now c.as_str-store.ensures
-    c.check.result _
-    (outside (g.S.Source.left c.args.source.now) (g.K.Sink.written c.args.sink.now) (g.P.Keeper.state c.args.keeper.now) c.args.steps.now)
-    (outside (g.S.Source.left c.args.source.now) (g.K.Sink.written c.check.new.sink) (g.P.Keeper.state c.check.new.keeper) c.check.new.steps)
-    (c.check.ensures.ends tells (g.S.Source.left c.args.source.now))).1 (sym c.status-in-Check.ensures ∙ is)
-
-pub returns-in-Check-clause-count_cut : goal.returns-in-Check-clause-count_cut
-returns-in-Check-clause-count_cut g c = λ job is tells. (check_as_asked c.args.words.now c.in-Some.call (sym c.in-Ok.ensures ∙ c.in-Some.is) c.as_str-store.result.now c.as_str-store.ensures
-    c.check.result _
-    (outside (g.S.Source.left c.args.source.now) (g.K.Sink.written c.args.sink.now) (g.P.Keeper.state c.args.keeper.now) c.args.steps.now)
-    (outside (g.S.Source.left c.args.source.now) (g.K.Sink.written c.check.new.sink) (g.P.Keeper.state c.check.new.keeper) c.check.new.steps)
-    (c.check.ensures.ends tells (g.S.Source.left c.args.source.now))).2 (sym c.status-in-Check.ensures ∙ is)
+    (c.check.ensures.ends tells (g.S.Source.left c.args.source.now))
 
 pub returns-in-Check-clause-damaged : goal.returns-in-Check-clause-damaged
 returns-in-Check-clause-damaged g c = λ is tells. (
   refl,
   (check_as_asked c.args.words.now c.in-Some.call (sym c.in-Ok.ensures ∙ c.in-Some.is) c.as_str-store.result.now c.as_str-store.ensures
-      c.check.result _
+      c.check.result _ c.status-in-Check.ensures _
       (outside (g.S.Source.left c.args.source.now) (g.K.Sink.written c.args.sink.now) (g.P.Keeper.state c.args.keeper.now) c.args.steps.now)
       (outside (g.S.Source.left c.args.source.now) (g.K.Sink.written c.check.new.sink) (g.P.Keeper.state c.check.new.keeper) c.check.new.steps)
-      (c.check.ensures.ends tells (g.S.Source.left c.args.source.now))).3 (sym c.status-in-Check.ensures ∙ is),
+      (c.check.ensures.ends tells (g.S.Source.left c.args.source.now))).5 is,
 )
 
 pub returns-in-Check-clause-same : goal.returns-in-Check-clause-same
