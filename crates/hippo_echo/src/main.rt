@@ -5,9 +5,9 @@
 ghost use Rattle.std.specs.Prelude.{◌≡◌, ◌⊎◌, IfOk, length, min};
 
 use hippo_io::{Failed, Sink, Source, write_whole};
-use hippo_start::{Ended, Program, start};
+use hippo_start::{Ended, Host, Program, start};
 use hippo_values::Txt;
-use std::alloc::Global;
+use std::sync::ledger::Ledger;
 
 // Writes each word on a line, and answers how many there are.
 fn say_words<K: Sink>(words: &[Txt], sink: &mut K) -> Result<u8, Failed>
@@ -22,23 +22,17 @@ fn say_words<K: Sink>(words: &[Txt], sink: &mut K) -> Result<u8, Failed>
     Ok(count)
 }
 
-#[derive(Drop)]
 struct Echo;
 
 impl Program for Echo {
-    ghost Answers = { λ _ words status. (status ≡ min 255 (length words)) ⊎ (status ≡ 255) };
+    ghost Answers = { λ words status before after.
+        (status ≡ min 255 (length words)) ⊎ (status ≡ 255) };
 
-    fn call<S: Source, K: Sink>(
-        self,
-        _alloc: Global,
-        words: &[Txt],
-        _source: &mut S,
-        sink: &mut K,
-    ) -> u8 {
-        say_words(words, sink).unwrap_or(u8::MAX)
+    fn call<S: Source, K: Sink, L: Ledger>(words: &[Txt], host: &mut Host<S, K, L>) -> u8 {
+        say_words(words, &mut host.sink).unwrap_or(u8::MAX)
     }
 }
 
 fn main(rt: HostRuntime) -> Ended {
-    start(rt, Echo)
+    start::<Echo>(rt)
 }

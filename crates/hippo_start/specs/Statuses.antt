@@ -1,4 +1,4 @@
--- Which statuses a program may end with.
+-- Which statuses a program may end with, and which faults they tell.
 use Rattle.std.specs.Prelude.{◌≡◌, ◌≢◌, ◌⊎◌, ℕ, List, Option, Some, None, Any}
 use Rattle.hippo_io.specs.Faults.{HasRisen}
 
@@ -16,3 +16,11 @@ AnswersAmong statuses asked status =
 abbrev pub TellsFault : ℕ → ℕ → ℕ → ℕ → Type 0
 TellsFault fault status before after =
     (status ≡ fault → HasRisen before after) × (status ≢ fault → after ≡ before)
+
+-- how often a source failed so far, and a sink
+pub record FaultCounts : Type 0 where
+  pub reads : ℕ
+  pub writes : ℕ
+
+abbrev pub fault_counts : ℕ → ℕ → FaultCounts
+fault_counts reads writes = record { reads = reads; writes = writes }

@@ -1,17 +1,19 @@
-//! How a program of this house begins and ends: the words behind its name, its standard streams,
-//! and its exit status.
+//! How a program of this house begins and ends: the words behind its name, its standard streams, a
+//! count of steps, and its exit status.
 #![tactic(auto)]
 
-ghost use Rattle.std.specs.Prelude.{◌≡◌, ◌⊎◌, ℕ, List};
+ghost use Rattle.std.specs.Prelude.{◌≡◌, ◌⊎◌, ◌<◌, ℕ, List};
 ghost use Rattle.std.specs.Process.{exit_status};
 ghost use Rattle.hippo_values.specs.Texts.{Txt};
+ghost use Rattle.hippo_start.specs.Statuses.{FaultCounts, fault_counts};
 
 use hippo_io::{Sink, Source, StdSink, StdSource};
+use hippo_keeper::Steps;
 use hippo_values::{Memory, Sequence, Txt};
-use std::alloc::Global;
-use std::marker::Model;
+use std::marker::{Brand, Model};
 use std::process::{ExitCode, Termination};
 use std::rt::HostRuntime;
+use std::sync::ledger::{Blank, Ledger};
 use std::{env, io};
 
 type Words = Sequence<Txt>;
@@ -19,20 +21,26 @@ type Words = Sequence<Txt>;
 /// The exit status where memory is short for the words.
 pub const NO_MEMORY: u8 = 7;
 
-/// What a program does with its words and its streams.
+/// What a program is run over: the machine, its input and its output, and the steps that it took.
+#[derive(Drop)]
+pub struct Host<S: Source, K: Sink, L: Ledger> {
+    pub runtime: HostRuntime,
+    pub source: S,
+    pub sink: K,
+    pub steps: Steps<L>,
+}
+
+/// What a program does with its words over its host.
 pub trait Program {
-    // Whether the program may answer this status where its words are these.
-    ghost Answers: { Self → List Txt → ℕ → Type 0 };
+    // Whether the program may answer this status where its words are these, and its source and sink
+    // failed so often before and after it.
+    ghost Answers: { List Txt → ℕ → FaultCounts → FaultCounts → Type 0 };
 
     /// Does what the words ask for, and answers the exit status.
-    fn call<S: Source, K: Sink>(
-        self,
-        alloc: Global,
-        words: &[Txt],
-        source: &mut S,
-        sink: &mut K,
-    ) -> u8
-        ensures answers { Answers self words.now result };
+    fn call<S: Source, K: Sink, L: Ledger>(words: &[Txt], host: &mut Host<S, K, L>) -> u8
+        ensures answers { Answers words.now result
+            (fault_counts (S.faults host.old.source) (K.faults host.old.sink))
+            (fault_counts (S.faults host.new.source) (K.faults host.new.sink)) };
 }
 
 /// How a program ended: its exit status. Only [`start`] makes one, so a `main` that answers one
@@ -71,17 +79,35 @@ fn words(rt: &HostRuntime) -> Result<Words, Memory> {
     }
 }
 
+// Has a program do what words ask for, over standard input and standard output, and on a ledger
+// that nobody uses.
+fn run<P: Program, L: Ledger>(rt: HostRuntime, words: &[Txt], blank: Blank) -> u8
+    requires name { blank.name ≡ L.name }
+    requires parts { blank.parts ≡ L.parts }
+    requires some { 0 < blank.parts }
+    ensures { (before : FaultCounts) × (after : FaultCounts)
+        × P.Answers words.now result before after }
+{
+    let mut host = Host {
+        runtime: rt,
+        source: StdSource::new(rt.stdin()),
+        sink: StdSink::new(rt.stdout()),
+        steps: Steps::<L>::new(blank),
+    };
+    P::call(words, &mut host)
+}
+
 /// Has a program do what the words behind its name ask for, over standard input and standard
 /// output. It ends with the status that the program answers, or with [`NO_MEMORY`], and nothing is
 /// read or written, where memory is short for the words.
-pub fn start<P: Program + Drop>(rt: HostRuntime, program: P) -> Ended
-    ensures ends { (result ≡ 7) ⊎ ((words : List Txt) × P.Answers program words result) }
+pub fn start<P: Program>(rt: HostRuntime) -> Ended
+    ensures ends { (result ≡ 7) ⊎ ((words : List Txt) × (before : FaultCounts)
+        × (after : FaultCounts)
+        × P.Answers words result before after) }
 {
     let Ok(words) = words(&rt) else {
         return Ended { status: NO_MEMORY };
     };
-    let mut source = StdSource::new(rt.stdin());
-    let mut sink = StdSink::new(rt.stdout());
-    let status = program.call(rt.alloc(), words.as_slice(), &mut source, &mut sink);
+    let status = run::<P, Brand>(rt, words.as_slice(), Blank::new(1));
     Ended { status }
 }
