@@ -33,9 +33,9 @@ fn row_at<'a>(combo: &'a Combo<'_>, place: usize) -> Option<&'a Cells>
     }
 }
 
-// The value in a column of a combination; none past its end.
+/// The value in a column of a combination of rows; none past its end.
 #[inline(always)]
-fn raw_value<'a>(combo: &'a Combo<'_>, column: &Ref) -> Option<&'a Value>
+pub fn raw_value<'a>(combo: &'a Combo<'_>, column: &Ref) -> Option<&'a Value>
     ensures { or_null (option_copied result) ≡ raw_value combo.now column.now }
 {
     match row_at(combo, column.table) {

@@ -12,7 +12,7 @@ mod walks;
 
 pub use answers::{ANSWER_LIMIT, EvalFault, Every, evaluate};
 pub use audit_conditions::unmasked_condition;
-pub use cells::{LentCell, cell};
+pub use cells::{LentCell, cell, raw_value};
 pub use conditions::test;
 pub use gathering::{Gatherer, RowFinder};
 pub use queries::{is_shown, passes, project, refill};

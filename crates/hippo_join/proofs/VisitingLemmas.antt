@@ -23,10 +23,10 @@ use Rattle.hippo_values.specs.declared.memory.Memory.{Memory}
 use Rattle.hippo_eval.specs.Walks.{KeptAfter}
 use Rattle.hippo_eval.specs.declared.walks.Onward.{Onward}
 use Rattle.hippo_eval.specs.declared.walks.Onward.TheVariants.{More, Enough}
-use Rattle.hippo_lookups.specs.Places.{Fits, are_there, blank, chosen_rows, in_range, places_of, row_at_place, rows_at, stands}
+use Rattle.hippo_lookups.specs.Places.{Fits, are_there, blank, chosen_rows, in_range, places_of, row_at_place, rows_at, stands, stays}
 use Rattle.hippo_lookups.specs.Known.{is_chosen, is_open}
 use Rattle.hippo_sides.specs.Finding.{has_places, IsRising}
-use Rattle.hippo_sides.specs.Stages.{ReachesFrom}
+use Rattle.hippo_sides.specs.Stages.{Counts, ReachesFrom}
 use Rattle.hippo_sides.specs.Walking.{CanWalk}
 use Rattle.hippo_sides.specs.declared.stages.Stage.{Stage}
 use Rattle.hippo_sides.specs.Visiting.{Completes, KeptOn, AreAll, Visited}
@@ -386,6 +386,16 @@ module _ {S : Type 0} (keeps : List Combination → S → Type 0) (sets : List K
 pub completes-open : (choices : Choices) (query : Masked) (sets : List KeyedRows) (slots : List (Option Place)) → slots ≡ replicate (length sets) None → (places : List Place) → stands choices query sets places ≡ true → Completes choices query sets slots places
 completes-open choices query sets slots none places counts = (subst (λ (s : List (Option Place)). Fits s places) (sym none) (Fits-open places (length sets) (long-enough choices query sets places counts)), counts)
 
+-- ---- places that follow
+pub has-at : (some : List Place) (i place : Place) → i < length some → place ≡ get_or some i 0 → Contains some place
+has-at some i place within is = (i, within, get_or_default some i 0 place within ∙ sym is)
+
+-- what counts with rows that are chosen does with the same ones, in whatever row a table was before
+pub counts-again : (choices : Choices) (query : Masked) (sets : List KeyedRows) (slots now : List (Option Place)) (table place : Place) → slice_set now table None ≡ slots → Counts choices query sets slots table place → Counts choices query sets now table place
+counts-again choices query sets slots now table place same counts =
+    subst (λ (s : List (Option Place)). (set : KeyedRows) → slice_get sets table ≡ Some set → place < length set.rows → stays choices query (rows_at sets s) ≡ true)
+    (ap (λ (s : List (Option Place)). slice_set s table (Some place)) (sym same) ∙ set-set now table None (Some place)) counts
+
 -- ---- a walk
 -- what holds anyhow holds where a call is Ok
 pub on-ok : {T E : Type 0} (fact : Type 0) (result : Result T E) → fact → OnOk result fact
@@ -418,6 +428,15 @@ module _ (join : Join) where
         are = are;
         counts = counts-is join.choices join.query join.sets places rows test (sym (there-whole join.sets places long) ∙ sym (ap (are_there join.sets) whole) ∙ can.stand.there) are is;
       }
+
+  -- a combination that is known to count
+  pub is-counted : (slots : List (Option Place)) (rows : Combination) → CanGoOn join [] slots rows → stays join.choices join.query rows ≡ true → IsWhole join slots rows true
+  unfolding stays
+  is-counted slots rows can counts = is-whole slots rows true can (sym counts)
+
+  pub counted-by : (rows : Combination) (test : Bool) → test ≡ (is_guarded join.choices join.query rows && masked_passes join.choices join.query rows) → test ≡ true → stays join.choices join.query rows ≡ true
+  unfolding stays
+  counted-by rows test is passes = sym is ∙ passes
 
   module _ (stage : Stage) (rest : List Stage) (slots : List (Option Place)) (rows : Combination) (can : CanGoOn join (stage ∷ rest) slots rows) where
     -- on with the row at a place of the first stage's table

@@ -6,8 +6,8 @@ ghost use Rattle.std.specs.Option.{option_map_or};
 ghost use Rattle.hippo_model.specs.Terms.{Combination, Place};
 ghost use Rattle.hippo_eval.specs.declared.walks.Onward.TheVariants.{More as MoreOn};
 ghost use Rattle.hippo_lookups.specs.Known.{is_open};
-ghost use Rattle.hippo_lookups.specs.Places.{are_there, rows_at, stands};
-ghost use Rattle.hippo_sides.specs.Stages.{ReachesFrom};
+ghost use Rattle.hippo_lookups.specs.Places.{are_there, rows_at, stands, stays};
+ghost use Rattle.hippo_sides.specs.Stages.{AllCount, Counts, ReachesFrom, suffices};
 ghost use Rattle.hippo_sides.specs.Walking.{following_places, IsWalkable};
 ghost use Rattle.hippo_sides.specs.Visiting.{Visited};
 ghost use Rattle.hippo_join.specs.Walked.{join_of, CanGoOn, HasGoneOn, HasWalked};
@@ -58,6 +58,8 @@ fn ascending(alloc: Global, following: &Following<'_>) -> Result<Vec<usize>, Mem
     ensures all { IfOk result (λ places. (place : Place)
         → Contains (following_places following.now) place
         → Contains places.items place) }
+    ensures none_else { IfOk result (λ places. All (Contains (following_places following.now))
+        places.items) }
 {
     let mut places = listed(alloc, following)?;
     places.sort_unstable();
@@ -106,22 +108,45 @@ impl<'w, 'a, C: ChoiceView, V: PlaceVisitor> Walk<'w, 'a, C, V> {
         &self,
         stage: &'s Stage,
         slots: &[Option<usize>],
+        rows: &Combo<'a>,
     ) -> Result<Following<'s>, Memory>
         requires table { stage.now.table < length self.now.side.now.sets.now }
         requires stage { IsWalkable (C.choices self.now.side.now.choices.now)
             self.now.side.now.query.now self.now.side.now.sets.now stage.now }
+        requires rows { rows.now ≡ rows_at self.now.side.now.sets.now slots.now }
         ensures reaches { IfOk result (λ following. ReachesFrom
             (C.choices self.now.side.now.choices.now) self.now.side.now.query.now
             self.now.side.now.sets.now slots.now stage.now.table (following_places following)) }
         ensures order { IfOk result (λ following. self.now.in_order ≡ true
             → IsStrictlyIncreasing (following_places following)) }
+        ensures count { IfOk result (λ following. is_open slots.now stage.now.table ≡ true
+            → suffices stage.now slots.now ≡ true
+            → AllCount (C.choices self.now.side.now.choices.now) self.now.side.now.query.now
+            self.now.side.now.sets.now slots.now stage.now.table (following_places following)) }
     {
-        let following = self.side.following(self.alloc, stage, slots)?;
+        let following = self.side.following(self.alloc, stage, slots, rows)?;
         if !self.in_order || following.rises() {
             Ok(following)
         } else {
             Ok(Following::Found(ascending(self.alloc, &following)?))
         }
+    }
+
+    // Visits the combination whose rows are all chosen, which counts.
+    #[inline(always)]
+    fn visit_counted(
+        &self,
+        slots: &[Option<usize>],
+        rows: &Combo<'_>,
+        state: &mut V::State,
+    ) -> Result<Onward, Memory>
+        requires can { CanGoOn (join_of C.choices self.now) [] slots.now rows.now }
+        requires counts { stays (C.choices self.now.side.now.choices.now)
+            self.now.side.now.query.now rows.now ≡ true }
+        ensures { HasGoneOn (join_of C.choices self.now) (V.Keeps self.now.visitor.now) slots.now
+            slots.now rows.now result state.old state.new }
+    {
+        self.visitor.visit(self.alloc, state, slots, rows)
     }
 
     // Visits the combination whose rows are all chosen, if it counts.
@@ -137,9 +162,31 @@ impl<'w, 'a, C: ChoiceView, V: PlaceVisitor> Walk<'w, 'a, C, V> {
             slots.now rows.now result state.old state.new }
     {
         if passes(self.side.query, rows, self.side.choices) {
-            self.visitor.visit(self.alloc, state, slots, rows)
+            self.visit_counted(slots, rows, state)
         } else {
             Ok(Onward::More)
+        }
+    }
+
+    // Visits the combination whose rows are all chosen, if it counts, which may be known.
+    #[inline(always)]
+    fn visit_last(
+        &self,
+        counts: bool,
+        slots: &[Option<usize>],
+        rows: &Combo<'_>,
+        state: &mut V::State,
+    ) -> Result<Onward, Memory>
+        requires can { CanGoOn (join_of C.choices self.now) [] slots.now rows.now }
+        requires counts { counts ≡ true → stays (C.choices self.now.side.now.choices.now)
+            self.now.side.now.query.now rows.now ≡ true }
+        ensures { HasGoneOn (join_of C.choices self.now) (V.Keeps self.now.visitor.now) slots.now
+            slots.now rows.now result state.old state.new }
+    {
+        if counts {
+            self.visit_counted(slots, rows, state)
+        } else {
+            self.visit_whole(slots, rows, state)
         }
     }
 
@@ -158,8 +205,8 @@ impl<'w, 'a, C: ChoiceView, V: PlaceVisitor> Walk<'w, 'a, C, V> {
 
     // Visits what counts and has the rows that are chosen, where the row at a place of a stage's
     // table is chosen too, in the place of the one before; none does where no row stands there. The
-    // whole condition is tested at the last stage, and so some parts of it at the others alone. It
-    // is a part of its caller, for speed.
+    // whole condition is tested at the last stage, unless it is known that the combination counts,
+    // and so some parts of it at the others alone. It is a part of its caller, for speed.
     #[inline(always)]
     #[cycle(walk)]
     fn walk_with(
@@ -167,11 +214,14 @@ impl<'w, 'a, C: ChoiceView, V: PlaceVisitor> Walk<'w, 'a, C, V> {
         stage: &Stage,
         rest: &[Stage],
         place: usize,
+        counts: bool,
         slots: &mut [Option<usize>],
         rows: &mut Combo<'a>,
         state: &mut V::State,
     ) -> Result<Onward, Memory>
         requires table { stage.now.table < length slots.old }
+        requires counts { counts ≡ true → Counts (C.choices self.now.side.now.choices.now)
+            self.now.side.now.query.now self.now.side.now.sets.now slots.old stage.now.table place }
         requires can { CanGoOn (join_of C.choices self.now) (stage.now ∷ rest.now) slots.old
             rows.old }
         ensures { HasWalked (join_of C.choices self.now) (V.Keeps self.now.visitor.now)
@@ -186,7 +236,7 @@ impl<'w, 'a, C: ChoiceView, V: PlaceVisitor> Walk<'w, 'a, C, V> {
         slots[stage.table] = Some(place);
         rows.set(stage.table, &kept.row, kept.born);
         if rest.is_empty() {
-            let whole = self.visit_whole(slots, rows, state)?;
+            let whole = self.visit_last(counts, slots, rows, state)?;
             return Ok(whole);
         }
         if !self.side.tests_hold(&stage.tests, slots, rows) {
@@ -197,13 +247,14 @@ impl<'w, 'a, C: ChoiceView, V: PlaceVisitor> Walk<'w, 'a, C, V> {
     }
 
     // Visits what counts and has the rows that are chosen, for each of the places of a stage that
-    // may follow them. The last of these rows stays chosen.
+    // may follow them, of which all may be known to count. The last of these rows stays chosen.
     #[cycle(walk)]
     fn walk_each(
         &self,
         stage: &Stage,
         rest: &[Stage],
         following: &Following<'_>,
+        count: bool,
         slots: &mut [Option<usize>],
         rows: &mut Combo<'a>,
         state: &mut V::State,
@@ -216,12 +267,15 @@ impl<'w, 'a, C: ChoiceView, V: PlaceVisitor> Walk<'w, 'a, C, V> {
             (following_places following.now) }
         requires order { self.now.in_order ≡ true
             → IsStrictlyIncreasing (following_places following.now) }
+        requires count { count ≡ true → AllCount (C.choices self.now.side.now.choices.now)
+            self.now.side.now.query.now self.now.side.now.sets.now slots.old stage.now.table
+            (following_places following.now) }
         ensures { HasWalked (join_of C.choices self.now) (V.Keeps self.now.visitor.now)
             stage.now.table slots.old slots.old slots.new rows.new result state.old state.new }
     {
         for index in 0..following.len() {
             let place = following.place(index);
-            let onward = self.walk_with(stage, rest, place, slots, rows, state)?;
+            let onward = self.walk_with(stage, rest, place, count, slots, rows, state)?;
             if let Onward::Enough = onward {
                 return Ok(Onward::Enough);
             }
@@ -249,8 +303,9 @@ impl<'w, 'a, C: ChoiceView, V: PlaceVisitor> Walk<'w, 'a, C, V> {
         if !is_open(slots, stage.table) {
             return self.walk(rest, slots, rows, state);
         }
-        let places = self.following(stage, slots)?;
-        let onward = self.walk_each(stage, rest, &places, slots, rows, state)?;
+        let places = self.following(stage, slots, rows)?;
+        let count = stage.suffices(slots);
+        let onward = self.walk_each(stage, rest, &places, count, slots, rows, state)?;
         self.leave(stage.table, slots, rows);
         Ok(onward)
     }

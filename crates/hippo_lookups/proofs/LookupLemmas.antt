@@ -4,7 +4,7 @@ use Rattle.std.proofs.lemmas.List.{get_or-drop, get_or-take, get_or-map, length-
 use Rattle.std.specs.Prelude.{slice_index_or}
 use Rattle.std.specs.List.{Contains}
 use Rattle.std.specs.List.Sorted.{IsPartitionedBy, IsPartitionPoint, IsNonDecreasingBy, IsSorted}
-use Rattle.std.specs.Ordering.{is_lt, is_le, ordering_index}
+use Rattle.std.specs.Ordering.{is_eq, is_lt, is_le, ordering_index}
 use Rattle.std.specs.declared.cmp.Ordering.{Ordering}
 use Rattle.std.specs.declared.cmp.Ordering.TheVariants.{Less, Equal, Greater}
 use Rattle.std.proofs.lemmas.Bool.{false≢true}
@@ -36,6 +36,26 @@ lower_within Greater Less le within = absurd (omega arith)
 lower_within Greater Equal le within = absurd (omega arith)
 lower_within Greater Greater le within = absurd (false≢true within)
 
+not-lower : (a b : Ordering) → ordering_index a ≤ ordering_index b → is_lt a ≡ false → is_lt b ≡ false
+not-lower Less b le above = absurd (false≢true (sym above))
+not-lower Equal Less le above = absurd (omega arith)
+not-lower Equal Equal le above = refl
+not-lower Equal Greater le above = refl
+not-lower Greater Less le above = absurd (omega arith)
+not-lower Greater Equal le above = refl
+not-lower Greater Greater le above = refl
+
+neither : (order : Ordering) → is_lt order ≡ false → is_le order ≡ true → order ≡ Equal
+neither Less above below = absurd (false≢true (sym above))
+neither Equal above below = refl
+neither Greater above below = absurd (false≢true below)
+
+-- what is equal by a test is equal
+pub equal-by_test : (order : Ordering) → is_eq order ≡ true → order ≡ Equal
+equal-by_test Less is = absurd (false≢true is)
+equal-by_test Equal is = refl
+equal-by_test Greater is = absurd (false≢true is)
+
 -- values in a column that rise, against one of them
 module _ (set : KeyedRows) (column : Place) (values : List Value) (places : List Place) (value : Value) (index : IsIndex set column values places) where
   abbrev order_of : Value → Ordering
@@ -44,7 +64,7 @@ module _ (set : KeyedRows) (column : Place) (values : List Value) (places : List
   abbrev value_of : Place → Value
   value_of place = value_at_place set column place
 
-  long : length values ≡ length places
+  pub long : length values ≡ length places
   long = ap length index.are ∙ length-map places value_of
 
   at : (k : ℕ) (d : Value) → k < length places → get_or values k d ≡ value_of (get_or places k 0)
@@ -91,6 +111,46 @@ module _ (set : KeyedRows) (column : Place) (values : List Value) (places : List
         let later = rising_values end k d after (omega (arith, inside, long)) in
         absurd (false≢true (sym above ∙ lower_within (order_of (get_or values end d)) (order_of (get_or values k d)) later (ap is_le (equal_at k d inside equal))))
   ]
+
+  -- from one that is not below on, none is
+  pub none-below : (start : ℕ) (d : Value) → start < length values → is_lt (order_of (get_or values start d)) ≡ false
+      → (k : ℕ) → start ≤ k → k < length values → k < length places → is_lt (order_of (value_of (get_or places k 0))) ≡ false
+  none-below start d inside above k after within there =
+      let own : order_of (get_or values k d) ≡ order_of (value_of (get_or places k 0)) = ap order_of (at k d there) in
+      let rises = rising_values start k d after within in
+      ap is_lt (sym own) ∙ not-lower (order_of (get_or values start d)) (order_of (get_or values k d)) rises above
+
+  -- where they end before they begin, there is none
+  pub none-among : (start end : ℕ) → end < start
+      → ((k : ℕ) → k < length places → order_of (value_of (get_or places k 0)) ≡ Equal → start ≤ k)
+      → ((k : ℕ) → k < length places → order_of (value_of (get_or places k 0)) ≡ Equal → k < end)
+      → (place : Place) → Contains places place → order_of (value_of place) ≡ Equal → ⊥
+  none-among start end turned from upto place has equal =
+      let same : order_of (value_of (get_or places has.0 0)) ≡ Equal = ap (λ (p : Place). order_of (value_of p)) (get_or_default places has.0 place 0 has.1 ∙ has.2) ∙ equal in
+      let after = from has.0 has.1 same in
+      let before = upto has.0 has.1 same in
+      omega (arith, turned, after, before)
+
+  -- how a value stands is how the one at its place does
+  pub stands-at : {X : Type 0} (test : Ordering → X) (k : ℕ) (d : Value) → k < length places → test (order_of (get_or values k d)) ≡ test (order_of (value_of (get_or places k 0)))
+  stands-at test k d there = ap (λ (own : Value). test (order_of own)) (at k d there)
+
+  -- what is neither below nor above is equal
+  pub between-equal : (k : ℕ) → is_lt (order_of (value_of (get_or places k 0))) ≡ false → is_le (order_of (value_of (get_or places k 0))) ≡ true → order_of (value_of (get_or places k 0)) ≡ Equal
+  between-equal k above below = neither (order_of (value_of (get_or places k 0))) above below
+
+  -- so each place between both is one of an equal value
+  pub all-between : (start end : ℕ) → end ≤ length places
+      → ((k : ℕ) → start ≤ k → k < end → k < length places → order_of (value_of (get_or places k 0)) ≡ Equal)
+      → (place : Place) → Contains (take (end - start) (drop start places)) place → order_of (value_of place) ≡ Equal
+  all-between start end within equal place has =
+      let k : ℕ = has.0 in
+      let some : length (take (end - start) (drop start places)) ≤ end - start = omega (arith, length-take (end - start) (drop start places)) in
+      let inside : k < end - start = omega (arith, has.1, some) in
+      let short : start + k < end = omega (arith, inside) in
+      let there : start + k < length places = omega (arith, short, within) in
+      let is : get_or places (start + k) place ≡ place = sym (get_or-take (end - start) (drop start places) k place inside ∙ get_or-drop start places k place) ∙ has.2 in
+      ap (λ (p : Place). order_of (value_of p)) (sym (get_or_default places (start + k) place 0 there ∙ is)) ∙ equal (start + k) (omega arith) short there
 
   pub before-all : (k : ℕ) → k < length places → k < length values
   before-all k inside = omega (arith, inside, long)

@@ -8,20 +8,18 @@ use Rattle.hippo_model.specs.declared.query.CondOf.{CondOf}
 use Rattle.hippo_model.specs.declared.query.Expr.{Expr}
 use Rattle.hippo_model.specs.declared.query.Guard.{Guard}
 use Rattle.hippo_model.specs.declared.query.Masked.{Masked}
-use Rattle.hippo_model.specs.declared.query.Ref.{Ref}
 use Rattle.hippo_model.specs.Terms.{Place}
 use Rattle.hippo_keyed_rows.specs.RowSets.{KeyedRows}
-use Rattle.hippo_model.specs.Conditions.{is_true, outer_parts, is_null}
+use Rattle.hippo_model.specs.Conditions.{is_true, outer_parts}
 use Rattle.hippo_model.specs.Masking.{Choices, masked_cell, is_shown_cell, is_guarded, masked_passes}
 use Rattle.hippo_model.specs.Forms.{value_in}
 use Rattle.hippo_model.specs.MaskedTruth.{masked_value}
-use Rattle.hippo_lookups.specs.Places.{rows_at, chosen_rows, Fits, slot_at, in_range, stays, stands}
+use Rattle.hippo_lookups.specs.Places.{rows_at, chosen_rows, Fits, in_range, stays, stands}
 use Rattle.hippo_lookups.specs.Known.{knows, knows_expr}
-use Rattle.hippo_lookups.specs.Lookups.{value_at_place}
-use Rattle.hippo_lookups.specs.Ties.{holds, AreEqual}
+use Rattle.hippo_lookups.specs.Ties.{holds}
 use Rattle.hippo_lookups.proofs.KnownLemmas.{truth-known}
 use Rattle.hippo_model.proofs.HeldParts.{parts-hold}
-use Rattle.hippo_lookups.proofs.SlotLemmas.{cell-known, raw-at, Fits-at, length-in_range}
+use Rattle.hippo_lookups.proofs.SlotLemmas.{cell-known, length-in_range}
 
 -- a member of a list passes a test that all pass
 pub one-of-all : {X : Type 0} (test : X → Bool) (xs : List X) (k : ℕ) (x : X) → slice_get xs k ≡ Some x → list_all test xs ≡ true → test x ≡ true
@@ -63,15 +61,6 @@ module _ (choices : Choices) (query : Masked) (sets : List KeyedRows) (slots : L
   guard-holds k guard at = or_of (knows_expr slots guard.expr) (is_shown_cell (masked_cell choices (rows_at sets slots) guard.expr)) (λ known.
       ap is_shown_cell (cell-known choices sets slots places fits guard.expr known)
       ∙ one-of-all (λ (g : Guard). is_shown_cell (masked_cell choices (chosen_rows sets places) g.expr)) query.guards k guard at (both choices query sets places counts).0)
-
-  -- the value of a tie's column
-  pub value-tied : (table : Place) (column : Place) (other : Ref) (set others : KeyedRows) (place fixed : Place) → AreEqual (chosen_rows sets places) (record { table = table; column = column }) other
-      → slice_get sets table ≡ Some set → slice_get places table ≡ Some place → slice_get sets other.table ≡ Some others → slot_at slots other.table ≡ Some fixed
-      → (value_at_place set column place ≡ value_at_place others other.column fixed) × (is_null (value_at_place others other.column fixed) ≡ false)
-  value-tied table column other set others place fixed equal at here at_other there =
-      let own = raw-at sets places (record { table = table; column = column }) set place at here in
-      let another = raw-at sets places other others fixed at_other (Fits-at slots places other.table fixed fits there) in
-      (sym own ∙ equal.0 ∙ another, sym (ap is_null another) ∙ equal.1)
 
 -- places in range are below the number of their table's rows
 pub below-rows : (sets : List KeyedRows) (places : List Place) (table : Place) (set : KeyedRows) (place : Place) → in_range sets places ≡ true → slice_get sets table ≡ Some set → slice_get places table ≡ Some place → place < length set.rows

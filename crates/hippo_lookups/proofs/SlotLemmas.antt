@@ -91,7 +91,7 @@ raw-at sets places column set place e at = ap (λ o. option_map_or (λ (kept : B
 
 -- an expression that is known stands for the same cell in each combination that fits
 module _ (choices : Choices) (sets : List KeyedRows) (slots : List (Option Place)) (places : List Place) (fits : Fits slots places) where
-  raw_same : (column : Ref) → is_chosen slots column.table ≡ true → raw_value (rows_at sets slots) column ≡ raw_value (chosen_rows sets places) column
+  pub raw_same : (column : Ref) → is_chosen slots column.table ≡ true → raw_value (rows_at sets slots) column ≡ raw_value (chosen_rows sets places) column
   raw_same column known = ap (λ o. option_map_or (λ (kept : BornRow). cell_at kept.row column.column) o NullValue) (row-chosen_rows sets slots places column.table fits known)
 
   younger_same : (column : Ref) → is_chosen slots column.table ≡ true → is_younger (rows_at sets slots) column ≡ is_younger (chosen_rows sets places) column

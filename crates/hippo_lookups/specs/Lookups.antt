@@ -1,6 +1,8 @@
 -- Rows of a table in the order of one of its columns.
-use Rattle.std.specs.Prelude.{◌≡◌, ℕ, ◌<◌, List, get_or, length, map}
+use Rattle.std.specs.Prelude.{◌≡◌, Bool, true, false, ℕ, ◌<◌, ◌≤◌, List, get_or, length, map}
 use Rattle.std.specs.List.Sorted.{IsSortedByKey}
+use Rattle.std.specs.Ordering.{is_eq, is_lt, is_le}
+use Rattle.std.specs.declared.cmp.Ordering.{Ordering}
 use Rattle.std.specs.declared.cmp.Ordering.TheVariants.{Equal}
 use Rattle.hippo_values.specs.declared.values.Value.{Value}
 use Rattle.hippo_values.specs.Order.{value_cmp}
@@ -24,3 +26,20 @@ HoldsOfEqual values value holds =
     (set : KeyedRows) (column : Place) (places : List Place) → IsIndex set column values places
     → (k : ℕ) → k < length places
     → value_cmp (value_at_place set column (get_or places k 0)) value ≡ Equal → holds k
+
+-- a fact of how the values at some places of an index, from one up to another, stand to a value
+abbrev pub StandBetween : (Ordering → Bool) → Bool → List Value → Value → ℕ → ℕ → Type 0
+StandBetween test truth values value start end =
+    (set : KeyedRows) (column : Place) (places : List Place) → IsIndex set column values places
+    → (k : ℕ) → start ≤ k → k < end → k < length places
+    → test (value_cmp (value_at_place set column (get_or places k 0)) value) ≡ truth
+
+-- from a place on, no value is below another one; up to a place, none is above it; all are equal
+abbrev pub NoneBelow : List Value → Value → ℕ → Type 0
+NoneBelow values value start = StandBetween is_lt false values value start (length values)
+
+abbrev pub NoneAbove : List Value → Value → ℕ → ℕ → Type 0
+NoneAbove values value start end = StandBetween is_le true values value start end
+
+abbrev pub AllEqual : List Value → Value → ℕ → ℕ → Type 0
+AllEqual values value start end = StandBetween is_eq true values value start end

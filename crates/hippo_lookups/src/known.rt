@@ -16,8 +16,8 @@ pub fn slot_at(slots: &[Option<usize>], table: usize) -> Option<usize>
     }
 }
 
-// Whether a table's row is chosen.
-pub(crate) fn is_chosen(slots: &[Option<usize>], table: usize) -> bool
+/// Whether a table's row is chosen.
+pub fn is_chosen(slots: &[Option<usize>], table: usize) -> bool
     ensures { result ≡ is_chosen slots.now table }
 {
     slot_at(slots, table).is_some()

@@ -6,7 +6,7 @@ mod lists;
 mod lookups;
 mod ties;
 
-pub use known::{is_open, knows, knows_expr, slot_at};
+pub use known::{is_chosen, is_open, knows, knows_expr, slot_at};
 pub use lists::{count_listed, find_list, places_listed};
-pub use lookups::{Index, index_by_column, is_null, known_value, value_at, with_value};
+pub use lookups::{Index, index_by_column, is_null, value_at, with_value};
 pub use ties::{Tie, column_of, find_tie, outer_parts, shows_column};

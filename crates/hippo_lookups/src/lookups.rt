@@ -1,15 +1,15 @@
 //! Rows of a table in the order of one of its columns.
-ghost use Rattle.std.specs.Prelude.{◌≡◌, ◌<◌, ◌≤◌, true, IfOk, MatchOption, map, option_copied, unwrap_or};
+ghost use Rattle.std.specs.Prelude.{◌≡◌, ◌+◌, ◌<◌, ◌≤◌, true, false, length, IfOk, map, option_copied, unwrap_or};
 ghost use Rattle.std.specs.List.{Contains};
 ghost use Rattle.std.specs.List.Sorted.{IsPermutation, IsSorted};
-ghost use Rattle.std.specs.Ordering.{is_lt, is_le};
+ghost use Rattle.std.specs.Ordering.{is_eq, is_lt, is_le};
 ghost use Rattle.std.specs.declared.cmp.Ordering.TheVariants.{Equal};
 ghost use Rattle.hippo_values.specs.declared.values.Value.TheVariants.{Null};
 ghost use Rattle.hippo_values.specs.Order.{value_cmp};
 ghost use Rattle.hippo_model.specs.Conditions.{is_null};
 ghost use Rattle.hippo_model.specs.Terms.{Place};
 ghost use Rattle.hippo_keyed_rows.specs.RowSets.{KeyedRows};
-ghost use Rattle.hippo_lookups.specs.Lookups.{value_at_place, HoldsOfEqual, IsByColumn, IsIndex};
+ghost use Rattle.hippo_lookups.specs.Lookups.{value_at_place, AllEqual, HoldsOfEqual, IsByColumn, IsIndex, NoneAbove, NoneBelow};
 
 use hippo_rows::RowSet;
 use hippo_values::{Duplicate, Memory, Value};
@@ -43,16 +43,6 @@ pub fn is_null(value: &Value) -> bool
     matches!(value, Value::Null)
 }
 
-/// The value that a column has at a place, if it is there and not null.
-#[inline(always)]
-pub fn known_value<'a>(set: &'a RowSet, column: usize, place: usize) -> Option<&'a Value>
-    ensures { MatchOption result (is_null (value_at_place set.now column place) ≡ true)
-        (λ value. value.now ≡ value_at_place set.now column place) }
-{
-    let value = value_at(set, column, place)?;
-    if is_null(value) { None } else { Some(value) }
-}
-
 fn value_order(set: &RowSet, column: usize, place: usize, value: &Value) -> Ordering
     ensures { result ≡ value_cmp (value_at_place set.now column place) value.now }
 {
@@ -76,10 +66,12 @@ fn row_order(set: &RowSet, column: usize, place: usize, other: usize) -> Orderin
 
 // Whether two values are the same.
 #[inline(always)]
-fn is_same(own: &Value, value: &Value) -> bool {
+fn is_same(own: &Value, value: &Value) -> bool
+    ensures { result ≡ is_eq (value_cmp own.now value.now) }
+{
     match (own, value) {
         (Value::Int(own), Value::Int(value)) => *own == *value,
-        _ => own == value,
+        _ => own.cmp(value).is_eq(),
     }
 }
 
@@ -190,14 +182,16 @@ pub fn index_by_column(
 
 // Where those of some values begin, by their order, that are not below one; it is found by halves.
 fn start_with(values: &[Value], value: &Value) -> usize
-    ensures { HoldsOfEqual values.now value.now (λ k. result ≤ k) }
+    ensures from { HoldsOfEqual values.now value.now (λ k. result ≤ k) }
+    ensures above { NoneBelow values.now value.now result }
 {
     values.partition_point(|own| is_below(own, value))
 }
 
 // Whether the value at a place is there and below another one.
 fn is_below_at(values: &[Value], place: usize, value: &Value) -> bool
-    ensures { result ≡ true → HoldsOfEqual values.now value.now (λ k. place < k) }
+    ensures below { result ≡ true → HoldsOfEqual values.now value.now (λ k. place < k) }
+    ensures above { result ≡ false → NoneBelow values.now value.now place }
 {
     if place < values.len() {
         is_below(&values[place], value)
@@ -226,18 +220,23 @@ fn begins_at(values: &[Value], place: usize, value: &Value) -> bool
 
 // Where they begin, which is tried near a place first, since look-ups often rise.
 fn start_near(values: &[Value], near: usize, value: &Value) -> usize
-    ensures { HoldsOfEqual values.now value.now (λ k. result ≤ k) }
+    ensures from { HoldsOfEqual values.now value.now (λ k. result ≤ k) }
+    ensures above { NoneBelow values.now value.now result }
 {
-    if begins_at(values, near, value) && !is_below_at(values, near, value) {
-        near
-    } else {
-        start_with(values, value)
+    if !begins_at(values, near, value) {
+        return start_with(values, value);
     }
+    if is_below_at(values, near, value) {
+        return start_with(values, value);
+    }
+    near
 }
 
 // Where those from a place on end that are not above it.
 fn end_with(values: &[Value], start: usize, value: &Value) -> usize
-    ensures { HoldsOfEqual values.now value.now (λ k. k < result) }
+    ensures upto { HoldsOfEqual values.now value.now (λ k. k < result) }
+    ensures within { NoneAbove values.now value.now start result }
+    ensures range { result ≤ length values.now }
 {
     for end in start..values.len() {
         if !is_within(&values[end], value) {
@@ -249,26 +248,33 @@ fn end_with(values: &[Value], start: usize, value: &Value) -> usize
 
 // Whether a value is equal to the one at a place alone, of some that rise.
 fn is_only_at(values: &[Value], place: usize, value: &Value) -> bool
-    ensures { result ≡ true → HoldsOfEqual values.now value.now (λ k. k ≡ place) }
+    ensures only { result ≡ true → HoldsOfEqual values.now value.now (λ k. k ≡ place) }
+    ensures same { result ≡ true → AllEqual values.now value.now place (place + 1) }
 {
-    if place >= values.len() || !is_same(&values[place], value) {
+    if place >= values.len() {
+        return false;
+    }
+    if !is_same(&values[place], value) {
         return false;
     }
     is_above_at(values, place + 1, value) && begins_at(values, place, value)
 }
 
-/// The places whose row has a value, of places that stand by the values in a column, and these
-/// values; where the last search ended is tried first, and marked anew.
+/// The places whose row has a value, and no others, of places that stand by the values in a column,
+/// and these values; where the last search ended is tried first, and marked anew.
 pub fn with_value<'a>(
     places: &'a [usize],
     values: &[Value],
     value: &Value,
     near: &Cell<usize>,
 ) -> &'a [usize]
-    ensures { (set : KeyedRows) (column : Place) → IsIndex set column values.now places.now
+    ensures all { (set : KeyedRows) (column : Place) → IsIndex set column values.now places.now
         → (place : Place) → Contains places.now place
         → value_cmp (value_at_place set column place) value.now ≡ Equal
         → Contains result.now place }
+    ensures none_else { (set : KeyedRows) (column : Place)
+        → IsIndex set column values.now places.now → (place : Place) → Contains result.now place
+        → value_cmp (value_at_place set column place) value.now ≡ Equal }
 {
     let last = near.get();
     if last < places.len() && is_only_at(values, last, value) {
@@ -278,9 +284,11 @@ pub fn with_value<'a>(
     let start = start_near(values, last, value);
     let end = end_with(values, start, value);
     near.set(end);
-    if start <= end && end <= places.len() {
-        &places[start..end]
-    } else {
-        places
+    if places.len() < end {
+        return &places[..0];
     }
+    if end < start {
+        return &places[..0];
+    }
+    &places[start..end]
 }

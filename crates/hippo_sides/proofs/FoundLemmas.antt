@@ -1,6 +1,7 @@
 -- What is found in ascending order is what counts of the product.
-use Rattle.std.proofs.Common.{◌≡◌, ◌≤◌, suc, Bool, true, false, ◌&&◌, ◌||◌, cond, List, [], ◌∷◌, ◌++◌, map, length, refl, sym, ap, ◌∙◌, inl, inr, ◌⊎◌}
+use Rattle.std.proofs.Common.{◌≡◌, ℕ, zero, ◌+◌, ◌-◌, ◌≤◌, suc, Bool, true, false, ◌&&◌, ◌||◌, cond, List, [], ◌∷◌, ◌++◌, map, length, refl, sym, ap, ◌∙◌, inl, inr, ◌⊎◌, arith}
 use Rattle.std.specs.Prelude.{filter}
+use Rattle.std.specs.List.{range_with_len}
 use Rattle.std.specs.List.Sorted.{IsStrictlySortedBy}
 use Rattle.std.specs.Ordering.{is_eq, nat_cmp, ordering_reverse}
 use Rattle.std.specs.declared.cmp.Ordering.{Ordering}
@@ -154,3 +155,14 @@ module _ (choices : Choices) (query : Masked) (sets : List KeyedRows) where
   length-found found rising sound =
       let within : length found ≤ length counting = length-rising found counting rising (λ c has. has-counting c ∙ sound c has) in
       rw (answer-counting, length-map (λ c. masked_items choices query (chosen_rows sets c)) counting) within
+
+range_from : (a n : ℕ) → range_with_len a (suc n) ≡ range_with_len a n ++ (a + n) ∷ []
+range_from a zero = let e : a ≡ a + 0 = omega arith in ap (λ k. k ∷ []) e
+range_from a (suc n) = let e : (a + 1) + n ≡ a + suc n = omega arith in ap (λ l. a ∷ l) (range_from (a + 1) n ∙ ap (λ k. range_with_len (a + 1) n ++ k ∷ []) e)
+
+-- a run of places with the next one
+pub range-next : (start place : ℕ) → start ≤ place → range_with_len start (place - start) ++ place ∷ [] ≡ range_with_len start (place + 1 - start)
+range-next start place after =
+    let count : place + 1 - start ≡ suc (place - start) = omega (arith, after) in
+    let last : start + (place - start) ≡ place = omega (arith, after) in
+    ap (λ (p : ℕ). range_with_len start (place - start) ++ p ∷ []) (sym last) ∙ sym (range_from start (place - start)) ∙ ap (range_with_len start) (sym count)

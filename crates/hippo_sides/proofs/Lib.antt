@@ -5,3 +5,4 @@ pub mod RangeLemmas
 pub mod ReachLemmas
 pub mod SeekingLemmas
 pub mod FindingLemmas
+pub mod SufficeLemmas

@@ -19,14 +19,14 @@ use Rattle.hippo_model.specs.declared.query.Masked.{Masked}
 use Rattle.hippo_model.specs.Terms.{Place}
 use Rattle.hippo_keyed_rows.specs.RowSets.{KeyedRows}
 use Rattle.hippo_model.specs.Conditions.{outer_parts}
-use Rattle.hippo_model.specs.Masking.{Choices}
+use Rattle.hippo_model.specs.Masking.{Choices, raw_value}
 use Rattle.hippo_lookups.specs.declared.ties.Tie.{Tie}
-use Rattle.hippo_lookups.specs.Places.{chosen_rows, Fits, in_range, slot_at, stands}
+use Rattle.hippo_lookups.specs.Places.{chosen_rows, Fits, in_range, stands}
 use Rattle.hippo_lookups.specs.Ties.{holds, AreEqual, IsTieOf}
 use Rattle.hippo_sides.specs.Stages.{IsStage}
 use Rattle.hippo_lookups.proofs.PlaceSteps.{below_or_at, get_or_default}
-use Rattle.hippo_lookups.proofs.PruneLemmas.{all-hold, value-tied}
-use Rattle.hippo_lookups.proofs.SlotLemmas.{Fits-open, Fits-set}
+use Rattle.hippo_lookups.proofs.PruneLemmas.{all-hold}
+use Rattle.hippo_lookups.proofs.SlotLemmas.{Fits-open, Fits-set, raw-at}
 
 kept : (test : Bool) (xs : List Place) (n p : Place) → Contains xs p → Contains (if test then xs ++ n ∷ [] else xs) p
 kept true xs n p has = Contains-append_left xs (n ∷ []) p has
@@ -80,22 +80,17 @@ set-at (set ∷ sets) (first ∷ places) zero place inside at = (set, refl)
 set-at (set ∷ sets) (first ∷ places) (suc table) place inside at = set-at sets places table place (and_parts (nat_lt first (length set.rows)) (in_range sets places) inside).1 at
 
 -- a place whose row has the value that a tie asks for
-module _ (choices : Choices) (query : Masked) (sets : List KeyedRows) (slots : List (Option Place)) (places : List Place) (fits : Fits slots places) (counts : stands choices query sets places ≡ true) where
-  pub order-tied : (stage : Stage) (tie : Tie) (set others : KeyedRows) (place fixed : Place) (value : Value) → IsStage choices query sets stage → stage.tie ≡ Some tie
-      → slice_get sets stage.table ≡ Some set → slice_get places stage.table ≡ Some place → slice_get sets tie.other.table ≡ Some others → Some fixed ≡ slot_at slots tie.other.table
-      → value ≡ value_at_place others tie.other.column fixed → value_cmp (value_at_place set tie.column place) value ≡ Equal
-  order-tied stage tie set others place fixed value is_stage is at here at_others there is_value =
-      let equal = of-some (λ t. (places : List Place) → stands choices query sets places ≡ true → AreEqual (chosen_rows sets places) (record { table = stage.table; column = t.column }) t.other) stage.tie tie is_stage.tied is places counts in
-      let same = value-tied choices query sets slots places fits counts stage.table tie.column tie.other set others place fixed equal at here at_others (sym there) in
-      ap (λ (v : Value). value_cmp v value) (same.0 ∙ sym is_value) ∙ tied_itself value_total value
+module _ (choices : Choices) (query : Masked) (sets : List KeyedRows) (places : List Place) (counts : stands choices query sets places ≡ true) (stage : Stage) (tie : Tie) (value : Value) (is_stage : IsStage choices query sets stage) (is : stage.tie ≡ Some tie) (same : raw_value (chosen_rows sets places) tie.other ≡ value) where
+  equal : AreEqual (chosen_rows sets places) (record { table = stage.table; column = tie.column }) tie.other
+  equal = of-some (λ t. (places : List Place) → stands choices query sets places ≡ true → AreEqual (chosen_rows sets places) (record { table = stage.table; column = t.column }) t.other) stage.tie tie is_stage.tied is places counts
 
-  pub not-null : (stage : Stage) (tie : Tie) (set others : KeyedRows) (place fixed : Place) → IsStage choices query sets stage → stage.tie ≡ Some tie
-      → slice_get sets stage.table ≡ Some set → slice_get places stage.table ≡ Some place → slice_get sets tie.other.table ≡ Some others → Some fixed ≡ slot_at slots tie.other.table
-      → ¬ (is_null (value_at_place others tie.other.column fixed) ≡ true)
-  not-null stage tie set others place fixed is_stage is at here at_others there null =
-      let equal = of-some (λ t. (places : List Place) → stands choices query sets places ≡ true → AreEqual (chosen_rows sets places) (record { table = stage.table; column = t.column }) t.other) stage.tie tie is_stage.tied is places counts in
-      let same = value-tied choices query sets slots places fits counts stage.table tie.column tie.other set others place fixed equal at here at_others (sym there) in
-      false≢true (sym same.1 ∙ null)
+  pub order-tied : (set : KeyedRows) (place : Place) → slice_get sets stage.table ≡ Some set → slice_get places stage.table ≡ Some place → value_cmp (value_at_place set tie.column place) value ≡ Equal
+  order-tied set place at here =
+      let own : raw_value (chosen_rows sets places) (record { table = stage.table; column = tie.column }) ≡ value_at_place set tie.column place = raw-at sets places (record { table = stage.table; column = tie.column }) set place at here in
+      ap (λ (v : Value). value_cmp v value) (sym own ∙ equal.0 ∙ same) ∙ tied_itself value_total value
+
+  pub not-null : is_null value ≡ false
+  not-null = sym (ap is_null same) ∙ equal.1
 
 pub length-unchosen : (slots : List (Option Place)) (n m : ℕ) → slots ≡ replicate n None → n ≡ m → length slots ≡ m
 length-unchosen slots n m none same = ap length none ∙ long n ∙ same

@@ -4,3 +4,4 @@ pub mod Stages
 pub mod Finding
 pub mod Walking
 pub mod Visiting
+pub mod Guards

@@ -1,13 +1,16 @@
 //! The places of a stage that may follow the rows that are chosen.
 ghost use Rattle.std.specs.Prelude.{◌≡◌, ◌<◌, ◌+◌, ◌-◌, true, IfOk, length, get_or, slice_get, unwrap_or};
+ghost use Rattle.std.specs.List.{range_with_len};
 ghost use Rattle.std.specs.List.Sorted.{IsStrictlyIncreasing};
-ghost use Rattle.hippo_sides.specs.Stages.{ReachesFrom};
+ghost use Rattle.hippo_lookups.specs.Places.{rows_at};
+ghost use Rattle.hippo_lookups.specs.Known.{is_open};
+ghost use Rattle.hippo_sides.specs.Stages.{AllCount, ReachesFrom, suffices};
 ghost use Rattle.hippo_sides.specs.Walking.{following_places, IsWalkable};
 
 use crate::keys::Span;
 use crate::sides::Side;
 use crate::stages::Stage;
-use hippo_model::ChoiceView;
+use hippo_model::{ChoiceView, Combo};
 use hippo_values::Memory;
 use std::alloc::Global;
 
@@ -85,38 +88,56 @@ impl<'s> Following<'s> {
     }
 }
 
-/// The places, one after the other.
-pub fn listed(alloc: Global, following: &Following<'_>) -> Result<Vec<usize>, Memory>
-    ensures { IfOk result (λ places. places.items ≡ following_places following.now) }
+// The places of a span, one after the other.
+fn listed_span(alloc: Global, span: Span) -> Result<Vec<usize>, Memory>
+    ensures { IfOk result (λ places. places.items
+        ≡ range_with_len span.start (span.end - span.start)) }
 {
-    let mut places = Vec::with_capacity(alloc, following.len())?;
-    for index in 0..following.len() {
-        places.push(following.place(index))?;
+    let mut places = Vec::with_capacity(alloc, span.len())?;
+    for place in span.start..span.end {
+        places.push(place)?;
     }
     Ok(places)
 }
 
+/// The places, one after the other.
+pub fn listed(alloc: Global, following: &Following<'_>) -> Result<Vec<usize>, Memory>
+    ensures { IfOk result (λ places. places.items ≡ following_places following.now) }
+{
+    match following {
+        Following::Listed(places) => Ok(Vec::from_slice(alloc, places)?),
+        Following::Sought(span) => listed_span(alloc, *span),
+        Following::Found(places) => Ok(Vec::from_slice(alloc, places.as_slice())?),
+    }
+}
+
 impl<'a, C: ChoiceView> Side<'a, C> {
-    /// The places of a stage that may follow the rows that are chosen. A look-up takes time that
-    /// grows with the logarithm of the table and with what it finds; by key it takes no memory but
-    /// for the key.
+    /// The places of a stage that may follow the rows that are chosen, which are at hand. A look-up
+    /// takes time that grows with the logarithm of the table and with what it finds; by key it
+    /// takes no memory but for the key.
     pub fn following<'s>(
         &self,
         alloc: Global,
         stage: &'s Stage,
         slots: &[Option<usize>],
+        rows: &Combo<'_>,
     ) -> Result<Following<'s>, Memory>
         requires table { stage.now.table < length self.now.sets.now }
         requires stage { IsWalkable (C.choices self.now.choices.now) self.now.query.now
             self.now.sets.now stage.now }
-        ensures { IfOk result (λ following. ReachesFrom
+        requires rows { rows.now ≡ rows_at self.now.sets.now slots.now }
+        ensures reaches { IfOk result (λ following. ReachesFrom
             (C.choices self.now.choices.now) self.now.query.now self.now.sets.now
+            slots.now stage.now.table (following_places following)) }
+        ensures count { IfOk result (λ following. is_open slots.now stage.now.table ≡ true
+            → suffices stage.now slots.now ≡ true
+            → AllCount (C.choices self.now.choices.now) self.now.query.now self.now.sets.now
             slots.now stage.now.table (following_places following)) }
     {
         if stage.is_sought {
             self.candidates(alloc, stage.table, slots, 1)
         } else {
-            Ok(Following::Listed(self.places_of(stage, slots)))
+            Ok(Following::Listed(self.places_behind(stage, slots, rows)))
         }
     }
 }

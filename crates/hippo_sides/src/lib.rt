@@ -8,6 +8,7 @@ mod reaching;
 mod seeking;
 mod sides;
 mod stages;
+mod sufficing;
 
 pub use following::{Following, listed};
 pub use keys::Span;

@@ -1,19 +1,22 @@
 //! Which rows of a table may follow those that are chosen.
 ghost use Rattle.std.specs.Prelude.{◌≡◌, ◌<◌, true, false, None, Some, [], ◌∷◌, ◌++◌, if◌then◌else◌, OnOk, IfOk, length, replicate};
 ghost use Rattle.std.specs.List.{All};
-ghost use Rattle.hippo_lookups.specs.Places.{chosen_rows as chosen};
+ghost use Rattle.hippo_lookups.specs.Places.{chosen_rows as chosen, rows_at};
 ghost use Rattle.hippo_sides.specs.Walking.{following_places, IsWalkable, AreWalkable};
-ghost use Rattle.hippo_sides.specs.Stages.{Reaches, ReachesFrom, IsStage, AreStages};
+ghost use Rattle.hippo_lookups.specs.Known.{is_open};
+ghost use Rattle.hippo_sides.specs.Stages.{AllCount, HaveValue, Reaches, ReachesFrom, ReachesWith, IsStage, AreStages, suffices};
 
 use crate::following::{Following, listed};
 use crate::sides::Side;
 use crate::stages::Stage;
+use crate::sufficing::can_fail;
+use hippo_eval::raw_value;
 use hippo_lookups::{
-    Tie, find_tie, index_by_column, known_value, knows, knows_expr, outer_parts, slot_at,
-    with_value,
+    Tie, find_tie, index_by_column, is_chosen, is_null, knows, knows_expr, outer_parts, slot_at,
+    value_at, with_value,
 };
-use hippo_model::{ChoiceView, Expr, Ref};
-use hippo_values::Memory;
+use hippo_model::{ChoiceView, Combo, Expr, Ref};
+use hippo_values::{Memory, Value};
 use std::alloc::Global;
 use std::cell::Cell;
 
@@ -27,7 +30,7 @@ pub fn open_slots(alloc: Global, tables: usize) -> Result<Vec<Option<usize>>, Me
     Ok(vec![in alloc; None; tables]?)
 }
 
-/// Adds a place at the end where a test holds.
+//// Adds a place at the end where a test holds.
 pub fn push_if(test: bool, places: &mut Vec<usize>, place: usize) -> Result<(), Memory>
     ensures { OnOk result (places.new.items ≡ if test then places.old.items ++ place ∷ []
         else places.old.items) }
@@ -45,11 +48,6 @@ fn after_stage(before: usize, stage: &Stage) -> usize {
     } else {
         before.saturating_mul(stage.places.len())
     }
-}
-
-// Whether a guard may not hold: it does where its column is kept as it is.
-fn can_fail(expr: &Expr) -> bool {
-    !matches!(expr, Expr::Keep(_) | Expr::Literal(_))
 }
 
 impl<'a, C: ChoiceView> Side<'a, C> {
@@ -190,6 +188,7 @@ impl<'a, C: ChoiceView> Side<'a, C> {
                 is_sought: false,
                 places,
                 values: Vec::new(alloc),
+                suffices: self.suffices(table, &None),
                 near: Cell::new(0),
                 tests,
             });
@@ -201,6 +200,7 @@ impl<'a, C: ChoiceView> Side<'a, C> {
             is_sought: false,
             places: index.places,
             values: index.values,
+            suffices: self.suffices(table, &Some(tie)),
             near: Cell::new(0),
             tests,
         })
@@ -232,11 +232,33 @@ impl<'a, C: ChoiceView> Side<'a, C> {
                 is_sought,
                 places: Vec::new(alloc),
                 values: Vec::new(alloc),
+                suffices: false,
                 near: Cell::new(0),
                 tests,
             })
         } else {
             self.listed_stage(alloc, table, slots, tests)
+        }
+    }
+
+    // The places of a stage whose rows have a value in the column of its tie; none where the value
+    // is null.
+    #[inline(always)]
+    fn places_with<'s>(&self, stage: &'s Stage, tie: &Tie, value: &Value) -> &'s [usize]
+        requires stage { IsStage (C.choices self.now.choices.now) self.now.query.now
+            self.now.sets.now stage.now }
+        requires tie { stage.now.tie ≡ Some tie.now }
+        ensures reaches { ReachesWith (C.choices self.now.choices.now) self.now.query.now
+            self.now.sets.now
+            tie.now.other value.now stage.now.table result.now }
+        ensures equal { HaveValue self.now.sets.now stage.now.table tie.now.column value.now
+            result.now }
+    {
+        let places = stage.places.as_slice();
+        if is_null(value) {
+            &places[..0]
+        } else {
+            with_value(places, stage.values.as_slice(), value, &stage.near)
         }
     }
 
@@ -248,19 +270,15 @@ impl<'a, C: ChoiceView> Side<'a, C> {
         ensures { ReachesFrom (C.choices self.now.choices.now) self.now.query.now self.now.sets.now
             slots.now stage.now.table result.now }
     {
-        let places = stage.places.as_slice();
-        let values = stage.values.as_slice();
         let Some(place) = slot_at(slots, tie.other.table) else {
-            return places;
+            return stage.places.as_slice();
         };
         if tie.other.table >= self.sets.len() {
-            return places;
+            return stage.places.as_slice();
         }
         let others = self.sets.get(tie.other.table);
-        match known_value(others, tie.other.column, place) {
-            None => &places[..0],
-            Some(value) => with_value(places, values, value, &stage.near),
-        }
+        let value = value_at(others, tie.other.column, place).unwrap_or(&Value::Null);
+        self.places_with(stage, tie, value)
     }
 
     /// The places of a stage that may follow the rows that are chosen.
@@ -273,6 +291,60 @@ impl<'a, C: ChoiceView> Side<'a, C> {
         match &stage.tie {
             None => stage.places.as_slice(),
             Some(tie) => self.tied_places(stage, tie, slots),
+        }
+    }
+
+    // As `tied_places`, where the rows that are chosen are at hand.
+    #[inline(always)]
+    fn places_tied_to<'s>(
+        &self,
+        stage: &'s Stage,
+        tie: &Tie,
+        slots: &[Option<usize>],
+        rows: &Combo<'_>,
+    ) -> &'s [usize]
+        requires stage { IsStage (C.choices self.now.choices.now) self.now.query.now
+            self.now.sets.now stage.now }
+        requires tie { stage.now.tie ≡ Some tie.now }
+        requires rows { rows.now ≡ rows_at self.now.sets.now slots.now }
+        ensures reaches { ReachesFrom (C.choices self.now.choices.now) self.now.query.now
+            self.now.sets.now
+            slots.now stage.now.table result.now }
+        ensures count { is_open slots.now stage.now.table ≡ true
+            → suffices stage.now slots.now ≡ true
+            → AllCount (C.choices self.now.choices.now) self.now.query.now self.now.sets.now
+            slots.now stage.now.table result.now }
+    {
+        if is_chosen(slots, tie.other.table) {
+            let value = raw_value(rows, &tie.other).unwrap_or(&Value::Null);
+            self.places_with(stage, tie, value)
+        } else {
+            stage.places.as_slice()
+        }
+    }
+
+    // As `places_of`, where the rows that are chosen are at hand.
+    #[inline(always)]
+    pub(crate) fn places_behind<'s>(
+        &self,
+        stage: &'s Stage,
+        slots: &[Option<usize>],
+        rows: &Combo<'_>,
+    ) -> &'s [usize]
+        requires stage { IsStage (C.choices self.now.choices.now) self.now.query.now
+            self.now.sets.now stage.now }
+        requires rows { rows.now ≡ rows_at self.now.sets.now slots.now }
+        ensures reaches { ReachesFrom (C.choices self.now.choices.now) self.now.query.now
+            self.now.sets.now
+            slots.now stage.now.table result.now }
+        ensures count { is_open slots.now stage.now.table ≡ true
+            → suffices stage.now slots.now ≡ true
+            → AllCount (C.choices self.now.choices.now) self.now.query.now self.now.sets.now
+            slots.now stage.now.table result.now }
+    {
+        match &stage.tie {
+            None => stage.places.as_slice(),
+            Some(tie) => self.places_tied_to(stage, tie, slots, rows),
         }
     }
 

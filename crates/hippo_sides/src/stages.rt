@@ -17,6 +17,9 @@ pub struct Stage {
     pub places: Vec<usize>,
     /// The values of the tie's column at these places; none where there is no tie.
     pub values: Vec<Value>,
+    /// Whether a combination counts wherever the tie ties its rows, or each does where there is no
+    /// tie.
+    pub suffices: bool,
     /// Where the last search among these values ended, which the next one tries first.
     pub near: Cell<usize>,
     /// The parts of the condition that are tested here.

@@ -4,13 +4,13 @@ use Rattle.std.specs.Prelude.{slice_set}
 use Rattle.std.proofs.lemmas.Bool.{false≢true}
 use Rattle.std.proofs.lemmas.List.{set-set}
 use Rattle.hippo_model.specs.Terms.{Place}
-use Rattle.hippo_lookups.specs.Places.{are_there}
+use Rattle.hippo_lookups.specs.Places.{are_there, stays}
 use Rattle.hippo_lookups.proofs.SlotLemmas.{length-rows_at}
 use Rattle.hippo_sides.specs.Visiting.{Completes}
 use Rattle.hippo_sides.specs.Walking.{following_places, IsWalkable}
 use Rattle.hippo_sides.proofs.FindingLemmas.{all-first, open-within, still-open, within-set}
 use Rattle.hippo_join.specs.Walked.{join_of}
-use Rattle.hippo_join.proofs.VisitingLemmas.{Tried, none-counted, none-left, none-there, next-on, on-again, on-closed, on-same, on-with, visited-none, visited-more, visited-all, visited-enough}
+use Rattle.hippo_join.proofs.VisitingLemmas.{Tried, counts-again, has-at, none-counted, none-left, none-there, next-on, on-again, on-closed, on-same, on-with, visited-none, visited-more, visited-all, visited-enough}
 use Rattle.hippo_join.proofs.walking.Walk.+walk.Goals as goal
 
 pub walk-visit_whole-requires : goal.walk-visit_whole-requires
@@ -35,7 +35,7 @@ pub walk-walk_each-requires : goal.walk-walk_each-requires
 walk-walk_each-requires g t c κs within =
     let shorter : length c.args.stages.now ≡ suc (length c.in-Some.rest.now) = ap length c.in-Some.ensures.cases.0 in
     let still = sym c.is_open.ensures ∙ c.if-not-is_open.false in
-    (omega arith, (within.0, (within.1.0, (within.1.1, (still, (on-same _ _ _ _ _ c.requires c.in-Some.ensures.cases.0, (c.in_ok-places.ensures.reaches, c.in_ok-places.ensures.order)))))))
+    (omega arith, (within.0, (within.1.0, (within.1.1, (still, (on-same _ _ _ _ _ c.requires c.in-Some.ensures.cases.0, (c.in_ok-places.ensures.reaches, (c.in_ok-places.ensures.order, λ yes. c.in_ok-places.ensures.count still (sym c.suffices-count.ensures ∙ yes)))))))))
 
 pub walk-leave-requires-clause-long : goal.walk-leave-requires-clause-long
 walk-leave-requires-clause-long g t c =
@@ -61,7 +61,9 @@ pub walk_each-walk_with-requires : goal.walk_each-walk_with-requires
 walk_each-walk_with-requires g t c κs within =
     let same = c.loop-index.invariant.same in
     let inside = within-set c.args.slots.now c.loop-index.slots c.args.stage.now.table (open-within c.args.slots.now c.args.stage.now.table c.requires.still) same in
-    (omega arith, (within.0, (within.1.0, (within.1.1, (inside, on-again _ c.args.stage.now c.args.rest.now c.args.slots.now c.args.rows.now c.requires.can c.loop-index.slots c.loop-index.rows same c.loop-index.invariant.stand)))))
+    let choices = g.C.ChoiceView.choices c.args.self.now.side.now.choices.now in
+    let some = following_places c.args.following.now in
+    (omega arith, (within.0, (within.1.0, (within.1.1, (inside, (λ yes. counts-again choices c.args.self.now.side.now.query.now c.args.self.now.side.now.sets.now c.args.slots.now c.loop-index.slots c.args.stage.now.table c.place-place.result same (c.requires.count yes c.place-place.result (has-at some c.loop-index.index c.place-place.result (omega (arith, c.loop-index-test.true, c.len-index-end.ensures)) c.place-place.ensures)), on-again _ c.args.stage.now c.args.rest.now c.args.slots.now c.args.rows.now c.requires.can c.loop-index.slots c.loop-index.rows same c.loop-index.invariant.stand))))))
 
 pub walk_each-loop-index-init : goal.walk_each-loop-index-init
 walk_each-loop-index-init g t c =
@@ -140,10 +142,16 @@ walk_with-set-requires g t c =
     omega (arith, c.requires.table, long, ap length c.requires.can.stand.are, length-rows_at sets c.args.slots.now)
 
 -- the row is chosen: on along the other stages
-pub walk_with-visit_whole-requires : goal.walk_with-visit_whole-requires
-walk_with-visit_whole-requires g t c =
+pub walk_with-visit_last-requires-clause-can : goal.walk_with-visit_last-requires-clause-can
+walk_with-visit_last-requires-clause-can g t c =
     let on = on-with (join_of g.C.ChoiceView.choices c.args.self.now) c.args.stage.now c.args.rest.now c.args.slots.now c.args.rows.now c.requires.can c.args.place c.get-set.result.now c.born_row-kept.result.now c.set.new.self c.requires.table c.get-set.ensures (omega (arith, c.if-place-len.false, c.len.ensures.rows)) c.born_row-kept.ensures c.set.ensures in
     on-same _ c.args.rest.now [] _ _ on (none-left c.args.rest.now (sym c.is_empty.ensures ∙ c.if-is_empty.true))
+
+pub walk_with-visit_last-requires-clause-counts : goal.walk_with-visit_last-requires-clause-counts
+walk_with-visit_last-requires-clause-counts g t c sure =
+    let on = on-with (join_of g.C.ChoiceView.choices c.args.self.now) c.args.stage.now c.args.rest.now c.args.slots.now c.args.rows.now c.requires.can c.args.place c.get-set.result.now c.born_row-kept.result.now c.set.new.self c.requires.table c.get-set.ensures (omega (arith, c.if-place-len.false, c.len.ensures.rows)) c.born_row-kept.ensures c.set.ensures in
+    ap (stays (g.C.ChoiceView.choices c.args.self.now.side.now.choices.now) c.args.self.now.side.now.query.now) on.stand.are
+    ∙ c.requires.counts sure c.get-set.result.now c.get-set.ensures (omega (arith, c.if-place-len.false, c.len.ensures.rows))
 
 pub walk_with-returns-then-is_empty : goal.walk_with-returns-then-is_empty
 walk_with-returns-then-is_empty g t c =

@@ -19,4 +19,5 @@ returns-clause-stage g c =
       reaches = λ places counts place at. Contains-permutation c.in_ok-places.places.items index.places.items place c.in_ok-index.ensures.permutation (c.in_ok-places.ensures places counts place at);
       tied = tie-counts choices query sets c.args.table c.in-Some.tie c.outer_parts.result.now c.outer_parts.ensures c.in-Some.ensures;
       ordered = λ set at. subst (λ (s : KeyedRows). IsIndex s c.in-Some.tie.column index.values.items index.places.items) (some_is (sym c.get.ensures ∙ at)) c.in_ok-index.ensures.index;
+      enough = c.suffices-2.ensures;
     }

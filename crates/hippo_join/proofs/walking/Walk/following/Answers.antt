@@ -1,0 +1,10 @@
+-- The same places count, once they are sorted.
+use Rattle.std.specs.List.{Contains}
+use Rattle.std.proofs.lemmas.List.Elements.{All-contains}
+use Rattle.hippo_sides.specs.Walking.{following_places}
+use Rattle.hippo_join.proofs.walking.Walk.following.Goals as goal
+
+pub returns-clause-count : goal.returns-clause-count
+returns-clause-count g c = λ still yes place has.
+    c.in_ok-following.ensures.count still yes place
+    (All-contains (Contains (following_places c.in_ok-following.following)) c.in_ok-ascending.field-0.items place c.in_ok-ascending.ensures.none_else has)
