@@ -1,7 +1,9 @@
 -- Different rows that are kept, one row more.
-use Rattle.std.proofs.Common.{◌≡◌, Bool, true, false, cond, not, ◌&&◌, List, [], ◌∷◌, ◌++◌, refl, sym, ap, ◌∙◌}
+use Rattle.std.proofs.Common.{◌≡◌, ℕ, zero, suc, Some, Bool, true, false, cond, not, ◌&&◌, List, [], ◌∷◌, ◌++◌, refl, sym, ap, ◌∙◌}
+use Rattle.std.specs.Prelude.{Option, slice_get, unwrap_or}
 use Rattle.std.specs.List.{list_any, list_all}
 use Rattle.std.specs.Cmp.Lexicographic.{pointwise}
+use Rattle.std.proofs.lemmas.Bool.{or_left, or_right}
 use Rattle.std.proofs.lemmas.List.{append-nil}
 use Rattle.indexmap.specs.IndexSet.{insert_key}
 use Rattle.hippo_values.specs.OrderLaws.{value_ties}
@@ -11,6 +13,7 @@ use Rattle.hippo_model.specs.Terms.{ShownRow}
 use Rattle.hippo_model.specs.Bags.{same_cell, same_row}
 use Rattle.hippo_model.specs.Forms.{different_rows}
 use Rattle.hippo_model.specs.contracts.cells.CellPartialEq.TheImpl as derived
+use Rattle.hippo_model.proofs.SameRows.{same_row-refl}
 use Rattle.hippo_distinct.specs.DistinctRows.{stands_in}
 use Rattle.hippo_distinct.proofs.DifferentLemmas.{if_new, different_rows-push, same_row-exact}
 use Rattle.hippo_distinct.proofs.NeededRows.{all_different, not_all}
@@ -74,3 +77,12 @@ put_in kept found row are =
 -- a row that stands there adds none
 pub there_already : (kept found : List ShownRow) (row : ShownRow) → kept ≡ different_rows found → list_any (row_eq row) kept ≡ true → kept ≡ different_rows (found ++ row ∷ [])
 there_already kept found row are there = sym (ap (λ (test : Bool). cond test kept (kept ++ row ∷ [])) there) ∙ put_in kept found row are
+
+any-at_place : (test : ShownRow → Bool) (rows : List ShownRow) (place : ℕ) (row : ShownRow) → slice_get rows place ≡ Some row → test row ≡ true → list_any test rows ≡ true
+any-at_place test [] place row at passes = cc
+any-at_place test (first ∷ rows) zero row at passes = or_left (test first) (list_any test rows) (ap (λ (found : Option ShownRow). test (unwrap_or found first)) at ∙ passes)
+any-at_place test (first ∷ rows) (suc place) row at passes = or_right (test first) (list_any test rows) (any-at_place test rows place row at passes)
+
+-- a row that stands at some place adds none
+pub stands_at : (kept found : List ShownRow) (place : ℕ) (row : ShownRow) → kept ≡ different_rows found → slice_get kept place ≡ Some row → kept ≡ different_rows (found ++ row ∷ [])
+stands_at kept found place row are at = there_already kept found row are (any-at_place (row_eq row) kept place row at (row_eq-same row row ∙ same_row-refl row))

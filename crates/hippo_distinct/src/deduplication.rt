@@ -1,41 +1,87 @@
 //! The different rows of a query's answer, as a walk over the combinations that count finds them.
-ghost use Rattle.std.specs.Prelude.{◌≡◌, [], ◌∷◌, ◌++◌, List, IfOk, OnOk};
+ghost use Rattle.std.specs.Prelude.{◌≡◌, [], ◌∷◌, ◌++◌, List, map, IsTrue, IfOk, OnOk};
 ghost use Rattle.hippo_model.specs.Terms.{ShownRow};
 ghost use Rattle.hippo_model.specs.Forms.{different_rows};
-ghost use Rattle.hippo_model.specs.Masking.{masked_answer};
+ghost use Rattle.hippo_model.specs.Masking.{masked_answer, masked_cell};
 ghost use Rattle.hippo_eval.specs.Answering.{IsAnswered};
 ghost use Rattle.hippo_eval.specs.Walks.{rows_of};
 
+use crate::comparing::is_row;
+use crate::guesses::{Guesses, mark_of, mark_of_row};
 use hippo_eval::{ANSWER_LIMIT, EvalFault, Gatherer, refill};
 use hippo_join::gather_joined;
-use hippo_model::{Answer, CellRow, ChoiceView, Combo, Masked};
+use hippo_model::{Answer, CellRow, ChoiceView, Combo, Expr, Masked};
 use hippo_rows::Sets;
 use hippo_values::{Memory, Sequence};
 use indexmap::IndexSet;
 use std::alloc::Global;
 use std::mem;
 
-// The different rows that were found. The rest is for speed alone: a row that was found before is
-// made in the memory of the row at hand and takes no other, and where the last row that was put in
-// was new, the next is put in with no look before whether it is there, and so is hashed once.
+// The different rows that were found. The rest is for speed alone. Where the last row that was put
+// in was new, the next is put in with no look before whether it is there, and so is hashed once.
+// Otherwise a row that stands where it is guessed to stand is not made, and another that was found
+// before is made in the memory of the row at hand and takes no other.
 #[derive(Drop)]
 struct DifferentRows {
     rows: IndexSet<CellRow>,
     at_hand: CellRow,
     expects_new: bool,
+    guesses: Guesses,
 }
 
 impl DifferentRows {
+    // Whether the row that a combination makes stands where it is guessed to stand.
+    #[inline(always)]
+    fn is_guessed<C: ChoiceView>(&self, items: &[Expr], combo: &Combo<'_>, choices: &C) -> bool
+        ensures { (found : List ShownRow) → self.now.rows.keys ≡ different_rows found
+            → IsTrue result → self.now.rows.keys ≡ different_rows
+            (found ++ map (masked_cell (C.choices choices.now) combo.now) items.now ∷ []) }
+    {
+        let Some(mark) = mark_of(items, combo, choices) else {
+            return false;
+        };
+        match self.rows.get_index(self.guesses.place(mark)) {
+            Some(row) => is_row(row, items, combo, choices),
+            None => false,
+        }
+    }
+
+    // Keeps a guess that the row at hand stands behind all others.
+    #[inline(always)]
+    fn expect_last(&mut self, alloc: Global) -> Result<(), Memory>
+        ensures { OnOk result ((self.new.rows.keys ≡ self.old.rows.keys)
+            × (self.new.at_hand ≡ self.old.at_hand)) }
+    {
+        self.guesses.grow(alloc, self.rows.as_slice())?;
+        self.guesses
+            .keep(mark_of_row(&self.at_hand), self.rows.len());
+        Ok(())
+    }
+
+    // Takes in the row at hand, with no look before whether it is there; in its own memory where it
+    // is new.
+    fn put(&mut self, alloc: Global) -> Result<(), Memory>
+        ensures { (found : List ShownRow) → self.old.rows.keys ≡ different_rows found
+            → OnOk result (self.new.rows.keys ≡ different_rows (found ++ self.old.at_hand ∷ [])) }
+    {
+        self.expect_last(alloc)?;
+        let next = Sequence::with_capacity(alloc, self.at_hand.len())?;
+        self.expects_new = self.rows.insert(mem::replace(&mut self.at_hand, next))?;
+        Ok(())
+    }
+
     // Takes in the row at hand, in its own memory where it is new.
     fn add(&mut self, alloc: Global) -> Result<(), Memory>
         ensures { (found : List ShownRow) → self.old.rows.keys ≡ different_rows found
             → OnOk result (self.new.rows.keys ≡ different_rows (found ++ self.old.at_hand ∷ [])) }
     {
-        if !self.expects_new && self.rows.contains(&self.at_hand) {
-            return Ok(());
+        if self.expects_new {
+            return self.put(alloc);
         }
-        let next = Sequence::with_capacity(alloc, self.at_hand.len())?;
-        self.expects_new = self.rows.insert(mem::replace(&mut self.at_hand, next))?;
+        let Some(place) = self.rows.get_index_of(&self.at_hand) else {
+            return self.put(alloc);
+        };
+        self.guesses.keep(mark_of_row(&self.at_hand), place);
         Ok(())
     }
 }
@@ -66,6 +112,7 @@ impl Gatherer for Different {
             rows: IndexSet::new(alloc),
             at_hand: Sequence::new(alloc),
             expects_new: true,
+            guesses: Guesses::new(alloc),
         }
     }
 
@@ -82,6 +129,9 @@ impl Gatherer for Different {
         choices: &C,
     ) -> Result<(), Memory> {
         let items = query.items.as_slice();
+        if !found.expects_new && found.is_guessed(items, combo, choices) {
+            return Ok(());
+        }
         refill(alloc, items, combo, choices, &mut found.at_hand)?;
         found.add(alloc)
     }
