@@ -10,7 +10,7 @@ use Rattle.hippo_model.specs.Masking.{Choices, masked_cell, masked_items}
 use Rattle.hippo_report.specs.Cells.{answer_line, cell_text, comma, separated_text}
 use Rattle.hippo_eval.specs.Gathering.{IsGathered}
 use Rattle.hippo_answering.specs.declared.lines.Lines.{Lines}
-use Rattle.hippo_answering.specs.Lines.{AreLinesOf}
+use Rattle.hippo_answering.specs.Lines.{AreLinesOf, line_front}
 
 -- what members are made of is printed as they are
 pub separated_text_map : {A B : Type 0} (text : B → Txt) (separator : Txt) (made : A → B) (members : List A)
@@ -18,18 +18,23 @@ pub separated_text_map : {A B : Type 0} (text : B → Txt) (separator : Txt) (ma
 separated_text_map text separator made [] = refl
 separated_text_map text separator made (first ∷ rest) = ap (λ (later : Txt). text (made first) ++ later) (flat_map-map (λ member. separator ++ text member) made rest)
 
--- the pieces of a row's line, one behind the other
-pub row_printed : (session : ℕ) (choices : Choices) (query : Masked) (rows : Combination) (out number one two three four : Txt) → number ≡ decimal session → one ≡ out ++ number → two ≡ one ++ codes " row "
-    → three ≡ two ++ separated_text (λ item. cell_text (masked_cell choices rows item)) comma query.items → four ≡ three ++ codes "\n"
-    → four ≡ out ++ answer_line session (masked_items choices query rows)
-row_printed session choices query rows out number one two three four number_is one_is two_is three_is four_is =
-    let items : Txt = separated_text cell_text comma (masked_items choices query rows) in
-    let same : separated_text (λ item. cell_text (masked_cell choices rows item)) comma query.items ≡ items = sym (separated_text_map cell_text comma (masked_cell choices rows) query.items) in
-    four_is
-    ∙ ap (λ (text : Txt). text ++ codes "\n") (three_is ∙ (λ i. two_is i ++ same i) ∙ (λ i. ((one_is i) ++ codes " row ") ++ items) ∙ (λ i. ((out ++ number_is i) ++ codes " row ") ++ items))
-    ∙ append_assoc ((out ++ decimal session) ++ codes " row ") items (codes "\n")
-    ∙ append_assoc (out ++ decimal session) (codes " row ") (items ++ codes "\n")
-    ∙ append_assoc out (decimal session) (codes " row " ++ (items ++ codes "\n"))
+-- the pieces of a line, one behind the other
+pub line_printed : (session : ℕ) (cells out front one two three : Txt) → front ≡ line_front session → one ≡ out ++ front → two ≡ one ++ cells → three ≡ two ++ codes "\n"
+    → three ≡ out ++ (decimal session ++ (codes " row " ++ (cells ++ codes "\n")))
+line_printed session cells out front one two three front_is one_is two_is three_is =
+    three_is
+    ∙ ap (λ (text : Txt). text ++ codes "\n") (two_is ∙ (λ i. one_is i ++ cells) ∙ (λ i. (out ++ front_is i) ++ cells))
+    ∙ append_assoc (out ++ line_front session) cells (codes "\n")
+    ∙ append_assoc out (line_front session) (cells ++ codes "\n")
+    ∙ ap (λ (line : Txt). out ++ line) (append_assoc (decimal session) (codes " row ") (cells ++ codes "\n"))
+
+-- of a row that a combination makes
+pub row_printed : (session : ℕ) (choices : Choices) (query : Masked) (rows : Combination) (out front one two three : Txt) → front ≡ line_front session → one ≡ out ++ front
+    → two ≡ one ++ separated_text (λ item. cell_text (masked_cell choices rows item)) comma query.items → three ≡ two ++ codes "\n"
+    → three ≡ out ++ answer_line session (masked_items choices query rows)
+row_printed session choices query rows out front one two three front_is one_is two_is three_is =
+    let same = sym (separated_text_map cell_text comma (masked_cell choices rows) query.items) in
+    line_printed session (separated_text cell_text comma (masked_items choices query rows)) out front one two three front_is one_is (two_is ∙ ap (λ (cells : Txt). one ++ cells) same) three_is
 
 -- the line of a row more
 pub one_line_more : (session : ℕ) (rows : List ShownRow) (row : ShownRow) (old new : Lines) → AreLinesOf session rows old

@@ -2,12 +2,14 @@
 use Rattle.std.specs.Prelude.{◌≡◌, true, List, length, take}
 use Rattle.hippo_values.specs.declared.names.Name.{Name}
 use Rattle.hippo_model.specs.declared.policy.TableRules.{TableRules}
+use Rattle.hippo_model.specs.declared.query.Masked.{Masked}
 use Rattle.hippo_model.specs.declared.query.Query.{Query}
 use Rattle.hippo_model.specs.Answers.{answer}
 use Rattle.hippo_model.specs.Terms.{History, Meaning, ShownRow}
 use Rattle.hippo_model.specs.Validity.{is_valid}
 use Rattle.hippo_model.specs.Verdicts.{context_of}
 use Rattle.hippo_policy.specs.Books as books
+use Rattle.hippo_rewrite.specs.Rewriting.{rewritten_query}
 use Rattle.hippo_rewrite.specs.RewritingLaws.{rules_at}
 use Rattle.hippo_tables.specs.Standing as standing
 use Rattle.hippo_answering.specs.declared.standpoint.Standpoint.{Standpoint}
@@ -25,6 +27,13 @@ abbrev pub rules_from : Standpoint → History → List Name → List TableRules
 rules_from standpoint history names =
     rules_at (take standpoint.count history) (context_of standpoint.pair.now standpoint.moment)
     (standing.schemas_at history names)
+
+-- the rules in force are written into a query
+abbrev pub IsMasked : Standpoint → Query → Masked → Type 0
+IsMasked standpoint query masked =
+    (history : History) → books.BookStandsFor standpoint.book.now history
+    → standing.TablesStandFor standpoint.tables.now history
+    → masked ≡ rewritten_query (rules_from standpoint history query.tables) query
 
 -- what a query answers
 abbrev pub answer_from : Standpoint → History → Query → List ShownRow

@@ -7,8 +7,7 @@ ghost use Rattle.hippo_policy.specs.Books.{BookStandsFor};
 ghost use Rattle.hippo_tables.specs.Standing.{TablesStandFor, AreKeptTables};
 ghost use Rattle.hippo_eval.specs.Walks.{rows_of};
 ghost use Rattle.hippo_eval.specs.Answering.{IsAnswered};
-ghost use Rattle.hippo_rewrite.specs.Rewriting.{rewritten_query};
-ghost use Rattle.hippo_answering.specs.States.{AreStateOf, answer_from, rules_from};
+ghost use Rattle.hippo_answering.specs.States.{AreStateOf, IsMasked, answer_from, rules_from};
 ghost use Rattle.hippo_answering.specs.Lines.{IsSaid};
 
 use crate::inquiry::Inquiry;
@@ -54,31 +53,31 @@ fn rules_of(
 fn masked_query(alloc: Global, standpoint: &Standpoint<'_>, query: &Query) -> Result<Masked, Memory>
     requires { AreKeptTables standpoint.now.tables.now query.now.tables }
     ensures tables { IfOk result (λ masked. masked.tables ≡ query.now.tables) }
-    ensures rules { IfOk result (λ masked. (history : History)
-        → BookStandsFor standpoint.now.book.now history
-        → TablesStandFor standpoint.now.tables.now history
-        → masked ≡ rewritten_query (rules_from standpoint.now history query.now.tables) query.now) }
+    ensures rules { IfOk result (λ masked. IsMasked standpoint.now query.now masked) }
 {
     let rules = rules_of(alloc, standpoint, &query.tables)?;
     rewrite(alloc, query, &rules)
 }
 
-// A query from a standpoint, with the rules written into it.
+// What a query from a standpoint asks, by the query into which the rules are written.
 fn inquiry_of<'s>(
     alloc: Global,
     standpoint: &'s Standpoint<'_>,
     query: &Query,
+    masked: &'s Masked,
 ) -> Result<Inquiry<'s>, Memory>
-    requires { AreKeptTables standpoint.now.tables.now query.now.tables }
-    ensures tables { IfOk result (λ inquiry. length inquiry.sets ≡ length inquiry.query.tables) }
+    requires kept { AreKeptTables standpoint.now.tables.now query.now.tables }
+    requires tables { masked.now.tables ≡ query.now.tables }
+    requires rules { IsMasked standpoint.now query.now masked.now }
+    ensures tables { IfOk result (λ inquiry.
+        length inquiry.sets ≡ length inquiry.query.now.tables) }
     ensures answers { IfOk result (λ inquiry. (meaning : Meaning) (history : History)
         → AreStateOf meaning standpoint.now history
         → rows_by_form query.now.form (masked_answer
-        (⟦<ChoicesAt<'static> as ChoiceView>⟧.choices inquiry.choices) inquiry.query
+        (⟦<ChoicesAt<'static> as ChoiceView>⟧.choices inquiry.choices) inquiry.query.now
         (rows_of inquiry.sets)) ≡ answer_from standpoint.now history query.now) }
 {
     let sets = sets_of(alloc, standpoint.tables, &query.tables)?;
-    let masked = masked_query(alloc, standpoint, query)?;
     let choices = standpoint.book.choices_at(standpoint.count);
     Ok(Inquiry {
         query: masked,
@@ -89,32 +88,20 @@ fn inquiry_of<'s>(
 
 // The rows of an answer, by its form.
 fn formed(alloc: Global, form: &Form, inquiry: &Inquiry<'_>) -> Result<Answer, EvalFault>
-    requires { length inquiry.now.sets ≡ length inquiry.now.query.tables }
+    requires { length inquiry.now.sets ≡ length inquiry.now.query.now.tables }
     ensures { IsAnswered ANSWER_LIMIT (rows_by_form form.now (masked_answer
-        (⟦<ChoicesAt<'static> as ChoiceView>⟧.choices inquiry.now.choices) inquiry.now.query
+        (⟦<ChoicesAt<'static> as ChoiceView>⟧.choices inquiry.now.choices) inquiry.now.query.now
         (rows_of inquiry.now.sets))) result }
 {
     match form {
         Form::Plain => {
             let sizes = sizes_of(alloc, &inquiry.sets)?;
-            let plan = plan(alloc, &inquiry.query, &sizes)?;
-            run(
-                alloc,
-                &plan,
-                &inquiry.query,
-                &inquiry.sets,
-                &inquiry.choices,
-            )
+            let plan = plan(alloc, inquiry.query, &sizes)?;
+            run(alloc, &plan, inquiry.query, &inquiry.sets, &inquiry.choices)
         }
-        Form::Distinct => distinct(alloc, &inquiry.query, &inquiry.sets, &inquiry.choices),
+        Form::Distinct => distinct(alloc, inquiry.query, &inquiry.sets, &inquiry.choices),
         Form::Grouped(shape) => {
-            grouped(
-                alloc,
-                &inquiry.query,
-                shape,
-                &inquiry.sets,
-                &inquiry.choices,
-            )
+            grouped(alloc, inquiry.query, &inquiry.sets, &inquiry.choices, shape)
         }
     }
 }
@@ -131,37 +118,106 @@ fn said(alloc: Global, session: u8, answer: Result<Answer, EvalFault>) -> Result
 // The lines of all rows of an answer, by joins: printed as they are found where the plan has the
 // order of the answer.
 fn joined_lines(alloc: Global, session: u8, inquiry: &Inquiry<'_>) -> Result<Lines, EvalFault>
-    requires { length inquiry.now.sets ≡ length inquiry.now.query.tables }
+    requires { length inquiry.now.sets ≡ length inquiry.now.query.now.tables }
     ensures { IsSaid ANSWER_LIMIT session (masked_answer
-        (⟦<ChoicesAt<'static> as ChoiceView>⟧.choices inquiry.now.choices) inquiry.now.query
+        (⟦<ChoicesAt<'static> as ChoiceView>⟧.choices inquiry.now.choices) inquiry.now.query.now
         (rows_of inquiry.now.sets)) result }
 {
     let sizes = sizes_of(alloc, &inquiry.sets)?;
-    let plan = plan(alloc, &inquiry.query, &sizes)?;
+    let plan = plan(alloc, inquiry.query, &sizes)?;
     if is_in_order(&plan) {
         walked_lines(alloc, session, inquiry)
     } else {
-        let answer = run(
-            alloc,
-            &plan,
-            &inquiry.query,
-            &inquiry.sets,
-            &inquiry.choices,
-        );
+        let answer = run(alloc, &plan, inquiry.query, &inquiry.sets, &inquiry.choices);
         said(alloc, session, answer)
+    }
+}
+
+// The same; over one table there is nothing to plan.
+fn plain_lines(alloc: Global, session: u8, inquiry: &Inquiry<'_>) -> Result<Lines, EvalFault>
+    requires { length inquiry.now.sets ≡ length inquiry.now.query.now.tables }
+    ensures { IsSaid ANSWER_LIMIT session (masked_answer
+        (⟦<ChoicesAt<'static> as ChoiceView>⟧.choices inquiry.now.choices) inquiry.now.query.now
+        (rows_of inquiry.now.sets)) result }
+{
+    if inquiry.sets.len() < 2 {
+        walked_lines(alloc, session, inquiry)
+    } else {
+        joined_lines(alloc, session, inquiry)
     }
 }
 
 // The lines of the rows of an answer, by its form.
 fn lines(alloc: Global, session: u8, form: &Form, inquiry: &Inquiry<'_>) -> Result<Lines, EvalFault>
-    requires { length inquiry.now.sets ≡ length inquiry.now.query.tables }
+    requires { length inquiry.now.sets ≡ length inquiry.now.query.now.tables }
     ensures { IsSaid ANSWER_LIMIT session (rows_by_form form.now (masked_answer
-        (⟦<ChoicesAt<'static> as ChoiceView>⟧.choices inquiry.now.choices) inquiry.now.query
+        (⟦<ChoicesAt<'static> as ChoiceView>⟧.choices inquiry.now.choices) inquiry.now.query.now
         (rows_of inquiry.now.sets))) result }
 {
     match form {
-        Form::Plain => joined_lines(alloc, session, inquiry),
+        Form::Plain => plain_lines(alloc, session, inquiry),
         _ => said(alloc, session, formed(alloc, form, inquiry)),
+    }
+}
+
+// The answer of a query from a standpoint, by the query into which the rules are written.
+fn answer_masked(
+    alloc: Global,
+    standpoint: &Standpoint<'_>,
+    query: &Query,
+    masked: &Masked,
+) -> Result<Answer, EvalFault>
+    requires kept { AreKeptTables standpoint.now.tables.now query.now.tables }
+    requires tables { masked.now.tables ≡ query.now.tables }
+    requires rules { IsMasked standpoint.now query.now masked.now }
+    ensures { (meaning : Meaning) (history : History) → AreStateOf meaning standpoint.now history
+        → IsAnswered ANSWER_LIMIT (answer_from standpoint.now history query.now) result }
+{
+    let inquiry = inquiry_of(alloc, standpoint, query, masked)?;
+    let answer = formed(alloc, &query.form, &inquiry);
+    drop(inquiry);
+    answer
+}
+
+// The lines of the answer of a query from a standpoint, by the query into which the rules are
+// written.
+fn lines_masked(
+    alloc: Global,
+    standpoint: &Standpoint<'_>,
+    query: &Query,
+    masked: &Masked,
+    session: u8,
+) -> Result<Lines, EvalFault>
+    requires kept { AreKeptTables standpoint.now.tables.now query.now.tables }
+    requires tables { masked.now.tables ≡ query.now.tables }
+    requires rules { IsMasked standpoint.now query.now masked.now }
+    ensures { (meaning : Meaning) (history : History) → AreStateOf meaning standpoint.now history
+        → IsSaid ANSWER_LIMIT session (answer_from standpoint.now history query.now) result }
+{
+    let inquiry = inquiry_of(alloc, standpoint, query, masked)?;
+    let lines = lines(alloc, session, &query.form, &inquiry);
+    drop(inquiry);
+    lines
+}
+
+// The same, unless memory was short for that query. It is lent, since moving it costs more than
+// looking at it.
+fn lines_if_masked(
+    alloc: Global,
+    standpoint: &Standpoint<'_>,
+    query: &Query,
+    masked: &Result<Masked, Memory>,
+    session: u8,
+) -> Result<Lines, EvalFault>
+    requires kept { AreKeptTables standpoint.now.tables.now query.now.tables }
+    requires tables { IfOk masked.now (λ made. made.tables ≡ query.now.tables) }
+    requires rules { IfOk masked.now (λ made. IsMasked standpoint.now query.now made) }
+    ensures { (meaning : Meaning) (history : History) → AreStateOf meaning standpoint.now history
+        → IsSaid ANSWER_LIMIT session (answer_from standpoint.now history query.now) result }
+{
+    match masked {
+        Ok(made) => lines_masked(alloc, standpoint, query, made, session),
+        Err(Memory) => Err(EvalFault::Memory),
     }
 }
 
@@ -189,9 +245,9 @@ pub fn answer(
     ensures { (meaning : Meaning) (history : History) → AreStateOf meaning standpoint.now history
         → IsAnswered ANSWER_LIMIT (answer_from standpoint.now history query.now) result }
 {
-    let inquiry = inquiry_of(alloc, standpoint, query)?;
-    let answer = formed(alloc, &query.form, &inquiry);
-    drop(inquiry);
+    let masked = masked_query(alloc, standpoint, query)?;
+    let answer = answer_masked(alloc, standpoint, query, &masked);
+    drop(masked);
     answer
 }
 
@@ -208,8 +264,8 @@ pub fn answer_as_lines(
     ensures { (meaning : Meaning) (history : History) → AreStateOf meaning standpoint.now history
         → IsSaid ANSWER_LIMIT session (answer_from standpoint.now history query.now) result }
 {
-    let inquiry = inquiry_of(alloc, standpoint, query)?;
-    let lines = lines(alloc, session, &query.form, &inquiry);
-    drop(inquiry);
+    let masked = masked_query(alloc, standpoint, query);
+    let lines = lines_if_masked(alloc, standpoint, query, &masked, session);
+    drop(masked);
     lines
 }

@@ -7,7 +7,7 @@ use hippo_rows::Sets;
 /// choices.
 #[derive(Drop)]
 pub(crate) struct Inquiry<'a> {
-    pub(crate) query: Masked,
+    pub(crate) query: &'a Masked,
     pub(crate) sets: Sets<'a>,
     pub(crate) choices: ChoicesAt<'a>,
 }

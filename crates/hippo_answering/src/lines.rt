@@ -1,25 +1,29 @@
 //! Answers as the lines that say their rows, which are printed as the rows are found.
-ghost use Rattle.std.specs.Prelude.{◌≡◌, ◌++◌, ℕ, List, [], flat_map, decimal, OnOk, IfOk};
+ghost use Rattle.std.specs.Prelude.{◌≡◌, ◌++◌, ℕ, List, [], flat_map, OnOk, IfOk};
+ghost use Rattle.hippo_model.specs.declared.cells.Cell.TheVariants.{Shown};
 ghost use Rattle.hippo_model.specs.Terms.{ShownRow};
 ghost use Rattle.hippo_model.specs.Masking.{masked_cell, masked_items, masked_answer};
 ghost use Rattle.hippo_report.specs.Cells.{answer_line, cell_text, comma, separated_text};
 ghost use Rattle.hippo_eval.specs.Gathering.{IsGathered};
 ghost use Rattle.hippo_eval.specs.LentCells.{lent_cell};
 ghost use Rattle.hippo_eval.specs.Walks.{rows_of};
-ghost use Rattle.hippo_answering.specs.Lines.{AreLinesOf, IsSaid};
+ghost use Rattle.hippo_answering.specs.Lines.{AreLinesOf, IsSaid, line_front};
 
 use crate::inquiry::Inquiry;
 use hippo_eval::{ANSWER_LIMIT, EvalFault, LentCell, Onward, Visitor, cell};
 use hippo_join::walk_joined;
 use hippo_model::{Cell, CellRow, ChoiceView, Combo, Expr, Masked};
 use hippo_policy::ChoicesAt;
-use hippo_report::{Printed, answer_lines};
+use hippo_report::{Printed, append_joined};
 use hippo_values::{Memory, RoomyTxt, Value};
 use itoa::Buffer;
 use std::alloc::Global;
 
 /// How many bytes of lines there is room for from the start.
 pub const LINES_ROOM: usize = 256;
+
+// Room for the longest front of a line, `255 row `.
+const FRONT_ROOM: usize = 8;
 
 /// The lines that say the rows of an answer to a session, and how many these are.
 #[derive(Drop)]
@@ -40,7 +44,20 @@ impl Lines {
     }
 }
 
+// Adds a value that is shown. A number is added here, for speed: what `print` undoes where memory
+// is short is a line's to give up.
+#[inline(always)]
+fn append_value<const ROOM: usize>(value: &Value, out: &mut RoomyTxt<ROOM>) -> Result<(), Memory>
+    ensures { OnOk result (out.new ≡ out.old ++ cell_text (Shown value.now)) }
+{
+    match value {
+        Value::Int(number) => out.append(Buffer::new().format(*number)),
+        _ => value.print(out),
+    }
+}
+
 // Adds a cell whose value is lent.
+#[inline(always)]
 fn append_cell<const ROOM: usize>(
     cell: &LentCell<'_>,
     out: &mut RoomyTxt<ROOM>,
@@ -48,12 +65,14 @@ fn append_cell<const ROOM: usize>(
     ensures { OnOk result (out.new ≡ out.old ++ cell_text (lent_cell cell.now)) }
 {
     match cell {
-        LentCell::Shown(value) => value.unwrap_or(&Value::Null).print(out),
+        LentCell::Shown(Some(value)) => append_value(value, out),
+        LentCell::Shown(None) => Value::Null.print(out),
         LentCell::Denied(rule) => Cell::Denied(*rule).print(out),
     }
 }
 
 // Adds the cell that an item stands for in a combination of rows.
+#[inline(always)]
 fn append_item<C: ChoiceView, const ROOM: usize>(
     item: &Expr,
     combo: &Combo<'_>,
@@ -101,20 +120,31 @@ fn append_items<C: ChoiceView, const ROOM: usize>(
     append_later(rest, combo, choices, out)
 }
 
-// Adds the line of the row that a combination makes, to the session of which these are the digits.
+// The front of each line of an answer to a session.
+fn line_front(alloc: Global, session: u8) -> Result<RoomyTxt<FRONT_ROOM>, Memory>
+    ensures { IfOk result (λ front. front ≡ line_front session) }
+{
+    let mut buffer = Buffer::new();
+    let mut front = RoomyTxt::with_room(alloc)?;
+    front.append(buffer.format(session))?;
+    front.append(" row ")?;
+    Ok(front)
+}
+
+// Adds the line of the row that a combination makes, to the session of whose lines this is the
+// front.
 fn append_row<C: ChoiceView, const ROOM: usize>(
-    digits: &str,
+    front: &str,
     query: &Masked,
     combo: &Combo<'_>,
     choices: &C,
     out: &mut RoomyTxt<ROOM>,
 ) -> Result<(), Memory>
-    ensures { (session : ℕ) → digits.now ≡ decimal session
+    ensures { (session : ℕ) → front.now ≡ line_front session
         → OnOk result (out.new ≡ out.old ++ answer_line session (masked_items
         (C.choices choices.now) query.now combo.now)) }
 {
-    out.append(digits)?;
-    out.append(" row ")?;
+    out.append(front)?;
     append_items(query.items.as_slice(), combo, choices, out)?;
     out.push('\n')
 }
@@ -125,9 +155,9 @@ struct RowPrinter<'a, C> {
     query: &'a Masked,
     choices: &'a C,
     session: u8,
-    // Those of the session, which are made once.
-    digits: &'a str,
-    ghost are_digits: { digits.now ≡ decimal session },
+    // That of the session's lines, which is made once.
+    front: &'a str,
+    ghost is_front: { front.now ≡ line_front session },
 }
 
 impl<'a, C: ChoiceView> Visitor for RowPrinter<'a, C> {
@@ -152,13 +182,7 @@ impl<'a, C: ChoiceView> Visitor for RowPrinter<'a, C> {
         if state.count > ANSWER_LIMIT {
             return Ok(Onward::Enough);
         }
-        append_row(
-            self.digits,
-            self.query,
-            combo,
-            self.choices,
-            &mut state.text,
-        )?;
+        append_row(self.front, self.query, combo, self.choices, &mut state.text)?;
         state.count += 1;
         Ok(Onward::More)
     }
@@ -186,20 +210,20 @@ pub(crate) fn walked_lines(
     inquiry: &Inquiry<'_>,
 ) -> Result<Lines, EvalFault>
     ensures { IsSaid ANSWER_LIMIT session (masked_answer
-        (⟦<ChoicesAt<'static> as ChoiceView>⟧.choices inquiry.now.choices) inquiry.now.query
+        (⟦<ChoicesAt<'static> as ChoiceView>⟧.choices inquiry.now.choices) inquiry.now.query.now
         (rows_of inquiry.now.sets)) result }
 {
-    let mut buffer = Buffer::new();
+    let front = line_front(alloc, session)?;
     let printer = RowPrinter {
-        query: &inquiry.query,
+        query: inquiry.query,
         choices: &inquiry.choices,
         session,
-        digits: buffer.format(session),
+        front: front.as_str(),
     };
     let mut lines = Lines::new(alloc)?;
     match walk_joined(
         alloc,
-        &inquiry.query,
+        inquiry.query,
         &inquiry.sets,
         &inquiry.choices,
         &printer,
@@ -210,12 +234,55 @@ pub(crate) fn walked_lines(
     }
 }
 
+// Prints rows that are there, to a session.
+#[derive(Drop)]
+struct LinePrinter<'a> {
+    session: u8,
+    // That of the session's lines, which is made once.
+    front: &'a str,
+    ghost is_front: { front.now ≡ line_front session },
+}
+
+impl<'a> LinePrinter<'a> {
+    // Adds the line of a row.
+    fn append_line<const ROOM: usize>(
+        &self,
+        row: &CellRow,
+        out: &mut RoomyTxt<ROOM>,
+    ) -> Result<(), Memory>
+        ensures { OnOk result (out.new ≡ out.old ++ answer_line self.now.session row.now) }
+    {
+        out.append(self.front)?;
+        append_joined(", ", row.as_slice(), out)?;
+        out.push('\n')
+    }
+
+    fn append_lines<const ROOM: usize>(
+        &self,
+        rows: &[CellRow],
+        out: &mut RoomyTxt<ROOM>,
+    ) -> Result<(), Memory>
+        ensures { OnOk result (out.new
+            ≡ out.old ++ flat_map (answer_line self.now.session) rows.now) }
+    {
+        for row in rows {
+            self.append_line(row, out)?;
+        }
+        Ok(())
+    }
+}
+
 /// The lines of rows that are there.
 pub(crate) fn lines_of(alloc: Global, session: u8, rows: &[CellRow]) -> Result<Lines, Memory>
     ensures { IfOk result (λ lines. AreLinesOf session rows.now lines) }
 {
+    let front = line_front(alloc, session)?;
+    let printer = LinePrinter {
+        session,
+        front: front.as_str(),
+    };
     let mut lines = Lines::new(alloc)?;
-    answer_lines(session, rows, &mut lines.text)?;
+    printer.append_lines(rows, &mut lines.text)?;
     lines.count = rows.len();
     Ok(lines)
 }

@@ -138,9 +138,9 @@ impl<'a> Gatherer for ByShape<'a> {
 pub fn grouped<C: ChoiceView>(
     alloc: Global,
     query: &Masked,
-    shape: &Shape,
     sets: &Sets<'_>,
     choices: &C,
+    shape: &Shape,
 ) -> Result<Answer, EvalFault>
     ensures { let rows = masked_answer (C.choices choices.now) query.now (rows_of sets.now) in
         IsAnswered ANSWER_LIMIT (grouped_rows shape.now rows) result }

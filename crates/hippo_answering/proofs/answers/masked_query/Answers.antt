@@ -3,18 +3,13 @@ use Rattle.std.proofs.Common.{◌≡◌, ◌∙◌, ap, List}
 use Rattle.std.proofs.lemmas.Result.{IfOk-weaker}
 use Rattle.hippo_model.specs.declared.policy.TableRules.{TableRules}
 use Rattle.hippo_model.specs.declared.query.Masked.{Masked}
-use Rattle.hippo_model.specs.Terms.{History}
-use Rattle.hippo_policy.specs.Books as books
-use Rattle.hippo_tables.specs.Standing as standing
 use Rattle.hippo_rewrite.specs.Rewriting.{rewritten_query}
-use Rattle.hippo_answering.specs.States.{rules_from}
+use Rattle.hippo_answering.specs.States.{IsMasked}
 use Rattle.hippo_answering.proofs.answers.masked_query.Goals as goal
 
 pub returns-clause-rules : goal.returns-clause-rules
 returns-clause-rules c =
     let query = c.args.query.now in
-    IfOk-weaker c.rewrite.result (λ (masked : Masked). masked ≡ rewritten_query c.in_ok-rules.rules query)
-    (λ (masked : Masked). (history : History) → books.BookStandsFor c.args.standpoint.now.book.now history → standing.TablesStandFor c.args.standpoint.now.tables.now history
-    → masked ≡ rewritten_query (rules_from c.args.standpoint.now history query.tables) query)
+    IfOk-weaker c.rewrite.result (λ (masked : Masked). masked ≡ rewritten_query c.in_ok-rules.rules query) (λ (masked : Masked). IsMasked c.args.standpoint.now query masked)
     (λ masked is history book tables. is ∙ ap (λ (rules : List TableRules). rewritten_query rules query) (c.in_ok-rules.ensures history book tables))
     c.rewrite.ensures

@@ -6,8 +6,8 @@ use Rattle.hippo_answering.proofs.LineLemmas.{row_printed}
 use Rattle.hippo_answering.proofs.lines.append_row.Goals as goal
 
 pub returns : goal.returns
-returns g c session digits_are =
+returns g c session front_is =
     on_ok_weaker c.push.result
-    (row_printed session (g.C.ChoiceView.choices c.args.choices.now) c.args.query.now c.args.combo.now c.args.out.now c.args.digits.now c.append.new.self c.append-2.new.self c.append_items.new.out c.push.new.self
-    digits_are c.in_ok-append.ensures.ok c.in_ok-append-2.ensures.ok (rw c.as_slice.ensures at c.in_ok-append_items.ensures))
+    (row_printed session (g.C.ChoiceView.choices c.args.choices.now) c.args.query.now c.args.combo.now c.args.out.now c.args.front.now c.append.new.self c.append_items.new.out c.push.new.self
+    front_is c.in_ok-append.ensures.ok (rw c.as_slice.ensures at c.in_ok-append_items.ensures))
     (rw (encode_ascii 10 (omega arith)) at c.push.ensures.ok)

@@ -6,6 +6,6 @@ use Rattle.hippo_answering.proofs.lines.lines_of.Goals as goal
 
 pub returns : goal.returns
 returns c = record {
-  text = c.in_ok-answer_lines.ensures.ok ∙ ap (λ (front : Txt). front ++ flat_map (answer_line c.args.session) c.args.rows.now) (c.in_ok-lines.ensures c.args.session).text;
+  text = c.in_ok-append_lines.ensures ∙ ap (λ (front : Txt). front ++ flat_map (answer_line c.args.session) c.args.rows.now) (c.in_ok-lines.ensures c.args.session).text;
   count = refl;
 }

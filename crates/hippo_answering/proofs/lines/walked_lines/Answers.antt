@@ -12,4 +12,4 @@ returns-in-Ok c =
     let counted = c.in-Ok.ensures [] (record { front = []; later = []; is = refl; holds = c.in_ok-lines.ensures c.args.session; whole = λ few. refl }) in
     c.within_limit.ensures c.args.session _
     (subst (λ (found : List ShownRow). IsGathered (AreLinesOf c.args.session) (λ rows. rows) ANSWER_LIMIT found c.walk_joined.new.state)
-    (counted-answer _ c.args.inquiry.now.query c.args.inquiry.now.sets) counted)
+    (counted-answer _ c.args.inquiry.now.query.now c.args.inquiry.now.sets) counted)
