@@ -13,13 +13,12 @@ ghost use Rattle.hippo_judging.specs.Deeds.{Question as AskedQuestion};
 ghost use Rattle.hippo_findings.specs.Watching.{AddsAlarm, AddsAlarms, alarms_now};
 
 use hippo_audit_job::Past;
-use hippo_effects::Reply;
 use hippo_flags::alarm_line;
 use hippo_judging::Asking;
 use hippo_model::{Pair, Query, SharedTuple};
 use hippo_replay::State;
 use hippo_typing::read_meaning;
-use hippo_values::Memory;
+use hippo_values::{Memory, Txt};
 use hippo_watch::{AskedNow, Watch};
 use hippo_world::World;
 use std::alloc::Global;
@@ -29,7 +28,7 @@ fn append_found(
     number: u64,
     question: u64,
     found: Option<SharedTuple>,
-    out: &mut Reply,
+    out: &mut Txt,
 ) -> Result<(), Memory>
     ensures { OnOk result (out.new ≡ out.old
         ++ option_map_or (alarm_text number question) found []) }
@@ -50,7 +49,7 @@ fn append_alarm(
     asked: &AskedNow<'_>,
     number: u64,
     held: &Option<Watch>,
-    out: &mut Reply,
+    out: &mut Txt,
 ) -> Result<(), Memory>
     requires some { AreOfSome asked.now.tables.now }
     requires below { asked.now.past.count + 1 < 2 ^ 63 }
@@ -70,7 +69,7 @@ fn append_alarms(
     alloc: Global,
     asked: &AskedNow<'_>,
     watches: &[Option<Watch>],
-    out: &mut Reply,
+    out: &mut Txt,
 ) -> Result<(), Memory>
     requires some { AreOfSome asked.now.tables.now }
     requires below { asked.now.past.count + 1 < 2 ^ 63 }
@@ -103,7 +102,7 @@ fn print_alarms(
     world: &World,
     pair: &Pair,
     meant: Option<Query>,
-    out: &mut Reply,
+    out: &mut Txt,
 ) -> Result<(), Memory>
     requires sound { IsSound state.now }
     requires below { state.now.count + 1 < 2 ^ 63 }
@@ -141,7 +140,7 @@ fn tell_alarms(
     state: &State,
     world: &World,
     asking: &Asking<'_>,
-    out: &mut Reply,
+    out: &mut Txt,
 ) -> Result<(), Memory>
     requires sound { IsSound state.now }
     requires below { state.now.count + 1 < 2 ^ 63 }
@@ -165,14 +164,14 @@ pub fn alarms_of(
     state: &State,
     world: &World,
     asking: &Asking<'_>,
-) -> Result<Reply, Memory>
+) -> Result<Txt, Memory>
     requires sound { IsSound state.now }
     requires below { state.now.count + 1 < 2 ^ 63 }
     ensures { IfOk result (λ said. (session : ℕ) (history : History) → StandsFor state.now history
         → WatchesFit history world.now
         → said ≡ alarms_now history (world_of world.now) (question_of session asking.now)) }
 {
-    let mut said = Reply::with_room(alloc)?;
+    let mut said = Txt::new(alloc);
     tell_alarms(alloc, state, world, asking, &mut said)?;
     Ok(said)
 }

@@ -324,7 +324,7 @@ fn hand_out(
     alloc: Global,
     session: u8,
     answer: Result<Answered, EvalFault>,
-    alarms: Result<Reply, Memory>,
+    alarms: Result<Txt, Memory>,
     world: &mut World,
     reply: &mut Reply,
 )
@@ -352,7 +352,7 @@ fn hand_out(
 pub fn reply_to(
     alloc: Global,
     session: u8,
-    alarms: Result<Reply, Memory>,
+    alarms: Result<Txt, Memory>,
     kept: Result<Result<Answered, EvalFault>, KeeperFault>,
     world: &mut World,
     reply: &mut Reply,

@@ -9,4 +9,4 @@ use Rattle.hippo_findings.proofs.alarms.alarms_of.Goals as goal
 pub returns : goal.returns
 returns c = λ session history stands fit.
     c.in_ok-tell_alarms.ensures session history stands fit
-    ∙ ap (λ (text : Txt). text ++ alarms_now history (world_of c.args.world.now) (question_of session c.args.asking.now)) c.in_ok-said.ensures
+    ∙ ap (λ (text : Txt). text ++ alarms_now history (world_of c.args.world.now) (question_of session c.args.asking.now)) c.new-said.ensures
