@@ -12,7 +12,7 @@ pub enum ReadFault {
     #[error("the keeper failed")]
     Keeper,
     /// The number of an entry that was handed over and does not fit what was asked for.
-    #[error("the kept history is damaged")]
+    #[error("an entry does not fit what was asked for")]
     Damaged(u64),
     /// The allocator refused.
     #[error("out of memory")]

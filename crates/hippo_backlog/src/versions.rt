@@ -37,13 +37,9 @@ pub struct Versions {
 impl Model for Versions {
     ghost use Rattle.hippo_backlog.specs.Backlogs.{HeldVersions};
 
-    ghost Value = { HeldVersions };
+    ghost view = { λ held. record { rows = held.rows; ahead = held.ahead; place = held.place } };
 
-    ghost view = { λ versions. record {
-      rows = versions.rows;
-      ahead = versions.ahead;
-      place = versions.place;
-    } };
+    ghost Value = { HeldVersions };
 }
 
 impl Versions {
