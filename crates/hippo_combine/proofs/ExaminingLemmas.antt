@@ -208,16 +208,14 @@ module _ (past : Past) (audit : Audit) (entry : Entry) (query : Query) (old new 
         let means_there : meaning (take number history) text ≡ Some query = ap (λ n. meaning (take n history) text) place ∙ means in
         let created = created_by_meaning (take number history) text query (front_valid history number its.valid) means_there in
         let last = all-from (λ (table : Name). is_some (schema_at (take number history) table) ≡ true) (λ (table : Name). is_some (schema_at history table) ≡ true) (λ table. some_lasts history number its.valid table (schema_at (take number history) table) refl) query.tables created in
-        let known : AreKnown past.catalog.now.names query.tables = are_known past.catalog.now.names history its.valid its.names query.tables last in
-        let audit_known : AreKnown past.catalog.now.names audit.tables = are_known past.catalog.now.names history its.valid its.names audit.tables audit_is.created in
         let holds : HoldsBoth past.book.now new.tables.items number history query audit = record {
           valid = its.valid;
           book_is = its.book;
           fits = fits;
           audit_is = audit_is;
           names = names;
-          audit_held = audit_held audit_known;
-          query_held = query_held known;
+          audit_held = audit_held (are_known past.catalog.now.names history its.valid its.names audit.tables audit_is.created);
+          query_held = query_held (are_known past.catalog.now.names history its.valid its.names query.tables last);
           created = created;
         } in
         shares history (subst (λ (t : List HeldLives). HoldsBoth past.book.now t number history query audit) (sym same) holds) user purpose recipient text is ∙ ap (λ n. first_serving (take n history) context query audit) place

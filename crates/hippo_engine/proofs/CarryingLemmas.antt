@@ -192,10 +192,10 @@ Carries-written command (Err Write) old new before after steps steps' done carri
   call = carries.call;
   sound = carries.sound;
   timely = carries.timely;
+  undamaged = λ tells history holds number damaged. cc;
   idle = carries.idle;
   carried = carries.carried;
   failed = carries.failed;
-  undamaged = λ tells history holds number damaged. cc;
 }
 
 -- what may want memory to be read takes memory, and is not nobody's
