@@ -1,5 +1,5 @@
 -- From the checks of each command to what judging it finds.
-use Rattle.std.proofs.Common.{◌≡◌, ◌∙◌, ◌≤◌, ◌<◌, ◌^◌, ℕ, inl, inr, refl, sym, ap, subst, Bool, true, false, length, Option, Some, None, Result, Ok, Err}
+use Rattle.std.proofs.Common.{◌≡◌, ◌∙◌, ◌≤◌, ◌<◌, ◌^◌, ℕ, inl, inr, refl, sym, ap, subst, true, false, length, Option, Some, None, Result, Ok, Err}
 use Rattle.std.specs.Prelude.{is_some, ok_or}
 use Rattle.std.proofs.lemmas.Bool.{false≢true}
 use Rattle.hippo_values.specs.Texts.{Txt}
@@ -34,6 +34,8 @@ use Rattle.hippo_judging.specs.Asking.{is_asking, statement_asked, written_state
 use Rattle.hippo_judging.specs.declared.deeds.Deed.{Deed}
 use Rattle.hippo_judging.specs.declared.deeds.Deed.TheVariants as kinds
 use Rattle.hippo_judging.specs.declared.deeds.Unjudged.{Unjudged}
+use Rattle.hippo_judging.specs.declared.statements.LastingAudit.{LastingAudit}
+use Rattle.hippo_judging.specs.declared.statements.LastingAudit.TheVariants.{Job, Watch}
 use Rattle.hippo_judging.specs.Checks.{Checked, Refuses, by_console, by_session, open_session, cursor_in_session, job_at, StandsJob, held_watch, reply_room}
 use Rattle.hippo_judging.specs.Deeds as deeds
 use Rattle.hippo_judging.specs.Changes.{IsChange}
@@ -213,13 +215,13 @@ module _ (state : State) (world : World) (written : RawAudit) (text : Txt) where
         judged_audit (λ one. ok_or free limit >>= λ number. Ok (make number one)) history stands ∙ at_free make limit free found is
 
     -- a job begins where a number is free, and a watch is set
-    pub may_begin : (is_watch : Bool) (found : Option ℕ) → free_to_begin is_watch world ≡ found → FindsDeed (commands.make_statement Console (begins is_watch written) text) (begun_with is_watch audit found) state world
-    may_begin false (Some number) free = ((written, text, refl), means, free, begun deeds.begin_audit JobLimit (free_number world.jobs) (Some number) free)
-    may_begin true (Some number) free = ((written, text, refl), means, begun deeds.watch WatchLimit (free_number world.watches) (Some number) free)
-    may_begin false None free =
+    pub may_begin : (lasting : LastingAudit) (found : Option ℕ) → free_to_begin lasting world ≡ found → FindsDeed (commands.make_statement Console (begins lasting written) text) (begun_with lasting audit found) state world
+    may_begin Job (Some number) free = ((written, text, refl), means, free, begun deeds.begin_audit JobLimit (free_number world.jobs) (Some number) free)
+    may_begin Watch (Some number) free = ((written, text, refl), means, begun deeds.watch WatchLimit (free_number world.watches) (Some number) free)
+    may_begin Job None free =
         refused_or_short (commands.make_statement Console (stmt.BeginAudit written) text) JobLimit state world refl
         (λ history stands. inl (begun deeds.begin_audit JobLimit (free_number world.jobs) None free history stands))
-    may_begin true None free =
+    may_begin Watch None free =
         refused_or_short (commands.make_statement Console (stmt.Watch written) text) WatchLimit state world refl
         (λ history stands. inl (begun deeds.watch WatchLimit (free_number world.watches) None free history stands))
 
@@ -232,16 +234,16 @@ refused_audit state world written command next refusal takes begins refuses =
     (λ history stands. subst (λ (judgement : Checked deeds.Deed). Refuses judgement refusal) (sym (begins history))
     (refuses_on (audit_in history Console written) next refusal (refuses history stands)))
 
--- so is what sets a watch, or begins a job
-pub refused_begin : (state : State) (world : World) (written : RawAudit) (text : Txt) (is_watch : Bool) (refusal : Refusal)
+-- so is what begins a job, or sets a watch
+pub refused_begin : (state : State) (world : World) (written : RawAudit) (text : Txt) (lasting : LastingAudit) (refusal : Refusal)
     → ((history : History) → StandsFor state history → Refuses (audit_in history Console written) refusal)
-    → IsRefused (commands.make_statement Console (begins is_watch written) text) refusal state world
-refused_begin state world written text true refusal refuses =
-    refused_audit state world written (commands.make_statement Console (stmt.Watch written) text)
-    (λ audit. ok_or (free_number world.watches) WatchLimit >>= λ number. Ok (deeds.watch number audit)) refusal refl (λ history. refl) refuses
-refused_begin state world written text false refusal refuses =
+    → IsRefused (commands.make_statement Console (begins lasting written) text) refusal state world
+refused_begin state world written text Job refusal refuses =
     refused_audit state world written (commands.make_statement Console (stmt.BeginAudit written) text)
     (λ audit. ok_or (free_number world.jobs) JobLimit >>= λ number. Ok (deeds.begin_audit number audit)) refusal refl (λ history. refl) refuses
+refused_begin state world written text Watch refusal refuses =
+    refused_audit state world written (commands.make_statement Console (stmt.Watch written) text)
+    (λ audit. ok_or (free_number world.watches) WatchLimit >>= λ number. Ok (deeds.watch number audit)) refusal refl (λ history. refl) refuses
 
 -- ---- changes
 module _ (state : State) (world : World) (command : Command) (judgement : History → Checked deeds.Deed) (takes : may_do_nothing command ≡ true)

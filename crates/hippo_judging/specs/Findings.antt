@@ -37,6 +37,8 @@ use Rattle.hippo_judging.specs.declared.deeds.Deed.TheVariants as kinds
 use Rattle.hippo_judging.specs.declared.deeds.Question.{Question}
 use Rattle.hippo_judging.specs.declared.deeds.Unjudged.{Unjudged}
 use Rattle.hippo_judging.specs.declared.deeds.Unjudged.TheVariants.{Refused, NoQuestion, Unread}
+use Rattle.hippo_judging.specs.declared.statements.LastingAudit.{LastingAudit}
+use Rattle.hippo_judging.specs.declared.statements.LastingAudit.TheVariants.{Job, Watch}
 use Rattle.hippo_judging.specs.Asking.{IsAnswerable, question_entry}
 use Rattle.hippo_judging.specs.Changes.{IsChange}
 use Rattle.hippo_judging.specs.Checks.{Checked, Refuses, question_at, reply_room}
@@ -184,29 +186,29 @@ abbrev pub FindsDeed : Command → Result Deed Refusal → State → World → T
 FindsDeed command (Ok deed) state world = Does command deed state world
 FindsDeed command (Err refusal) state world = IsRefused command refusal state world
 
--- the statement that sets a watch, or begins a job
-abbrev pub begins : Bool → RawAudit → Stmt
-begins true written = stmt.Watch written
-begins false written = stmt.BeginAudit written
+-- the statement that begins a job, or sets a watch
+abbrev pub begins : LastingAudit → RawAudit → Stmt
+begins Job written = stmt.BeginAudit written
+begins Watch written = stmt.Watch written
 
 -- why there is no further one
-abbrev pub limit_of : Bool → Refusal
-limit_of true = WatchLimit
-limit_of false = JobLimit
+abbrev pub limit_of : LastingAudit → Refusal
+limit_of Job = JobLimit
+limit_of Watch = WatchLimit
 
-abbrev pub begun_at : Bool → ℕ → Audit → Deed
-begun_at true number audit = kinds.Watch number audit
-begun_at false number audit = kinds.BeginAudit number audit
+abbrev pub begun_at : LastingAudit → ℕ → Audit → Deed
+begun_at Job number audit = kinds.BeginAudit number audit
+begun_at Watch number audit = kinds.Watch number audit
 
 -- it gets the number that is free; or none is, and that refuses it
-abbrev pub begun_with : Bool → Audit → Option ℕ → Checked Deed
-begun_with is_watch audit (Some number) = Ok (begun_at is_watch number audit)
-begun_with is_watch audit None = Err (limit_of is_watch)
+abbrev pub begun_with : LastingAudit → Audit → Option ℕ → Checked Deed
+begun_with lasting audit (Some number) = Ok (begun_at lasting number audit)
+begun_with lasting audit None = Err (limit_of lasting)
 
 -- the lowest number that is free for it
-abbrev pub free_to_begin : Bool → World → Option ℕ
-free_to_begin true world = free_number world.watches
-free_to_begin false world = free_number world.jobs
+abbrev pub free_to_begin : LastingAudit → World → Option ℕ
+free_to_begin Job world = free_number world.jobs
+free_to_begin Watch world = free_number world.watches
 
 -- the question with a number was looked up in a history, or memory was short, or the keeper failed;
 -- no step is taken for one that is there

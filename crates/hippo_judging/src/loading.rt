@@ -163,17 +163,17 @@ pub(crate) fn entry_of_record<W: WorldView>(
     alloc: Global,
     state: &State,
     world: &W,
-    record: &Record<'_>,
+    loaded: &Record<'_>,
 ) -> Result<Entry, Refusal>
     requires timely { IsTimely state.now (W.seen world.now).clock }
     ensures found { (history : History) → StandsFor state.now history
         → FindsChange history (W.seen world.now)
-        (judged_load history (W.seen world.now) Console record.now.table.now record.now.text.now)
+        (judged_load history (W.seen world.now) Console loaded.now.table.now loaded.now.text.now)
         result }
     ensures number { IfOk result (λ entry. entry.seq < 2 ^ 63) }
     ensures follows { IfOk result (λ entry. MayFollow state.now entry) }
 {
-    match insert_of(alloc, &state.catalog, record.table, record.text) {
+    match insert_of(alloc, &state.catalog, loaded.table, loaded.text) {
         Ok(insert) => {
             let found = entry_of_change(alloc, state, world, &insert);
             drop(insert);

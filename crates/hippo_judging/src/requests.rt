@@ -143,10 +143,7 @@ fn judge_step<W: WorldView>(world: &W, job: u8, count: u32) -> Result<Deed<'stat
         → FindsDeed (commands.make_request Console (requests.steps job count)) result state
         (W.seen world.now) }
 {
-    match check_job(world, job) {
-        Ok(()) => Ok(Deed::StepJob { job, count }),
-        Err(refusal) => Err(refusal),
-    }
+    check_job(world, job).map(|()| Deed::StepJob { job, count })
 }
 
 fn judge_drop<W: WorldView>(world: &W, job: u8) -> Result<Deed<'static>, Refusal>
@@ -154,10 +151,7 @@ fn judge_drop<W: WorldView>(world: &W, job: u8) -> Result<Deed<'static>, Refusal
         → FindsDeed (commands.make_request Console (requests.drops job)) result state
         (W.seen world.now) }
 {
-    match check_job(world, job) {
-        Ok(()) => Ok(Deed::DropJob { job }),
-        Err(refusal) => Err(refusal),
-    }
+    check_job(world, job).map(|()| Deed::DropJob { job })
 }
 
 fn judge_unwatch<W: WorldView>(world: &W, watch: u8) -> Result<Deed<'static>, Refusal>
@@ -165,24 +159,21 @@ fn judge_unwatch<W: WorldView>(world: &W, watch: u8) -> Result<Deed<'static>, Re
         → FindsDeed (commands.make_request Console (requests.unwatches watch)) result state
         (W.seen world.now) }
 {
-    match held_watch(world, watch) {
-        Ok(()) => Ok(Deed::EndWatch { watch }),
-        Err(refusal) => Err(refusal),
-    }
+    held_watch(world, watch).map(|()| Deed::EndWatch { watch })
 }
 
 fn judge_load<W: WorldView>(
     alloc: Global,
     state: &State,
     world: &W,
-    record: &Record<'_>,
+    loaded: &Record<'_>,
 ) -> Result<Deed<'static>, Refusal>
     requires timely { IsTimely state.now (W.seen world.now).clock }
     ensures { FindsDeed (commands.make_request Console
-        (requests.loads record.now.table.now record.now.text.now)) result state.now
+        (requests.loads loaded.now.table.now loaded.now.text.now)) result state.now
         (W.seen world.now) }
 {
-    match entry_of_record(alloc, state, world, record) {
+    match entry_of_record(alloc, state, world, loaded) {
         Ok(entry) => Ok(Deed::Change { entry }),
         Err(refusal) => Err(refusal),
     }
@@ -190,11 +181,11 @@ fn judge_load<W: WorldView>(
 
 // What is to be done for what a short word asks for in a session; what is the console's is refused.
 fn request_of_session<W: WorldView>(
+    asked: &RequestForm<'_>,
     alloc: Global,
     state: &State,
     world: &W,
     session: u8,
-    asked: &RequestForm<'_>,
 ) -> Result<Deed<'static>, Refusal>
     ensures { FindsDeed (commands.make_request (Session session) (request asked.now)) result
         state.now (W.seen world.now) }
@@ -217,10 +208,10 @@ fn request_of_session<W: WorldView>(
 
 // What is to be done for what a short word asks for at the console; what is a session's is refused.
 fn request_of_console<W: WorldView>(
+    asked: &RequestForm<'_>,
     alloc: Global,
     state: &State,
     world: &W,
-    asked: &RequestForm<'_>,
 ) -> Result<Deed<'static>, Refusal>
     requires timely { IsTimely state.now (W.seen world.now).clock }
     ensures { FindsDeed (commands.make_request Console (request asked.now)) result state.now
@@ -282,8 +273,8 @@ pub(crate) fn judge_request<W: WorldView>(
         (W.seen world.now) }
 {
     match who {
-        Speaker::Session(session) => request_of_session(alloc, state, world, session, asked),
-        Speaker::Console => request_of_console(alloc, state, world, asked),
+        Speaker::Session(session) => request_of_session(asked, alloc, state, world, session),
+        Speaker::Console => request_of_console(asked, alloc, state, world),
         Speaker::Nobody => Err(refused_to_nobody(asked)),
     }
 }

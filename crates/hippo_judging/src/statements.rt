@@ -58,67 +58,77 @@ fn judge_audit(alloc: Global, state: &State, written: &RawAudit) -> Result<Deed<
     }
 }
 
-fn limit_of(is_watch: bool) -> Refusal
-    ensures { result ≡ limit_of is_watch }
+// An audit that lasts beyond its line: a job, which looks back step by step, or a watch on later
+// questions.
+#[derive(Clone, Copy)]
+enum LastingAudit {
+    Job,
+    Watch,
+}
+
+fn limit_of(lasting: LastingAudit) -> Refusal
+    ensures { result ≡ limit_of lasting }
 {
-    if is_watch {
-        Refusal::WatchLimit
-    } else {
-        Refusal::JobLimit
+    match lasting {
+        LastingAudit::Job => Refusal::JobLimit,
+        LastingAudit::Watch => Refusal::WatchLimit,
     }
 }
 
-fn begun_at(is_watch: bool, audit: Audit, number: usize) -> Deed<'static>
-    ensures { result ≡ begun_at is_watch number audit }
+fn begun_at(lasting: LastingAudit, audit: Audit, number: usize) -> Deed<'static>
+    ensures { result ≡ begun_at lasting number audit }
 {
-    if is_watch {
-        return Deed::Watch {
+    match lasting {
+        LastingAudit::Job => Deed::BeginAudit { job: number, audit },
+        LastingAudit::Watch => Deed::Watch {
             watch: number,
             audit,
-        };
+        },
     }
-    Deed::BeginAudit { job: number, audit }
 }
 
-// The lowest number that is free for a watch, or for a job.
-fn free_number<W: WorldView>(world: &W, is_watch: bool) -> Option<usize>
-    ensures { result ≡ free_to_begin is_watch (W.seen world.now) }
+// The lowest number that is free for a job, or for a watch.
+fn free_number<W: WorldView>(world: &W, lasting: LastingAudit) -> Option<usize>
+    ensures { result ≡ free_to_begin lasting (W.seen world.now) }
 {
-    if is_watch {
-        world.free_watch()
-    } else {
-        world.free_job()
+    match lasting {
+        LastingAudit::Job => world.free_job(),
+        LastingAudit::Watch => world.free_watch(),
     }
 }
 
-// A watch gets the number that is free, and so does a job.
-fn begun_with(is_watch: bool, audit: Audit, free: Option<usize>) -> Result<Deed<'static>, Refusal>
-    ensures { result ≡ begun_with is_watch audit free }
+// A job gets the number that is free, and so does a watch.
+fn begun_with(
+    lasting: LastingAudit,
+    audit: Audit,
+    free: Option<usize>,
+) -> Result<Deed<'static>, Refusal>
+    ensures { result ≡ begun_with lasting audit free }
 {
     match free {
-        Some(number) => Ok(begun_at(is_watch, audit, number)),
+        Some(number) => Ok(begun_at(lasting, audit, number)),
         None => {
             drop(audit);
-            Err(limit_of(is_watch))
+            Err(limit_of(lasting))
         }
     }
 }
 
-// WATCH, and BEGIN AUDIT.
+// BEGIN AUDIT, and WATCH.
 fn judge_begin<W: WorldView>(
     alloc: Global,
     state: &State,
     world: &W,
-    is_watch: bool,
+    lasting: LastingAudit,
     written: &RawAudit,
 ) -> Result<Deed<'static>, Refusal>
     requires sound { IsSound state.now }
     ensures { (text : Text) → FindsDeed (commands.make_statement Console
-        (begins is_watch written.now) text) result
+        (begins lasting written.now) text) result
         state.now (W.seen world.now) }
 {
     match audit_in(alloc, state, written) {
-        Ok(audit) => begun_with(is_watch, audit, free_number(world, is_watch)),
+        Ok(audit) => begun_with(lasting, audit, free_number(world, lasting)),
         Err(refusal) => Err(refusal),
     }
 }
@@ -200,8 +210,20 @@ fn statement_of_console<P: Keeper, L: Ledger, W: WorldView>(
     match statement {
         Stmt::Explain(number) => look_up(alloc, state, keeper, number, steps),
         Stmt::Audit(written) => unread(judge_audit(alloc, state, written)),
-        Stmt::BeginAudit(written) => unread(judge_begin(alloc, state, world, false, written)),
-        Stmt::Watch(written) => unread(judge_begin(alloc, state, world, true, written)),
+        Stmt::BeginAudit(written) => unread(judge_begin(
+            alloc,
+            state,
+            world,
+            LastingAudit::Job,
+            written,
+        )),
+        Stmt::Watch(written) => unread(judge_begin(
+            alloc,
+            state,
+            world,
+            LastingAudit::Watch,
+            written,
+        )),
         _ => match written_question(statement) {
             Some(_) => Err(Unjudged::Refused(Refusal::SessionsOnly)),
             None => unread(judge_change(alloc, state, world, statement)),

@@ -9,12 +9,12 @@ use Rattle.hippo_judging.proofs.requests.judge_load.Goals as goal
 
 pub returns-in-Ok : goal.returns-in-Ok
 returns-in-Ok g c =
-    may_change c.args.state.now (g.W.WorldView.seen c.args.world.now) (make_request Console (loads c.args.record.now.table.now c.args.record.now.text.now)) (λ history. judged_load history (g.W.WorldView.seen c.args.world.now) Console c.args.record.now.table.now c.args.record.now.text.now) refl
+    may_change c.args.state.now (g.W.WorldView.seen c.args.world.now) (make_request Console (loads c.args.loaded.now.table.now c.args.loaded.now.text.now)) (λ history. judged_load history (g.W.WorldView.seen c.args.world.now) Console c.args.loaded.now.table.now c.args.loaded.now.text.now) refl
     (λ history. refl)
     c.in-Ok.entry refl c.in-Ok.ensures.found c.in-Ok.ensures.number c.in-Ok.ensures.follows
 
 pub returns-in-Err : goal.returns-in-Err
 returns-in-Err g c =
-    refused_change c.args.state.now (g.W.WorldView.seen c.args.world.now) (make_request Console (loads c.args.record.now.table.now c.args.record.now.text.now)) (λ history. judged_load history (g.W.WorldView.seen c.args.world.now) Console c.args.record.now.table.now c.args.record.now.text.now) refl
+    refused_change c.args.state.now (g.W.WorldView.seen c.args.world.now) (make_request Console (loads c.args.loaded.now.table.now c.args.loaded.now.text.now)) (λ history. judged_load history (g.W.WorldView.seen c.args.world.now) Console c.args.loaded.now.table.now c.args.loaded.now.text.now) refl
     (λ history. refl)
     c.in-Err.refusal c.in-Err.ensures.found

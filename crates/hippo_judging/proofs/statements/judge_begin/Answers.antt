@@ -9,12 +9,12 @@ use Rattle.hippo_judging.proofs.statements.judge_begin.Goals as goal
 
 pub returns-in-Ok : goal.returns-in-Ok
 returns-in-Ok g c = λ text.
-    let command = commands.make_statement Console (begins c.args.is_watch c.args.written.now) text in
+    let command = commands.make_statement Console (begins c.args.lasting c.args.written.now) text in
     let finds = may_begin c.args.state.now (g.W.WorldView.seen c.args.world.now) c.args.written.now text c.in-Ok.audit
-    (record { fits = c.in-Ok.ensures.audit; differ = c.in-Ok.ensures.differ }) c.in-Ok.ensures.found c.args.is_watch (free_to_begin c.args.is_watch (g.W.WorldView.seen c.args.world.now)) refl in
+    (record { fits = c.in-Ok.ensures.audit; differ = c.in-Ok.ensures.differ }) c.in-Ok.ensures.found c.args.lasting (free_to_begin c.args.lasting (g.W.WorldView.seen c.args.world.now)) refl in
     subst (λ (found : Checked Deed). FindsDeed command found c.args.state.now (g.W.WorldView.seen c.args.world.now))
-    (sym (c.begun_with.ensures ∙ ap (begun_with c.args.is_watch c.in-Ok.audit) c.free_number.ensures)) finds
+    (sym (c.begun_with.ensures ∙ ap (begun_with c.args.lasting c.in-Ok.audit) c.free_number.ensures)) finds
 
 pub returns-in-Err : goal.returns-in-Err
 returns-in-Err g c = λ text.
-    refused_begin c.args.state.now (g.W.WorldView.seen c.args.world.now) c.args.written.now text c.args.is_watch c.in-Err.refusal c.in-Err.ensures.found
+    refused_begin c.args.state.now (g.W.WorldView.seen c.args.world.now) c.args.written.now text c.args.lasting c.in-Err.refusal c.in-Err.ensures.found
