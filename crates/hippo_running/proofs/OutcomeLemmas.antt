@@ -1,5 +1,5 @@
 -- What a load, and what follows it, come to.
-use Rattle.std.proofs.Common.{◌≡◌, ◌≢◌, inl, inr, true, ℕ, ◌+◌, Option, refl, sym, subst, ◌∙◌}
+use Rattle.std.proofs.Common.{◌≡◌, ◌≢◌, ◌&&◌, not, inl, inr, Bool, true, false, ℕ, ◌+◌, Option, refl, sym, ap, subst, ◌∙◌}
 use Rattle.hippo_values.specs.Texts.{Txt}
 use Rattle.hippo_model.specs.Terms.{History}
 use Rattle.hippo_model.specs.Stores.{IsStoreOf}
@@ -9,6 +9,7 @@ use Rattle.hippo_typing.specs.Meanings.{meaning}
 use Rattle.hippo_replay.specs.declared.faults.LoadFault.{LoadFault}
 use Rattle.hippo_replay.specs.declared.state.State.{State}
 use Rattle.hippo_replay.specs.Loading.{KeepsFound, IsLoaded, Loads}
+use Rattle.hippo_replay.specs.Recording.{IsBacked}
 use Rattle.hippo_replay.specs.Standing.{StandsFor}
 use Rattle.hippo_keeper.proofs.Results.{ok_of, err_of}
 use Rattle.hippo_programs.specs.Starting.{Stops}
@@ -27,6 +28,21 @@ use Rattle.hippo_running.proofs.KeptLemmas.{KeepsHistory-found}
 module _ (name : Txt) (state : State) (left written : Option Txt) (before loaded : KeeperState) (start steps : ℕ) (loads : Loads name (ok_of LoadFault state) before loaded start steps) where
   abbrev first : Outside
   first = outside left written before start
+
+  -- what was loaded is kept by a keeper that has begun
+  pub backed : IsBacked state loaded
+  backed =
+      let here : IsLoaded state loaded start steps = loads.ok in
+      record {
+        sound = record { history = here.history; stands = here.stands };
+        ready = record {
+          is_sound = loads.call.is_sound;
+          started_is = loads.started refl;
+          not_closed = loads.call.closed_is ∙ ap (λ (begun : Bool). not begun && false) (loads.started refl);
+          not_spent = loads.call.spent_is;
+        };
+        told = λ tells. record { history = here.history; forms = here.told tells; stands = here.stands };
+      }
 
   module _ (tells : loaded.tells) where
     abbrev found : KeepsFound (before.finds name) loaded

@@ -43,10 +43,11 @@ module _ (input : Txt) (handed : List LineText) (reader : Position) (left : Opti
   pub given_up : (status : ℕ) → status ≢ 0 → ((status ≡ 8) ↔ (input_limit < reader.taken)) → HasTakenBytes status input left
   given_up status not_all limit = record { taken = reader.taken; within = up.within; others = up.told; all = λ is. absurd (not_all is); limit = limit }
 
-module _ (job : Job) (line : Option LineText) (result : Option Ending) (engine engine' : Engine) (keeper keeper' : KeeperState) (output output' : Option Txt) (steps steps' : ℕ)
-    (turn : line ≢ None → Turn result (input_command (option_map (asked_line job) (option_map (counted_line job) line))) engine engine' keeper keeper' output output' steps steps')
-    (end : line ≡ None → (result ≡ Some Served) × (engine' ≡ engine) × (output' ≡ output) × (steps' ≡ steps))
-    (same : line ≡ None → keeper' ≡ keeper) where
+module _ (job : Job) (line asked : Option LineText) (result : Option Ending) (engine engine' : Engine) (keeper keeper' : KeeperState) (output output' : Option Txt) (steps steps' : ℕ)
+    (asks_for : asked ≡ option_map (asked_line job) (option_map (counted_line job) line))
+    (turn : asked ≢ None → Turn result (input_command asked) engine engine' keeper keeper' output output' steps steps')
+    (end : asked ≡ None → (result ≡ Some Served) × (engine' ≡ engine) × (output' ≡ output) × (steps' ≡ steps))
+    (same : asked ≡ None → keeper' ≡ keeper) where
   module _ (input : Txt) (reader reader' : Position) (left left' : Option Txt) (reading : IsHandingOut input reader left) (limit : reader'.taken ≤ input_limit) where
     abbrev Handed : Option LineText → Type 0
     Handed l = MatchOption l (HasHandedOut input reading.handed reader' left' × (reading.handed ≡ lines input) × (left' ≡ Some []))
@@ -76,7 +77,7 @@ module _ (job : Job) (line : Option LineText) (result : Option Ending) (engine e
     }
 
     pub read_by_turn : Handed line → MatchOption result (IsHandingOut input reader' left') (λ ending. HasTakenBytes (status_of ending) input left')
-    read_by_turn handed = by_line job line result engine engine' keeper keeper' output output' steps steps' turn end same
+    read_by_turn handed = by_line job line asked result engine engine' keeper keeper' output output' steps steps' asks_for turn end same
         (λ r. MatchOption r (IsHandingOut input reader' left') (λ ending. HasTakenBytes (status_of ending) input left'))
         (λ is. all_taken (subst Handed is handed))
         (λ text is carries writes. record { handed = reading.handed ++ text ∷ []; handing = subst Handed is handed })

@@ -88,16 +88,24 @@ module _ (engine engine' : Engine) (keeper keeper' : KeeperState) (output output
     told = held_after command engine engine' keeper keeper' steps steps' carries at_work.told;
   }
 
-module _ (job : Job) (line : Option LineText) (result : Option Ending) (engine engine' : Engine) (keeper keeper' : KeeperState) (output output' : Option Txt) (steps steps' : ℕ)
-    (turn : line ≢ None → Turn result (input_command (option_map (asked_line job) (option_map (counted_line job) line))) engine engine' keeper keeper' output output' steps steps')
-    (end : line ≡ None → (result ≡ Some Served) × (engine' ≡ engine) × (output' ≡ output) × (steps' ≡ steps))
-    (same : line ≡ None → keeper' ≡ keeper) where
+module _ (job : Job) (line asked : Option LineText) (result : Option Ending) (engine engine' : Engine) (keeper keeper' : KeeperState) (output output' : Option Txt) (steps steps' : ℕ)
+    (asks_for : asked ≡ option_map (asked_line job) (option_map (counted_line job) line))
+    (turn : asked ≢ None → Turn result (input_command asked) engine engine' keeper keeper' output output' steps steps')
+    (end : asked ≡ None → (result ≡ Some Served) × (engine' ≡ engine) × (output' ≡ output) × (steps' ≡ steps))
+    (same : asked ≡ None → keeper' ≡ keeper) where
   -- the command of what a job asks for where it reads a line
   abbrev asks : LineText → Command
   asks text = command_of (asked_line job (counted_line job text))
 
   abbrev Carried : Command → Result (Unit {0}) EngineFault → Type 0
   Carried command answer = Carries {A = Unit {0}} command answer engine engine' keeper keeper' steps steps'
+
+  -- a job asks for a line just where it reads one
+  asked_at : (l : Option LineText) → line ≡ l → asked ≡ option_map (asked_line job) (option_map (counted_line job) l)
+  asked_at l is = asks_for ∙ ap (λ (o : Option LineText). option_map (asked_line job) (option_map (counted_line job) o)) is
+
+  none_asked : line ≡ None → asked ≡ None
+  none_asked is = asked_at None is
 
   pub by_line : (Q : Option Ending → Type 0) → (line ≡ None → Q (Some Served))
       → ((text : LineText) → line ≡ Some text → Carried (asks text) (Ok tt) → Appends output output' engine'.reply → Q None)
@@ -108,10 +116,10 @@ module _ (job : Job) (line : Option LineText) (result : Option Ending) (engine e
   by_line Q done on broken cut damaged = at line refl
     where
       at : (l : Option LineText) → line ≡ l → Q result
-      at None is = subst Q (sym (end is).0) (done is)
+      at None is = subst Q (sym (end (none_asked is)).0) (done is)
       at (Some text) is = by_turn engine engine' keeper keeper' output output' steps steps' Q (asks text) (on text is) (broken text is) (cut text is) (damaged text is) result
-          (subst (λ (l : Option LineText). Turn result (input_command (option_map (asked_line job) (option_map (counted_line job) l))) engine engine' keeper keeper' output output' steps steps') is
-          (turn (λ none. some_line text (sym is ∙ none))))
+          (subst (λ (l : Option LineText). Turn result (input_command l) engine engine' keeper keeper' output output' steps steps') (asked_at (Some text) is)
+          (turn (λ none. some_line (asked_line job (counted_line job text)) (sym (asked_at (Some text) is) ∙ none))))
 
   pub status_of_turn : (result ≢ Some Refused) × (result ≢ Some NoMemory)
   status_of_turn = by_line (λ r. (r ≢ Some Refused) × (r ≢ Some NoMemory))
@@ -127,7 +135,7 @@ module _ (job : Job) (line : Option LineText) (result : Option Ending) (engine e
 
   pub call_of_turn : IsReady true keeper → IsAfterCall true false (part_as_call result) keeper keeper'
   call_of_turn ready = by_line (λ r. IsAfterCall true false (part_as_call r) keeper keeper')
-      (λ is. subst (λ (k : KeeperState). IsAfterCall true false (part_as_call (Some Served)) keeper k) (sym (same is)) (IsAfterCall-none (well Fault) keeper refl ready))
+      (λ is. subst (λ (k : KeeperState). IsAfterCall true false (part_as_call (Some Served)) keeper k) (sym (same (none_asked is))) (IsAfterCall-none (well Fault) keeper refl ready))
       (λ text is carries writes. carries.call)
       (λ text is carries writes. carries.call)
       (λ text is carries writes. carries.call)
@@ -167,7 +175,7 @@ module _ (job : Job) (line : Option LineText) (result : Option Ending) (engine e
 
     pub served_by_turn : Handed line → Ends result
     served_by_turn handed = by_line Ends
-        (λ is. at_end (same is) (end is).2 (end is).3 (subst Handed is handed))
+        (λ is. at_end (same (none_asked is)) (end (none_asked is)).2 (end (none_asked is)).3 (subst Handed is handed))
         (λ text is carries writes. served_more setting job history before reader reader' engine engine' left left' output output' keeper keeper' steps steps' served (counted_line job text) (counts text (subst Handed is handed)) tells carries writes)
         (λ text is carries writes. broken_off setting job history before reader reader' engine engine' left left' output output' keeper keeper' steps steps' served (counted_line job text) (counts text (subst Handed is handed)) tells carries writes limit)
         (λ text is carries writes. unwritten_at setting job history before reader reader' engine engine' left left' output output' keeper keeper' steps steps' served (counted_line job text) (counts text (subst Handed is handed)) tells carries writes limit)

@@ -10,11 +10,12 @@ ghost use Rattle.hippo_running.specs.Outside.{outside};
 ghost use Rattle.hippo_running.specs.Runs.{HasTakenBytes};
 
 use crate::printing::say_entries;
-use crate::serving::serve;
+use crate::serving::Serving;
 use hippo_io::{Sink, Source};
 use hippo_keeper::{Keeper, Steps};
 use hippo_programs::{Ending, stop};
 use hippo_replay::{State, load};
+use hippo_values::Memory;
 use hippo_words::{Job, Setting};
 use std::alloc::Global;
 use std::sync::ledger::Ledger;
@@ -60,7 +61,14 @@ pub fn run<S: Source, K: Sink, P: Keeper, L: Ledger>(
     ensures unfailed_write { result ≢ WriteFault → K.faults sink.new ≡ K.faults sink.old }
 {
     match load(keeper, alloc, store, steps) {
-        Ok(state) => serve(alloc, setting, job, state, source, keeper, sink, steps),
+        Ok(state) => match Serving::begin(alloc, setting, state) {
+            Ok(mut serving) => {
+                let ending = serving.serve_all(source, keeper, sink, steps, job);
+                serving.close();
+                ending
+            }
+            Err(Memory) => Ending::NoMemory,
+        },
         Err(fault) => stop(fault, sink),
     }
 }

@@ -2,14 +2,11 @@
 ghost use Rattle.std.specs.Prelude.{◌≡◌, ◌≢◌, ℕ, ◌+◌, ◌<◌, ◌≤◌, List, [], Some, None, option_map, IfNone, IfOk, MatchOption, true, false};
 ghost use Rattle.hippo_io.specs.Faults.{HasRisen};
 ghost use Rattle.hippo_io.specs.HandingOut.{at_beginning, bytes_handed_out, input_limit, HasHandedOut};
-ghost use Rattle.hippo_io.specs.Lines.{text_line};
 ghost use Rattle.hippo_io.specs.LineTexts.{line_text};
 ghost use Rattle.hippo_model.specs.Terms.{History};
 ghost use Rattle.hippo_model.specs.Versions.{versions};
 ghost use Rattle.hippo_keeper.specs.Keeping.{IsAfterCall};
-ghost use Rattle.hippo_commands.specs.Commands.{command_of, input_command};
-ghost use Rattle.hippo_replay.specs.Standing.{StandsFor};
-ghost use Rattle.hippo_replay.specs.Recording.{IsBacked};
+ghost use Rattle.hippo_commands.specs.Commands.{input_command};
 ghost use Rattle.hippo_world.specs.Holding.{world_of};
 ghost use Rattle.hippo_sessions.specs.Worlds.{opening};
 ghost use Rattle.hippo_engine.specs.Carrying.{Holds, AtWork};
@@ -18,7 +15,7 @@ ghost use Rattle.hippo_programs.specs.declared.endings.Ending.TheVariants.{Serve
 ghost use Rattle.hippo_programs.specs.Endings.{status_of, ending_as_call, part_as_call};
 ghost use Rattle.hippo_running.specs.Endings.{EndsUnread};
 ghost use Rattle.hippo_running.specs.Keeping.{KeepsHistory};
-ghost use Rattle.hippo_running.specs.Loads.{record_line, asked_line, asked_lines, limited_line, counted_line};
+ghost use Rattle.hippo_running.specs.Loads.{asked_line, asked_lines, counted_line};
 ghost use Rattle.hippo_running.specs.Outside.{Told, telling, outside};
 ghost use Rattle.hippo_running.specs.Runs.{opening_after, HasTakenBytes, IsHandingOut, LinesEnd, HasReplied, HasServed, Turn};
 
@@ -30,7 +27,7 @@ use hippo_io::{Line, LineFault, LineReader, Sink, Source};
 use hippo_keeper::{Keeper, Steps};
 use hippo_programs::{Ending, say_damaged};
 use hippo_replay::State;
-use hippo_values::{LINE_LIMIT, Memory, Name};
+use hippo_values::{LINE_LIMIT, Memory};
 use hippo_words::{Job, Setting};
 use std::alloc::Global;
 use std::sync::ledger::Ledger;
@@ -69,242 +66,21 @@ fn carry_out<K: Sink, P: Keeper, L: Ledger>(
     }
 }
 
-// Carries out the line that loads a record of a table. A text that is longer than a line may be is
+// The line that a job asks for where it reads this one. A text that is longer than a line may be is
 // no record.
-fn carry_out_record<K: Sink, P: Keeper, L: Ledger>(
-    alloc: Global,
-    table: &Name,
-    engine: &mut Engine,
-    fields: &str,
-    made: &mut MadeText,
-    keeper: &mut P,
-    sink: &mut K,
-    steps: &mut Steps<L>,
-) -> Option<Ending>
-    requires at_work { AtWork engine.old (P.state keeper.old) }
-    ensures line { Turn result (command_of
-        (record_line table.now (limited_line (text_line fields.now))))
-        engine.old engine.new (P.state keeper.old) (P.state keeper.new)
-        (K.written sink.old) (K.written sink.new) steps.old steps.new }
-    ensures write_fault { result ≡ Some WriteFault
-        → HasRisen (K.faults sink.old) (K.faults sink.new) }
-    ensures unfailed_write { result ≢ Some WriteFault → K.faults sink.new ≡ K.faults sink.old }
-{
-    if fields.len() > LINE_LIMIT {
-        return carry_out(alloc, engine, Line::TooLong, keeper, sink, steps);
-    }
-    make_load(table, fields, made);
-    carry_out(
-        alloc,
-        engine,
-        Line::Text(made.as_str()),
-        keeper,
-        sink,
-        steps,
-    )
-}
-
-// Carries out what a job asks for where it reads a line.
-fn carry_out_asked<K: Sink, P: Keeper, L: Ledger>(
-    alloc: Global,
-    job: &Job,
-    engine: &mut Engine,
-    line: Line<'_>,
-    made: &mut MadeText,
-    keeper: &mut P,
-    sink: &mut K,
-    steps: &mut Steps<L>,
-) -> Option<Ending>
-    requires at_work { AtWork engine.old (P.state keeper.old) }
-    ensures line { line_text line.entry ≢ None →
-        Turn result (input_command (option_map (asked_line job.now)
-        (option_map (counted_line job.now) (line_text line.entry))))
-        engine.old engine.new (P.state keeper.old) (P.state keeper.new)
-        (K.written sink.old) (K.written sink.new) steps.old steps.new }
-    ensures end { line_text line.entry ≡ None →
-        (result ≡ Some Served) × (engine.new ≡ engine.old) × (keeper.new ≡ keeper.old)
-        × (sink.new ≡ sink.old)
-        × (steps.new ≡ steps.old) }
-    ensures write_fault { result ≡ Some WriteFault
-        → HasRisen (K.faults sink.old) (K.faults sink.new) }
-    ensures unfailed_write { result ≢ Some WriteFault → K.faults sink.new ≡ K.faults sink.old }
+fn asked<'t>(job: &Job, line: Line<'t>, made: &'t mut MadeText) -> Line<'t>
+    ensures { line_text result ≡ option_map (asked_line job.now)
+        (option_map (counted_line job.now) (line_text line.entry)) }
 {
     match (job, line) {
         (Job::Load { table, .. }, Line::Text(fields)) => {
-            carry_out_record(alloc, table, engine, fields, made, keeper, sink, steps)
+            if fields.len() > LINE_LIMIT {
+                return Line::TooLong;
+            }
+            make_load(table, fields, made);
+            Line::Text(made.as_str())
         }
-        (_, other) => carry_out(alloc, engine, other, keeper, sink, steps),
-    }
-}
-
-// Sets the clock where a job begins with that; answers how the run ends, where it does. Nothing is
-// read.
-fn serve_first<K: Sink, P: Keeper, L: Ledger>(
-    alloc: Global,
-    job: &Job,
-    engine: &mut Engine,
-    made: &mut MadeText,
-    keeper: &mut P,
-    sink: &mut K,
-    steps: &mut Steps<L>,
-) -> Option<Ending>
-    requires at_work { AtWork engine.old (P.state keeper.old) }
-    ensures status { MatchOption result (AtWork engine.new (P.state keeper.new)) EndsUnread }
-    ensures call { IsAfterCall true false (part_as_call result) (P.state keeper.old)
-        (P.state keeper.new) }
-    ensures served { (P.state keeper.new).tells
-        → (setting : Setting) (history : History) (before : Told) →
-        HasReplied setting history [] before engine.old
-        (outside before.left (K.written sink.old) (P.state keeper.old) steps.old) →
-        MatchOption result
-        (HasReplied setting history (asked_lines job.now []) before engine.new
-        (outside before.left (K.written sink.new) (P.state keeper.new) steps.new))
-        (λ ending. LinesEnd ending setting job.now history before
-        (outside before.left (K.written sink.new) (P.state keeper.new) steps.new)) }
-    ensures write_fault { result ≡ Some WriteFault
-        → HasRisen (K.faults sink.old) (K.faults sink.new) }
-    ensures unfailed_write { result ≢ Some WriteFault → K.faults sink.new ≡ K.faults sink.old }
-{
-    match job {
-        Job::Load { moment, .. } => {
-            make_clock(*moment, made);
-            carry_out(
-                alloc,
-                engine,
-                Line::Text(made.as_str()),
-                keeper,
-                sink,
-                steps,
-            )
-        }
-        _ => None,
-    }
-}
-
-// Reads the next line and carries it out; answers how the run ends, where it does.
-fn serve_line<S: Source, K: Sink, P: Keeper, L: Ledger>(
-    alloc: Global,
-    job: &Job,
-    engine: &mut Engine,
-    reader: &mut LineReader,
-    made: &mut MadeText,
-    source: &mut S,
-    keeper: &mut P,
-    sink: &mut K,
-    steps: &mut Steps<L>,
-) -> Option<Ending>
-    requires reader { reader.old.failure ≡ None }
-    requires at_work { AtWork engine.old (P.state keeper.old) }
-    ensures status { (result ≢ Some Refused) × (result ≢ Some NoMemory) }
-    ensures goes_on { IfNone result ((reader.new.failure ≡ None)
-        × (bytes_handed_out reader.old < bytes_handed_out reader.new)
-        × (reader.new.taken ≤ input_limit)) }
-    ensures at_work { IfNone result (AtWork engine.new (P.state keeper.new)) }
-    ensures call { IsAfterCall true false (part_as_call result) (P.state keeper.old)
-        (P.state keeper.new) }
-    ensures read { (input : List ℕ) → IsHandingOut input reader.old (S.left source.old) →
-        MatchOption result (IsHandingOut input reader.new (S.left source.new))
-        (λ ending. HasTakenBytes (status_of ending) input (S.left source.new)) }
-    ensures served { (P.state keeper.new).tells
-        → (setting : Setting) (history : History) (before : Told) →
-        HasServed setting job.now history before reader.old engine.old
-        (outside (S.left source.old) (K.written sink.old) (P.state keeper.old) steps.old) →
-        MatchOption result
-        (HasServed setting job.now history before reader.new engine.new
-        (outside (S.left source.new) (K.written sink.new) (P.state keeper.new) steps.new))
-        (λ ending. LinesEnd ending setting job.now history before
-        (outside (S.left source.new) (K.written sink.new) (P.state keeper.new) steps.new)) }
-    ensures read_fault { result ≡ Some ReadFault
-        → HasRisen (S.faults source.old) (S.faults source.new) }
-    ensures write_fault { result ≡ Some WriteFault
-        → HasRisen (K.faults sink.old) (K.faults sink.new) }
-    ensures unfailed_read { result ≢ Some ReadFault → S.faults source.new ≡ S.faults source.old }
-    ensures unfailed_write { result ≢ Some WriteFault → K.faults sink.new ≡ K.faults sink.old }
-{
-    match reader.next_line(source) {
-        Ok(line) => carry_out_asked(alloc, job, engine, line, made, keeper, sink, steps),
-        Err(LineFault::Read) => Some(Ending::ReadFault),
-        Err(LineFault::TooMuch) => Some(Ending::TooMuch),
-    }
-}
-
-// Serves lines until the input ends or a fault stops it.
-fn serve_lines<S: Source, K: Sink, P: Keeper, L: Ledger>(
-    alloc: Global,
-    job: &Job,
-    engine: &mut Engine,
-    reader: &mut LineReader,
-    made: &mut MadeText,
-    source: &mut S,
-    keeper: &mut P,
-    sink: &mut K,
-    steps: &mut Steps<L>,
-) -> Ending
-    requires reader { reader.old ≡ at_beginning }
-    requires at_work { AtWork engine.old (P.state keeper.old) }
-    ensures status { (result ≢ Refused) × (result ≢ NoMemory) }
-    ensures call { IsAfterCall true false (ending_as_call result) (P.state keeper.old)
-        (P.state keeper.new) }
-    ensures read { (input : List ℕ) → IsHandingOut input reader.old (S.left source.old) →
-        HasTakenBytes (status_of result) input (S.left source.new) }
-    ensures ends { (P.state keeper.new).tells
-        → (setting : Setting) (history : History) (before : Told) →
-        HasServed setting job.now history before reader.old engine.old
-        (outside (S.left source.old) (K.written sink.old) (P.state keeper.old) steps.old) →
-        LinesEnd result setting job.now history before
-        (outside (S.left source.new) (K.written sink.new) (P.state keeper.new) steps.new) }
-    ensures read_fault { result ≡ ReadFault → HasRisen (S.faults source.old) (S.faults source.new) }
-    ensures write_fault { result ≡ WriteFault → HasRisen (K.faults sink.old) (K.faults sink.new) }
-    ensures unfailed_read { result ≢ ReadFault → S.faults source.new ≡ S.faults source.old }
-    ensures unfailed_write { result ≢ WriteFault → K.faults sink.new ≡ K.faults sink.old }
-{
-    loop {
-        if let Some(ending) = serve_line(
-            alloc, job, engine, reader, made, source, keeper, sink, steps,
-        ) {
-            return ending;
-        }
-    }
-}
-
-// Serves the line that a job begins with, where there is one, and then those that it reads.
-fn serve_all<S: Source, K: Sink, P: Keeper, L: Ledger>(
-    alloc: Global,
-    job: &Job,
-    engine: &mut Engine,
-    reader: &mut LineReader,
-    made: &mut MadeText,
-    source: &mut S,
-    keeper: &mut P,
-    sink: &mut K,
-    steps: &mut Steps<L>,
-) -> Ending
-    requires reader { reader.old ≡ at_beginning }
-    requires handed { (input : List ℕ) → HasHandedOut input [] reader.old (Some input) }
-    requires at_work { AtWork engine.old (P.state keeper.old) }
-    ensures status { (result ≢ Refused) × (result ≢ NoMemory) }
-    ensures call { IsAfterCall true false (ending_as_call result) (P.state keeper.old)
-        (P.state keeper.new) }
-    ensures read { (input : List ℕ) → S.left source.old ≡ Some input →
-        HasTakenBytes (status_of result) input (S.left source.new) }
-    ensures ends { (P.state keeper.new).tells → (setting : Setting) (history : History) →
-        Holds history engine.old (P.state keeper.old) →
-        world_of engine.old.world ≡ opening_after setting history
-        → KeepsHistory history (P.state keeper.old) →
-        (start : ℕ) → steps.old ≡ start + versions history →
-        LinesEnd result setting job.now history
-        (telling (S.left source.old) (K.written sink.old) start)
-        (outside (S.left source.new) (K.written sink.new) (P.state keeper.new) steps.new) }
-    ensures read_fault { result ≡ ReadFault → HasRisen (S.faults source.old) (S.faults source.new) }
-    ensures write_fault { result ≡ WriteFault → HasRisen (K.faults sink.old) (K.faults sink.new) }
-    ensures unfailed_read { result ≢ ReadFault → S.faults source.new ≡ S.faults source.old }
-    ensures unfailed_write { result ≢ WriteFault → K.faults sink.new ≡ K.faults sink.old }
-{
-    match serve_first(alloc, job, engine, made, keeper, sink, steps) {
-        Some(ending) => ending,
-        None => serve_lines(
-            alloc, job, engine, reader, made, source, keeper, sink, steps,
-        ),
+        (_, other) => other,
     }
 }
 
@@ -317,62 +93,186 @@ fn open(alloc: Global, setting: Setting, state: State) -> Result<Engine, Memory>
     Engine::new(alloc, state, setting.limit, setting.format)
 }
 
-/// Serves all lines that a job asks for, over a state that was loaded from the keeper. Want of
-/// memory comes before anything is read.
-pub fn serve<S: Source, K: Sink, P: Keeper, L: Ledger>(
-    alloc: Global,
-    setting: Setting,
-    job: &Job,
-    state: State,
-    source: &mut S,
-    keeper: &mut P,
-    sink: &mut K,
-    steps: &mut Steps<L>,
-) -> Ending
-    requires backed { IsBacked state (P.state keeper.old) }
-    ensures status { result ≢ Refused }
-    ensures call { IsAfterCall true false (ending_as_call result) (P.state keeper.old)
-        (P.state keeper.new) }
-    ensures nothing { result ≡ NoMemory →
-        (source.new ≡ source.old) × (keeper.new ≡ keeper.old) × (sink.new ≡ sink.old) }
-    ensures read { (input : List ℕ) → S.left source.old ≡ Some input →
-        HasTakenBytes (status_of result) input (S.left source.new) }
-    ensures ends { result ≢ NoMemory → (P.state keeper.new).tells → (history : History)
-        → StandsFor state history →
-        KeepsHistory history (P.state keeper.old) → (start : ℕ)
-        → steps.old ≡ start + versions history →
-        LinesEnd result setting job.now history
-        (telling (S.left source.old) (K.written sink.old) start)
-        (outside (S.left source.new) (K.written sink.new) (P.state keeper.new) steps.new) }
-    ensures read_fault { result ≡ ReadFault → HasRisen (S.faults source.old) (S.faults source.new) }
-    ensures write_fault { result ≡ WriteFault → HasRisen (K.faults sink.old) (K.faults sink.new) }
-    ensures unfailed_read { result ≢ ReadFault → S.faults source.new ≡ S.faults source.old }
-    ensures unfailed_write { result ≢ WriteFault → K.faults sink.new ≡ K.faults sink.old }
-{
-    let Ok(mut reader) = LineReader::new(alloc) else {
-        state.close();
-        return Ending::NoMemory;
-    };
-    let Ok(mut made) = MadeText::with_room(alloc) else {
-        state.close();
-        return Ending::NoMemory;
-    };
-    match open(alloc, setting, state) {
-        Ok(mut engine) => {
-            let ending = serve_all(
-                alloc,
-                job,
-                &mut engine,
-                &mut reader,
-                &mut made,
-                source,
+/// A job on its way: an engine, what reads the lines of the input, and the text of the line that
+/// the job makes of one.
+#[derive(Drop)]
+pub struct Serving {
+    pub alloc: Global,
+    pub engine: Engine,
+    pub reader: LineReader,
+    pub made: MadeText,
+}
+
+impl Serving {
+    /// Begins over a state that was loaded. Nothing is read yet.
+    pub fn begin(alloc: Global, setting: Setting, state: State) -> Result<Serving, Memory>
+        ensures state { IfOk result (λ serving. serving.engine.state ≡ state) }
+        ensures world { IfOk result (λ serving. world_of serving.engine.world
+            ≡ opening state.last setting.limit setting.format) }
+        ensures reader { IfOk result (λ serving. serving.reader ≡ at_beginning) }
+        ensures handed { IfOk result (λ serving.
+            (input : List ℕ) → HasHandedOut input [] serving.reader (Some input)) }
+    {
+        let Ok(reader) = LineReader::new(alloc) else {
+            state.close();
+            return Err(Memory);
+        };
+        let Ok(made) = MadeText::with_room(alloc) else {
+            state.close();
+            return Err(Memory);
+        };
+        let engine = open(alloc, setting, state)?;
+        Ok(Serving {
+            alloc,
+            engine,
+            reader,
+            made,
+        })
+    }
+
+    /// Lets go of all that it holds.
+    pub fn close(self) {
+        let Serving { engine, .. } = self;
+        engine.close();
+    }
+
+    // Sets the clock where a job begins with that; answers how the run ends, where it does. Nothing
+    // is read.
+    fn serve_first<K: Sink, P: Keeper, L: Ledger>(
+        &mut self,
+        job: &Job,
+        keeper: &mut P,
+        sink: &mut K,
+        steps: &mut Steps<L>,
+    ) -> Option<Ending>
+        requires at_work { AtWork self.old.engine (P.state keeper.old) }
+        ensures reader { self.new.reader ≡ self.old.reader }
+        ensures status { MatchOption result (AtWork self.new.engine (P.state keeper.new))
+            EndsUnread }
+        ensures call { IsAfterCall true false (part_as_call result) (P.state keeper.old)
+            (P.state keeper.new) }
+        ensures served { (P.state keeper.new).tells
+            → (setting : Setting) (history : History) (before : Told) →
+            HasReplied setting history [] before self.old.engine
+            (outside before.left (K.written sink.old) (P.state keeper.old) steps.old) →
+            MatchOption result
+            (HasReplied setting history (asked_lines job.now []) before self.new.engine
+            (outside before.left (K.written sink.new) (P.state keeper.new) steps.new))
+            (λ ending. LinesEnd ending setting job.now history before
+            (outside before.left (K.written sink.new) (P.state keeper.new) steps.new)) }
+        ensures write_fault { result ≡ Some WriteFault
+            → HasRisen (K.faults sink.old) (K.faults sink.new) }
+        ensures unfailed_write { result ≢ Some WriteFault → K.faults sink.new ≡ K.faults sink.old }
+    {
+        match job {
+            Job::Load { moment, .. } => {
+                make_clock(*moment, &mut self.made);
+                carry_out(
+                    self.alloc,
+                    &mut self.engine,
+                    Line::Text(self.made.as_str()),
+                    keeper,
+                    sink,
+                    steps,
+                )
+            }
+            _ => None,
+        }
+    }
+
+    // Reads the next line and carries out what a job asks for there; answers how the run ends,
+    // where it does.
+    fn serve_line<S: Source, K: Sink, P: Keeper, L: Ledger>(
+        &mut self,
+        job: &Job,
+        source: &mut S,
+        keeper: &mut P,
+        sink: &mut K,
+        steps: &mut Steps<L>,
+    ) -> Option<Ending>
+        requires reader { self.old.reader.failure ≡ None }
+        requires at_work { AtWork self.old.engine (P.state keeper.old) }
+        ensures status { (result ≢ Some Refused) × (result ≢ Some NoMemory) }
+        ensures goes_on { IfNone result ((self.new.reader.failure ≡ None)
+            × (bytes_handed_out self.old.reader < bytes_handed_out self.new.reader)
+            × (self.new.reader.taken ≤ input_limit)) }
+        ensures at_work { IfNone result (AtWork self.new.engine (P.state keeper.new)) }
+        ensures call { IsAfterCall true false (part_as_call result) (P.state keeper.old)
+            (P.state keeper.new) }
+        ensures read { (input : List ℕ) → IsHandingOut input self.old.reader (S.left source.old) →
+            MatchOption result (IsHandingOut input self.new.reader (S.left source.new))
+            (λ ending. HasTakenBytes (status_of ending) input (S.left source.new)) }
+        ensures served { (P.state keeper.new).tells
+            → (setting : Setting) (history : History) (before : Told) →
+            HasServed setting job.now history before self.old.reader self.old.engine
+            (outside (S.left source.old) (K.written sink.old) (P.state keeper.old) steps.old) →
+            MatchOption result
+            (HasServed setting job.now history before self.new.reader self.new.engine
+            (outside (S.left source.new) (K.written sink.new) (P.state keeper.new) steps.new))
+            (λ ending. LinesEnd ending setting job.now history before
+            (outside (S.left source.new) (K.written sink.new) (P.state keeper.new) steps.new)) }
+        ensures read_fault { result ≡ Some ReadFault
+            → HasRisen (S.faults source.old) (S.faults source.new) }
+        ensures write_fault { result ≡ Some WriteFault
+            → HasRisen (K.faults sink.old) (K.faults sink.new) }
+        ensures unfailed_read { result ≢ Some ReadFault
+            → S.faults source.new ≡ S.faults source.old }
+        ensures unfailed_write { result ≢ Some WriteFault → K.faults sink.new ≡ K.faults sink.old }
+    {
+        match self.reader.next_line(source) {
+            Ok(line) => carry_out(
+                self.alloc,
+                &mut self.engine,
+                asked(job, line, &mut self.made),
                 keeper,
                 sink,
                 steps,
-            );
-            engine.close();
-            ending
+            ),
+            Err(LineFault::Read) => Some(Ending::ReadFault),
+            Err(LineFault::TooMuch) => Some(Ending::TooMuch),
         }
-        Err(Memory) => Ending::NoMemory,
+    }
+
+    /// Serves the line that a job begins with, where there is one, and then those that it reads,
+    /// until the input ends or a fault stops it.
+    pub fn serve_all<S: Source, K: Sink, P: Keeper, L: Ledger>(
+        &mut self,
+        source: &mut S,
+        keeper: &mut P,
+        sink: &mut K,
+        steps: &mut Steps<L>,
+        job: &Job,
+    ) -> Ending
+        requires reader { self.old.reader ≡ at_beginning }
+        requires handed { (input : List ℕ) → HasHandedOut input [] self.old.reader (Some input) }
+        requires at_work { AtWork self.old.engine (P.state keeper.old) }
+        ensures status { (result ≢ Refused) × (result ≢ NoMemory) }
+        ensures call { IsAfterCall true false (ending_as_call result) (P.state keeper.old)
+            (P.state keeper.new) }
+        ensures read { (input : List ℕ) → S.left source.old ≡ Some input →
+            HasTakenBytes (status_of result) input (S.left source.new) }
+        ensures ends { (P.state keeper.new).tells → (setting : Setting) (history : History) →
+            Holds history self.old.engine (P.state keeper.old) →
+            world_of self.old.engine.world ≡ opening_after setting history
+            → KeepsHistory history (P.state keeper.old) →
+            (start : ℕ) → steps.old ≡ start + versions history →
+            LinesEnd result setting job.now history
+            (telling (S.left source.old) (K.written sink.old) start)
+            (outside (S.left source.new) (K.written sink.new) (P.state keeper.new) steps.new) }
+        ensures read_fault { result ≡ ReadFault
+            → HasRisen (S.faults source.old) (S.faults source.new) }
+        ensures write_fault { result ≡ WriteFault
+            → HasRisen (K.faults sink.old) (K.faults sink.new) }
+        ensures unfailed_read { result ≢ ReadFault → S.faults source.new ≡ S.faults source.old }
+        ensures unfailed_write { result ≢ WriteFault → K.faults sink.new ≡ K.faults sink.old }
+    {
+        if let Some(ending) = self.serve_first(job, keeper, sink, steps) {
+            return ending;
+        }
+        loop {
+            if let Some(ending) = self.serve_line(job, source, keeper, sink, steps) {
+                return ending;
+            }
+        }
     }
 }

@@ -70,7 +70,6 @@ pub fn hippo_top<S: Source, K: Sink, P: Keeper, L: Ledger>(
     steps: &mut Steps<L>,
 ) -> u8
     requires ready { IsReady false (P.state keeper.old) }
-    ensures status { Any (λ status. result ≡ status) statuses }
 
     // Words that ask for nothing are refused, and nothing is read or kept.
     ensures refused { call_of words.now ≡ None → ((result ≡ 2) ⊎ (result ≡ 5) ⊎ (result ≡ 7))
@@ -134,6 +133,9 @@ pub fn hippo_top<S: Source, K: Sink, P: Keeper, L: Ledger>(
         × ((P.state keeper.new).spent ≡ false) }
     ensures unfailed_read { result ≢ 4 → S.faults source.new ≡ S.faults source.old }
     ensures unfailed_write { result ≢ 5 → K.faults sink.new ≡ K.faults sink.old }
+
+    // There is no other status.
+    ensures status { Any (λ status. result ≡ status) statuses }
 {
     let Ok(asked) = call_of(alloc, words) else {
         return Ending::NoMemory.status();

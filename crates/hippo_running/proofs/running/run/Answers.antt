@@ -1,27 +1,48 @@
 -- What was loaded is served, or why it was not loaded is said.
-use Rattle.std.proofs.Common.{ap, refl}
+use Rattle.std.proofs.Common.{◌∙◌, ap, arith, refl}
+use Rattle.hippo_values.specs.declared.moments.Moment.{Moment}
+use Rattle.hippo_sessions.specs.Worlds.{opening}
+use Rattle.hippo_engine.proofs.CarryingLemmas.{Holds-opening}
+use Rattle.hippo_programs.specs.declared.endings.Ending.TheVariants.{NoMemory}
 use Rattle.hippo_programs.specs.Endings.{status_of}
 use Rattle.hippo_running.specs.Outside.{outside}
-use Rattle.hippo_running.proofs.OutcomeLemmas.{run_ends, never_damaged, stop_ends_run}
+use Rattle.hippo_running.proofs.OutcomeLemmas.{backed, run_ends, never_damaged, stop_ends_run}
 use Rattle.hippo_running.proofs.StatusLemmas.{status-other}
 use Rattle.hippo_running.proofs.TakenLemmas.{none_taken}
+use Rattle.hippo_running.proofs.TurnLemmas.{AtWork-begun}
 use Rattle.hippo_running.proofs.running.run.Goals as goal
 
-pub returns-in-Ok-clause-ends : goal.returns-in-Ok-clause-ends
-returns-in-Ok-clause-ends g c =
-    run_ends c.args.store.now c.in-Ok.state (g.S.Source.left c.args.source.now) (g.K.Sink.written c.args.sink.now) (g.P.Keeper.state c.args.keeper.now) (g.P.Keeper.state c.load.new.keeper)
-    c.args.steps.now c.load.new.steps c.in-Ok.ensures.loads c.args.setting c.args.job.now c.serve.result _ _
-    (outside (g.S.Source.left c.serve.new.source) (g.K.Sink.written c.serve.new.sink) (g.P.Keeper.state c.serve.new.keeper) c.serve.new.steps)
-    c.serve.ensures.status (λ is. ap g.P.Keeper.state (c.serve.ensures.nothing is).1) c.serve.ensures.call.told
-    (λ some tells history stands keeps counted. c.serve.ensures.ends some tells history stands keeps c.args.steps.now counted)
+pub serve_all-ending-requires-clause-at_work : goal.serve_all-ending-requires-clause-at_work
+serve_all-ending-requires-clause-at_work g c =
+    AtWork-begun c.in-Ok.state c.in-Ok-begin.serving.engine (g.P.Keeper.state c.load.new.keeper) c.args.setting.limit c.args.setting.format c.in-Ok-begin.ensures.state c.in-Ok-begin.ensures.world
+    (backed c.args.store.now c.in-Ok.state (g.S.Source.left c.args.source.now) (g.K.Sink.written c.args.sink.now) (g.P.Keeper.state c.args.keeper.now) (g.P.Keeper.state c.load.new.keeper)
+    c.args.steps.now c.load.new.steps c.in-Ok.ensures.loads)
 
-pub returns-in-Ok-clause-damaged : goal.returns-in-Ok-clause-damaged
-returns-in-Ok-clause-damaged g c = λ is tells. absurd (
+pub returns-in-Ok-begin-clause-ends : goal.returns-in-Ok-begin-clause-ends
+returns-in-Ok-begin-clause-ends g c =
+    run_ends c.args.store.now c.in-Ok.state (g.S.Source.left c.args.source.now) (g.K.Sink.written c.args.sink.now) (g.P.Keeper.state c.args.keeper.now) (g.P.Keeper.state c.load.new.keeper)
+    c.args.steps.now c.load.new.steps c.in-Ok.ensures.loads c.args.setting c.args.job.now c.serve_all-ending.result _ _
+    (outside (g.S.Source.left c.serve_all-ending.new.source) (g.K.Sink.written c.serve_all-ending.new.sink) (g.P.Keeper.state c.serve_all-ending.new.keeper) c.serve_all-ending.new.steps)
+    c.serve_all-ending.ensures.status.0 (λ is. absurd (c.serve_all-ending.ensures.status.1 is)) c.serve_all-ending.ensures.call.told
+    (λ some tells history stands keeps counted. c.serve_all-ending.ensures.ends tells c.args.setting history
+    (Holds-opening history c.in-Ok.state c.in-Ok-begin.serving.engine (g.P.Keeper.state c.load.new.keeper) c.in-Ok.state.last c.args.setting.limit c.args.setting.format c.in-Ok-begin.ensures.state stands keeps.kept.forms c.in-Ok-begin.ensures.world)
+    (c.in-Ok-begin.ensures.world ∙ ap (λ (moment : Moment). opening moment c.args.setting.limit c.args.setting.format) stands.last) keeps c.args.steps.now counted)
+
+pub returns-in-Ok-begin-clause-damaged : goal.returns-in-Ok-begin-clause-damaged
+returns-in-Ok-begin-clause-damaged g c = λ is tells. absurd (
     never_damaged c.args.store.now c.in-Ok.state (g.S.Source.left c.args.source.now) (g.K.Sink.written c.args.sink.now) (g.P.Keeper.state c.args.keeper.now) (g.P.Keeper.state c.load.new.keeper)
-    c.args.steps.now c.load.new.steps c.in-Ok.ensures.loads c.args.setting c.args.job.now c.serve.result
-    (outside (g.S.Source.left c.serve.new.source) (g.K.Sink.written c.serve.new.sink) (g.P.Keeper.state c.serve.new.keeper) c.serve.new.steps)
-    c.serve.ensures.call.told
-    (λ some tells history stands keeps counted. c.serve.ensures.ends some tells history stands keeps c.args.steps.now counted) is tells)
+    c.args.steps.now c.load.new.steps c.in-Ok.ensures.loads c.args.setting c.args.job.now c.serve_all-ending.result
+    (outside (g.S.Source.left c.serve_all-ending.new.source) (g.K.Sink.written c.serve_all-ending.new.sink) (g.P.Keeper.state c.serve_all-ending.new.keeper) c.serve_all-ending.new.steps)
+    c.serve_all-ending.ensures.call.told
+    (λ some tells history stands keeps counted. c.serve_all-ending.ensures.ends tells c.args.setting history
+    (Holds-opening history c.in-Ok.state c.in-Ok-begin.serving.engine (g.P.Keeper.state c.load.new.keeper) c.in-Ok.state.last c.args.setting.limit c.args.setting.format c.in-Ok-begin.ensures.state stands keeps.kept.forms c.in-Ok-begin.ensures.world)
+    (c.in-Ok-begin.ensures.world ∙ ap (λ (moment : Moment). opening moment c.args.setting.limit c.args.setting.format) stands.last) keeps c.args.steps.now counted) is tells)
+
+pub returns-in-Err-begin-clause-ends : goal.returns-in-Err-begin-clause-ends
+returns-in-Err-begin-clause-ends g c = λ tells started. c.in-Ok.ensures.loads.found started tells
+
+pub returns-in-Err-begin-clause-read : goal.returns-in-Err-begin-clause-read
+returns-in-Err-begin-clause-read g c = λ input is. none_taken (status_of NoMemory) input (g.S.Source.left c.args.source.now) is (λ e. omega (arith, e)) (λ e. omega (arith, e))
 
 pub returns-in-Err-clause-ends : goal.returns-in-Err-clause-ends
 returns-in-Err-clause-ends g c =

@@ -9,23 +9,23 @@ use Rattle.hippo_words.specs.declared.calls.Setting.{Setting}
 use Rattle.hippo_programs.specs.Endings.{part_as_call}
 use Rattle.hippo_running.specs.Outside.{Told, outside}
 use Rattle.hippo_running.specs.Runs.{IsHandingOut, HasServed}
-use Rattle.hippo_running.proofs.serving.serve_lines.Given as goal
+use Rattle.hippo_running.proofs.serving.Serving.serve_all.Given as goal
 
 abbrev pub invariant-loop-ending : goal.invariant-loop-ending
 invariant-loop-ending g l = record {
-  unfailed : l.reader.failure ≡ None;
-  limit : l.reader.taken ≤ input_limit;
+  unfailed : l.self.reader.failure ≡ None;
+  limit : l.self.reader.taken ≤ input_limit;
   source_faults : g.S.Source.faults l.source ≡ g.S.Source.faults l.initial.source;
   sink_faults : g.K.Sink.faults l.sink ≡ g.K.Sink.faults l.initial.sink;
   call : IsAfterCall true false (part_as_call None) (g.P.Keeper.state l.initial.keeper) (g.P.Keeper.state l.keeper);
-  at_work : AtWork l.engine (g.P.Keeper.state l.keeper);
-  reading : (input : Txt) → IsHandingOut input l.initial.reader (g.S.Source.left l.initial.source) → IsHandingOut input l.reader (g.S.Source.left l.source);
+  at_work : AtWork l.self.engine (g.P.Keeper.state l.keeper);
+  reading : (input : Txt) → IsHandingOut input l.initial.self.reader (g.S.Source.left l.initial.source) → IsHandingOut input l.self.reader (g.S.Source.left l.source);
   served : (g.P.Keeper.state l.keeper).tells → (setting : Setting) (history : History) (before : Told)
-      → HasServed setting l.job history before l.initial.reader l.initial.engine
+      → HasServed setting l.job history before l.initial.self.reader l.initial.self.engine
       (outside (g.S.Source.left l.initial.source) (g.K.Sink.written l.initial.sink) (g.P.Keeper.state l.initial.keeper) l.initial.steps)
-      → HasServed setting l.job history before l.reader l.engine
+      → HasServed setting l.job history before l.self.reader l.self.engine
       (outside (g.S.Source.left l.source) (g.K.Sink.written l.sink) (g.P.Keeper.state l.keeper) l.steps);
 }
 
 abbrev pub decreases-loop-ending : goal.decreases-loop-ending
-decreases-loop-ending g l = input_limit - bytes_handed_out l.reader
+decreases-loop-ending g l = input_limit - bytes_handed_out l.self.reader
