@@ -1,5 +1,5 @@
-//! Orders that are kept of the rows of tables, for the columns by which an audit or a query ties
-//! them.
+//! Orders that are kept of the rows of tables, for the columns of which an audit or a query says the
+//! value.
 ghost use Rattle.std.specs.Prelude.{◌≡◌};
 
 use crate::held::place_of;
@@ -28,28 +28,44 @@ fn order_by(tables: &mut Vec<Lives>, alloc: Global, names: &Names, column: Ref)
     }
 }
 
-// Keeps orders by two columns that an equality compares, where they are of two tables.
-fn order_for_columns(tables: &mut Vec<Lives>, alloc: Global, names: &Names, one: Ref, other: Ref)
-    ensures { tables.new.items ≡ tables.old.items }
-{
-    if one.table == other.table {
-        return;
+// Whether an operand says a value where rows of a table are sought: a literal does, and a column of
+// another table.
+fn says_value(operand: &Operand, table: usize) -> bool {
+    match operand {
+        Operand::Column(column) => column.table != table,
+        Operand::Literal(_) => true,
     }
-    order_by(tables, alloc, names, one);
-    order_by(tables, alloc, names, other);
 }
 
-// Keeps orders by the columns by which a part of a condition ties two tables.
+// Keeps an order by the column on one side of an equality, where the other side says its value.
+fn order_beside(
+    tables: &mut Vec<Lives>,
+    alloc: Global,
+    names: &Names,
+    operand: &Operand,
+    other: &Operand,
+)
+    ensures { tables.new.items ≡ tables.old.items }
+{
+    if let Operand::Column(column) = operand {
+        if says_value(other, column.table) {
+            order_by(tables, alloc, names, *column);
+        }
+    }
+}
+
+// Keeps orders by the columns of which a part of a condition says the value.
 fn order_for_part(tables: &mut Vec<Lives>, alloc: Global, names: &Names, part: &CondOf<Operand>)
     ensures { tables.new.items ≡ tables.old.items }
 {
     if let CondOf::Compare {
         op: CompareOp::Eq,
-        left: Operand::Column(one),
-        right: Operand::Column(other),
+        left,
+        right,
     } = part
     {
-        order_for_columns(tables, alloc, names, *one, *other);
+        order_beside(tables, alloc, names, left, right);
+        order_beside(tables, alloc, names, right, left);
     }
 }
 
@@ -61,8 +77,8 @@ fn order_for_parts(tables: &mut Vec<Lives>, alloc: Global, names: &Names, parts:
     }
 }
 
-// Keeps orders by the columns by which the parts of a condition that all have to hold tie two
-// tables.
+// Keeps orders by the columns of which the parts of a condition that all have to hold say the
+// value.
 fn order_for_condition(
     tables: &mut Vec<Lives>,
     alloc: Global,
@@ -77,8 +93,8 @@ fn order_for_condition(
     }
 }
 
-/// Keeps orders, from now on, by the columns by which an audit and a query tie two tables, of the
-/// rows that are held; they stay what they are.
+/// Keeps orders, from now on, of the rows that are held, by the columns that an audit and a query
+/// compare by `=` with a literal or with a column of another table; the rows stay what they are.
 pub(crate) fn order_for(tables: &mut Vec<Lives>, alloc: Global, query: &Query, audit: &Audit)
     ensures { tables.new.items ≡ tables.old.items }
 {
