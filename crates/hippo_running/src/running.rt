@@ -63,7 +63,7 @@ pub fn run<S: Source, K: Sink, P: Keeper, L: Ledger>(
     match load(keeper, alloc, store, steps) {
         Ok(state) => match Serving::begin(alloc, setting, state) {
             Ok(mut serving) => {
-                let ending = serving.serve_all(source, keeper, sink, steps, job);
+                let ending = serving.serve_all(job, source, keeper, sink, steps);
                 serving.close();
                 ending
             }

@@ -237,11 +237,11 @@ impl Serving {
     /// until the input ends or a fault stops it.
     pub fn serve_all<S: Source, K: Sink, P: Keeper, L: Ledger>(
         &mut self,
+        job: &Job,
         source: &mut S,
         keeper: &mut P,
         sink: &mut K,
         steps: &mut Steps<L>,
-        job: &Job,
     ) -> Ending
         requires reader { self.old.reader ≡ at_beginning }
         requires handed { (input : List ℕ) → HasHandedOut input [] self.old.reader (Some input) }
