@@ -1,12 +1,9 @@
 -- Lines of an answer, a row more, and of all rows.
-use Rattle.std.proofs.Common.{◌≡◌, false, ℕ, ◌+◌, ◌<◌, ◌≤◌, List, [], ◌∷◌, ◌++◌, map, length, decimal, codes, append_assoc, refl, sym, ap, subst, ◌∙◌, arith}
+use Rattle.std.proofs.Common.{◌≡◌, ℕ, ◌+◌, ◌<◌, ◌≤◌, List, [], ◌∷◌, ◌++◌, map, length, decimal, codes, append_assoc, refl, sym, ap, subst, ◌∙◌, arith}
 use Rattle.std.proofs.lemmas.List.{append-nil, length-append}
 use Rattle.std.proofs.lemmas.List.Folds.{flat_map-map}
 use Rattle.std.proofs.lemmas.Grind.{flat_map-append}
-use Rattle.std.specs.List.{list_any}
 use Rattle.hippo_values.specs.Texts.{Txt}
-use Rattle.hippo_text_forms.specs.Quoting.{is_quote, quoted_text}
-use Rattle.hippo_text_forms.proofs.PrintingLemmas.{doubled_quotes-same}
 use Rattle.hippo_model.specs.declared.query.Masked.{Masked}
 use Rattle.hippo_model.specs.Terms.{Combination, ShownRow}
 use Rattle.hippo_model.specs.Masking.{Choices, masked_cell, masked_items}
@@ -14,15 +11,6 @@ use Rattle.hippo_report.specs.Cells.{answer_line, cell_text, comma, separated_te
 use Rattle.hippo_eval.specs.Gathering.{IsGathered}
 use Rattle.hippo_answering.specs.declared.lines.Lines.{Lines}
 use Rattle.hippo_answering.specs.Lines.{AreLinesOf, line_front}
-
--- a text without a quote is written between quotes
-pub plain_printed : (text out one two three : Txt) → list_any is_quote text ≡ false → one ≡ out ++ 39 ∷ [] → two ≡ one ++ text → three ≡ two ++ 39 ∷ [] → three ≡ out ++ quoted_text text
-plain_printed text out one two three none one_is two_is three_is =
-    three_is
-    ∙ ap (λ (front : Txt). front ++ 39 ∷ []) (two_is ∙ ap (λ (front : Txt). front ++ text) one_is)
-    ∙ append_assoc (out ++ 39 ∷ []) text (39 ∷ [])
-    ∙ append_assoc out (39 ∷ []) (text ++ 39 ∷ [])
-    ∙ ap (λ (whole : Txt). out ++ 39 ∷ (whole ++ 39 ∷ [])) (sym (doubled_quotes-same text none))
 
 -- what members are made of is printed as they are
 pub separated_text_map : {A B : Type 0} (text : B → Txt) (separator : Txt) (made : A → B) (members : List A)

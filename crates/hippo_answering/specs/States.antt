@@ -28,12 +28,13 @@ rules_from standpoint history names =
     rules_at (take standpoint.count history) (context_of standpoint.pair.now standpoint.moment)
     (standing.schemas_at history names)
 
--- the rules in force are written into a query
-abbrev pub IsMasked : Standpoint → Query → Masked → Type 0
-IsMasked standpoint query masked =
-    (history : History) → books.BookStandsFor standpoint.book.now history
-    → standing.TablesStandFor standpoint.tables.now history
-    → masked ≡ rewritten_query (rules_from standpoint history query.tables) query
+-- a query of kept tables, and what it becomes where the rules in force are written into it
+pub record IsMasked (standpoint : Standpoint) (query : Query) (masked : Masked) : Type 0 where
+  pub kept : standing.AreKeptTables standpoint.tables.now query.tables
+  pub tables : masked.tables ≡ query.tables
+  pub rules : (history : History) → books.BookStandsFor standpoint.book.now history
+      → standing.TablesStandFor standpoint.tables.now history
+      → masked ≡ rewritten_query (rules_from standpoint history query.tables) query
 
 -- what a query answers
 abbrev pub answer_from : Standpoint → History → Query → List ShownRow

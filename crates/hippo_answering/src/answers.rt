@@ -52,8 +52,7 @@ fn rules_of(
 // The query with these rules written into it.
 fn masked_query(alloc: Global, standpoint: &Standpoint<'_>, query: &Query) -> Result<Masked, Memory>
     requires { AreKeptTables standpoint.now.tables.now query.now.tables }
-    ensures tables { IfOk result (λ masked. masked.tables ≡ query.now.tables) }
-    ensures rules { IfOk result (λ masked. IsMasked standpoint.now query.now masked) }
+    ensures { IfOk result (IsMasked standpoint.now query.now) }
 {
     let rules = rules_of(alloc, standpoint, &query.tables)?;
     rewrite(alloc, query, &rules)
@@ -66,9 +65,7 @@ fn inquiry_of<'s>(
     query: &Query,
     masked: &'s Masked,
 ) -> Result<Inquiry<'s>, Memory>
-    requires kept { AreKeptTables standpoint.now.tables.now query.now.tables }
-    requires tables { masked.now.tables ≡ query.now.tables }
-    requires rules { IsMasked standpoint.now query.now masked.now }
+    requires { IsMasked standpoint.now query.now masked.now }
     ensures tables { IfOk result (λ inquiry.
         length inquiry.sets ≡ length inquiry.query.now.tables) }
     ensures answers { IfOk result (λ inquiry. (meaning : Meaning) (history : History)
@@ -167,9 +164,7 @@ fn answer_masked(
     query: &Query,
     masked: &Masked,
 ) -> Result<Answer, EvalFault>
-    requires kept { AreKeptTables standpoint.now.tables.now query.now.tables }
-    requires tables { masked.now.tables ≡ query.now.tables }
-    requires rules { IsMasked standpoint.now query.now masked.now }
+    requires { IsMasked standpoint.now query.now masked.now }
     ensures { (meaning : Meaning) (history : History) → AreStateOf meaning standpoint.now history
         → IsAnswered ANSWER_LIMIT (answer_from standpoint.now history query.now) result }
 {
@@ -188,9 +183,7 @@ fn lines_masked(
     masked: &Masked,
     session: u8,
 ) -> Result<Lines, EvalFault>
-    requires kept { AreKeptTables standpoint.now.tables.now query.now.tables }
-    requires tables { masked.now.tables ≡ query.now.tables }
-    requires rules { IsMasked standpoint.now query.now masked.now }
+    requires { IsMasked standpoint.now query.now masked.now }
     ensures { (meaning : Meaning) (history : History) → AreStateOf meaning standpoint.now history
         → IsSaid ANSWER_LIMIT session (answer_from standpoint.now history query.now) result }
 {
@@ -209,9 +202,7 @@ fn lines_if_masked(
     masked: &Result<Masked, Memory>,
     session: u8,
 ) -> Result<Lines, EvalFault>
-    requires kept { AreKeptTables standpoint.now.tables.now query.now.tables }
-    requires tables { IfOk masked.now (λ made. made.tables ≡ query.now.tables) }
-    requires rules { IfOk masked.now (λ made. IsMasked standpoint.now query.now made) }
+    requires { IfOk masked.now (IsMasked standpoint.now query.now) }
     ensures { (meaning : Meaning) (history : History) → AreStateOf meaning standpoint.now history
         → IsSaid ANSWER_LIMIT session (answer_from standpoint.now history query.now) result }
 {

@@ -1,9 +1,5 @@
 //! Answers as the lines that say their rows, which are printed as the rows are found.
-ghost use Rattle.std.specs.Prelude.{◌≡◌, ◌++◌, ℕ, List, [], false, flat_map, OnOk, IfOk};
-ghost use Rattle.std.specs.List.{list_any};
-ghost use Rattle.hippo_values.specs.declared.values.Value.TheVariants.{Text};
-ghost use Rattle.hippo_text_forms.specs.Quoting.{is_quote, quoted_text};
-ghost use Rattle.hippo_model.specs.declared.cells.Cell.TheVariants.{Shown};
+ghost use Rattle.std.specs.Prelude.{◌≡◌, ◌++◌, ℕ, List, [], flat_map, OnOk, IfOk};
 ghost use Rattle.hippo_model.specs.Terms.{ShownRow};
 ghost use Rattle.hippo_model.specs.Masking.{masked_cell, masked_items, masked_answer};
 ghost use Rattle.hippo_report.specs.Cells.{answer_line, cell_text, comma, separated_text};
@@ -17,7 +13,7 @@ use hippo_eval::{ANSWER_LIMIT, EvalFault, LentCell, Onward, Visitor, cell};
 use hippo_join::walk_joined;
 use hippo_model::{Cell, CellRow, ChoiceView, Combo, Expr, Masked};
 use hippo_policy::ChoicesAt;
-use hippo_report::Printed;
+use hippo_report::{Printed, append_joined};
 use hippo_values::{Memory, RoomyTxt, Value};
 use itoa::Buffer;
 use std::alloc::Global;
@@ -47,52 +43,6 @@ impl Lines {
     }
 }
 
-// Whether a text has a quote.
-fn has_quote(text: &str) -> bool
-    ensures { result ≡ list_any is_quote text.now }
-{
-    text.as_bytes().contains(&b'\'')
-}
-
-// Adds a text, which has no quote, between quotes.
-fn append_plain<const ROOM: usize>(text: &str, out: &mut RoomyTxt<ROOM>) -> Result<(), Memory>
-    requires { list_any is_quote text.now ≡ false }
-    ensures { OnOk result (out.new ≡ out.old ++ quoted_text text.now) }
-{
-    out.push('\'')?;
-    out.append(text)?;
-    out.push('\'')
-}
-
-// Adds the value of a text.
-fn append_text<const ROOM: usize>(
-    value: &Value,
-    text: &str,
-    out: &mut RoomyTxt<ROOM>,
-) -> Result<(), Memory>
-    requires { value.now ≡ Text text.now }
-    ensures { OnOk result (out.new ≡ out.old ++ cell_text (Shown value.now)) }
-{
-    if has_quote(text) {
-        value.print(out)
-    } else {
-        append_plain(text, out)
-    }
-}
-
-// Adds a value that is shown. A number is added here, and a text that has no quote, for speed: what
-// `print` undoes where memory is short is a line's to give up.
-#[inline(always)]
-fn append_value<const ROOM: usize>(value: &Value, out: &mut RoomyTxt<ROOM>) -> Result<(), Memory>
-    ensures { OnOk result (out.new ≡ out.old ++ cell_text (Shown value.now)) }
-{
-    match value {
-        Value::Int(number) => out.append(Buffer::new().format(*number)),
-        Value::Text(text) => append_text(value, text.as_str(), out),
-        _ => value.print(out),
-    }
-}
-
 // Adds a cell whose value is lent.
 #[inline(always)]
 fn append_cell<const ROOM: usize>(
@@ -102,7 +52,7 @@ fn append_cell<const ROOM: usize>(
     ensures { OnOk result (out.new ≡ out.old ++ cell_text (lent_cell cell.now)) }
 {
     match cell {
-        LentCell::Shown(Some(value)) => append_value(value, out),
+        LentCell::Shown(Some(value)) => value.print(out),
         LentCell::Shown(None) => Value::Null.print(out),
         LentCell::Denied(rule) => Cell::Denied(*rule).print(out),
     }
@@ -271,39 +221,6 @@ pub(crate) fn walked_lines(
     }
 }
 
-// Adds a cell of a row.
-fn append_own<const ROOM: usize>(cell: &Cell, out: &mut RoomyTxt<ROOM>) -> Result<(), Memory>
-    ensures { OnOk result (out.new ≡ out.old ++ cell_text cell.now) }
-{
-    match cell {
-        Cell::Shown(value) => append_value(value, out),
-        Cell::Denied(_) => cell.print(out),
-    }
-}
-
-fn append_others<const ROOM: usize>(cells: &[Cell], out: &mut RoomyTxt<ROOM>) -> Result<(), Memory>
-    ensures { OnOk result (out.new
-        ≡ out.old ++ flat_map (λ cell. comma ++ cell_text cell) cells.now) }
-{
-    for cell in cells {
-        out.push(',')?;
-        out.push(' ')?;
-        append_own(cell, out)?;
-    }
-    Ok(())
-}
-
-// Adds the cells of a row, with a comma between them.
-fn append_cells<const ROOM: usize>(cells: &[Cell], out: &mut RoomyTxt<ROOM>) -> Result<(), Memory>
-    ensures { OnOk result (out.new ≡ out.old ++ separated_text cell_text comma cells.now) }
-{
-    let Some((first, rest)) = cells.split_first() else {
-        return Ok(());
-    };
-    append_own(first, out)?;
-    append_others(rest, out)
-}
-
 // Prints rows that are there, to a session.
 #[derive(Drop)]
 struct LinePrinter<'a> {
@@ -323,7 +240,7 @@ impl<'a> LinePrinter<'a> {
         ensures { OnOk result (out.new ≡ out.old ++ answer_line self.now.session row.now) }
     {
         out.append(self.front)?;
-        append_cells(row.as_slice(), out)?;
+        append_joined(", ", row.as_slice(), out)?;
         out.push('\n')
     }
 

@@ -5,7 +5,7 @@ ghost use Rattle.hippo_report.specs.Adding.{AddsWhole};
 ghost use Rattle.hippo_report.specs.Cells.{separated_text, cell_text, keyed_text, shared_text};
 
 use hippo_model::{Cell, Cells, SharedRow};
-use hippo_text_forms::print_value;
+use hippo_text_forms::append_value;
 use hippo_values::{Memory, Name, RoomyTxt, Value};
 use itoa::Buffer;
 
@@ -24,8 +24,9 @@ pub trait Printed<const ROOM: usize> {
 impl<const ROOM: usize> Printed<ROOM> for Value {
     ghost text = { value_text };
 
+    #[inline(always)]
     fn print(&self, out: &mut RoomyTxt<ROOM>) -> Result<(), Memory> {
-        print_value(self, out)
+        append_value(self, out)
     }
 }
 
@@ -41,9 +42,10 @@ fn append_denied<const ROOM: usize>(rule: u64, out: &mut RoomyTxt<ROOM>) -> Resu
 impl<const ROOM: usize> Printed<ROOM> for Cell {
     ghost text = { cell_text };
 
+    #[inline(always)]
     fn print(&self, out: &mut RoomyTxt<ROOM>) -> Result<(), Memory> {
         match self {
-            Cell::Shown(value) => print_value(value, out),
+            Cell::Shown(value) => append_value(value, out),
             Cell::Denied(rule) => append_denied(*rule, out),
         }
     }

@@ -5,7 +5,7 @@ ghost use Rattle.hippo_text_forms.specs.Printing.{AddsText};
 ghost use Rattle.hippo_telling.specs.Telling.{literal_text, literals_text};
 
 use crate::joining::{Spelling, append_joined};
-use hippo_text_forms::{day_text, print_value};
+use hippo_text_forms::{append_value, day_text};
 use hippo_values::{DayNumber, Memory, RoomyTxt, Value};
 
 fn append_day<const ROOM: usize>(day: DayNumber, out: &mut RoomyTxt<ROOM>) -> Result<(), Memory>
@@ -31,7 +31,7 @@ pub fn append_literal<const ROOM: usize>(
 {
     match value {
         Value::Day(day) => append_day(*day, out),
-        _ => print_value(value, out),
+        _ => append_value(value, out),
     }
 }
 

@@ -5,4 +5,4 @@ mod dates;
 mod printing;
 
 pub use dates::{day_text, moment_text, read_day, read_moment};
-pub use printing::print_value;
+pub use printing::{append_value, print_value};

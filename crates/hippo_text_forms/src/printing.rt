@@ -69,7 +69,14 @@ fn append_day<const ROOM: usize>(day: DayNumber, out: &mut RoomyTxt<ROOM>) -> Re
     }
 }
 
-fn append_value<const ROOM: usize>(value: &Value, out: &mut RoomyTxt<ROOM>) -> Result<(), Memory>
+/// Adds the printed form of a value at the end: `NULL`, a decimal number, a text between quotes
+/// with each quote in it doubled, or a day as `YYYY-MM-DD`. Within the text's room it takes no
+/// memory; where memory is short, a part of it may have been added.
+#[inline(always)]
+pub fn append_value<const ROOM: usize>(
+    value: &Value,
+    out: &mut RoomyTxt<ROOM>,
+) -> Result<(), Memory>
     ensures adds { AddsText (value_text value.now) result out.old out.new }
     ensures room { length out.old + length (value_text value.now) ≤ ROOM → IsOk result }
 {
@@ -81,9 +88,7 @@ fn append_value<const ROOM: usize>(value: &Value, out: &mut RoomyTxt<ROOM>) -> R
     }
 }
 
-/// Adds the printed form of a value at the end: `NULL`, a decimal number, a text between quotes
-/// with each quote in it doubled, or a day as `YYYY-MM-DD`. Within the text's room it takes no
-/// memory.
+/// As `append_value`; where memory is short, the text is unchanged.
 pub fn print_value<const ROOM: usize>(value: &Value, out: &mut RoomyTxt<ROOM>) -> Result<(), Memory>
     ensures ok { OnOk result (out.new ≡ out.old ++ value_text value.now) }
     ensures err { OnErr result (out.new ≡ out.old) }

@@ -7,9 +7,13 @@ use Rattle.hippo_rewrite.specs.Rewriting.{rewritten_query}
 use Rattle.hippo_answering.specs.States.{IsMasked}
 use Rattle.hippo_answering.proofs.answers.masked_query.Goals as goal
 
-pub returns-clause-rules : goal.returns-clause-rules
-returns-clause-rules c =
+pub returns : goal.returns
+returns c =
     let query = c.args.query.now in
-    IfOk-weaker c.rewrite.result (λ (masked : Masked). masked ≡ rewritten_query c.in_ok-rules.rules query) (λ (masked : Masked). IsMasked c.args.standpoint.now query masked)
-    (λ masked is history book tables. is ∙ ap (λ (rules : List TableRules). rewritten_query rules query) (c.in_ok-rules.ensures history book tables))
+    IfOk-weaker c.rewrite.result (λ (masked : Masked). masked ≡ rewritten_query c.in_ok-rules.rules query) (IsMasked c.args.standpoint.now query)
+    (λ masked is. record {
+      kept = c.requires;
+      tables = ap (λ (made : Masked). made.tables) is;
+      rules = λ history book tables. is ∙ ap (λ (rules : List TableRules). rewritten_query rules query) (c.in_ok-rules.ensures history book tables);
+    })
     c.rewrite.ensures

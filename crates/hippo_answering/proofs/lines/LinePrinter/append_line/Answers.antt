@@ -9,6 +9,6 @@ use Rattle.hippo_answering.proofs.lines.LinePrinter.append_line.Goals as goal
 pub returns : goal.returns
 returns g c =
     on_ok_weaker c.push.result
-    (line_printed c.args.self.now.session (separated_text cell_text comma c.args.row.now) c.args.out.now c.args.self.now.front.now c.append.new.self c.append_cells.new.out c.push.new.self
-    c.args.self.now.is_front c.in_ok-append.ensures.ok (rw c.as_slice.ensures at c.in_ok-append_cells.ensures))
+    (line_printed c.args.self.now.session (separated_text cell_text comma c.args.row.now) c.args.out.now c.args.self.now.front.now c.append.new.self c.append_joined.new.out c.push.new.self
+    c.args.self.now.is_front c.in_ok-append.ensures.ok (rw c.as_slice.ensures at c.in_ok-append_joined.ensures.adds.ok))
     (rw (encode_ascii 10 (omega arith)) at c.push.ensures.ok)
