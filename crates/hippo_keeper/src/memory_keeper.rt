@@ -11,7 +11,7 @@ use crate::keeper::Keeper;
 use crate::selection::{Lot, Selection, Sought, counted, select};
 use crate::steps::Steps;
 use hippo_model::{StoredEntry, StoredList};
-use hippo_values::{Memory, Moment};
+use hippo_values::{Bytes, Memory, Moment};
 use std::alloc::Global;
 use std::marker::Model;
 use std::sync::ledger::Ledger;
@@ -32,6 +32,15 @@ impl Model for MemoryKeeper {
     ghost view = { λ a. record { kept = a.kept; calls = a.calls } };
 
     ghost invariant = { λ a. RisesAbove 0 a.kept };
+}
+
+// An entry whose body has memory of its own length: that in which one is made has room for some
+// three of them.
+fn fitted(alloc: Global, mut entry: StoredEntry) -> Result<StoredEntry, Memory>
+    ensures { IfOk result (λ made. made ≡ entry) }
+{
+    entry.body = Bytes::from_slice(alloc, entry.body.as_slice())?;
+    Ok(entry)
 }
 
 impl MemoryKeeper {
@@ -108,7 +117,7 @@ impl MemoryKeeper {
     }
 
     // Keeps one more entry, where the call is not to fail without it.
-    fn add(&mut self, entry: StoredEntry) -> Result<(), KeeperFault>
+    fn add(&mut self, alloc: Global, entry: StoredEntry) -> Result<(), KeeperFault>
         requires { entry.seq ≡ next_number self.old.kept }
         ensures call { self.new ≡ record (memory_after_call self.old) {
           kept = kept_after result entry self.old;
@@ -121,7 +130,10 @@ impl MemoryKeeper {
         if failure == Some(false) {
             return Err(KeeperFault::Failed);
         }
-        if self.keep(entry).is_err() {
+        let Ok(fitted) = fitted(alloc, entry) else {
+            return Err(KeeperFault::Memory);
+        };
+        if self.keep(fitted).is_err() {
             return Err(KeeperFault::Memory);
         }
         if failure.is_some() {
@@ -148,7 +160,7 @@ impl Keeper for MemoryKeeper {
         self.calls.standing.settle_start(answer)
     }
 
-    fn append(&mut self, _alloc: Global, entry: StoredEntry) -> Result<(), KeeperFault>
+    fn append(&mut self, alloc: Global, entry: StoredEntry) -> Result<(), KeeperFault>
         requires next { entry.seq ≡ next_number self.old.kept }
         ensures store { self.new ≡ memory_after_append result entry self.old }
         ensures fails { wants_memory result ≡ false
@@ -156,7 +168,7 @@ impl Keeper for MemoryKeeper {
         ensures faults { self.old.calls.standing.faults ≤ self.new.calls.standing.faults }
         ensures keeps { next_failure self.old.calls ≡ Some false → has_failed result ≡ true }
     {
-        let answer = self.add(entry);
+        let answer = self.add(alloc, entry);
         self.calls.standing.settle(answer)
     }
 
