@@ -6,6 +6,8 @@ use hippo_model::{Cell, CellRow, ChoiceView, Combo, Expr};
 use hippo_values::{Memory, Value};
 use std::alloc::Global;
 
+// The whole part of 2 to the 64th over the golden ratio (Knuth, The Art of Computer Programming,
+// volume 3, section 6.4): by it, numbers that lie close together are spread over high bits.
 const MULTIPLIER: u64 = 0x9e37_79b9_7f4a_7c15;
 
 // So many bytes of a text are looked at.
@@ -67,7 +69,7 @@ pub(crate) fn mark_of<C: ChoiceView>(
     Some(mark)
 }
 
-/// The same of a row.
+/// The number that `mark_of` gives for items that make a row, where no rule masks one of them.
 pub(crate) fn mark_of_row(row: &CellRow) -> u64 {
     let mut mark = 0;
     for cell in row.as_slice() {

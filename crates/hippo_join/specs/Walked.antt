@@ -1,13 +1,16 @@
 -- A walk over the combinations of a join that count.
 use Rattle.std.specs.Prelude.{◌≡◌, Bool, true, None, List, Option, OnOk, Result, slice_set}
+use Rattle.std.specs.List.Sorted.{IsStrictlyIncreasing}
 use Rattle.hippo_values.specs.declared.memory.Memory.{Memory}
 use Rattle.hippo_model.specs.declared.query.Masked.{Masked}
 use Rattle.hippo_model.specs.Terms.{Combination, Place}
 use Rattle.hippo_model.specs.Masking.{Choices}
 use Rattle.hippo_keyed_rows.specs.RowSets.{KeyedRows}
 use Rattle.hippo_eval.specs.declared.walks.Onward.{Onward}
+use Rattle.hippo_lookups.specs.Known.{is_open}
 use Rattle.hippo_lookups.specs.Places.{are_there, rows_at}
 use Rattle.hippo_sides.specs.declared.stages.Stage.{Stage}
+use Rattle.hippo_sides.specs.Stages.{AllCount, ReachesFrom}
 use Rattle.hippo_sides.specs.Visiting.{Completes, Visits}
 use Rattle.hippo_sides.specs.Walking.{CanWalk}
 use Rattle.hippo_join.specs.declared.walking.Walk.{Walk}
@@ -39,6 +42,16 @@ pub record CanGoOn
     : Type 0 where
   pub can : CanWalk join.choices join.query join.sets join.in_order stages slots
   pub stand : StandAt join.sets slots rows
+
+-- places of a stage that may follow the rows that are chosen: all that count, in ascending order
+-- where that is asked for; each counts where that is said
+pub record Follow
+    (join : Join) (stage : Stage) (slots : List (Option Place)) (all_count : Bool)
+    (places : List Place) : Type 0 where
+  pub reaches : ReachesFrom join.choices join.query join.sets slots stage.table places
+  pub order : join.in_order ≡ true → IsStrictlyIncreasing places
+  pub count : is_open slots stage.table ≡ true → all_count ≡ true
+      → AllCount join.choices join.query join.sets slots stage.table places
 
 -- what a visitor keeps of a join's combinations, behind those of its front
 abbrev pub Keeping : Type 0 → Type 1

@@ -169,7 +169,8 @@ pub fn has_joined<C: ChoiceView>(
         slots.old) result }
 {
     let left = still_open(alloc, order, slots)?;
-    let stages = side.stages_behind(alloc, slots, &left, false)?;
+    let chosen = Vec::from_slice(alloc, slots)?;
+    let stages = side.stages_behind(alloc, chosen, &left, false)?;
     let seeker = Seeker { side, seen };
     seeker.has_along(alloc, &stages, slots)
 }

@@ -1,5 +1,5 @@
 //! A walk over the combinations that count, stage by stage, by the rows' places.
-ghost use Rattle.std.specs.Prelude.{◌≡◌, [], ◌∷◌, ◌<◌, true, None, Some, List, IfOk, OnOk, length, nat_lt, slice_set};
+ghost use Rattle.std.specs.Prelude.{◌≡◌, [], ◌∷◌, ◌<◌, true, None, Some, List, IfOk, IfSome, OnOk, length, nat_lt, slice_set};
 ghost use Rattle.std.specs.List.{All, Contains};
 ghost use Rattle.std.specs.List.Sorted.{IsStrictlyIncreasing};
 ghost use Rattle.std.specs.Option.{option_map_or};
@@ -10,13 +10,13 @@ ghost use Rattle.hippo_lookups.specs.Places.{are_there, rows_at, stands, stays};
 ghost use Rattle.hippo_sides.specs.Stages.{AllCount, Counts, ReachesFrom, suffices};
 ghost use Rattle.hippo_sides.specs.Walking.{following_places, IsWalkable};
 ghost use Rattle.hippo_sides.specs.Visiting.{Visited};
-ghost use Rattle.hippo_join.specs.Walked.{join_of, CanGoOn, HasGoneOn, HasWalked};
+ghost use Rattle.hippo_join.specs.Walked.{join_of, CanGoOn, Follow, HasGoneOn, HasWalked};
 
 use hippo_eval::{Onward, passes};
 use hippo_lookups::is_open;
 use hippo_model::{ChoiceView, Combo};
 use hippo_rows::RowSet;
-use hippo_sides::{Following, Side, Stage, listed, open_slots};
+use hippo_sides::{Following, Side, Stage, ascends, listed, open_slots};
 use hippo_values::Memory;
 use std::alloc::Global;
 
@@ -104,6 +104,7 @@ pub(crate) struct Walk<'w, 'a, C, V> {
 impl<'w, 'a, C: ChoiceView, V: PlaceVisitor> Walk<'w, 'a, C, V> {
     // The places of a stage that may follow the rows that are chosen, in ascending order where that
     // is asked for.
+    #[inline(always)]
     fn following<'s>(
         &self,
         stage: &'s Stage,
@@ -114,15 +115,8 @@ impl<'w, 'a, C: ChoiceView, V: PlaceVisitor> Walk<'w, 'a, C, V> {
         requires stage { IsWalkable (C.choices self.now.side.now.choices.now)
             self.now.side.now.query.now self.now.side.now.sets.now stage.now }
         requires rows { rows.now ≡ rows_at self.now.side.now.sets.now slots.now }
-        ensures reaches { IfOk result (λ following. ReachesFrom
-            (C.choices self.now.side.now.choices.now) self.now.side.now.query.now
-            self.now.side.now.sets.now slots.now stage.now.table (following_places following)) }
-        ensures order { IfOk result (λ following. self.now.in_order ≡ true
-            → IsStrictlyIncreasing (following_places following)) }
-        ensures count { IfOk result (λ following. is_open slots.now stage.now.table ≡ true
-            → suffices stage.now slots.now ≡ true
-            → AllCount (C.choices self.now.side.now.choices.now) self.now.side.now.query.now
-            self.now.side.now.sets.now slots.now stage.now.table (following_places following)) }
+        ensures { IfOk result (λ following. Follow (join_of C.choices self.now) stage.now slots.now
+            (suffices stage.now slots.now) (following_places following)) }
     {
         let following = self.side.following(self.alloc, stage, slots, rows)?;
         if !self.in_order || following.rises() {
@@ -130,6 +124,48 @@ impl<'w, 'a, C: ChoiceView, V: PlaceVisitor> Walk<'w, 'a, C, V> {
         } else {
             Ok(Following::Found(ascending(self.alloc, &following)?))
         }
+    }
+
+    // The places that a stage lists and that may follow the rows that are chosen, in ascending
+    // order where that is asked for; none where the stage looks its places up, or they are to be
+    // sorted.
+    #[inline(always)]
+    fn listed_places<'s>(
+        &self,
+        stage: &'s Stage,
+        slots: &[Option<usize>],
+        rows: &Combo<'a>,
+    ) -> Option<&'s [usize]>
+        requires stage { IsWalkable (C.choices self.now.side.now.choices.now)
+            self.now.side.now.query.now self.now.side.now.sets.now stage.now }
+        requires rows { rows.now ≡ rows_at self.now.side.now.sets.now slots.now }
+        ensures { IfSome result (λ places. Follow (join_of C.choices self.now) stage.now slots.now
+            (suffices stage.now slots.now) places.now) }
+    {
+        if stage.is_sought {
+            return None;
+        }
+        let places = self.side.places_behind(stage, slots, rows);
+        if self.in_order && !ascends(places) {
+            return None;
+        }
+        Some(places)
+    }
+
+    // Whether each of the places of a stage that follow is known to count: its tie suffices, or the
+    // places say enough.
+    #[inline(always)]
+    fn all_count(&self, stage: &Stage, following: &Following<'_>, slots: &[Option<usize>]) -> bool
+        requires table { stage.now.table < length self.now.side.now.sets.now }
+        requires follow { Follow (join_of C.choices self.now) stage.now slots.now
+            (suffices stage.now slots.now) (following_places following.now) }
+        ensures { Follow (join_of C.choices self.now) stage.now slots.now result
+            (following_places following.now) }
+    {
+        if stage.suffices(slots) {
+            return true;
+        }
+        self.side.all_count(stage.table, following)
     }
 
     // Visits the combination whose rows are all chosen, which counts.
@@ -247,7 +283,9 @@ impl<'w, 'a, C: ChoiceView, V: PlaceVisitor> Walk<'w, 'a, C, V> {
     }
 
     // Visits what counts and has the rows that are chosen, for each of the places of a stage that
-    // may follow them, of which all may be known to count. The last of these rows stays chosen.
+    // may follow them, of which all may be known to count. The last of these rows stays chosen. It
+    // is a part of its caller, for speed.
+    #[inline(always)]
     #[cycle(walk)]
     fn walk_each(
         &self,
@@ -262,13 +300,7 @@ impl<'w, 'a, C: ChoiceView, V: PlaceVisitor> Walk<'w, 'a, C, V> {
         requires still { is_open slots.old stage.now.table ≡ true }
         requires can { CanGoOn (join_of C.choices self.now) (stage.now ∷ rest.now) slots.old
             rows.old }
-        requires reaches { ReachesFrom (C.choices self.now.side.now.choices.now)
-            self.now.side.now.query.now self.now.side.now.sets.now slots.old stage.now.table
-            (following_places following.now) }
-        requires order { self.now.in_order ≡ true
-            → IsStrictlyIncreasing (following_places following.now) }
-        requires count { count ≡ true → AllCount (C.choices self.now.side.now.choices.now)
-            self.now.side.now.query.now self.now.side.now.sets.now slots.old stage.now.table
+        requires follow { Follow (join_of C.choices self.now) stage.now slots.old count
             (following_places following.now) }
         ensures { HasWalked (join_of C.choices self.now) (V.Keeps self.now.visitor.now)
             stage.now.table slots.old slots.old slots.new rows.new result state.old state.new }
@@ -281,6 +313,34 @@ impl<'w, 'a, C: ChoiceView, V: PlaceVisitor> Walk<'w, 'a, C, V> {
             }
         }
         Ok(Onward::More)
+    }
+
+    // Visits what counts and has the rows that are chosen, for each of the places of a stage that
+    // may follow them, of which none stays chosen. It is a part of its caller, for speed: places
+    // that are listed are walked as a slice.
+    #[inline(always)]
+    #[cycle(walk)]
+    fn walk_through(
+        &self,
+        stage: &Stage,
+        rest: &[Stage],
+        following: &Following<'_>,
+        slots: &mut [Option<usize>],
+        rows: &mut Combo<'a>,
+        state: &mut V::State,
+    ) -> Result<Onward, Memory>
+        requires still { is_open slots.old stage.now.table ≡ true }
+        requires can { CanGoOn (join_of C.choices self.now) (stage.now ∷ rest.now) slots.old
+            rows.old }
+        requires follow { Follow (join_of C.choices self.now) stage.now slots.old
+            (suffices stage.now slots.old) (following_places following.now) }
+        ensures { HasGoneOn (join_of C.choices self.now) (V.Keeps self.now.visitor.now) slots.old
+            slots.new rows.new result state.old state.new }
+    {
+        let count = self.all_count(stage, following, slots);
+        let onward = self.walk_each(stage, rest, following, count, slots, rows, state)?;
+        self.leave(stage.table, slots, rows);
+        Ok(onward)
     }
 
     // Visits what counts and has the rows that are chosen, along stages of the other tables, in the
@@ -303,11 +363,12 @@ impl<'w, 'a, C: ChoiceView, V: PlaceVisitor> Walk<'w, 'a, C, V> {
         if !is_open(slots, stage.table) {
             return self.walk(rest, slots, rows, state);
         }
-        let places = self.following(stage, slots, rows)?;
-        let count = stage.suffices(slots);
-        let onward = self.walk_each(stage, rest, &places, count, slots, rows, state)?;
-        self.leave(stage.table, slots, rows);
-        Ok(onward)
+        if let Some(places) = self.listed_places(stage, slots, rows) {
+            let following = Following::Listed(places);
+            return self.walk_through(stage, rest, &following, slots, rows, state);
+        }
+        let following = self.following(stage, slots, rows)?;
+        self.walk_through(stage, rest, &following, slots, rows, state)
     }
 }
 

@@ -1,5 +1,6 @@
 -- Rows of a table in the order of one of its columns.
 use Rattle.std.specs.Prelude.{◌≡◌, Bool, true, false, ℕ, ◌<◌, ◌≤◌, List, get_or, length, map}
+use Rattle.std.specs.List.{Contains}
 use Rattle.std.specs.List.Sorted.{IsSortedByKey}
 use Rattle.std.specs.Ordering.{is_eq, is_lt, is_le}
 use Rattle.std.specs.declared.cmp.Ordering.{Ordering}
@@ -43,3 +44,13 @@ NoneAbove values value start end = StandBetween is_le true values value start en
 
 abbrev pub AllEqual : List Value → Value → ℕ → ℕ → Type 0
 AllEqual values value start end = StandBetween is_eq true values value start end
+
+-- of places that stand by the values in a column, those whose row has a value, and no others
+pub record FindsEqual (places : List Place) (values : List Value) (value : Value)
+    (found : List Place) : Type 0 where
+  pub all : (set : KeyedRows) (column : Place) → IsIndex set column values places
+      → (place : Place) → Contains places place
+      → value_cmp (value_at_place set column place) value ≡ Equal → Contains found place
+  pub none_else : (set : KeyedRows) (column : Place) → IsIndex set column values places
+      → (place : Place) → Contains found place
+      → value_cmp (value_at_place set column place) value ≡ Equal

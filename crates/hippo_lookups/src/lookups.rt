@@ -9,7 +9,7 @@ ghost use Rattle.hippo_values.specs.Order.{value_cmp};
 ghost use Rattle.hippo_model.specs.Conditions.{is_null};
 ghost use Rattle.hippo_model.specs.Terms.{Place};
 ghost use Rattle.hippo_keyed_rows.specs.RowSets.{KeyedRows};
-ghost use Rattle.hippo_lookups.specs.Lookups.{value_at_place, AllEqual, HoldsOfEqual, IsByColumn, IsIndex, NoneAbove, NoneBelow};
+ghost use Rattle.hippo_lookups.specs.Lookups.{value_at_place, AllEqual, FindsEqual, HoldsOfEqual, IsByColumn, IsIndex, NoneAbove, NoneBelow};
 
 use hippo_rows::RowSet;
 use hippo_values::{Duplicate, Memory, Value};
@@ -64,6 +64,14 @@ fn row_order(set: &RowSet, column: usize, place: usize, other: usize) -> Orderin
     )
 }
 
+// Two values by their order. A call of its own, so that comparing numbers stays short.
+#[inline(never)]
+fn order_of(own: &Value, value: &Value) -> Ordering
+    ensures { result ≡ value_cmp own.now value.now }
+{
+    own.cmp(value)
+}
+
 // Whether two values are the same.
 #[inline(always)]
 fn is_same(own: &Value, value: &Value) -> bool
@@ -71,7 +79,7 @@ fn is_same(own: &Value, value: &Value) -> bool
 {
     match (own, value) {
         (Value::Int(own), Value::Int(value)) => *own == *value,
-        _ => own.cmp(value).is_eq(),
+        _ => order_of(own, value).is_eq(),
     }
 }
 
@@ -83,7 +91,7 @@ fn is_below(own: &Value, value: &Value) -> bool
 {
     match (own, value) {
         (Value::Int(own), Value::Int(value)) => *own < *value,
-        _ => own.cmp(value).is_lt(),
+        _ => order_of(own, value).is_lt(),
     }
 }
 
@@ -94,7 +102,7 @@ fn is_within(own: &Value, value: &Value) -> bool
 {
     match (own, value) {
         (Value::Int(own), Value::Int(value)) => *own <= *value,
-        _ => own.cmp(value).is_le(),
+        _ => order_of(own, value).is_le(),
     }
 }
 
@@ -106,13 +114,23 @@ fn sort_by_column(set: &RowSet, column: usize, places: &mut [usize])
     places.sort_unstable_by(|a, b| row_order(set, column, *a, *b));
 }
 
+// A copy of a value, by a call of its own, so that copying a number stays short.
+#[inline(never)]
+fn copy_of(alloc: Global, value: &Value) -> Result<Value, Memory>
+    ensures { IfOk result (λ made. made ≡ value.now) }
+{
+    Ok(value.copy(alloc)?)
+}
+
 // A value with memory of its own; null where none is there.
+#[inline(always)]
 fn copied_value(alloc: Global, value: Option<&Value>) -> Result<Value, Memory>
     ensures { IfOk result (λ made. made ≡ unwrap_or (option_copied value.entry) Null) }
 {
     match value {
         None => Ok(Value::Null),
-        Some(value) => Ok(value.copy(alloc)?),
+        Some(Value::Int(number)) => Ok(Value::Int(*number)),
+        Some(value) => copy_of(alloc, value),
     }
 }
 
@@ -260,28 +278,18 @@ fn is_only_at(values: &[Value], place: usize, value: &Value) -> bool
     is_above_at(values, place + 1, value) && begins_at(values, place, value)
 }
 
-/// The places whose row has a value, and no others, of places that stand by the values in a column,
-/// and these values; where the last search ended is tried first, and marked anew.
-pub fn with_value<'a>(
+// As `with_value`, by a search from where the last one ended. A call of its own, so that a look-up
+// of the next value stays short.
+#[inline(never)]
+fn searched_with<'a>(
     places: &'a [usize],
     values: &[Value],
     value: &Value,
     near: &Cell<usize>,
 ) -> &'a [usize]
-    ensures all { (set : KeyedRows) (column : Place) → IsIndex set column values.now places.now
-        → (place : Place) → Contains places.now place
-        → value_cmp (value_at_place set column place) value.now ≡ Equal
-        → Contains result.now place }
-    ensures none_else { (set : KeyedRows) (column : Place)
-        → IsIndex set column values.now places.now → (place : Place) → Contains result.now place
-        → value_cmp (value_at_place set column place) value.now ≡ Equal }
+    ensures { FindsEqual places.now values.now value.now result.now }
 {
-    let last = near.get();
-    if last < places.len() && is_only_at(values, last, value) {
-        near.set(last + 1);
-        return &places[last..last + 1];
-    }
-    let start = start_near(values, last, value);
+    let start = start_near(values, near.get(), value);
     let end = end_with(values, start, value);
     near.set(end);
     if places.len() < end {
@@ -291,4 +299,23 @@ pub fn with_value<'a>(
         return &places[..0];
     }
     &places[start..end]
+}
+
+/// The places whose row has a value, and no others, of places that stand by the values in a column,
+/// and these values; where the last search ended is tried first, and marked anew.
+#[inline(always)]
+pub fn with_value<'a>(
+    places: &'a [usize],
+    values: &[Value],
+    value: &Value,
+    near: &Cell<usize>,
+) -> &'a [usize]
+    ensures { FindsEqual places.now values.now value.now result.now }
+{
+    let last = near.get();
+    if last < places.len() && is_only_at(values, last, value) {
+        near.set(last + 1);
+        return &places[last..last + 1];
+    }
+    searched_with(places, values, value, near)
 }

@@ -1,5 +1,5 @@
 -- Rows in a range of keys.
-use Rattle.std.proofs.Common.{◌≡◌, ℕ, zero, suc, ◌<◌, ◌≤◌, ◌⊎◌, inl, inr, Bool, true, false, nat_lt, min, List, [], ◌∷◌, ◌++◌, map, length, take, drop, refl, sym, ap, subst, ◌∙◌, arith, Some, None}
+use Rattle.std.proofs.Common.{◌≡◌, ℕ, zero, suc, ◌+◌, ◌<◌, ◌≤◌, ◌⊎◌, inl, inr, Bool, true, false, nat_lt, min, List, [], ◌∷◌, ◌++◌, map, length, take, drop, refl, sym, ap, subst, ◌∙◌, arith, Some, None}
 use Rattle.std.specs.Prelude.{slice_get}
 use Rattle.std.specs.Ordering.{is_le, ordering_then}
 use Rattle.std.specs.declared.cmp.Ordering.{Ordering}
@@ -154,3 +154,21 @@ bounded-edge set front values column above bound edge next pushed splits place w
     let cell = cell_at (row_at_place set.rows place).row in
     sym (splits place within) ∙ ap (is_low (is_past above bound.strict)) (ap (front_cmp (map cell set.key)) pushed ∙ past-front cell set.key front column bound.value.now begins next)
     ∙ low-bounded above bound.strict (value_cmp (cell column) bound.value.now) keeps
+
+-- ---- rows between two that begin with some values
+
+between : (o : Ordering) → is_low false o ≡ false → is_low true o ≡ true → o ≡ Equal
+between Less from to = absurd (false≢true (sym from))
+between Equal from to = refl
+between Greater from to = absurd (false≢true to)
+
+pub begin-all : (set : KeyedRows) (front : Key) (start end last place : ℕ) → IsAscending (map (key_in set.key) set.rows) → start ≤ place → place < end → last + 1 ≡ end → end ≤ length set.rows → stands_low set front false start ≡ false → stands_low set front true last ≡ true
+    → front_cmp (key_of set.key (row_at_place set.rows place).row) front ≡ Equal
+begin-all set front start end last place ascends from to behind within first low =
+    between (front_cmp (key_of set.key (row_at_place set.rows place).row) front)
+    (high-after set front false start place ascends from (omega (arith, to, within)) first)
+    (low-before set front true place last ascends (omega (arith, to, behind)) (omega (arith, behind, within)) low)
+
+-- the first value of a key that begins with one
+pub first-value : (set : KeyedRows) (column place : Place) (value : Value) → slice_get set.key 0 ≡ Some column → front_cmp (key_of set.key (row_at_place set.rows place).row) (value ∷ []) ≡ Equal → value_cmp (cell_at (row_at_place set.rows place).row column) value ≡ Equal
+first-value set column place value at equal = sym (past-front (cell_at (row_at_place set.rows place).row) set.key [] column value refl at) ∙ equal

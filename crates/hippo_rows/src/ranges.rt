@@ -2,8 +2,10 @@
 //! first one has bounds.
 ghost use Rattle.std.specs.Prelude.{◌≡◌, ◌<◌, ◌≤◌, [], true, false, None, Some, IfOk, length, nat_lt, slice_get};
 ghost use Rattle.std.specs.List.{All, Contains};
+ghost use Rattle.std.specs.declared.cmp.Ordering.TheVariants.{Equal};
 ghost use Rattle.hippo_model.specs.Terms.{Place};
 ghost use Rattle.hippo_model.specs.Rows.{key_of};
+ghost use Rattle.hippo_keyed_rows.specs.RowSets.{row_at_place};
 ghost use Rattle.hippo_rows.specs.Ranges.{front_cmp, is_low, is_past, stands_low, HasAllWithin, IsEdge};
 
 use hippo_keyed_rows::{KeyedSet, cell_order};
@@ -77,6 +79,22 @@ pub(crate) fn split(set: &KeyedSet, front: &[Value], past: bool) -> usize
         }
     }
     low
+}
+
+// Whether the keys of the rows from a place on up to another one begin with these values, by the
+// first and the last of them.
+pub(crate) fn all_begin_with(set: &KeyedSet, front: &[Value], start: usize, end: usize) -> bool
+    ensures { result ≡ true → (place : Place) → start ≤ place → place < end
+        → front_cmp (key_of set.now.key (row_at_place set.now.rows place).row) front.now ≡ Equal }
+{
+    let count = set.len();
+    if start >= end {
+        return true;
+    }
+    if end > count {
+        return false;
+    }
+    !stands_low(set, front, false, start) && stands_low(set, front, true, end - 1)
 }
 
 // Where all rows end, or begin.

@@ -10,12 +10,13 @@ use crate::column_order::{
     ColumnOrder, add_order, count_among, entries_by, entries_of, forget_in_orders, free_place,
     places_among, prepare_orders,
 };
-use crate::ranges::{Bound, own_count, own_places, split};
+use crate::ranges::{Bound, all_begin_with, own_count, own_places, split};
 use hippo_keyed_rows::KeyedSet;
 use hippo_model::{BornRow, Cells, Lent, Places};
 use hippo_values::{Memory, Moment, Value};
 use std::alloc::Global;
 use std::marker::Model;
+use std::slice;
 
 // How many orders by a column a set keeps.
 const ORDER_LIMIT: usize = 8;
@@ -181,6 +182,16 @@ impl RowSet {
             → stands_low self.now front.now past place ≡ nat_lt place result }
     {
         split(&self.set, front, past)
+    }
+
+    /// Whether the rows from a place on up to another one have a value in the first column of their
+    /// key, by the first and the last of them.
+    pub fn all_begin_with(&self, value: &Value, start: usize, end: usize) -> bool
+        ensures { result ≡ true → (column : Place) → slice_get self.now.key 0 ≡ Some column
+            → (place : Place) → start ≤ place → place < end
+            → value_at_place self.now column place ≡ value.now }
+    {
+        all_begin_with(&self.set, slice::from_ref(value), start, end)
     }
 
     /// The place of the row with a key, none exactly where no row has it.

@@ -1,9 +1,9 @@
 -- What is found while a join goes on.
-use Rattle.std.proofs.Common.{◌≡◌, ℕ, zero, suc, ◌+◌, ◌<◌, ◌≤◌, Bool, true, false, ◌&&◌, ◌||◌, cond, List, [], ◌∷◌, map, length, drop, nat_lt, refl, sym, ap, subst, ◌∙◌, Option, Some, None, unwrap_or, inl, inr, ◌⊎◌, arith, add-one, get_or, length-set, take, ◌++◌, zero-add}
-use Rattle.std.specs.Prelude.{slice_get, slice_set}
+use Rattle.std.proofs.Common.{◌≡◌, ℕ, zero, suc, ◌+◌, ◌<◌, ◌≤◌, Bool, true, false, ◌&&◌, ◌||◌, cond, List, [], ◌∷◌, map, length, refl, sym, ap, subst, ◌∙◌, Option, Some, None, unwrap_or, inl, inr, ◌⊎◌, arith, get_or, length-set, take, ◌++◌, zero-add}
+use Rattle.std.specs.Prelude.{slice_set}
 use Rattle.std.specs.List.{Contains, All, range_with_len}
 use Rattle.std.specs.List.Sorted.{IsPermutation, IsStrictlyIncreasing}
-use Rattle.std.proofs.lemmas.List.{length-map, take_more}
+use Rattle.std.proofs.lemmas.List.{take_more}
 use Rattle.std.proofs.lemmas.List.Elements.{All-push}
 use Rattle.std.proofs.lemmas.List.FromFn.{get_or-range_with_len, length-range_with_len}
 use Rattle.std.proofs.lemmas.List.Kept.{AllPairs-from_increasing}
@@ -13,8 +13,6 @@ use Rattle.std.specs.Cmp.Lexicographic.{slice_cmp}
 use Rattle.std.specs.Cmp.{eq_by_cmp_equiv}
 use Rattle.std.proofs.lemmas.Cmp.{nat_list_cmp_total}
 use Rattle.std.proofs.lemmas.Bool.{false≢true, or_left}
-use Rattle.std.proofs.lemmas.Bool.Decides.{nat_tests}
-use Rattle.std.proofs.lemmas.Option.{slice_get-get_or}
 use Rattle.hippo_model.specs.declared.query.Masked.{Masked}
 use Rattle.hippo_model.specs.Terms.{Combination, Place}
 use Rattle.hippo_keyed_rows.specs.RowSets.{KeyedRows}
@@ -183,7 +181,7 @@ module _ (choices : Choices) (query : Masked) (sets : List KeyedRows) where
   -- where all are listed
   pub all-listed : (order : List Place) (stages : List Stage) → AreWalkable choices query sets true order stages → AreStages choices query sets order stages
   all-listed order stages are = record {
-    each = λ k d within. let one = are.each k d within in one.0 (one.1 refl);
+    each = λ k d within. let one = are.each k d within in one.0.listed (one.1 refl);
     tables = are.tables;
   }
 

@@ -118,6 +118,12 @@ in-span start end place low high =
     let here : start + (place - start) ≡ place = omega arith in
     (place - start, simp length-range_with_len within, get_or-range_with_len start (end - start) (place - start) place within ∙ here)
 
+pub out-span : (start end place : ℕ) → Contains (range_with_len start (end - start)) place → (start ≤ place) × (place < end)
+out-span start end place there =
+    let within : there.0 < end - start = omega (arith, there.1, length-range_with_len start (end - start)) in
+    let at : start + there.0 ≡ place = sym (get_or-range_with_len start (end - start) there.0 place within) ∙ there.2 in
+    (omega (arith, at), omega (arith, at, within))
+
 -- where no row is chosen
 module _ (choices : Choices) (query : Masked) (sets : List KeyedRows) where
   pub within-open : (table : Place) (span : Span) → IsWithin choices query sets (replicate (length sets) None) table span

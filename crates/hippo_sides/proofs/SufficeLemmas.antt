@@ -1,5 +1,5 @@
 -- What a tie that suffices says of rows.
-use Rattle.std.proofs.Common.{◌≡◌, zero, suc, ◌<◌, Bool, true, false, ◌&&◌, not, List, [], ◌∷◌, length, refl, sym, ap, subst, ◌∙◌, Option, Some, None, unwrap_or, Bor, arith}
+use Rattle.std.proofs.Common.{◌≡◌, zero, suc, Bool, true, false, ◌&&◌, not, List, [], ◌∷◌, refl, sym, ap, subst, ◌∙◌, Option, Some, None, unwrap_or, Bor}
 use Rattle.std.specs.Prelude.{option_copied, slice_get, slice_set}
 use Rattle.std.specs.List.{list_all}
 use Rattle.std.specs.Option.{option_map_or}
@@ -33,7 +33,7 @@ use Rattle.hippo_lookups.specs.Places.{rows_at, stays}
 use Rattle.hippo_lookups.specs.Ties.{holds, AreEqual}
 use Rattle.hippo_sides.specs.declared.stages.Stage.{Stage}
 use Rattle.hippo_sides.specs.Guards.{can_fail}
-use Rattle.hippo_sides.specs.Stages.{suffices}
+use Rattle.hippo_sides.specs.Stages.{AreTied, suffices}
 
 -- a lent value, or another one
 pub unwrapped : (lent : Option (Bor Value)) (other : Bor Value) → unwrap_or (option_copied lent) other.now ≡ (unwrap_or lent other).now
@@ -97,25 +97,44 @@ row-other (first ∷ sets) (slot ∷ slots) zero (suc other) place still known =
 row-other (first ∷ sets) (slot ∷ slots) (suc table) zero place still known = refl
 row-other (first ∷ sets) (slot ∷ slots) (suc table) (suc other) place still known = row-other sets slots table other place still known
 
+-- the value in a column of the row that is chosen last
+own-value : (sets : List KeyedRows) (slots : List (Option Place)) (table place column : Place) (set : KeyedRows) → slice_get sets table ≡ Some set → is_open slots table ≡ true → raw_value (rows_at sets (slice_set slots table (Some place))) (record { table = table; column = column }) ≡ value_at_place set column place
+own-value sets slots table place column set at still = ap (λ o. option_map_or (λ (kept : BornRow). cell_at kept.row column) o NullValue) (row-own sets slots table place set at still)
+
+-- an equality with a literal holds where the column has its value
+pub equals_literal : (choices : Choices) (sets : List KeyedRows) (slots : List (Option Place)) (left right : Expr) (column : Ref) (value : Value) (place : Place) (set : KeyedRows) → left ≡ Keep column → right ≡ Literal value → slice_get sets column.table ≡ Some set → is_open slots column.table ≡ true
+    → value_at_place set column.column place ≡ value → is_null value ≡ false → holds choices (rows_at sets (slice_set slots column.table (Some place))) (conditions.Compare Eq left right) ≡ true
+equals_literal choices sets slots left right column value place set of_left of_right at still has some =
+    let rows = rows_at sets (slice_set slots column.table (Some place)) in
+    ap is_true (truth-Compare (masked_value choices rows) Eq left right)
+    ∙ ap (λ (e : Expr). is_true (comparison Eq (masked_value choices rows e) (masked_value choices rows right))) of_left
+    ∙ ap (λ (e : Expr). is_true (comparison Eq (raw_value rows column) (masked_value choices rows e))) of_right
+    ∙ ap (λ (v : Value). is_true (comparison Eq v value)) (own-value sets slots column.table place column.column set at still ∙ has) ∙ itself value some
+
 -- a row that has the value of the other column is tied to it
 pub rows-tied : (sets : List KeyedRows) (slots : List (Option Place)) (table place column : Place) (other : Ref) (set : KeyedRows) (value : Value) → slice_get sets table ≡ Some set → is_open slots table ≡ true → is_chosen slots other.table ≡ true
     → value_at_place set column place ≡ value → is_null value ≡ false → raw_value (rows_at sets slots) other ≡ value → AreEqual (rows_at sets (slice_set slots table (Some place))) (record { table = table; column = column }) other
 rows-tied sets slots table place column other set value at still known has some is =
     let rows = rows_at sets (slice_set slots table (Some place)) in
-    let own : raw_value rows (record { table = table; column = column }) ≡ value_at_place set column place = ap (λ o. option_map_or (λ (kept : BornRow). cell_at kept.row column) o NullValue) (row-own sets slots table place set at still) in
+    let own = own-value sets slots table place column set at still in
     let another : raw_value rows other ≡ raw_value (rows_at sets slots) other = ap (λ o. option_map_or (λ (kept : BornRow). cell_at kept.row other.column) o NullValue) (row-other sets slots table other.table place still known) in
     (own ∙ has ∙ sym is ∙ sym another, ap is_null (another ∙ is) ∙ some)
 
+-- a stage that looks its rows up and suffices has no tie
+untied : (sought : Bool) (slots : List (Option Place)) (table : Place) (tie : Option Tie) (rows : Combination) → option_map_or (λ (t : Tie). not sought && is_chosen slots t.other.table) tie true ≡ true → sought ≡ true → AreTied table tie rows
+untied sought slots table None rows known is = tt
+untied sought slots table (Some tie) rows known is = absurd (false≢true (sym (ap not is) ∙ (and_parts (not sought) (is_chosen slots tie.other.table) known).0))
+
 -- a stage whose tie suffices: the other row is chosen
 module _ (stage : Stage) (slots : List (Option Place)) (yes : suffices stage slots ≡ true) where
-  both : (stage.suffices ≡ true) × (option_map_or (λ (tie : Tie). is_chosen slots tie.other.table) stage.tie true ≡ true)
-  both = and_parts stage.suffices (option_map_or (λ (tie : Tie). is_chosen slots tie.other.table) stage.tie true) (and_parts (not stage.is_sought) _ yes).1
+  both : (stage.suffices ≡ true) × (option_map_or (λ (tie : Tie). not stage.is_sought && is_chosen slots tie.other.table) stage.tie true ≡ true)
+  both = and_parts stage.suffices (option_map_or (λ (tie : Tie). not stage.is_sought && is_chosen slots tie.other.table) stage.tie true) yes
 
   pub enough-of : stage.suffices ≡ true
   enough-of = both.0
 
   pub told : (tie : Tie) → stage.tie ≡ Some tie → is_chosen slots tie.other.table ≡ true
-  told tie is = sym (ap (λ o. option_map_or (λ (t : Tie). is_chosen slots t.other.table) o true) is) ∙ both.1
+  told tie is = (and_parts (not stage.is_sought) (is_chosen slots tie.other.table) (sym (ap (λ o. option_map_or (λ (t : Tie). not stage.is_sought && is_chosen slots t.other.table) o true) is) ∙ both.1)).1
 
-  pub not-sought : stage.is_sought ≡ true → ⊥
-  not-sought sought = false≢true (sym (ap not sought) ∙ (and_parts (not stage.is_sought) (stage.suffices && option_map_or (λ (tie : Tie). is_chosen slots tie.other.table) stage.tie true) yes).0)
+  pub sought-tied : (rows : Combination) → stage.is_sought ≡ true → AreTied stage.table stage.tie rows
+  sought-tied rows sought = untied stage.is_sought slots stage.table stage.tie rows both.1 sought

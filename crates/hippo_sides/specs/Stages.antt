@@ -3,6 +3,8 @@ use Rattle.std.specs.Prelude.{◌≡◌, ◌<◌, Bool, true, false, ◌&&◌, n
 use Rattle.std.specs.List.{All, Contains}
 use Rattle.std.specs.Option.{option_map_or}
 use Rattle.hippo_values.specs.declared.values.Value.{Value}
+use Rattle.hippo_model.specs.declared.query.CondOf.{CondOf}
+use Rattle.hippo_model.specs.declared.query.Expr.{Expr}
 use Rattle.hippo_model.specs.declared.query.Masked.{Masked}
 use Rattle.hippo_model.specs.declared.query.Ref.{Ref}
 use Rattle.hippo_model.specs.Conditions.{is_null}
@@ -11,10 +13,10 @@ use Rattle.hippo_keyed_rows.specs.RowSets.{KeyedRows}
 use Rattle.hippo_model.specs.Masking.{Choices, raw_value}
 use Rattle.hippo_sides.specs.declared.stages.Stage.{Stage}
 use Rattle.hippo_lookups.specs.declared.ties.Tie.{Tie}
-use Rattle.hippo_lookups.specs.Known.{is_chosen}
+use Rattle.hippo_lookups.specs.Known.{is_chosen, is_open}
 use Rattle.hippo_lookups.specs.Places.{chosen_rows, Fits, rows_at, stands, stays}
 use Rattle.hippo_lookups.specs.Lookups.{IsIndex, value_at_place}
-use Rattle.hippo_lookups.specs.Ties.{AreEqual}
+use Rattle.hippo_lookups.specs.Ties.{AreEqual, holds}
 
 -- some places have each place that a table has in a combination that counts
 abbrev pub Reaches : Choices → Masked → List KeyedRows → Place → List Place → Type 0
@@ -45,6 +47,15 @@ HaveValue sets table column value some =
     (set : KeyedRows) → slice_get sets table ≡ Some set → (place : Place) → Contains some place
     → (value_at_place set column place ≡ value) × (is_null value ≡ false)
 
+-- a part of a condition holds with the row at each of some places of a table, whichever rows are
+-- chosen in others
+abbrev pub HoldsWithEach :
+    Choices → List KeyedRows → Place → List Place → CondOf Expr → Type 0
+HoldsWithEach choices sets table some part =
+    (slots : List (Option Place)) → is_open slots table ≡ true
+    → (set : KeyedRows) → slice_get sets table ≡ Some set → (place : Place) → Contains some place
+    → holds choices (rows_at sets (slice_set slots table (Some place))) part ≡ true
+
 -- rows in which the columns of a tie are equal, where there is one
 abbrev pub AreTied : Place → Option Tie → Combination → Type 0
 AreTied table tie rows =
@@ -67,11 +78,18 @@ abbrev pub AllCount :
 AllCount choices query sets slots table some =
     (place : Place) → Contains some place → Counts choices query sets slots table place
 
--- whether the tie of a stage suffices, and its other row is chosen
+-- the rows at some places of a table count, whichever rows are chosen in others
+abbrev pub AlwaysCount : Choices → Masked → List KeyedRows → Place → List Place → Type 0
+AlwaysCount choices query sets table some =
+    (slots : List (Option Place)) → is_open slots table ≡ true
+    → AllCount choices query sets slots table some
+
+-- whether the tie of a stage suffices, and its other row is chosen; one that looks its rows up goes
+-- by no tie
 abbrev pub suffices : Stage → List (Option Place) → Bool
 suffices stage slots =
-    not stage.is_sought
-    && (stage.suffices && option_map_or (λ tie. is_chosen slots tie.other.table) stage.tie true)
+    stage.suffices
+    && option_map_or (λ tie. not stage.is_sought && is_chosen slots tie.other.table) stage.tie true
 
 -- a stage has all places of its table that count and, where it has a tie, in the order of the tie's
 -- column, with its values; a tie that suffices does

@@ -9,7 +9,7 @@ use Rattle.hippo_model.specs.Masking.{Choices}
 use Rattle.hippo_sides.specs.declared.stages.Stage.{Stage}
 use Rattle.hippo_sides.specs.declared.following.Following.{Following}
 use Rattle.hippo_sides.specs.declared.following.Following.TheVariants.{Listed, Sought, Found}
-use Rattle.hippo_sides.specs.Stages.{IsStage}
+use Rattle.hippo_sides.specs.Stages.{IsStage, Suffices}
 use Rattle.hippo_sides.specs.Finding.{Covers}
 
 -- the places themselves, one after the other
@@ -18,9 +18,11 @@ following_places (Listed places) = places.now
 following_places (Sought span) = range_with_len span.start (span.end - span.start)
 following_places (Found places) = places.items
 
--- a stage has all places of its table that count, unless it looks them up
-abbrev pub IsWalkable : Choices → Masked → List KeyedRows → Stage → Type 0
-IsWalkable choices query sets stage = stage.is_sought ≡ false → IsStage choices query sets stage
+-- a stage has all places of its table that count, unless it looks them up; a tie that suffices does
+pub record IsWalkable (choices : Choices) (query : Masked) (sets : List KeyedRows) (stage : Stage)
+    : Type 0 where
+  pub listed : stage.is_sought ≡ false → IsStage choices query sets stage
+  pub enough : stage.suffices ≡ true → Suffices choices query stage.table stage.tie
 
 -- the stages of tables in an order, of which none looks its places up where all are to be listed
 pub record AreWalkable

@@ -8,6 +8,7 @@ ghost use Rattle.hippo_sides.specs.Stages.{AllCount, ReachesFrom, suffices};
 ghost use Rattle.hippo_sides.specs.Walking.{following_places, IsWalkable};
 
 use crate::keys::Span;
+use crate::seeking::WALKED;
 use crate::sides::Side;
 use crate::stages::Stage;
 use hippo_model::{ChoiceView, Combo};
@@ -40,8 +41,8 @@ fn place_in(start: usize, end: usize, index: usize) -> usize
     start + index
 }
 
-// Whether places ascend, each there once.
-fn ascends(places: &[usize]) -> bool
+/// Whether places ascend, each there once.
+pub fn ascends(places: &[usize]) -> bool
     ensures { result ≡ true → IsStrictlyIncreasing places.now }
 {
     for index in 1..places.len() {
@@ -115,6 +116,7 @@ impl<'a, C: ChoiceView> Side<'a, C> {
     /// The places of a stage that may follow the rows that are chosen, which are at hand. A look-up
     /// takes time that grows with the logarithm of the table and with what it finds; by key it
     /// takes no memory but for the key.
+    #[inline(always)]
     pub fn following<'s>(
         &self,
         alloc: Global,
@@ -135,7 +137,9 @@ impl<'a, C: ChoiceView> Side<'a, C> {
             slots.now stage.now.table (following_places following)) }
     {
         if stage.is_sought {
-            self.candidates(alloc, stage.table, slots, 1)
+            // An only table is walked once, any other again and again.
+            let walked = if self.sets.len() == 1 { WALKED } else { 1 };
+            self.candidates(alloc, stage.table, slots, walked)
         } else {
             Ok(Following::Listed(self.places_behind(stage, slots, rows)))
         }

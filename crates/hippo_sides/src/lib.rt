@@ -10,7 +10,7 @@ mod sides;
 mod stages;
 mod sufficing;
 
-pub use following::{Following, listed};
+pub use following::{Following, ascends, listed};
 pub use keys::Span;
 pub use reaching::{open_slots, push_if};
 pub use sides::Side;

@@ -41,27 +41,14 @@ pub fn push_if(test: bool, places: &mut Vec<usize>, place: usize) -> Result<(), 
     Ok(())
 }
 
-// About how many combinations there are behind a stage, of so many before it.
-fn after_stage(before: usize, stage: &Stage) -> usize {
-    if stage.is_sought {
-        before
-    } else {
-        before.saturating_mul(stage.places.len())
-    }
-}
-
 impl<'a, C: ChoiceView> Side<'a, C> {
-    // Whether some guard can be tested where only these rows are chosen, and can fail.
-    fn knows_guard(&self, slots: &[Option<usize>]) -> bool {
+    // Whether a part of the condition, or a guard that can fail, can be tested where only these
+    // rows are chosen.
+    fn knows_test(&self, slots: &[Option<usize>]) -> bool {
+        let parts = outer_parts(&self.query.cond);
         let guards = self.query.guards.as_slice();
-        guards.iter().any(|guard| can_fail(&guard.expr) && knows_expr(&guard.expr, slots))
-    }
-
-    // Whether so many rows are tested before they are walked: where something can be tested, but
-    // for few rows of an only table, since the walk tests the whole condition at once there.
-    fn tests_early(&self, tests: &[usize], slots: &[Option<usize>], rows: usize) -> bool {
-        let can_test = !tests.is_empty() || self.knows_guard(slots);
-        can_test && (self.sets.len() > 1 || rows > FEW_ROWS)
+        parts.iter().any(|part| knows(part, slots))
+            || guards.iter().any(|guard| can_fail(&guard.expr) && knows_expr(&guard.expr, slots))
     }
 
     // The parts of the condition that can be tested where these rows are chosen, by their places.
@@ -105,20 +92,25 @@ impl<'a, C: ChoiceView> Side<'a, C> {
         Ok(places)
     }
 
-    // The places of a table's rows that can count. Where literals say the row's key, or its first
-    // values, or bounds of the next one, or the value of a column by which the table has an order,
-    // these rows are found by halves.
-    fn reached_places(&self, alloc: Global, table: usize) -> Result<Vec<usize>, Memory>
+    // The places of a table's rows that can count, where it alone is chosen. Where literals say the
+    // row's key, or its first values, or bounds of the next one, or the value of a column by which
+    // the table has an order, these rows are found by halves. Rows are tested before they are
+    // walked, but for few of an only table, since the walk tests the whole condition at once there.
+    fn reached_places(
+        &self,
+        alloc: Global,
+        table: usize,
+        alone: &[Option<usize>],
+    ) -> Result<Vec<usize>, Memory>
         requires { table < length self.now.sets.now }
         ensures { IfOk result (λ places. Reaches (C.choices self.now.choices.now) self.now.query.now
             self.now.sets.now
             table places.items) }
     {
-        let mut slots = open_slots(alloc, self.sets.len())?;
-        slots[table] = Some(0);
-        let tests = self.known_parts(alloc, &slots)?;
         let candidates = self.open_candidates(alloc, table)?;
-        if self.tests_early(&tests, &slots, candidates.len()) {
+        let are_many = self.sets.len() > 1 || candidates.len() > FEW_ROWS;
+        if are_many && self.knows_test(alone) {
+            let tests = self.known_parts(alloc, alone)?;
             self.tested_places(alloc, table, &candidates, &tests)
         } else {
             listed(alloc, &candidates)
@@ -156,13 +148,29 @@ impl<'a, C: ChoiceView> Side<'a, C> {
     }
 
     // Whether a table's rows are looked up by the rows that are chosen, of which there are about so
-    // many combinations.
+    // many combinations; those of an only table are looked up once in any case.
     fn is_sought(&self, table: usize, slots: &[Option<usize>], before: usize) -> bool
         requires { table < length self.now.sets.now }
     {
-        self.tells_key(table, slots)
+        self.sets.len() == 1
+            || self.tells_key(table, slots)
             || self.tells_front(table, slots)
             || self.finds_few(table, slots, before)
+    }
+
+    // Whether all rows of a table are walked as they stand, behind about so many combinations of
+    // the rows that are chosen: one at most, since what follows is found anew for each; no tie says
+    // what may follow, and nothing can be tested where the table alone is chosen.
+    fn walks_all(
+        &self,
+        table: usize,
+        slots: &[Option<usize>],
+        before: usize,
+        alone: &[Option<usize>],
+    ) -> bool {
+        before <= 1
+            && find_tie(outer_parts(&self.query.cond), table, slots).is_none()
+            && !self.knows_test(alone)
     }
 
     // A table's stage behind those whose rows are chosen, with its places.
@@ -171,6 +179,7 @@ impl<'a, C: ChoiceView> Side<'a, C> {
         alloc: Global,
         table: usize,
         slots: &[Option<usize>],
+        alone: &[Option<usize>],
         tests: Vec<usize>,
     ) -> Result<Stage, Memory>
         requires { table < length self.now.sets.now }
@@ -180,12 +189,14 @@ impl<'a, C: ChoiceView> Side<'a, C> {
         ensures listed { IfOk result (λ stage. stage.is_sought ≡ false) }
         ensures table { IfOk result (λ stage. stage.table ≡ table) }
     {
-        let places = self.reached_places(alloc, table)?;
+        let places = self.reached_places(alloc, table, alone)?;
+        let rows = places.len();
         let Some(tie) = find_tie(outer_parts(&self.query.cond), table, slots) else {
             return Ok(Stage {
                 table,
                 tie: None,
                 is_sought: false,
+                rows,
                 places,
                 values: Vec::new(alloc),
                 suffices: self.suffices(table, &None),
@@ -198,6 +209,7 @@ impl<'a, C: ChoiceView> Side<'a, C> {
             table,
             tie: Some(tie),
             is_sought: false,
+            rows,
             places: index.places,
             values: index.values,
             suffices: self.suffices(table, &Some(tie)),
@@ -223,21 +235,20 @@ impl<'a, C: ChoiceView> Side<'a, C> {
         ensures listed { IfOk result (λ stage. lists ≡ true → stage.is_sought ≡ false) }
         ensures table { IfOk result (λ stage. stage.table ≡ table) }
     {
-        let is_sought = !lists && self.is_sought(table, slots, before);
-        let tests = self.tests_at(alloc, table, slots, is_sought)?;
-        if is_sought {
-            Ok(Stage {
-                table,
-                tie: None,
-                is_sought,
-                places: Vec::new(alloc),
-                values: Vec::new(alloc),
-                suffices: false,
-                near: Cell::new(0),
-                tests,
-            })
+        if !lists && self.is_sought(table, slots, before) {
+            let tests = self.tests_at(alloc, table, slots, &[])?;
+            let suffices = self.suffices(table, &None);
+            return Ok(Stage::sought(alloc, table, 1, suffices, tests));
+        }
+        let mut alone = open_slots(alloc, self.sets.len())?;
+        alone[table] = Some(0);
+        let tests = self.tests_at(alloc, table, slots, &alone)?;
+        if !lists && self.walks_all(table, slots, before, &alone) {
+            let rows = self.sets.get(table).len();
+            let suffices = self.suffices(table, &None);
+            Ok(Stage::sought(alloc, table, rows, suffices, tests))
         } else {
-            self.listed_stage(alloc, table, slots, tests)
+            self.listed_stage(alloc, table, slots, &alone, tests)
         }
     }
 
@@ -323,9 +334,9 @@ impl<'a, C: ChoiceView> Side<'a, C> {
         }
     }
 
-    // As `places_of`, where the rows that are chosen are at hand.
+    /// As `places_of`, where the rows that are chosen are at hand.
     #[inline(always)]
-    pub(crate) fn places_behind<'s>(
+    pub fn places_behind<'s>(
         &self,
         stage: &'s Stage,
         slots: &[Option<usize>],
@@ -348,28 +359,27 @@ impl<'a, C: ChoiceView> Side<'a, C> {
         }
     }
 
-    // The parts of the condition that are tested where a table's row is chosen, looked up or not:
-    // none where it is the last, since the whole condition is tested then. Where places are listed,
-    // the parts on the table alone are tested before.
+    // The parts of the condition that are tested where a table's row is chosen, and not before, by
+    // the rows that are chosen there or by those that are tested alone: none where it is the last,
+    // since the whole condition is tested then.
     fn tests_at(
         &self,
         alloc: Global,
         table: usize,
         slots: &[Option<usize>],
-        is_sought: bool,
+        alone: &[Option<usize>],
     ) -> Result<Vec<usize>, Memory>
         requires { table < length slots.now }
     {
         let mut tests = Vec::new(alloc);
-        let mut after = Vec::from_slice(alloc, slots)?;
-        after[table] = Some(0);
-        if after.iter().all(|slot| slot.is_some()) {
+        let mut others = slots.iter().enumerate();
+        if others.all(|(place, slot)| place == table || slot.is_some()) {
             return Ok(tests);
         }
-        let mut alone = open_slots(alloc, slots.len())?;
-        alone[table] = if is_sought { None } else { Some(0) };
+        let mut after = Vec::from_slice(alloc, slots)?;
+        after[table] = Some(0);
         for (place, part) in outer_parts(&self.query.cond).iter().enumerate() {
-            if knows(part, &after) && !knows(part, slots) && !knows(part, &alone) {
+            if knows(part, &after) && !knows(part, slots) && !knows(part, alone) {
                 tests.push(place)?;
             }
         }
@@ -381,22 +391,21 @@ impl<'a, C: ChoiceView> Side<'a, C> {
     pub fn stages_behind(
         &self,
         alloc: Global,
-        chosen: &[Option<usize>],
+        mut slots: Vec<Option<usize>>,
         order: &[usize],
         lists: bool,
     ) -> Result<Vec<Stage>, Memory>
-        requires long { length chosen.now ≡ length self.now.sets.now }
+        requires long { length slots.items ≡ length self.now.sets.now }
         requires below { All (λ table. table < length self.now.sets.now) order.now }
         ensures { IfOk result (λ stages. AreWalkable
             (C.choices self.now.choices.now) self.now.query.now self.now.sets.now lists order.now
             stages.items) }
     {
-        let mut slots = Vec::from_slice(alloc, chosen)?;
         let mut stages = Vec::new(alloc);
         let mut before = 1;
         for table in order {
             let stage = self.stage(alloc, *table, &slots, before, lists)?;
-            before = after_stage(before, &stage);
+            before = before.saturating_mul(stage.rows);
             stages.push(stage)?;
             slots[*table] = Some(0);
         }
@@ -417,7 +426,7 @@ impl<'a, C: ChoiceView> Side<'a, C> {
             stages.items) }
     {
         let slots = open_slots(alloc, self.sets.len())?;
-        self.stages_behind(alloc, &slots, order, lists)
+        self.stages_behind(alloc, slots, order, lists)
     }
 
     /// The stages of a join, in an order of tables.

@@ -17,8 +17,8 @@ use std::alloc::Global;
 // So many rows are looked at one by one, whatever order there is.
 const FEW: usize = 16;
 
-// A row that an order finds takes as long as so many that are listed and tested one by one.
-const WALKED: usize = 4;
+// A row that an order finds takes as long as so many that are tested one by one.
+pub(crate) const WALKED: usize = 4;
 
 // How rows of a table are found: by the bounds of a column, or by the values that a list has for
 // it.
@@ -44,14 +44,6 @@ fn column_in(expr: &Expr, table: usize) -> Option<usize> {
     }
 }
 
-// A column of a table on either side of a comparison.
-fn column_beside(left: &Expr, right: &Expr, table: usize) -> Option<usize> {
-    match column_in(left, table) {
-        Some(column) => Some(column),
-        None => column_in(right, table),
-    }
-}
-
 // A column of a table that an equality compares.
 fn compared_column(part: &CondOf<Expr>, table: usize) -> Option<usize> {
     match part {
@@ -59,7 +51,7 @@ fn compared_column(part: &CondOf<Expr>, table: usize) -> Option<usize> {
             op: CompareOp::Eq,
             left,
             right,
-        } => column_beside(left, right, table),
+        } => column_in(left, table).or(column_in(right, table)),
         _ => None,
     }
 }
@@ -68,7 +60,8 @@ fn compared_column(part: &CondOf<Expr>, table: usize) -> Option<usize> {
 fn access_by(part: &CondOf<Expr>, table: usize) -> Option<Access> {
     match part {
         CondOf::Compare { left, right, .. } => {
-            Some(Access::Bounds(column_beside(left, right, table)?))
+            let column = column_in(left, table).or(column_in(right, table));
+            Some(Access::Bounds(column?))
         }
         CondOf::Between { value, .. } => Some(Access::Bounds(column_in(value, table)?)),
         CondOf::Among { value, .. } => Some(Access::List(column_in(value, table)?)),

@@ -1,6 +1,9 @@
 //! The stages of a join, a table at a time.
+ghost use Rattle.std.specs.Prelude.{◌≡◌, true, None};
+
 use hippo_lookups::Tie;
 use hippo_values::Value;
+use std::alloc::Global;
 use std::cell::Cell;
 
 /// A table, by its place in FROM, the tie of its rows to a row that is chosen before, and its rows
@@ -11,8 +14,11 @@ pub struct Stage {
     pub tie: Option<Tie>,
     /// Whether its rows are looked up by the rows that are chosen before, and not listed: where
     /// these say the first value of the key, or that of a column by which the table has an order,
-    /// or where the whole key is said.
+    /// or where the whole key is said; those of an only table, and of a first one of which none is
+    /// tested before.
     pub is_sought: bool,
+    /// About how many of its rows follow the rows that are chosen before.
+    pub rows: usize,
     /// Places in the table, in the order of the tie's column.
     pub places: Vec<usize>,
     /// The values of the tie's column at these places; none where there is no tie.
@@ -24,4 +30,32 @@ pub struct Stage {
     pub near: Cell<usize>,
     /// The parts of the condition that are tested here.
     pub tests: Vec<usize>,
+}
+
+impl Stage {
+    // The stage of a table whose rows are looked up, about so many, by no tie.
+    pub(crate) fn sought(
+        alloc: Global,
+        table: usize,
+        rows: usize,
+        suffices: bool,
+        tests: Vec<usize>,
+    ) -> Stage
+        ensures sought { result.is_sought ≡ true }
+        ensures table { result.table ≡ table }
+        ensures tie { result.tie ≡ None }
+        ensures suffices { result.suffices ≡ suffices }
+    {
+        Stage {
+            table,
+            tie: None,
+            is_sought: true,
+            rows,
+            places: Vec::new(alloc),
+            values: Vec::new(alloc),
+            suffices,
+            near: Cell::new(0),
+            tests,
+        }
+    }
 }

@@ -1,5 +1,5 @@
 //! Whether a tie says all that a query asks of rows.
-ghost use Rattle.std.specs.Prelude.{◌≡◌, true, not, Some, IfSome, ◌&&◌};
+ghost use Rattle.std.specs.Prelude.{◌≡◌, ◌<◌, ◌&&◌, true, not, length, Some, IfSome};
 ghost use Rattle.std.specs.Option.{option_map_or};
 ghost use Rattle.std.specs.List.{list_all};
 ghost use Rattle.hippo_values.specs.declared.truths.CompareOp.TheVariants.{Eq};
@@ -10,13 +10,17 @@ ghost use Rattle.hippo_model.specs.declared.query.Expr.TheVariants.{Keep};
 ghost use Rattle.hippo_lookups.specs.Known.{is_chosen};
 ghost use Rattle.hippo_lookups.specs.Ties.{AreEqual, holds};
 ghost use Rattle.hippo_sides.specs.Guards.{can_fail};
-ghost use Rattle.hippo_sides.specs.Stages.{AreTied, Suffices, suffices};
+ghost use Rattle.hippo_sides.specs.Stages.{AlwaysCount, AreTied, HaveValue, HoldsWithEach, Suffices, suffices};
+ghost use Rattle.hippo_sides.specs.Walking.{following_places};
+ghost use Rattle.hippo_sides.specs.declared.following.Following.TheVariants.{Sought};
 
+use crate::following::Following;
+use crate::keys::Span;
 use crate::sides::Side;
 use crate::stages::Stage;
-use hippo_lookups::{Tie, is_chosen, outer_parts};
+use hippo_lookups::{Tie, is_chosen, is_null, outer_parts};
 use hippo_model::{ChoiceView, CondOf, Expr, Guard, Ref};
-use hippo_values::CompareOp;
+use hippo_values::{CompareOp, Value};
 
 /// Whether the cell of an expression may be denied, by the expression alone.
 pub(crate) fn can_fail(expr: &Expr) -> bool
@@ -127,6 +131,72 @@ fn all_follow(parts: &[CondOf<Expr>], table: usize, tie: &Option<Tie>) -> bool
 }
 
 impl<'a, C: ChoiceView> Side<'a, C> {
+    // Whether the rows of a span have a value in a column of their table, which is the first of its
+    // key, and not null.
+    fn all_have(&self, column: Ref, value: &Value, span: Span) -> bool
+        requires { column.table < length self.now.sets.now }
+        ensures { result ≡ true → HaveValue self.now.sets.now column.table column.column value.now
+            (following_places (Sought span)) }
+    {
+        let set = self.sets.get(column.table);
+        match set.key().as_slice().first() {
+            Some(first) if *first == column.column && !is_null(value) => {
+                set.all_begin_with(value, span.start, span.end)
+            }
+            _ => false,
+        }
+    }
+
+    // Whether a comparison is known to hold with each row of a table's span: an equality of their
+    // key's first column with a literal.
+    fn equals_each(
+        &self,
+        op: CompareOp,
+        left: &Expr,
+        right: &Expr,
+        table: usize,
+        span: Span,
+    ) -> bool
+        requires { table < length self.now.sets.now }
+        ensures { result ≡ true → HoldsWithEach (C.choices self.now.choices.now) self.now.sets.now
+            table (following_places (Sought span)) (Compare op left.now right.now) }
+    {
+        match (op, kept_column(left), right) {
+            (CompareOp::Eq, Some(column), Expr::Literal(value)) if column.table == table => {
+                self.all_have(column, value, span)
+            }
+            _ => false,
+        }
+    }
+
+    // Whether a part of the condition is known to hold with each row of a table's span.
+    fn holds_with_each(&self, part: &CondOf<Expr>, table: usize, span: Span) -> bool
+        requires { table < length self.now.sets.now }
+        ensures { result ≡ true → HoldsWithEach (C.choices self.now.choices.now) self.now.sets.now
+            table (following_places (Sought span)) part.now }
+    {
+        match part {
+            CondOf::Compare { op, left, right } => self.equals_each(*op, left, right, table, span),
+            _ => false,
+        }
+    }
+
+    /// Whether each row at these places of a table is known to count with the rows that are chosen:
+    /// they are a span, the condition has one part, which says the first value of their key, and no
+    /// guard can fail.
+    pub fn all_count(&self, table: usize, following: &Following<'_>) -> bool
+        requires { table < length self.now.sets.now }
+        ensures { result ≡ true → AlwaysCount (C.choices self.now.choices.now) self.now.query.now
+            self.now.sets.now table (following_places following.now) }
+    {
+        match (following, outer_parts(&self.query.cond)) {
+            (Following::Sought(span), [part]) => {
+                none_fails(self.query.guards.as_slice()) && self.holds_with_each(part, table, *span)
+            }
+            _ => false,
+        }
+    }
+
     // Whether rows count wherever a tie ties them: the condition says no more, and no guard can
     // fail.
     pub(crate) fn suffices(&self, table: usize, tie: &Option<Tie>) -> bool
@@ -140,24 +210,25 @@ impl<'a, C: ChoiceView> Side<'a, C> {
     }
 }
 
-// Whether the other row of a tie is chosen, where there is a tie.
-#[inline(always)]
-fn is_told(tie: &Option<Tie>, slots: &[Option<usize>]) -> bool
-    ensures { result ≡ option_map_or (λ tie. is_chosen slots.now tie.other.table) tie.now true }
-{
-    match tie {
-        None => true,
-        Some(tie) => is_chosen(slots, tie.other.table),
-    }
-}
-
 impl Stage {
+    // Whether the other row of its tie is chosen, and its own rows are listed, where it has one.
+    #[inline(always)]
+    fn is_told(&self, slots: &[Option<usize>]) -> bool
+        ensures { result ≡ option_map_or (λ tie. not self.now.is_sought
+            && is_chosen slots.now tie.other.table) self.now.tie true }
+    {
+        match &self.tie {
+            None => true,
+            Some(tie) => !self.is_sought && is_chosen(slots, tie.other.table),
+        }
+    }
+
     /// Whether each combination counts that has the rows which are chosen and one that follows: its
     /// tie suffices.
     #[inline(always)]
     pub fn suffices(&self, slots: &[Option<usize>]) -> bool
         ensures { result ≡ suffices self.now slots.now }
     {
-        !self.is_sought && (self.suffices && is_told(&self.tie, slots))
+        self.suffices && self.is_told(slots)
     }
 }

@@ -1,5 +1,5 @@
 -- There is a tie.
-use Rattle.std.proofs.Common.{Option, Some, subst}
+use Rattle.std.proofs.Common.{Option, subst}
 use Rattle.hippo_lookups.specs.declared.ties.Tie.{Tie}
 use Rattle.hippo_sides.specs.Stages.{AreTied}
 use Rattle.hippo_sides.proofs.sufficing.follows_any.Goals as goal

@@ -31,28 +31,50 @@ pub walk-following-requires-clause-stage : goal.walk-following-requires-clause-s
 walk-following-requires-clause-stage g t c =
     all-first (IsWalkable (g.C.ChoiceView.choices c.args.self.now.side.now.choices.now) c.args.self.now.side.now.query.now c.args.self.now.side.now.sets.now) c.args.stages.now c.in-Some.stage.now c.in-Some.rest.now c.requires.can.walkable c.in-Some.ensures.cases.0
 
-pub walk-walk_each-requires : goal.walk-walk_each-requires
-walk-walk_each-requires g t c κs within =
+pub walk-listed_places-requires-clause-stage : goal.walk-listed_places-requires-clause-stage
+walk-listed_places-requires-clause-stage g t c =
+    all-first (IsWalkable (g.C.ChoiceView.choices c.args.self.now.side.now.choices.now) c.args.self.now.side.now.query.now c.args.self.now.side.now.sets.now) c.args.stages.now c.in-Some.stage.now c.in-Some.rest.now c.requires.can.walkable c.in-Some.ensures.cases.0
+
+pub walk-walk_through-requires : goal.walk-walk_through-requires
+walk-walk_through-requires g t c κs within =
     let shorter : length c.args.stages.now ≡ suc (length c.in-Some.rest.now) = ap length c.in-Some.ensures.cases.0 in
     let still = sym c.is_open.ensures ∙ c.if-not-is_open.false in
-    (omega arith, (within.0, (within.1.0, (within.1.1, (still, (on-same _ _ _ _ _ c.requires c.in-Some.ensures.cases.0, (c.in_ok-places.ensures.reaches, (c.in_ok-places.ensures.order, λ yes. c.in_ok-places.ensures.count still (sym c.suffices-count.ensures ∙ yes)))))))))
+    let listed = c.in-Some-listed_places.ensures in
+    (omega arith, (within.0, (within.1.0, (within.1.1, (still, (on-same _ _ _ _ _ c.requires c.in-Some.ensures.cases.0, listed))))))
 
-pub walk-leave-requires-clause-long : goal.walk-leave-requires-clause-long
-walk-leave-requires-clause-long g t c =
-    let long = c.requires.can.long in
-    omega (arith, ap length c.in_ok-onward.ensures.slots, length-set c.walk_each.new.slots c.in-Some.stage.now.table None, length-set c.args.slots.now c.in-Some.stage.now.table None, long)
+pub walk-walk_through-requires-2 : goal.walk-walk_through-requires-2
+walk-walk_through-requires-2 g t c κs within =
+    let shorter : length c.args.stages.now ≡ suc (length c.in-Some.rest.now) = ap length c.in-Some.ensures.cases.0 in
+    let still = sym c.is_open.ensures ∙ c.if-not-is_open.false in
+    let found = c.in_ok-following.ensures in
+    (omega arith, (within.0, (within.1.0, (within.1.1, (still, (on-same _ _ _ _ _ c.requires c.in-Some.ensures.cases.0, found))))))
 
-pub walk-leave-requires-clause-table : goal.walk-leave-requires-clause-table
-walk-leave-requires-clause-table g t c =
-    let within = open-within c.args.slots.now c.in-Some.stage.now.table (sym c.is_open.ensures ∙ c.if-not-is_open.false) in
-    omega (arith, within, ap length c.in_ok-onward.ensures.slots, length-set c.walk_each.new.slots c.in-Some.stage.now.table None, length-set c.args.slots.now c.in-Some.stage.now.table None)
+pub walk_through-all_count-count-requires-clause-table : goal.walk_through-all_count-count-requires-clause-table
+walk_through-all_count-count-requires-clause-table g t c =
+    let within = open-within c.args.slots.now c.args.stage.now.table c.requires.still in
+    let long = c.requires.can.can.long in
+    omega (arith, within, long)
 
-pub walk-leave-requires-clause-rows : goal.walk-leave-requires-clause-rows
-walk-leave-requires-clause-rows g t c = c.in_ok-onward.ensures.stand.are
+pub walk_through-walk_each-requires : goal.walk_through-walk_each-requires
+walk_through-walk_each-requires g t c κs within =
+    (omega arith, (within.0, (within.1.0, (within.1.1, (c.requires.still, (c.requires.can, c.all_count-count.ensures))))))
 
-pub walk-returns : goal.walk-returns
-walk-returns g t c = record {
-  slots = c.leave.ensures.slots ∙ c.in_ok-onward.ensures.slots ∙ still-open c.args.slots.now c.in-Some.stage.now.table (sym c.is_open.ensures ∙ c.if-not-is_open.false);
+pub walk_through-leave-requires-clause-long : goal.walk_through-leave-requires-clause-long
+walk_through-leave-requires-clause-long g t c =
+    let long = c.requires.can.can.long in
+    omega (arith, ap length c.in_ok-onward.ensures.slots, length-set c.walk_each.new.slots c.args.stage.now.table None, length-set c.args.slots.now c.args.stage.now.table None, long)
+
+pub walk_through-leave-requires-clause-table : goal.walk_through-leave-requires-clause-table
+walk_through-leave-requires-clause-table g t c =
+    let within = open-within c.args.slots.now c.args.stage.now.table c.requires.still in
+    omega (arith, within, ap length c.in_ok-onward.ensures.slots, length-set c.walk_each.new.slots c.args.stage.now.table None, length-set c.args.slots.now c.args.stage.now.table None)
+
+pub walk_through-leave-requires-clause-rows : goal.walk_through-leave-requires-clause-rows
+walk_through-leave-requires-clause-rows g t c = c.in_ok-onward.ensures.stand.are
+
+pub walk_through-returns : goal.walk_through-returns
+walk_through-returns g t c = record {
+  slots = c.leave.ensures.slots ∙ c.in_ok-onward.ensures.slots ∙ still-open c.args.slots.now c.args.stage.now.table c.requires.still;
   rows = c.leave.ensures.rows;
   kept = c.in_ok-onward.ensures.kept;
 }
@@ -63,7 +85,7 @@ walk_each-walk_with-requires g t c κs within =
     let inside = within-set c.args.slots.now c.loop-index.slots c.args.stage.now.table (open-within c.args.slots.now c.args.stage.now.table c.requires.still) same in
     let choices = g.C.ChoiceView.choices c.args.self.now.side.now.choices.now in
     let some = following_places c.args.following.now in
-    (omega arith, (within.0, (within.1.0, (within.1.1, (inside, (λ yes. counts-again choices c.args.self.now.side.now.query.now c.args.self.now.side.now.sets.now c.args.slots.now c.loop-index.slots c.args.stage.now.table c.place-place.result same (c.requires.count yes c.place-place.result (has-at some c.loop-index.index c.place-place.result (omega (arith, c.loop-index-test.true, c.len-index-end.ensures)) c.place-place.ensures)), on-again _ c.args.stage.now c.args.rest.now c.args.slots.now c.args.rows.now c.requires.can c.loop-index.slots c.loop-index.rows same c.loop-index.invariant.stand))))))
+    (omega arith, (within.0, (within.1.0, (within.1.1, (inside, (λ yes. counts-again choices c.args.self.now.side.now.query.now c.args.self.now.side.now.sets.now c.args.slots.now c.loop-index.slots c.args.stage.now.table c.place-place.result same (c.requires.follow.count c.requires.still yes c.place-place.result (has-at some c.loop-index.index c.place-place.result (omega (arith, c.loop-index-test.true, c.len-index-end.ensures)) c.place-place.ensures)), on-again _ c.args.stage.now c.args.rest.now c.args.slots.now c.args.rows.now c.requires.can c.loop-index.slots c.loop-index.rows same c.loop-index.invariant.stand))))))
 
 pub walk_each-loop-index-init : goal.walk_each-loop-index-init
 walk_each-loop-index-init g t c =
@@ -79,7 +101,7 @@ walk_each-loop-index-init g t c =
 pub walk_each-loop-index-preserved : goal.walk_each-loop-index-preserved
 walk_each-loop-index-preserved g t c =
     let join = join_of g.C.ChoiceView.choices c.args.self.now in
-    let next = next-on join c.args.stage.now c.args.rest.now c.args.slots.now c.args.rows.now c.requires.can (following_places c.args.following.now) c.requires.still c.requires.reaches c.requires.order in
+    let next = next-on join c.args.stage.now c.args.rest.now c.args.slots.now c.args.rows.now c.requires.can (following_places c.args.following.now) c.requires.still c.requires.follow.reaches c.requires.follow.order in
     record {
       same = c.in_ok-onward.ensures.slots ∙ c.loop-index.invariant.same;
       stand = c.in_ok-onward.ensures.stand;
@@ -93,7 +115,7 @@ walk_each-loop-index-preserved g t c =
 pub walk_each-returns-in-Enough : goal.walk_each-returns-in-Enough
 walk_each-returns-in-Enough g t c =
     let join = join_of g.C.ChoiceView.choices c.args.self.now in
-    let next = next-on join c.args.stage.now c.args.rest.now c.args.slots.now c.args.rows.now c.requires.can (following_places c.args.following.now) c.requires.still c.requires.reaches c.requires.order in
+    let next = next-on join c.args.stage.now c.args.rest.now c.args.slots.now c.args.rows.now c.requires.can (following_places c.args.following.now) c.requires.still c.requires.follow.reaches c.requires.follow.order in
     record {
       slots = c.in_ok-onward.ensures.slots ∙ c.loop-index.invariant.same ∙ sym (still-open c.args.slots.now c.args.stage.now.table c.requires.still);
       stand = c.in_ok-onward.ensures.stand;
@@ -107,7 +129,7 @@ walk_each-returns-in-Enough g t c =
 pub walk_each-returns : goal.walk_each-returns
 walk_each-returns g t c =
     let join = join_of g.C.ChoiceView.choices c.args.self.now in
-    let next = next-on join c.args.stage.now c.args.rest.now c.args.slots.now c.args.rows.now c.requires.can (following_places c.args.following.now) c.requires.still c.requires.reaches c.requires.order in
+    let next = next-on join c.args.stage.now c.args.rest.now c.args.slots.now c.args.rows.now c.requires.can (following_places c.args.following.now) c.requires.still c.requires.follow.reaches c.requires.follow.order in
     record {
       slots = c.loop-index.invariant.same ∙ sym (still-open c.args.slots.now c.args.stage.now.table c.requires.still);
       stand = c.loop-index.invariant.stand;

@@ -10,13 +10,16 @@ use Rattle.hippo_join.proofs.VisitingLemmas.{Tried}
 use Rattle.hippo_join.proofs.walking.Walk.+walk.Given as goal
 
 abbrev pub decreases-walk : goal.decreases-walk
-decreases-walk g l = 3 * length l.stages.now
+decreases-walk g l = 4 * length l.stages.now
 
 abbrev pub decreases-walk_with : goal.decreases-walk_with
-decreases-walk_with g l = 3 * length l.rest.now + 1
+decreases-walk_with g l = 4 * length l.rest.now + 1
 
 abbrev pub decreases-walk_each : goal.decreases-walk_each
-decreases-walk_each g l = 3 * length l.rest.now + 2
+decreases-walk_each g l = 4 * length l.rest.now + 2
+
+abbrev pub decreases-walk_through : goal.decreases-walk_through
+decreases-walk_through g l = 4 * length l.rest.now + 3
 
 abbrev pub invariant-walk_each-loop-index : goal.invariant-walk_each-loop-index
 invariant-walk_each-loop-index g l = record {

@@ -1,10 +1,9 @@
 -- A place that counts has the value of the tie, which is not null.
-use Rattle.std.proofs.Common.{◌≡◌, List, Some, sym, ap, subst, ◌∙◌}
+use Rattle.std.proofs.Common.{◌≡◌, List, Some, sym, subst, ◌∙◌}
 use Rattle.std.specs.Prelude.{slice_get}
 use Rattle.std.specs.List.{Contains}
 use Rattle.std.proofs.lemmas.Bool.{false≢true}
 use Rattle.hippo_values.specs.declared.values.Value.{Value}
-use Rattle.hippo_model.specs.Conditions.{is_null}
 use Rattle.hippo_model.specs.Terms.{Place}
 use Rattle.hippo_keyed_rows.specs.RowSets.{KeyedRows, value_at_place}
 use Rattle.hippo_keyed_rows.proofs.Orders.{value_exact}
