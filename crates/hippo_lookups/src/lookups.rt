@@ -1,5 +1,5 @@
 //! Rows of a table in the order of one of its columns.
-ghost use Rattle.std.specs.Prelude.{◌≡◌, ◌+◌, ◌<◌, ◌≤◌, true, false, length, IfOk, map, option_copied, unwrap_or};
+ghost use Rattle.std.specs.Prelude.{◌≡◌, ◌+◌, ◌<◌, ◌≤◌, ◌++◌, ◌∷◌, [], true, false, length, IfOk, OnOk, map, option_copied, unwrap_or};
 ghost use Rattle.std.specs.List.{Contains};
 ghost use Rattle.std.specs.List.Sorted.{IsPermutation, IsSorted};
 ghost use Rattle.std.specs.Ordering.{is_eq, is_lt, is_le};
@@ -114,24 +114,28 @@ fn sort_by_column(set: &RowSet, column: usize, places: &mut [usize])
     places.sort_unstable_by(|a, b| row_order(set, column, *a, *b));
 }
 
-// A copy of a value, by a call of its own, so that copying a number stays short.
-#[inline(never)]
-fn copy_of(alloc: Global, value: &Value) -> Result<Value, Memory>
-    ensures { IfOk result (λ made. made ≡ value.now) }
-{
-    Ok(value.copy(alloc)?)
-}
-
 // A value with memory of its own; null where none is there.
-#[inline(always)]
 fn copied_value(alloc: Global, value: Option<&Value>) -> Result<Value, Memory>
     ensures { IfOk result (λ made. made ≡ unwrap_or (option_copied value.entry) Null) }
 {
     match value {
         None => Ok(Value::Null),
-        Some(Value::Int(number)) => Ok(Value::Int(*number)),
-        Some(value) => copy_of(alloc, value),
+        Some(value) => Ok(value.copy(alloc)?),
     }
+}
+
+// Adds a copy of a value, or null where none is there. A number, as most are, is added at once.
+#[inline(always)]
+fn push_copy(alloc: Global, value: Option<&Value>, values: &mut Vec<Value>) -> Result<(), Memory>
+    ensures { OnOk result (values.new.items
+        ≡ values.old.items ++ unwrap_or (option_copied value.entry) Null ∷ []) }
+{
+    if let Some(Value::Int(number)) = value {
+        values.push(Value::Int(*number))?;
+        return Ok(());
+    }
+    values.push(copied_value(alloc, value)?)?;
+    Ok(())
 }
 
 // The values in a column of the rows at some places.
@@ -146,7 +150,7 @@ fn values_at(
 {
     let mut values = Vec::with_capacity(alloc, places.len())?;
     for place in places {
-        values.push(copied_value(alloc, value_at(set, column, *place))?)?;
+        push_copy(alloc, value_at(set, column, *place), &mut values)?;
     }
     Ok(values)
 }

@@ -51,6 +51,7 @@ fn is_low(order: Ordering, past: bool) -> bool
     if past { order.is_le() } else { order.is_lt() }
 }
 
+#[inline(always)]
 fn stands_low(set: &KeyedSet, front: &[Value], past: bool, place: usize) -> bool
     requires { place < length set.now.rows }
     ensures { result ≡ stands_low set.now front.now past place }
