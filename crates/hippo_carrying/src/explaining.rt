@@ -9,6 +9,7 @@ use hippo_engine::Engine;
 use hippo_findings::tell_cells;
 use hippo_keeper::{Keeper, Steps};
 use hippo_model::Entry;
+use hippo_values::Boxed;
 use std::alloc::Global;
 use std::sync::ledger::Ledger;
 
@@ -19,7 +20,7 @@ pub(crate) fn explain<P: Keeper, L: Ledger>(
     engine: &mut Engine,
     alloc: Global,
     keeper: &mut P,
-    entry: Entry,
+    entry: Boxed<Entry>,
     steps: &mut Steps<L>,
 ) -> Result<(), EngineFault>
     requires ready { IsReady true (P.state keeper.old) }
@@ -31,7 +32,7 @@ pub(crate) fn explain<P: Keeper, L: Ledger>(
         alloc,
         keeper,
         &engine.state,
-        &entry,
+        entry.get(),
         &mut engine.reply,
         steps,
     );

@@ -2,7 +2,7 @@
 use hippo_lines::RequestForm;
 use hippo_report::{Refusal, Speaker};
 use hippo_statements::Stmt;
-use hippo_values::Moment;
+use hippo_values::{Boxed, Moment};
 
 /// What a line commands. Texts are the line's own.
 #[derive(Drop)]
@@ -23,10 +23,11 @@ pub enum Command<'a> {
         who: Speaker,
         request: RequestForm<'a>,
     },
-    /// Carry out a statement, which stands in this text.
+    /// Carry out a statement, which stands in this text. It is boxed, since it is large and commands
+    /// are moved often.
     Statement {
         who: Speaker,
-        statement: Stmt,
+        statement: Boxed<Stmt>,
         text: &'a str,
     },
 }

@@ -1,5 +1,5 @@
 //! The statement that a text is.
-ghost use Rattle.std.specs.Prelude.{◌≡◌, ◌⊎◌, map, IfOk};
+ghost use Rattle.std.specs.Prelude.{◌≡◌, ◌⊎◌, map, Ok as Good, IfOk};
 ghost use Rattle.std.specs.Char.{to_ascii_uppercase};
 ghost use Rattle.hippo_lexer.specs.Words.{words_check};
 ghost use Rattle.hippo_report.specs.declared.refusal.Refusal.TheVariants.{Memory as NoMemory};
@@ -10,7 +10,7 @@ use hippo_lexer::{LexFault, SyntaxFault, TokenKind, Tokens};
 use hippo_report::Refusal;
 use hippo_statements::Stmt;
 use hippo_stmt_reader::read_statement;
-use hippo_values::{Memory, Txt};
+use hippo_values::{Boxed, Memory, Txt};
 use std::alloc::Global;
 
 fn lexing_refusal(fault: LexFault) -> Refusal
@@ -69,18 +69,28 @@ fn syntax_refusal(alloc: Global, tokens: &Tokens, fault: SyntaxFault) -> Refusal
     }
 }
 
-fn statement_by(alloc: Global, tokens: &Tokens) -> Result<Stmt, Refusal>
+// A statement in its box.
+fn boxed(alloc: Global, statement: Stmt) -> Result<Boxed<Stmt>, Refusal>
+    ensures { OrMemory (Good statement) result }
+{
+    match Boxed::new(alloc, statement) {
+        Ok(boxed) => Ok(boxed),
+        Err(Memory) => Err(Refusal::Memory),
+    }
+}
+
+fn statement_by(alloc: Global, tokens: &Tokens) -> Result<Boxed<Stmt>, Refusal>
     ensures { OrMemory (statement_by tokens.now (words_check tokens.now)) result }
 {
     match read_statement(alloc, tokens) {
-        Ok(statement) => Ok(statement),
+        Ok(statement) => boxed(alloc, statement),
         Err(fault) => Err(syntax_refusal(alloc, tokens, fault)),
     }
 }
 
 /// The statement that a text is, or why it is none: its tokens, their words and the grammar are
 /// looked at in this order.
-pub fn statement_in(alloc: Global, text: &str) -> Result<Stmt, Refusal>
+pub fn statement_in(alloc: Global, text: &str) -> Result<Boxed<Stmt>, Refusal>
     ensures { OrMemory (statement_in text.now) result }
 {
     match tokens(alloc, text) {

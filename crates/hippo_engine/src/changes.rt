@@ -11,6 +11,7 @@ use hippo_effects::{EngineFault, refuse, say_number};
 use hippo_keeper::{Keeper, KeeperFault};
 use hippo_model::Entry;
 use hippo_report::{Refusal, Speaker};
+use hippo_values::Boxed;
 use std::alloc::Global;
 
 impl Engine {
@@ -48,7 +49,7 @@ impl Engine {
         &mut self,
         alloc: Global,
         keeper: &mut P,
-        entry: Entry,
+        entry: Boxed<Entry>,
     ) -> Result<(), EngineFault>
         requires at_work { AtWork self.old (P.state keeper.old) }
         requires number { entry.seq < 2 ^ 63 }
@@ -58,7 +59,7 @@ impl Engine {
             steps steps }
         ensures unwritten { result ≢ Err WriteFailed }
     {
-        let recorded = self.record_change(alloc, keeper, &entry);
+        let recorded = self.record_change(alloc, keeper, entry.get());
         drop(entry);
         recorded
     }

@@ -18,7 +18,7 @@ ghost use Rattle.hippo_judging.specs.declared.deeds.Deed.TheVariants.{Ask};
 ghost use Rattle.hippo_judging.specs.Findings.{IsOfLine, FindsDeed};
 
 use crate::deeds::{Deed, Question};
-use crate::refusals::{check_room, name_refusal};
+use crate::refusals::{boxed, check_room, name_refusal};
 use crate::session_checks::{check_allowed, open_session};
 use hippo_following::{moment_fits, name_fits};
 use hippo_model::Query;
@@ -27,7 +27,7 @@ use hippo_report::Refusal;
 use hippo_sessions::{Session, WorldView};
 use hippo_statements::{RawSelect, Stmt};
 use hippo_typing::resolve_select;
-use hippo_values::LINE_LIMIT;
+use hippo_values::{Boxed, LINE_LIMIT};
 use std::alloc::Global;
 
 /// What a question wants its answer to be: rows or records, which are the reply, or a cursor that
@@ -63,7 +63,7 @@ pub enum Delivery {
 pub struct Asking<'a> {
     pub asker: &'a Session,
     pub text: &'a str,
-    pub query: Query,
+    pub query: Boxed<Query>,
     pub delivery: Delivery,
 }
 
@@ -113,7 +113,7 @@ fn asker<W: WorldView>(world: &W, session: u8) -> Result<&Session, Refusal>
 }
 
 // The query that a select means.
-fn meaning(alloc: Global, state: &State, select: &RawSelect) -> Result<Query, Refusal>
+fn meaning(alloc: Global, state: &State, select: &RawSelect) -> Result<Boxed<Query>, Refusal>
     requires { IsSound state.now }
     ensures found { (history : History) → StandsFor state.now history
         → Finds (λ query. query)
@@ -122,7 +122,7 @@ fn meaning(alloc: Global, state: &State, select: &RawSelect) -> Result<Query, Re
     ensures answerable { IfOk result (λ query. IsAnswerable state.now query) }
 {
     match resolve_select(alloc, &state.catalog, select) {
-        Ok(query) => Ok(query),
+        Ok(query) => boxed(alloc, query),
         Err(fault) => Err(name_refusal(fault)),
     }
 }

@@ -10,17 +10,18 @@ ghost use Rattle.hippo_commands.specs.Moments.{period_in};
 ghost use Rattle.hippo_judging.specs.Checks.{Finds, unless_refused};
 ghost use Rattle.hippo_judging.specs.Judging.{audit_in};
 
-use crate::refusals::name_refusal;
+use crate::refusals::{boxed, name_refusal};
 use hippo_catalog::Catalog;
 use hippo_model::Audit;
 use hippo_replay::State;
 use hippo_report::Refusal;
 use hippo_statements::RawAudit;
 use hippo_typing::resolve_audit;
+use hippo_values::Boxed;
 use std::alloc::Global;
 
 // What an audit expression means, by names, types and period.
-fn meaning(alloc: Global, catalog: &Catalog, written: &RawAudit) -> Result<Audit, Refusal>
+fn meaning(alloc: Global, catalog: &Catalog, written: &RawAudit) -> Result<Boxed<Audit>, Refusal>
     ensures found { let period = period_in written.now in Finds (λ audit. audit)
         (unless_refused (audit_refused catalog.now.names period written.now)
         (audit_of catalog.now.names period written.now)) result }
@@ -29,14 +30,14 @@ fn meaning(alloc: Global, catalog: &Catalog, written: &RawAudit) -> Result<Audit
         × (audit ≡ audit_of catalog.now.names period written.now)) }
 {
     match resolve_audit(alloc, catalog, written) {
-        Ok(audit) => Ok(audit),
+        Ok(audit) => boxed(alloc, audit),
         Err(fault) => Err(name_refusal(fault)),
     }
 }
 
 /// The audit that an audit expression of the console means; or its first refusal: that its names,
 /// types or period are wrong. Want of memory may refuse it, too.
-pub(crate) fn audit_in(alloc: Global, state: &State, written: &RawAudit) -> Result<Audit, Refusal>
+pub(crate) fn audit_in(alloc: Global, state: &State, written: &RawAudit) -> Result<Boxed<Audit>, Refusal>
     requires sound { IsSound state.now }
     ensures found { (history : History) → StandsFor state.now history
         → Finds (λ audit. audit) (audit_in history Console written.now) result }

@@ -11,7 +11,7 @@ ghost use Rattle.hippo_judging.specs.Checks.{Finds, rows_refusal, act_made};
 ghost use Rattle.hippo_judging.specs.Judging.{judged_wanted, judged_change};
 ghost use Rattle.hippo_judging.specs.Changes.{FindsChange, wanted_in, change_in_room};
 
-use crate::refusals::name_refusal;
+use crate::refusals::{boxed, name_refusal};
 use hippo_catalog::Catalog;
 use hippo_changes::check_change;
 use hippo_following::moment_fits;
@@ -21,6 +21,7 @@ use hippo_report::Refusal;
 use hippo_sessions::WorldView;
 use hippo_statements::Stmt;
 use hippo_tables::Tables;
+use hippo_values::Boxed;
 use std::alloc::Global;
 
 fn rows_refusal(fault: TableFault) -> Refusal
@@ -55,7 +56,12 @@ fn check_rows(alloc: Global, tables: &Tables, wanted: Wanted) -> Result<Act, Ref
 }
 
 // The next entry with an act, where the history has room for it.
-fn entry_in_room<W: WorldView>(count: u64, world: &W, act: Act) -> Result<Entry, Refusal>
+fn entry_in_room<W: WorldView>(
+    alloc: Global,
+    count: u64,
+    world: &W,
+    act: Act,
+) -> Result<Boxed<Entry>, Refusal>
     ensures found { (history : History) → count ≡ length history
         → FindsChange history (W.seen world.now) (change_in_room history (W.seen world.now) act)
         result }
@@ -64,11 +70,12 @@ fn entry_in_room<W: WorldView>(count: u64, world: &W, act: Act) -> Result<Entry,
 {
     moment_fits(world.clock());
     if count < u64::from(world.limit()) {
-        Ok(Entry {
+        let entry = Entry {
             seq: count + 1,
             moment: world.clock(),
             act,
-        })
+        };
+        boxed(alloc, entry)
     } else {
         drop(act);
         Err(Refusal::HistoryFull)
@@ -81,7 +88,7 @@ fn entry_wanted<W: WorldView>(
     state: &State,
     world: &W,
     wanted: Wanted,
-) -> Result<Entry, Refusal>
+) -> Result<Boxed<Entry>, Refusal>
     ensures found { (history : History) → StandsFor state.now history
         → FindsChange history (W.seen world.now)
         (judged_wanted history (W.seen world.now) wanted) result }
@@ -89,7 +96,7 @@ fn entry_wanted<W: WorldView>(
     ensures moment { IfOk result (λ entry. is_moment entry.moment ≡ true) }
 {
     match check_rows(alloc, &state.tables, wanted) {
-        Ok(act) => entry_in_room(state.count, world, act),
+        Ok(act) => entry_in_room(alloc, state.count, world, act),
         Err(refusal) => Err(refusal),
     }
 }
@@ -100,7 +107,7 @@ fn entry_for<W: WorldView>(
     state: &State,
     world: &W,
     statement: &Stmt,
-) -> Result<Entry, Refusal>
+) -> Result<Boxed<Entry>, Refusal>
     ensures found { (history : History) → StandsFor state.now history
         → FindsChange history (W.seen world.now)
         (judged_change history (W.seen world.now) Console statement.now) result }
@@ -122,7 +129,7 @@ pub(crate) fn entry_of_change<W: WorldView>(
     state: &State,
     world: &W,
     statement: &Stmt,
-) -> Result<Entry, Refusal>
+) -> Result<Boxed<Entry>, Refusal>
     requires timely { IsTimely state.now (W.seen world.now).clock }
     requires written { is_written statement.now ≡ true }
     ensures found { (history : History) → StandsFor state.now history

@@ -3,18 +3,18 @@ use crate::asking::Delivery;
 use hippo_backlog::ReadFault;
 use hippo_model::{Audit, Entry, Pair, Query};
 use hippo_report::Refusal;
-use hippo_values::{Moment, Name};
+use hippo_values::{Boxed, Moment, Name};
 
 /// A question of an open session: its text, which is the line's own, and what that means.
 #[derive(Drop)]
 pub struct Question<'a> {
     pub session: u8,
     pub text: &'a str,
-    pub query: Query,
+    pub query: Boxed<Query>,
 }
 
 /// What is to be done for a line, with what the checks found. Sessions, cursors, jobs and watches
-/// are told by their numbers.
+/// are told by their numbers. What is large is boxed, since a deed is moved often.
 #[derive(Drop)]
 pub enum Deed<'a> {
     DoNothing,
@@ -23,8 +23,8 @@ pub enum Deed<'a> {
     },
     LogIn {
         session: u8,
-        user: Name,
-        pair: Pair,
+        user: Boxed<Name>,
+        pair: Boxed<Pair>,
     },
     LogOut {
         session: u8,
@@ -52,7 +52,7 @@ pub enum Deed<'a> {
     },
     /// The entry that is added.
     Change {
-        entry: Entry,
+        entry: Boxed<Entry>,
     },
     /// The question that is asked, and how its answer is handed out.
     Ask {
@@ -61,20 +61,20 @@ pub enum Deed<'a> {
     },
     /// The entry of the question that is explained.
     Explain {
-        entry: Entry,
+        entry: Boxed<Entry>,
     },
     Audit {
-        audit: Audit,
+        audit: Boxed<Audit>,
     },
     /// With the number that the job gets.
     BeginAudit {
         job: usize,
-        audit: Audit,
+        audit: Boxed<Audit>,
     },
     /// With the number that the watch gets.
     Watch {
         watch: usize,
-        audit: Audit,
+        audit: Boxed<Audit>,
     },
 }
 

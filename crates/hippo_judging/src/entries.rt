@@ -1,5 +1,5 @@
 //! The entry with a number, read from the history that a keeper keeps.
-ghost use Rattle.std.specs.Prelude.{◌≡◌, ◌≤◌, ◌∷◌, [], true};
+ghost use Rattle.std.specs.Prelude.{◌≡◌, ◌≤◌, ◌∷◌, [], true, MatchResult};
 ghost use Rattle.std.specs.Bool.{then_some};
 ghost use Rattle.hippo_keeper.specs.Keeping.{IsReady};
 ghost use Rattle.hippo_model.specs.HandedOver.{is_question};
@@ -11,7 +11,7 @@ use hippo_entry::decode;
 use hippo_keeper::{Keeper, Steps};
 use hippo_model::{Act, Entry, StoredEntry};
 use hippo_replay::State;
-use hippo_values::Memory;
+use hippo_values::{Boxed, Memory};
 use std::alloc::Global;
 use std::sync::ledger::Ledger;
 
@@ -33,14 +33,24 @@ fn is_question(act: &Act) -> bool
     matches!(act, Act::Asked { .. })
 }
 
+// An entry in its box, or want of memory for that.
+fn boxed(alloc: Global, entry: Entry) -> Result<Boxed<Entry>, ReadFault>
+    ensures { MatchResult result (λ boxed. boxed ≡ entry) (λ fault. fault ≡ ReadFault.Memory) }
+{
+    match Boxed::new(alloc, entry) {
+        Ok(boxed) => Ok(boxed),
+        Err(Memory) => Err(ReadFault::Memory),
+    }
+}
+
 // The entry with a number that a stored form is.
-fn entry_of(alloc: Global, kept: &StoredEntry, number: u64) -> Result<Entry, ReadFault>
+fn entry_of(alloc: Global, kept: &StoredEntry, number: u64) -> Result<Boxed<Entry>, ReadFault>
     ensures { IsRead (kept.now ∷ []) number result }
 {
     match decode(alloc, kept) {
         Ok(Some(entry)) => {
             if entry.seq == number {
-                Ok(entry)
+                boxed(alloc, entry)
             } else {
                 drop(entry);
                 Err(ReadFault::Damaged(number))
@@ -52,7 +62,7 @@ fn entry_of(alloc: Global, kept: &StoredEntry, number: u64) -> Result<Entry, Rea
 }
 
 // The entry with a number, where it stands first.
-fn first_entry(alloc: Global, list: &[StoredEntry], number: u64) -> Result<Entry, ReadFault>
+fn first_entry(alloc: Global, list: &[StoredEntry], number: u64) -> Result<Boxed<Entry>, ReadFault>
     ensures { IsRead list.now number result }
 {
     match list.first() {
@@ -69,7 +79,7 @@ fn read_entry<P: Keeper, L: Ledger>(
     keeper: &mut P,
     number: u64,
     steps: &mut Steps<L>,
-) -> Result<Entry, ReadFault>
+) -> Result<Boxed<Entry>, ReadFault>
     requires ready { IsReady true (P.state keeper.old) }
     requires some { 1 ≤ number }
     ensures reads { ReadsEntry number result (P.state keeper.old) (P.state keeper.new) steps.old
@@ -86,10 +96,10 @@ fn read_entry<P: Keeper, L: Ledger>(
 }
 
 // An entry, if it is a question.
-fn if_question(entry: Entry) -> Option<Entry>
+fn if_question(entry: Boxed<Entry>) -> Option<Boxed<Entry>>
     ensures { result ≡ then_some (is_question entry.act) entry }
 {
-    if is_question(&entry.act) {
+    if is_question(&entry.get().act) {
         Some(entry)
     } else {
         drop(entry);
@@ -105,7 +115,7 @@ pub(crate) fn question_at<P: Keeper, L: Ledger>(
     state: &State,
     number: &i64,
     steps: &mut Steps<L>,
-) -> Result<Option<Entry>, ReadFault>
+) -> Result<Option<Boxed<Entry>>, ReadFault>
     requires ready { IsReady true (P.state keeper.old) }
     ensures looks { LooksUp number.now result state.now (P.state keeper.old) (P.state keeper.new)
         steps.old steps.new }

@@ -64,7 +64,16 @@ pub fn judge<'t, P: Keeper, L: Ledger, W: WorldView>(
             statement,
             text,
         } => {
-            let judged = judge_statement(alloc, state, world, keeper, who, &statement, text, steps);
+            let judged = judge_statement(
+                alloc,
+                state,
+                world,
+                keeper,
+                who,
+                statement.get(),
+                text,
+                steps,
+            );
             drop(statement);
             judged
         }

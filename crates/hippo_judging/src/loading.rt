@@ -26,7 +26,7 @@ use hippo_replay::State;
 use hippo_report::Refusal;
 use hippo_sessions::WorldView;
 use hippo_statements::Stmt;
-use hippo_values::{DayNumber, Duplicate, Memory, Name, Value};
+use hippo_values::{Boxed, DayNumber, Duplicate, Memory, Name, Value};
 use std::alloc::Global;
 
 // The refusal of the field at a place, which names its column.
@@ -164,7 +164,7 @@ pub(crate) fn entry_of_record<W: WorldView>(
     state: &State,
     world: &W,
     loaded: &Record<'_>,
-) -> Result<Entry, Refusal>
+) -> Result<Boxed<Entry>, Refusal>
     requires timely { IsTimely state.now (W.seen world.now).clock }
     ensures found { (history : History) → StandsFor state.now history
         → FindsChange history (W.seen world.now)

@@ -1,11 +1,13 @@
 //! Refusals that several statements share.
-ghost use Rattle.std.specs.Prelude.{◌≡◌, ◌≢◌, ◌⊎◌, ◌+◌, ◌<◌, ◌^◌, nat_le, OnOk};
+ghost use Rattle.std.specs.Prelude.{◌≡◌, ◌≢◌, ◌⊎◌, ◌+◌, ◌<◌, ◌^◌, nat_le, OnOk, MatchResult};
 ghost use Rattle.hippo_model.specs.declared.name_fault.NameFault.TheVariants as faults;
 ghost use Rattle.hippo_report.specs.declared.refusal.Refusal.TheVariants as refusals;
 ghost use Rattle.hippo_judging.specs.Checks.{refused_if};
 
 use hippo_model::NameFault;
 use hippo_report::Refusal;
+use hippo_values::{Boxed, Memory};
+use std::alloc::Global;
 
 /// The refusal of a statement that means nothing, or of one for which memory was short.
 pub(crate) fn name_refusal(fault: NameFault) -> Refusal
@@ -15,6 +17,16 @@ pub(crate) fn name_refusal(fault: NameFault) -> Refusal
     match fault {
         NameFault::Memory => Refusal::Memory,
         fault => Refusal::Meaningless(fault),
+    }
+}
+
+/// What was found in a box of its own, or want of memory for that.
+pub(crate) fn boxed<T: Drop>(alloc: Global, found: T) -> Result<Boxed<T>, Refusal>
+    ensures { MatchResult result (λ boxed. boxed ≡ found) (λ refusal. refusal ≡ refusals.Memory) }
+{
+    match Boxed::new(alloc, found) {
+        Ok(boxed) => Ok(boxed),
+        Err(Memory) => Err(Refusal::Memory),
     }
 }
 

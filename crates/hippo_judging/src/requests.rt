@@ -18,7 +18,7 @@ use hippo_model::Pair;
 use hippo_replay::State;
 use hippo_report::{Refusal, Speaker};
 use hippo_sessions::WorldView;
-use hippo_values::{Memory, Moment, Name};
+use hippo_values::{Boxed, Memory, Moment, Name};
 use std::alloc::Global;
 
 fn is_earlier(moment: &Moment, clock: &Moment) -> bool
@@ -40,13 +40,13 @@ pub(crate) fn judge_clock<W: WorldView>(world: &W, moment: Moment) -> Result<Dee
     }
 }
 
-// The names of a line that opens a session, or want of memory.
+// The names of a line that opens a session, in boxes, or want of memory.
 fn login_names(
     alloc: Global,
     user: &WrittenName<'_>,
     purpose: &WrittenName<'_>,
     recipient: &WrittenName<'_>,
-) -> Result<(Name, Pair), Memory>
+) -> Result<(Boxed<Name>, Boxed<Pair>), Memory>
     ensures user { IfOk result (λ names. names.0 ≡ user.now) }
     ensures purpose { IfOk result (λ names. names.1.purpose ≡ purpose.now) }
     ensures recipient { IfOk result (λ names. names.1.recipient ≡ recipient.now) }
@@ -54,21 +54,23 @@ fn login_names(
     let user = user.name(alloc)?;
     let purpose = purpose.name(alloc)?;
     let recipient = recipient.name(alloc)?;
-    Ok((user, Pair { purpose, recipient }))
+    let user = Boxed::new(alloc, user)?;
+    let pair = Boxed::new(alloc, Pair { purpose, recipient })?;
+    Ok((user, pair))
 }
 
 fn judge_user<W: WorldView>(
     state: &State,
     world: &W,
     session: u8,
-    user: Name,
-    pair: Pair,
+    user: Boxed<Name>,
+    pair: Boxed<Pair>,
 ) -> Result<Deed<'static>, Refusal>
     ensures { FindsDeed (commands.make_request (Session session)
         (requests.logs_in user pair.purpose pair.recipient)) result
         state.now (W.seen world.now) }
 {
-    match check_login(state, world, session, &user, &pair) {
+    match check_login(state, world, session, user.get(), pair.get()) {
         Ok(()) => Ok(Deed::LogIn {
             session,
             user,

@@ -25,6 +25,7 @@ use hippo_replay::State;
 use hippo_report::{Refusal, Speaker};
 use hippo_sessions::WorldView;
 use hippo_statements::{RawAudit, Stmt};
+use hippo_values::Boxed;
 use std::alloc::Global;
 use std::sync::ledger::Ledger;
 
@@ -75,7 +76,7 @@ fn limit_of(lasting: LastingAudit) -> Refusal
     }
 }
 
-fn begun_at(lasting: LastingAudit, audit: Audit, number: usize) -> Deed<'static>
+fn begun_at(lasting: LastingAudit, audit: Boxed<Audit>, number: usize) -> Deed<'static>
     ensures { result ≡ begun_at lasting number audit }
 {
     match lasting {
@@ -100,7 +101,7 @@ fn free_number<W: WorldView>(world: &W, lasting: LastingAudit) -> Option<usize>
 // A job gets the number that is free, and so does a watch.
 fn begun_with(
     lasting: LastingAudit,
-    audit: Audit,
+    audit: Boxed<Audit>,
     free: Option<usize>,
 ) -> Result<Deed<'static>, Refusal>
     ensures { result ≡ begun_with lasting audit free }

@@ -43,7 +43,7 @@ pub(crate) fn answer_of(
         pair: &asking.asker.pair,
         moment: world.clock,
     };
-    let query = &asking.query;
+    let query = asking.query.get();
     match asking.delivery {
         Delivery::Rows => Ok(Answered::Lines(answer_as_lines(alloc, &standpoint, query, session)?)),
         Delivery::Records => Ok(Answered::Records(answer(alloc, &standpoint, query)?)),

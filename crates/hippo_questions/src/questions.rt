@@ -112,7 +112,7 @@ fn keep_entry<P: Keeper>(
 {
     match state.keep(alloc, keeper, entry) {
         Ok(()) => {
-            state.order_for(alloc, &question.asking.query);
+            state.order_for(alloc, question.asking.query.get());
             let answer = answer_of(
                 alloc,
                 state,

@@ -51,6 +51,7 @@ fn explain(tokens: &[Token]) -> Result<Stmt, SyntaxFault>
 }
 
 // A statement of the console that begins with this keyword, from the tokens behind it.
+#[inline(never)]
 #[tactic(auto, unfolding(crate::specs::StatementFinder::console_behind))]
 fn console_behind(alloc: Global, keyword: Keyword, tokens: &[Token]) -> Result<Stmt, SyntaxFault>
     ensures { Gives (λ s. s) result (console_behind keyword (kinds tokens.now)) }
@@ -71,6 +72,7 @@ fn console_behind(alloc: Global, keyword: Keyword, tokens: &[Token]) -> Result<S
     }
 }
 
+#[inline(never)]
 fn console_by_keyword(alloc: Global, tokens: &[Token]) -> Result<Stmt, SyntaxFault>
     ensures { Gives (λ s. s) result (console_by_keyword (kinds tokens.now)) }
 {
@@ -80,6 +82,7 @@ fn console_by_keyword(alloc: Global, tokens: &[Token]) -> Result<Stmt, SyntaxFau
     }
 }
 
+#[inline(never)]
 #[tactic(auto, unfolding(crate::specs::StatementFinder::console_of))]
 fn console(alloc: Global, tokens: &[Token]) -> Result<Stmt, SyntaxFault>
     ensures { Gives (λ s. s) result (console_of (kinds tokens.now)) }
@@ -159,6 +162,7 @@ fn select_statement(alloc: Global, tokens: &[Token]) -> Result<Stmt, SyntaxFault
     Ok(Stmt::Select { select, start, end })
 }
 
+#[inline(never)]
 #[tactic(auto, unfolding(crate::specs::StatementFinder::statement_of))]
 fn statement(alloc: Global, tokens: &[Token]) -> Result<Stmt, SyntaxFault>
     ensures { Gives (λ s. s) result (statement_of tokens.now) }
