@@ -1,6 +1,6 @@
 pub mod RisingLemmas
-mod SearchLemmas
 mod PageLemmas
+mod PagesLemmas
 mod PickLemmas
 pub mod StoredLemmas
 pub mod CallLemmas

@@ -1,11 +1,10 @@
 -- The entries of a page: how many there are, the last, and one more behind them.
-use Rattle.std.proofs.Common.{◌≡◌, ◌∙◌, ℕ, zero, suc, ◌+◌, ◌-◌, ◌<◌, ◌≤◌, true, false, List, [], ◌∷◌, ◌++◌, length, get_or, take, drop, position, bytes_eq, Some, slice_get, ap, sym, refl, subst, add-one, length-take, length-append, arith}
+use Rattle.std.proofs.Common.{◌≡◌, ◌∙◌, ℕ, zero, suc, ◌+◌, ◌-◌, ◌<◌, ◌≤◌, List, [], ◌∷◌, ◌++◌, length, get_or, take, drop, position, bytes_eq, Some, slice_get, ap, sym, refl, subst, add-one, length-take, length-append, arith}
 use Rattle.std.proofs.Math.Seq.{drop-cons, drop-append_seam, take-length}
 use Rattle.std.proofs.lemmas.List.{get_or-take, take-append-le, drop-append-le, length-drop}
 use Rattle.std.proofs.lemmas.List.Quantifiers.{position-Some}
 use Rattle.std.proofs.lemmas.Option.{slice_get-get_or, slice_get_within, get_or_from_slice_get}
 use Rattle.std.proofs.lemmas.Slice.Eq.{bytes_eq-Decides}
-use Rattle.hippo_model.specs.declared.stored.StoredEntry.{StoredEntry}
 use Rattle.hippo_keeper.specs.Keeping.{Store, last_number}
 use Rattle.hippo_keeper.specs.Paging.{entry_with, page_entries, AreWithin}
 use Rattle.hippo_keeper.specs.declared.head.Head.{Head}

@@ -1,5 +1,5 @@
 -- What a read picks, one entry after the other.
-use Rattle.std.proofs.Common.{◌≡◌, ◌∙◌, ℕ, zero, suc, ◌+◌, ◌-◌, ◌<◌, ◌≤◌, Bool, true, false, List, [], ◌∷◌, ◌++◌, length, take, filter, ap, sym, refl, append_assoc, append-nil, length-append, length-take, arith, cond, nat_lt}
+use Rattle.std.proofs.Common.{◌≡◌, ◌∙◌, ℕ, zero, suc, ◌-◌, ◌≤◌, List, [], ◌∷◌, ◌++◌, length, take, filter, ap, sym, refl, append_assoc, append-nil, length-append, arith, nat_lt}
 use Rattle.std.proofs.lemmas.List.Elements.{filter-append}
 use Rattle.hippo_model.specs.declared.stored.StoredEntry.{StoredEntry}
 use Rattle.hippo_keeper.specs.Keeping.{Store}
@@ -53,9 +53,12 @@ with_picked-nil sought list = cases (sought.max - length list)
     cases zero = append-nil list
     cases (suc count) = append-nil list
 
--- one entry more was looked at
-pub with_picked-next : (sought : Sought) (list later entries rest whole : Store) (entry : StoredEntry) → later ≡ with_picked sought list (entry ∷ []) → entries ≡ entry ∷ rest → with_picked sought list entries ≡ whole → with_picked sought later rest ≡ whole
-with_picked-next sought list later entries rest whole entry one next so_far =
-    ap (λ list. with_picked sought list rest) one
-    ∙ with_picked-append sought list (entry ∷ []) rest
+-- some entries more were looked at
+pub with_picked-next : (sought : Sought) (list later entries first rest whole : Store) → later ≡ with_picked sought list first → entries ≡ first ++ rest → with_picked sought list entries ≡ whole → with_picked sought later rest ≡ whole
+with_picked-next sought list later entries first rest whole picked next so_far =
+    ap (λ list. with_picked sought list rest) picked
+    ∙ with_picked-append sought list first rest
     ∙ ap (with_picked sought list) (sym next) ∙ so_far
+
+pub with_picked-one : (sought : Sought) (list later entries rest whole : Store) (entry : StoredEntry) → later ≡ with_picked sought list (entry ∷ []) → entries ≡ entry ∷ rest → with_picked sought list entries ≡ whole → with_picked sought later rest ≡ whole
+with_picked-one sought list later entries rest whole entry picked next so_far = with_picked-next sought list later entries (entry ∷ []) rest whole picked next so_far

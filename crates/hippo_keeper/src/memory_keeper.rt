@@ -73,7 +73,10 @@ impl MemoryKeeper {
             after: 0,
             max: u64::MAX,
         };
-        self.kept.select(alloc, &sought)
+        let list = self.kept.select(alloc, &sought)?;
+        let count = list.as_slice().len();
+        prove!(count < usize::MAX);
+        Ok(list)
     }
 
     /// A new keeper of what survives a stop, on which no call fails.
@@ -111,7 +114,8 @@ impl MemoryKeeper {
         ensures ok { OnOk result (self.new ≡ with_entry entry self.old) }
         ensures err { OnErr result (self.new ≡ self.old) }
     {
-        self.kept.push(alloc, &entry)
+        self.kept.push(alloc, &entry)?;
+        Ok(())
     }
 
     // Keeps one more entry, where the call is not to fail without it.

@@ -1,7 +1,7 @@
 //! All entries that a keeper in memory holds, in pages.
-ghost use Rattle.std.specs.Prelude.{◌≡◌, [], ◌∷◌, ◌++◌, filter, nat_lt, IfOk, OnOk, OnErr};
+ghost use Rattle.std.specs.Prelude.{◌≡◌, [], ◌∷◌, ◌++◌, filter, nat_lt, IfOk, OnOk, OnErr, ⊤};
 ghost use Rattle.hippo_keeper.specs.Keeping.{RisesAbove};
-ghost use Rattle.hippo_keeper.specs.Selecting.{is_selected, handed_over};
+ghost use Rattle.hippo_keeper.specs.Selecting.{is_selected, IsHandedOver};
 ghost use Rattle.hippo_keeper.specs.Paging.{paged, AreFilled, with_picked};
 
 use crate::page::Page;
@@ -109,7 +109,7 @@ impl Pages {
     /// Copies of the entries that a read asks for.
     pub(crate) fn select(&self, alloc: Global, sought: &Sought<'_>) -> Result<StoredList, Memory>
         requires { RisesAbove 0 self.now }
-        ensures { IfOk result (λ list. list ≡ handed_over (is_selected sought.now.selection)
+        ensures { IfOk result (IsHandedOver ⊤ (is_selected sought.now.selection)
             sought.now.after sought.now.max self.now) }
     {
         let mut list = StoredList::new(alloc);

@@ -1,8 +1,8 @@
 -- One head is looked at.
-use Rattle.std.proofs.Common.{◌≡◌, ◌∙◌, ◌<◌, [], length, get_or, ap, arith}
+use Rattle.std.proofs.Common.{◌∙◌, ◌<◌, [], length, get_or, ap, arith}
 use Rattle.std.proofs.lemmas.List.{get_or_default}
 use Rattle.hippo_keeper.proofs.PageLemmas.{AreWithin-next, table_within, end_within, page_entries-next}
-use Rattle.hippo_keeper.proofs.PickLemmas.{with_picked-next}
+use Rattle.hippo_keeper.proofs.PickLemmas.{with_picked-one}
 use Rattle.hippo_keeper.proofs.page.pick.Goals as goal
 
 pub body_between-body-requires-clause-range : goal.body_between-body-requires-clause-range
@@ -19,5 +19,5 @@ loop-head-preserved c =
     let named = c.as_str-table.ensures ∙ c.index-tables-from.is ∙ get_or_default tables c.from.result read [] known ∙ ap (λ n. get_or tables n []) c.from.ensures in
     record {
       within = AreWithin-next _ _ _ heads i _ inside c.loop-head.invariant.within;
-      left = with_picked-next _ _ _ _ _ _ _ c.in_ok-pick.ensures (page_entries-next tables c.args.bodies.now _ _ c.loop-head.start heads i _ inside named c.body_between-body.ensures) c.loop-head.invariant.left;
+      left = with_picked-one _ _ _ _ _ _ _ c.in_ok-pick.ensures (page_entries-next tables c.args.bodies.now _ _ c.loop-head.start heads i _ inside named c.body_between-body.ensures) c.loop-head.invariant.left;
     }

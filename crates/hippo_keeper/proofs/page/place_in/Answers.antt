@@ -1,5 +1,5 @@
 -- The name stands where it is found, and else at the end.
-use Rattle.std.proofs.Common.{◌≡◌, [], ◌∷◌, ◌++◌, length, position, bytes_eq, Some, sym}
+use Rattle.std.proofs.Common.{◌≡◌, [], ◌∷◌, ◌++◌, length, position, bytes_eq, Some}
 use Rattle.hippo_keeper.proofs.PageLemmas.{stands_at, stands_behind}
 use Rattle.hippo_keeper.proofs.page.place_in.Goals as goal
 
