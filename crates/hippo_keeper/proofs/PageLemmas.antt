@@ -15,6 +15,7 @@ stands_at tables name place found =
     let at = position-Some (λ table. bytes_eq table name) tables place [] found in
     slice_get-get_or tables place [] at.0 ∙ ap Some ((bytes_eq-Decides (get_or tables place []) name).0 at.1)
 
+-- and behind the others, where it is added
 pub stands_behind : (tables : List (List ℕ)) (name : List ℕ) → slice_get (tables ++ name ∷ []) (length tables) ≡ Some name
 stands_behind tables name =
     slice_get-get_or (tables ++ name ∷ []) (length tables) [] (omega (arith, length-append tables (name ∷ []))) ∙ ap Some (get_or-append_seam tables name)
@@ -30,6 +31,7 @@ front_length front more kept = omega (arith, ap length kept, length-take (length
 pub front_at : {A : Type 0} (front more : List A) (d : A) (i : ℕ) → take (length front) more ≡ front → i < length front → get_or more i d ≡ get_or front i d
 front_at front more d i kept inside = sym (get_or-take (length front) more i d inside) ∙ ap (λ list. get_or list i d) kept
 
+-- there is an entry for each head, and the last is that of the last
 pub length-page_entries : (tables : List (List ℕ)) (bodies : List ℕ) (start : ℕ) (heads : List Head) → length (page_entries tables bodies start heads) ≡ length heads
 length-page_entries tables bodies start [] = refl
 length-page_entries tables bodies start (head ∷ rest) = ap suc (length-page_entries tables bodies head.end rest)

@@ -13,6 +13,7 @@ use Rattle.hippo_keeper.specs.declared.selection.Sought.{Sought}
 use Rattle.hippo_keeper.proofs.RisingLemmas.{RisesAbove-filter, RisesAbove-take, RisesAbove-above}
 use Rattle.hippo_keeper.proofs.PickLemmas.{picked-append, with_picked-append}
 
+-- one more page
 pub AreFilled-append : (pages : List Store) (page : Store) → AreFilled pages → 0 < length page → AreFilled (pages ++ page ∷ [])
 AreFilled-append [] page filled some = (some, tt)
 AreFilled-append (first ∷ rest) page filled some = (filled.0, AreFilled-append rest page filled.1 some)
@@ -31,6 +32,7 @@ RisesAbove-back : (number : ℕ) (front back : Store) → RisesAbove number (fro
 RisesAbove-back number [] back rises = rises
 RisesAbove-back number (entry ∷ rest) back rises = RisesAbove-back entry.seq rest back rises.1
 
+-- the last number is the highest
 last_rises : (number : ℕ) (entries : Store) → RisesAbove number entries → number ≤ last_number number entries
 last_rises number [] rises = omega arith
 last_rises number (entry ∷ rest) rises =
@@ -97,6 +99,7 @@ picked_of_all sought above full last first list before behind same =
     ∙ ap (λ entries. take sought.max (filter (is_selected sought.selection) entries ++ picked sought last)) same
     ∙ ap (take sought.max) (sym (picked-append sought full last))
 
+-- what was picked so is what a read hands over
 pub IsHandedOver-of : (test : StoredEntry → Bool) (after max : ℕ) (kept list : Store) → list ≡ handed_over test after max kept → RisesAbove 0 kept → IsHandedOver ⊤ test after max kept list
 IsHandedOver-of test after max kept list is rises =
     let above = filter (λ entry. nat_lt after entry.seq) kept in

@@ -1,20 +1,11 @@
 -- What a read picks, one entry after the other.
-use Rattle.std.proofs.Common.{◌≡◌, ◌∙◌, ℕ, zero, suc, ◌-◌, ◌≤◌, List, [], ◌∷◌, ◌++◌, length, take, filter, ap, sym, refl, append_assoc, append-nil, length-append, arith, nat_lt}
+use Rattle.std.proofs.Common.{◌≡◌, ◌∙◌, ℕ, zero, suc, ◌-◌, [], ◌∷◌, ◌++◌, length, take, filter, ap, sym, refl, append_assoc, length-append, arith, nat_lt}
 use Rattle.std.proofs.lemmas.List.Elements.{filter-append}
 use Rattle.hippo_model.specs.declared.stored.StoredEntry.{StoredEntry}
 use Rattle.hippo_keeper.specs.Keeping.{Store}
 use Rattle.hippo_keeper.specs.Selecting.{is_selected}
-use Rattle.hippo_keeper.specs.Paging.{entry_with, picked, with_picked}
-use Rattle.hippo_keeper.specs.declared.head.Head.{Head}
-use Rattle.hippo_keeper.specs.declared.selection.Selection.{Selection}
-use Rattle.hippo_keeper.specs.declared.selection.Selection.TheVariants.{All, VersionsOf, AskedIn}
+use Rattle.hippo_keeper.specs.Paging.{picked, with_picked}
 use Rattle.hippo_keeper.specs.declared.selection.Sought.{Sought}
-
--- the body makes no difference to whether an entry is selected
-pub is_selected-body : (selection : Selection) (head : Head) (table body : List ℕ) → is_selected selection (entry_with head table body) ≡ is_selected selection (entry_with head table [])
-is_selected-body All head table body = refl
-is_selected-body (VersionsOf name) head table body = refl
-is_selected-body (AskedIn from to) head table body = refl
 
 -- what is taken of two lists is taken of the first, and then of the second
 take_of_both : (max : ℕ) (xs ys : Store) → take max xs ++ take (max - length (take max xs)) ys ≡ take max (xs ++ ys)
@@ -40,20 +31,7 @@ with_picked-append sought list xs ys =
     ∙ ap (λ rest. list ++ rest) (take_of_both max (picked sought xs) (picked sought ys)
     ∙ ap (take max) (sym (picked-append sought xs ys)))
 
--- nothing is picked where there is no room
-pub with_picked-full : (sought : Sought) (list entries : Store) → sought.max ≤ length list → with_picked sought list entries ≡ list
-with_picked-full sought list entries full =
-    let none : sought.max - length list ≡ 0 = omega arith in
-    rw none (append-nil list)
-
-pub with_picked-nil : (sought : Sought) (list : Store) → with_picked sought list [] ≡ list
-with_picked-nil sought list = cases (sought.max - length list)
-  where
-    cases : (count : ℕ) → list ++ take count [] ≡ list
-    cases zero = append-nil list
-    cases (suc count) = append-nil list
-
--- some entries more were looked at
+-- some entries more were looked at, or one
 pub with_picked-next : (sought : Sought) (list later entries first rest whole : Store) → later ≡ with_picked sought list first → entries ≡ first ++ rest → with_picked sought list entries ≡ whole → with_picked sought later rest ≡ whole
 with_picked-next sought list later entries first rest whole picked next so_far =
     ap (λ list. with_picked sought list rest) picked

@@ -1,5 +1,5 @@
 //! A keeper in memory that tells what it keeps, and fails where it is told to.
-ghost use Rattle.std.specs.Prelude.{◌≡◌, ℕ, ◌+◌, ◌≤◌, true, false, List, [], filter, Some, is_some, nat_lt, IfOk, OnOk, OnErr, ⊤};
+ghost use Rattle.std.specs.Prelude.{◌≡◌, ℕ, ◌+◌, ◌≤◌, true, false, List, [], Some, is_some, IfOk, OnOk, OnErr, ⊤};
 ghost use Rattle.hippo_keeper.specs.Answering.{has_failed, wants_memory};
 ghost use Rattle.hippo_keeper.specs.Keeping.{Store, RisesAbove, next_number};
 ghost use Rattle.hippo_keeper.specs.MemoryKeeping.{new_store, next_failure, memory_after_call, memory_after_start, kept_after, memory_after_append, with_entry, ReadsInMemory, FindsInMemory, SurvivesInMemory, memory_keeper_state};
@@ -74,6 +74,7 @@ impl MemoryKeeper {
             max: u64::MAX,
         };
         let list = self.kept.select(alloc, &sought)?;
+        // No list has as many members, so none was left out.
         let count = list.as_slice().len();
         prove!(count < usize::MAX);
         Ok(list)

@@ -57,7 +57,7 @@ fn place_in(alloc: Global, tables: &mut Sequence<Txt>, name: &str) -> Result<usi
     Ok(place)
 }
 
-// The same in a head's form. No page has names enough to pass it.
+// The same in a head's form, which has room for more names than a page has entries.
 fn table_in(alloc: Global, tables: &mut Sequence<Txt>, name: &str) -> Result<u16, Memory>
     ensures kept { take (length tables.old) tables.new ≡ tables.old }
     ensures place { IfOk result (λ place. slice_get tables.new place ≡ Some name.now) }
@@ -69,7 +69,8 @@ fn table_in(alloc: Global, tables: &mut Sequence<Txt>, name: &str) -> Result<u16
     }
 }
 
-// Where a body ends that is put behind the others.
+// Where a body ends that is put behind the others; want of memory where a head cannot say it, which
+// takes a body of some four gigabytes.
 fn end_behind(bodies: &[u8], body: &[u8]) -> Result<u32, Memory>
     ensures { IfOk result (λ end. end ≡ length bodies.now + length body.now) }
 {

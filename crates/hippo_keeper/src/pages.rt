@@ -14,9 +14,9 @@ use std::marker::Model;
 /// Entries one behind the other.
 #[derive(Drop)]
 pub(crate) struct Pages {
-    // Each with just the memory that its entries take.
+    // Each has just the memory that its entries take.
     full: Sequence<Page>,
-    // The last entries; its room serves again and again.
+    // The last entries. Its memory serves one page after the other.
     last: Page,
 }
 
@@ -33,7 +33,7 @@ impl Model for Pages {
     ghost invariant = { λ pages. AreFilled pages.full };
 }
 
-// Closes the open page where it is full.
+// Where the last page is full, a copy of just its length joins the full ones, and it is empty then.
 fn make_room(alloc: Global, full: &mut Sequence<Page>, last: &mut Page) -> Result<(), Memory>
     requires { AreFilled full.old }
     ensures filled { AreFilled full.new }
@@ -46,7 +46,7 @@ fn make_room(alloc: Global, full: &mut Sequence<Page>, last: &mut Page) -> Resul
     Ok(())
 }
 
-// The pages from the first that has an entry above a number.
+// The pages from the first on that has an entry above a number.
 fn pages_above(pages: &[Page], after: u64) -> &[Page]
     requires filled { AreFilled pages.now }
     requires order { RisesAbove 0 (paged pages.now) }
