@@ -1,6 +1,7 @@
 pub mod RisingLemmas
-mod SearchLemmas
-mod SelectLemmas
+mod PageLemmas
+mod PagesLemmas
+mod PickLemmas
 pub mod StoredLemmas
 pub mod CallLemmas
 pub mod Results

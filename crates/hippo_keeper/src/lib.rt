@@ -3,8 +3,11 @@
 
 mod calls;
 mod faults;
+mod head;
 mod keeper;
 mod memory_keeper;
+mod page;
+mod pages;
 mod selection;
 mod standing;
 mod steps;

@@ -1,5 +1,5 @@
 //! A keeper in memory that tells what it keeps, and fails where it is told to.
-ghost use Rattle.std.specs.Prelude.{◌≡◌, ℕ, ◌+◌, ◌≤◌, true, false, List, [], filter, Some, is_some, nat_lt, IfOk, OnOk, OnErr, ⊤};
+ghost use Rattle.std.specs.Prelude.{◌≡◌, ℕ, ◌+◌, ◌≤◌, true, false, List, [], Some, is_some, IfOk, OnOk, OnErr, ⊤};
 ghost use Rattle.hippo_keeper.specs.Answering.{has_failed, wants_memory};
 ghost use Rattle.hippo_keeper.specs.Keeping.{Store, RisesAbove, next_number};
 ghost use Rattle.hippo_keeper.specs.MemoryKeeping.{new_store, next_failure, memory_after_call, memory_after_start, kept_after, memory_after_append, with_entry, ReadsInMemory, FindsInMemory, SurvivesInMemory, memory_keeper_state};
@@ -8,10 +8,11 @@ ghost use Rattle.hippo_keeper.specs.Selecting.{was_asked_in, is_selected, versio
 use crate::calls::KeeperCalls;
 use crate::faults::{KeeperFails, KeeperFault};
 use crate::keeper::Keeper;
-use crate::selection::{Lot, Selection, Sought, counted, select};
+use crate::pages::Pages;
+use crate::selection::{Lot, Selection, Sought, counted};
 use crate::steps::Steps;
 use hippo_model::{StoredEntry, StoredList};
-use hippo_values::{Bytes, Memory, Moment};
+use hippo_values::{Memory, Moment};
 use std::alloc::Global;
 use std::marker::Model;
 use std::sync::ledger::Ledger;
@@ -19,7 +20,7 @@ use std::sync::ledger::Ledger;
 /// A keeper that holds its entries in memory and fails at the calls that it is told.
 #[derive(Drop)]
 pub struct MemoryKeeper {
-    kept: StoredList,
+    kept: Pages,
     calls: KeeperCalls,
 }
 
@@ -34,35 +35,49 @@ impl Model for MemoryKeeper {
     ghost invariant = { λ a. RisesAbove 0 a.kept };
 }
 
-// An entry whose body has memory of its own length: that in which one is made has room for some
-// three of them.
-fn fitted(alloc: Global, mut entry: StoredEntry) -> Result<StoredEntry, Memory>
-    ensures { IfOk result (λ made. made ≡ entry) }
-{
-    entry.body = Bytes::from_slice(alloc, entry.body.as_slice())?;
-    Ok(entry)
-}
-
 impl MemoryKeeper {
-    /// A keeper of these entries, whose numbers begin above 0 and rise. Of all calls of the trait
-    /// `Keeper`, counted from 1, those fail that are in `failing`; where an append is to keep its
-    /// entry and fail, and finds no memory for it, it answers `Memory` instead.
-    pub fn new(kept: StoredList, failing: KeeperFails) -> MemoryKeeper
-        requires { RisesAbove 0 kept }
-        ensures { result ≡ new_store kept failing }
+    /// A keeper of no entries. Of all calls of the trait `Keeper`, counted from 1, those fail that
+    /// are in `failing`; where an append is to keep its entry and fail, and finds no memory for it,
+    /// it answers `Memory` instead.
+    pub fn new(alloc: Global, failing: KeeperFails) -> MemoryKeeper
+        ensures { result ≡ new_store [] failing }
     {
         MemoryKeeper {
-            kept,
+            kept: Pages::new(alloc),
             calls: KeeperCalls::new(failing),
         }
     }
 
-    /// The entries that are kept, in the order of their numbers.
-    pub fn kept(&self) -> &StoredList
-        ensures kept { result.now ≡ self.now.kept }
-        ensures order { RisesAbove 0 result.now }
+    /// The same of copies of these entries, whose numbers begin above 0 and rise.
+    pub fn of(
+        alloc: Global,
+        kept: &StoredList,
+        failing: KeeperFails,
+    ) -> Result<MemoryKeeper, Memory>
+        requires { RisesAbove 0 kept.now }
+        ensures { IfOk result (λ keeper. keeper ≡ new_store kept.now failing) }
     {
-        &self.kept
+        let kept = Pages::of(alloc, kept.as_slice())?;
+        Ok(MemoryKeeper {
+            kept,
+            calls: KeeperCalls::new(failing),
+        })
+    }
+
+    /// Copies of the entries that are kept, in the order of their numbers.
+    pub fn kept(&self, alloc: Global) -> Result<StoredList, Memory>
+        ensures { IfOk result (λ list. list ≡ self.now.kept) }
+    {
+        let sought = Sought {
+            selection: Selection::All,
+            after: 0,
+            max: u64::MAX,
+        };
+        let list = self.kept.select(alloc, &sought)?;
+        // No list has as many members, so none was left out.
+        let count = list.as_slice().len();
+        prove!(count < usize::MAX);
+        Ok(list)
     }
 
     /// A new keeper of what survives a stop, on which no call fails.
@@ -73,17 +88,10 @@ impl MemoryKeeper {
             → FindsInMemory result name store → SurvivesInMemory self store }
     {
         let failing = self.calls.cleared();
-        MemoryKeeper::new(self.kept, failing)
-    }
-
-    // The kept entries whose numbers are above this one.
-    fn entries_above(&self, after: u64) -> &[StoredEntry]
-        ensures above { result.now ≡ filter (λ entry. nat_lt after entry.seq) self.now.kept }
-        ensures order { RisesAbove after result.now }
-    {
-        let kept = self.kept.as_slice();
-        let place = kept.partition_point(|entry| entry.seq <= after);
-        &kept[place..]
+        MemoryKeeper {
+            kept: self.kept,
+            calls: KeeperCalls::new(failing),
+        }
     }
 
     // The kept entries that are sought, where the call is not to fail.
@@ -96,23 +104,18 @@ impl MemoryKeeper {
         if self.calls.begin_call().is_some() {
             return Err(KeeperFault::Failed);
         }
-        match select(
-            alloc,
-            self.entries_above(sought.after),
-            &sought.selection,
-            sought.max,
-        ) {
+        match self.kept.select(alloc, sought) {
             Ok(list) => Ok(list),
             Err(_) => Err(KeeperFault::Memory),
         }
     }
 
-    fn keep(&mut self, entry: StoredEntry) -> Result<(), Memory>
+    fn keep(&mut self, alloc: Global, entry: StoredEntry) -> Result<(), Memory>
         requires { entry.seq ≡ next_number self.old.kept }
         ensures ok { OnOk result (self.new ≡ with_entry entry self.old) }
         ensures err { OnErr result (self.new ≡ self.old) }
     {
-        self.kept.push(entry)?;
+        self.kept.push(alloc, &entry)?;
         Ok(())
     }
 
@@ -130,10 +133,7 @@ impl MemoryKeeper {
         if failure == Some(false) {
             return Err(KeeperFault::Failed);
         }
-        let Ok(fitted) = fitted(alloc, entry) else {
-            return Err(KeeperFault::Memory);
-        };
-        if self.keep(fitted).is_err() {
+        if self.keep(alloc, entry).is_err() {
             return Err(KeeperFault::Memory);
         }
         if failure.is_some() {

@@ -1,12 +1,11 @@
 //! Which kept entries a read hands over.
-ghost use Rattle.std.specs.Prelude.{◌≡◌, ◌+◌, take, filter, IfOk};
-ghost use Rattle.hippo_keeper.specs.Selecting.{is_stored_version, is_selected, stored_versions, versions_read};
+ghost use Rattle.std.specs.Prelude.{◌≡◌, ◌+◌, ◌==◌, ◌||◌};
+ghost use Rattle.hippo_keeper.specs.Selecting.{stored_versions, versions_read};
 
 use crate::faults::KeeperFault;
 use crate::steps::Steps;
 use hippo_model::{StoredEntry, StoredList};
-use hippo_values::{Duplicate, Memory, Moment, Name};
-use std::alloc::Global;
+use hippo_values::{Moment, Name};
 use std::sync::ledger::Ledger;
 
 // The kinds of the entries that insert, update or delete a row, and of questions.
@@ -16,7 +15,7 @@ const UPDATE: u8 = 3;
 
 const DELETE: u8 = 4;
 
-const ASKED: u8 = 13;
+pub(crate) const ASKED: u8 = 13;
 
 /// Which entries a read asks for.
 #[derive(Clone, Copy)]
@@ -40,48 +39,11 @@ pub struct Sought<'a> {
 /// What a read hands over: a list of entries, or why there is none.
 pub type Lot = Result<StoredList, KeeperFault>;
 
-// Whether an entry inserts, updates or deletes a row.
-fn is_version(entry: &StoredEntry) -> bool
-    ensures { result ≡ is_stored_version entry.now }
+// Whether an entry of this kind inserts, updates or deletes a row.
+pub(crate) fn is_version(kind: u8) -> bool
+    ensures { result ≡ (kind == 2 || kind == 3 || kind == 4) }
 {
-    matches!(entry.kind, INSERT | UPDATE | DELETE)
-}
-
-// Whether an entry is among those that a read asks for.
-fn is_among(selection: &Selection<'_>, entry: &StoredEntry) -> bool
-    ensures { result ≡ is_selected selection.now entry.now }
-{
-    match selection {
-        Selection::All => true,
-        Selection::VersionsOf(table) => {
-            is_version(entry) && entry.table.as_str() == table.as_str()
-        }
-        Selection::AskedIn(from, to) => {
-            entry.kind == ASKED && from.seconds() <= entry.moment && entry.moment <= to.seconds()
-        }
-    }
-}
-
-/// Copies of the first so many entries that a read asks for.
-pub(crate) fn select(
-    alloc: Global,
-    entries: &[StoredEntry],
-    selection: &Selection<'_>,
-    max: u64,
-) -> Result<StoredList, Memory>
-    ensures { IfOk result (λ list. list ≡ take max
-        (filter (is_selected selection.now) entries.now)) }
-{
-    let mut list = StoredList::new(alloc);
-    for entry in entries {
-        if list.len() as u64 == max {
-            break;
-        }
-        if is_among(selection, entry) {
-            list.push(entry.copy(alloc)?)?;
-        }
-    }
-    Ok(list)
+    matches!(kind, INSERT | UPDATE | DELETE)
 }
 
 /// One step for each version among the entries.
@@ -89,7 +51,7 @@ fn count_versions<L: Ledger>(entries: &[StoredEntry], steps: &mut Steps<L>)
     ensures { steps.new ≡ steps.old + stored_versions entries.now }
 {
     for entry in entries {
-        if is_version(entry) {
+        if is_version(entry.kind) {
             steps.tick();
         }
     }

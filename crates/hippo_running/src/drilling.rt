@@ -23,7 +23,6 @@ use hippo_drill::{Counts, Drill};
 use hippo_engine::Engine;
 use hippo_io::{Failed, Line, Sink, write_whole};
 use hippo_keeper::{Keeper, KeeperFails, MemoryKeeper, Steps};
-use hippo_model::StoredList;
 use hippo_programs::Ending;
 use hippo_replay::State;
 use hippo_report::Format;
@@ -53,7 +52,7 @@ fn start(alloc: Global) -> Result<MemoryKeeper, Memory>
     ensures empty { IfOk result (λ keeper. keeper.kept ≡ []) }
     ensures ready { IfOk result (λ keeper. IsReady true (memory_keeper_state keeper)) }
 {
-    let mut keeper = MemoryKeeper::new(StoredList::new(alloc), KeeperFails::new(alloc));
+    let mut keeper = MemoryKeeper::new(alloc, KeeperFails::new(alloc));
     match keeper.start(alloc, "") {
         Ok(()) => Ok(keeper),
         Err(_) => Err(Memory),

@@ -99,7 +99,7 @@ fn outcome(alloc: Global, case: &mut Case, keeper: &mut MemoryKeeper) -> Result<
 
 // The entries that a keeper left.
 fn left(alloc: Global, keeper: MemoryKeeper) -> Result<StoredList, Memory> {
-    keeper.restart().kept().copy(alloc)
+    keeper.restart().kept(alloc)
 }
 
 // The case that is being written, and the entries that the last call left.
@@ -120,7 +120,7 @@ impl Rows {
     // Calls the program over these entries; no text where their numbers do not rise.
     fn call(&mut self, alloc: Global, kept: StoredList) -> Result<Option<String>, Memory> {
         let failing = mem::replace(&mut self.case.failing, KeeperFails::new(alloc));
-        let Some(mut keeper) = keeper_of(kept, failing) else {
+        let Some(mut keeper) = keeper_of(alloc, &kept, failing)? else {
             return Ok(None);
         };
         let said = outcome(alloc, &mut self.case, &mut keeper)?;

@@ -1,5 +1,5 @@
 //! The entries that a call left, which rows may change before the next one.
-ghost use Rattle.std.specs.Prelude.{false, IsTrue, IfSome};
+ghost use Rattle.std.specs.Prelude.{false, IsTrue, IfSome, IfOk};
 ghost use Rattle.hippo_keeper.specs.Keeping.{IsReady, RisesAbove};
 ghost use Rattle.hippo_keeper.specs.MemoryKeeping.{memory_keeper_state};
 
@@ -72,11 +72,17 @@ fn is_rising(entries: &[StoredEntry]) -> bool
 }
 
 /// A keeper of these entries, if their numbers begin above 0 and rise.
-pub fn keeper_of(list: StoredList, failing: KeeperFails) -> Option<MemoryKeeper>
-    ensures { IfSome result (λ keeper. IsReady false (memory_keeper_state keeper)) }
+pub fn keeper_of(
+    alloc: Global,
+    list: &StoredList,
+    failing: KeeperFails,
+) -> Result<Option<MemoryKeeper>, Memory>
+    ensures { IfOk result (λ made. IfSome made (λ keeper. IsReady false
+        (memory_keeper_state keeper))) }
 {
-    if is_rising(list.as_slice()) {
-        return Some(MemoryKeeper::new(list, failing));
+    if !is_rising(list.as_slice()) {
+        return Ok(None);
     }
-    None
+    let keeper = MemoryKeeper::of(alloc, list, failing)?;
+    Ok(Some(keeper))
 }

@@ -173,7 +173,7 @@ impl<S: Alter + Drop> Link<S> {
         ensures started { IfOk result (λ link. IsStarted
             (λ entries. entries ≡ []) (link_contents S.Store link)) }
     {
-        let mut keeper = MemoryKeeper::new(StoredList::new(alloc), KeeperFails::new(alloc));
+        let mut keeper = MemoryKeeper::new(alloc, KeeperFails::new(alloc));
         match keeper.start(alloc, "") {
             Ok(()) => Ok(Link::InMemory(keeper)),
             Err(fault) => {

@@ -1,0 +1,19 @@
+-- What is picked of the pages above the number, and then of the last entries, is picked of all.
+use Rattle.std.proofs.Common.{◌∙◌, ap, sym, subst}
+use Rattle.hippo_keeper.specs.Keeping.{RisesAbove}
+use Rattle.hippo_keeper.specs.Selecting.{is_selected, handed_over}
+use Rattle.hippo_keeper.specs.Paging.{paged, with_picked}
+use Rattle.hippo_keeper.proofs.PagesLemmas.{RisesAbove-front, picked_of_all, IsHandedOver-of}
+use Rattle.hippo_keeper.proofs.pages.Pages.select.Goals as goal
+
+pub pages_above-pages-requires-clause-order : goal.pages_above-pages-requires-clause-order
+pages_above-pages-requires-clause-order c =
+    let inside = c.self.inside in
+    rw c.as_slice.ensures (RisesAbove-front 0 (paged inside.full) inside.last (subst (λ list. RisesAbove 0 list) (sym c.self.view_is) c.requires))
+
+pub returns : goal.returns
+returns c =
+    let sought = c.args.sought.now in
+    let first = c.in_ok-pick.ensures ∙ ap (λ list. with_picked sought list (paged c.pages_above-pages.result.now)) c.new-list.ensures in
+    let is = picked_of_all sought _ (paged c.self.inside.full) c.self.inside.last _ _ first c.in_ok-pick-2.ensures (rw c.as_slice.ensures at c.pages_above-pages.ensures) ∙ ap (handed_over (is_selected sought.selection) sought.after sought.max) c.self.view_is in
+    IsHandedOver-of (is_selected sought.selection) sought.after sought.max c.args.self.now _ is c.requires

@@ -1,0 +1,50 @@
+-- How entries stand in pages, and which of them a read picks.
+use Rattle.std.specs.Prelude.{◌≡◌, ℕ, ◌-◌, ◌<◌, ◌≤◌, List, [], ◌∷◌, ◌++◌, length, filter, take, drop, nat_lt, slice_index_or}
+use Rattle.std.specs.List.{flat_map}
+use Rattle.hippo_model.specs.declared.stored.StoredEntry.{StoredEntry}
+use Rattle.hippo_keeper.specs.Keeping.{Store}
+use Rattle.hippo_keeper.specs.Selecting.{is_selected}
+use Rattle.hippo_keeper.specs.declared.head.Head.{Head}
+use Rattle.hippo_keeper.specs.declared.selection.Sought.{Sought}
+
+-- an entry: what a page says of it, its table's name, and its body
+abbrev pub entry_with : Head → List ℕ → List ℕ → StoredEntry
+entry_with head table body = record {
+  seq = head.seq;
+  moment = head.moment;
+  kind = head.kind;
+  table = table;
+  body = body;
+}
+
+-- the entries of a page from one on, whose body begins at this place
+abbrev pub page_entries : List (List ℕ) → List ℕ → ℕ → List Head → Store
+page_entries tables bodies start [] = []
+page_entries tables bodies start (head ∷ rest) =
+    entry_with head (slice_index_or tables head.table [])
+    (take (head.end - start) (drop start bodies))
+    ∷ page_entries tables bodies head.end rest
+
+-- each table is one of so many, no body ends before it begins, and the last ends at the end
+abbrev pub AreWithin : ℕ → ℕ → ℕ → List Head → Type 0
+AreWithin tables size start [] = start ≡ size
+AreWithin tables size start (head ∷ rest) =
+    (head.table < tables) × ((start ≤ head.end) × AreWithin tables size head.end rest)
+
+-- the entries of some pages, one page behind the other
+abbrev pub paged : List Store → Store
+paged pages = flat_map (λ page. page) pages
+
+-- no page is empty
+abbrev pub AreFilled : List Store → Type 0
+AreFilled [] = Unit {0}
+AreFilled (page ∷ rest) = (0 < length page) × AreFilled rest
+
+-- those of some entries that a read asks for
+abbrev pub picked : Sought → Store → Store
+picked sought entries =
+    filter (is_selected sought.selection) (filter (λ entry. nat_lt sought.after entry.seq) entries)
+
+-- a list, and behind it what a read picks of some entries while there is room
+abbrev pub with_picked : Sought → Store → Store → Store
+with_picked sought list entries = list ++ take (sought.max - length list) (picked sought entries)

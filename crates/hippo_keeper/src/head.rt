@@ -1,0 +1,85 @@
+//! What a page holds of each entry beside its body.
+ghost use Rattle.std.specs.Prelude.{◌≡◌, ◌<◌, [], ◌∷◌, length, IfOk, OnOk};
+ghost use Rattle.hippo_keeper.specs.Selecting.{is_selected};
+ghost use Rattle.hippo_keeper.specs.Paging.{entry_with, with_picked};
+
+use crate::selection::{ASKED, Selection, Sought, is_version};
+use hippo_model::{StoredEntry, StoredList};
+use hippo_values::{Bytes, Memory, Txt};
+use std::alloc::Global;
+
+/// What a page holds of an entry beside its body: what a keeper looks it up by, and where in the
+/// page its body ends.
+#[derive(Clone, Copy)]
+pub(crate) struct Head {
+    pub(crate) seq: u64,
+    pub(crate) moment: i64,
+    pub(crate) end: u32,
+    /// The place of its table's name among those of the page.
+    pub(crate) table: u16,
+    pub(crate) kind: u8,
+}
+
+// Whether an entry is among those that a read asks for.
+fn is_among(selection: &Selection<'_>, head: &Head, table: &str) -> bool
+    ensures { result ≡ is_selected selection.now (entry_with head.now table.now []) }
+{
+    match selection {
+        Selection::All => true,
+        Selection::VersionsOf(name) => is_version(head.kind) && table == name.as_str(),
+        Selection::AskedIn(from, to) => {
+            head.kind == ASKED && from.seconds() <= head.moment && head.moment <= to.seconds()
+        }
+    }
+}
+
+impl Head {
+    /// The head of an entry, with where its body ends and the place of its table's name.
+    pub(crate) fn of(entry: &StoredEntry, end: u32, table: u16) -> Head
+        ensures entry { entry_with result entry.now.table entry.now.body ≡ entry.now }
+        ensures end { result.end ≡ end }
+        ensures table { result.table ≡ table }
+    {
+        Head {
+            seq: entry.seq,
+            moment: entry.moment,
+            end,
+            table,
+            kind: entry.kind,
+        }
+    }
+
+    /// A copy of the entry, whose table has this name, with this body.
+    fn entry(&self, alloc: Global, table: &str, body: &[u8]) -> Result<StoredEntry, Memory>
+        ensures { IfOk result (λ entry. entry ≡ entry_with self.now table.now body.now) }
+    {
+        let table = Txt::from_str(alloc, table)?;
+        let body = Bytes::from_slice(alloc, body)?;
+        Ok(StoredEntry {
+            seq: self.seq,
+            moment: self.moment,
+            kind: self.kind,
+            table,
+            body,
+        })
+    }
+
+    /// Adds a copy of the entry to the list, where a read asks for it.
+    pub(crate) fn pick(
+        &self,
+        alloc: Global,
+        table: &str,
+        body: &[u8],
+        sought: &Sought<'_>,
+        list: &mut StoredList,
+    ) -> Result<(), Memory>
+        requires { length list.old < sought.now.max }
+        ensures { OnOk result (list.new ≡ with_picked sought.now list.old
+            (entry_with self.now table.now body.now ∷ [])) }
+    {
+        if sought.after < self.seq && is_among(&sought.selection, self, table) {
+            list.push(self.entry(alloc, table, body)?)?;
+        }
+        Ok(())
+    }
+}

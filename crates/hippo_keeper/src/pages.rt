@@ -1,0 +1,121 @@
+//! All entries that a keeper in memory holds, in pages.
+ghost use Rattle.std.specs.Prelude.{◌≡◌, [], ◌∷◌, ◌++◌, filter, nat_lt, IfOk, OnOk, OnErr, ⊤};
+ghost use Rattle.hippo_keeper.specs.Keeping.{RisesAbove};
+ghost use Rattle.hippo_keeper.specs.Selecting.{is_selected, IsHandedOver};
+ghost use Rattle.hippo_keeper.specs.Paging.{paged, AreFilled, with_picked};
+
+use crate::page::Page;
+use crate::selection::Sought;
+use hippo_model::{StoredEntry, StoredList};
+use hippo_values::{Duplicate, Memory, Sequence};
+use std::alloc::Global;
+use std::marker::Model;
+
+/// Entries one behind the other.
+#[derive(Drop)]
+pub(crate) struct Pages {
+    // Each has just the memory that its entries take.
+    full: Sequence<Page>,
+    // The last entries. Its memory serves one page after the other.
+    last: Page,
+}
+
+impl Model for Pages {
+    ghost use Rattle.std.specs.Prelude.{◌++◌};
+    ghost use Rattle.hippo_keeper.specs.Keeping.{Store};
+
+    ghost Value = { Store };
+
+    ghost use Rattle.hippo_keeper.specs.Paging.{paged, AreFilled};
+
+    ghost view = { λ pages. paged pages.full ++ pages.last };
+
+    ghost invariant = { λ pages. AreFilled pages.full };
+}
+
+// Where the last page is full, a copy of just its length joins the full ones, and it is empty then.
+fn make_room(alloc: Global, full: &mut Sequence<Page>, last: &mut Page) -> Result<(), Memory>
+    requires { AreFilled full.old }
+    ensures filled { AreFilled full.new }
+    ensures kept { paged full.new ++ last.new ≡ paged full.old ++ last.old }
+{
+    if last.is_full() {
+        full.push(last.copy(alloc)?)?;
+        last.clear();
+    }
+    Ok(())
+}
+
+// The pages from the first on that has an entry above a number.
+fn pages_above(pages: &[Page], after: u64) -> &[Page]
+    requires filled { AreFilled pages.now }
+    requires order { RisesAbove 0 (paged pages.now) }
+    ensures { filter (λ entry. nat_lt after entry.seq) (paged result.now)
+        ≡ filter (λ entry. nat_lt after entry.seq) (paged pages.now) }
+{
+    let place = pages.partition_point(|page| page.last_number() <= after);
+    &pages[place..]
+}
+
+// Adds copies of the entries of some pages that a read asks for, while there is room.
+fn pick(
+    pages: &[Page],
+    alloc: Global,
+    sought: &Sought<'_>,
+    list: &mut StoredList,
+) -> Result<(), Memory>
+    ensures { OnOk result (list.new ≡ with_picked sought.now list.old (paged pages.now)) }
+{
+    for page in pages {
+        if list.len() as u64 >= sought.max {
+            break;
+        }
+        page.pick(alloc, sought, list)?;
+    }
+    Ok(())
+}
+
+impl Pages {
+    /// No entries; takes no memory.
+    pub(crate) fn new(alloc: Global) -> Pages
+        ensures { result ≡ [] }
+    {
+        Pages {
+            full: Sequence::new(alloc),
+            last: Page::new(alloc),
+        }
+    }
+
+    /// Copies of these entries.
+    pub(crate) fn of(alloc: Global, entries: &[StoredEntry]) -> Result<Pages, Memory>
+        ensures { IfOk result (λ pages. pages ≡ entries.now) }
+    {
+        let mut pages = Pages::new(alloc);
+        for entry in entries {
+            pages.push(alloc, entry)?;
+        }
+        Ok(pages)
+    }
+
+    /// Adds a copy of an entry at the end.
+    pub(crate) fn push(&mut self, alloc: Global, entry: &StoredEntry) -> Result<(), Memory>
+        ensures ok { OnOk result (self.new ≡ self.old ++ entry.now ∷ []) }
+        ensures err { OnErr result (self.new ≡ self.old) }
+    {
+        make_room(alloc, &mut self.full, &mut self.last)?;
+        self.last.push(alloc, entry)
+    }
+
+    /// Copies of the entries that a read asks for.
+    pub(crate) fn select(&self, alloc: Global, sought: &Sought<'_>) -> Result<StoredList, Memory>
+        requires { RisesAbove 0 self.now }
+        ensures { IfOk result (IsHandedOver ⊤ (is_selected sought.now.selection)
+            sought.now.after sought.now.max self.now) }
+    {
+        let mut list = StoredList::new(alloc);
+        let pages = pages_above(self.full.as_slice(), sought.after);
+        pick(pages, alloc, sought, &mut list)?;
+        self.last.pick(alloc, sought, &mut list)?;
+        Ok(list)
+    }
+}
