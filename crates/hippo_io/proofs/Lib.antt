@@ -1,3 +1,4 @@
+mod ByteLemmas
 mod CutLemmas
 mod FeedLemmas
 mod HandedLemmas

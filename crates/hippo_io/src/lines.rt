@@ -11,6 +11,7 @@ ghost use Rattle.hippo_io.specs.Told.{Keeps, IsAtEnd, TakesBehind};
 
 use crate::source::{Failed, Source};
 use hippo_values::{LINE_LIMIT, Memory};
+use memchr::memchr;
 use std::alloc::Global;
 use std::marker::Model;
 
@@ -117,7 +118,7 @@ fn read_behind<S: Source>(
 fn feed_place(bytes: &[u8]) -> Option<usize>
     ensures { result ≡ position (λ byte. byte == line_feed) bytes.now }
 {
-    bytes.iter().position(|byte| *byte == b'\n')
+    memchr(b'\n', bytes)
 }
 
 // The place of the first line feed; none stands among the bytes that were searched before.
