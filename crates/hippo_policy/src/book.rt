@@ -173,7 +173,8 @@ impl PolicyBook {
     }
 
     /// Takes in the entry that comes next: the book then stands for the history with the entry
-    /// behind. It is unchanged where memory is short, which it never is for a Delete.
+    /// behind. It is unchanged where memory is short, which it never is for a Delete; a rule that
+    /// names a column from 65,536 on is answered as if it were.
     pub fn add(&mut self, alloc: Global, entry: &Entry) -> Result<(), Memory>
         ensures ok { OnOk result (BookAdds self.old self.new entry.now.seq entry.now.act) }
         ensures err { OnErr result (BookIsAsBefore self.old self.new) }
