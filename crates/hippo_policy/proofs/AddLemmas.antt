@@ -6,7 +6,7 @@ use Rattle.std.specs.Bool.{then_some}
 use Rattle.hippo_model.specs.declared.entry.Entry.{Entry}
 use Rattle.hippo_model.specs.Terms.{History}
 use Rattle.hippo_policy.specs.Books.{IsKept}
-use Rattle.hippo_policy.specs.Words.{Said, LastWords, kept_words, with_word, without_word, numbered_words}
+use Rattle.hippo_policy.specs.Words.{Said, with_word, without_word, numbered_words}
 use Rattle.hippo_policy.proofs.SaidLemmas.{numbered_from, with_said, no_earlier-numbered_words}
 
 module _ {A : Type 0} (word : Entry → Option A) where
@@ -46,15 +46,15 @@ module _ {A : Type 0} (word : Entry → Option A) where
   numbered_words-unspoken false said history entry silent = numbered_words-silent history entry silent
   numbered_words-unspoken true said history entry spoken = rw (numbered_words-append history entry, spoken) (without-last (numbered_words word history) (record { number = 1 + length history; word = said }))
 
-module _ {K A : Type 0} (same : K → K → Bool) (word : K → Entry → Option A) (history : History) (entry : Entry) where
+module _ {K A : Type 0} (word : K → Entry → Option A) (history : History) (entry : Entry) where
   -- where the entry says nothing of any key
-  pub IsKept-silent : (kept : LastWords K A) → ((key : K) → word key entry ≡ None) → IsKept same kept word history → IsKept same kept word (history ++ entry ∷ [])
+  pub IsKept-silent : (kept : K → List (Said A)) → ((key : K) → word key entry ≡ None) → IsKept kept word history → IsKept kept word (history ++ entry ∷ [])
   IsKept-silent kept silent is key = is key ∙ sym (numbered_words-silent (word key) history entry (silent key))
 
   -- where it speaks of the keys that pass a test
-  pub IsKept-spoken : (old new : LastWords K A) (test : K → Bool) (said : Said A) → ((key : K) → kept_words same new key ≡ with_word (test key) said (kept_words same old key)) → ((key : K) → word key entry ≡ then_some (test key) said.word) → said.number ≡ length history + 1 → IsKept same old word history → IsKept same new word (history ++ entry ∷ [])
+  pub IsKept-spoken : (old new : K → List (Said A)) (test : K → Bool) (said : Said A) → ((key : K) → new key ≡ with_word (test key) said (old key)) → ((key : K) → word key entry ≡ then_some (test key) said.word) → said.number ≡ length history + 1 → IsKept old word history → IsKept new word (history ++ entry ∷ [])
   IsKept-spoken old new test said added spoken next is key = added key ∙ rw (is key) (numbered_words-spoken (word key) (test key) said history entry (spoken key) next)
 
   -- and where what was said of them is taken back
-  pub IsKept-unspoken : (old new : LastWords K A) (test : K → Bool) (said : A) → ((key : K) → kept_words same new key ≡ without_word (test key) (kept_words same old key)) → ((key : K) → word key entry ≡ then_some (test key) said) → IsKept same old word (history ++ entry ∷ []) → IsKept same new word history
+  pub IsKept-unspoken : (old new : K → List (Said A)) (test : K → Bool) (said : A) → ((key : K) → new key ≡ without_word (test key) (old key)) → ((key : K) → word key entry ≡ then_some (test key) said) → IsKept old word (history ++ entry ∷ []) → IsKept new word history
   IsKept-unspoken old new test said taken spoken is key = taken key ∙ rw (is key) (numbered_words-unspoken (word key) (test key) said history entry (spoken key))

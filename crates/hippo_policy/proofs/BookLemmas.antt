@@ -19,7 +19,9 @@ use Rattle.hippo_policy.specs.declared.book.PolicyBook.{PolicyBook}
 use Rattle.hippo_policy.specs.declared.keys.CellKey.{CellKey}
 use Rattle.hippo_policy.specs.declared.keys.ChoiceKey.{ChoiceKey}
 use Rattle.hippo_policy.specs.declared.keys.UserKey.{UserKey}
+use Rattle.hippo_policy.specs.declared.ruled_tables.RuledTables.{RuledTables}
 use Rattle.hippo_policy.specs.Keys.{same_cell_key, same_choice, same_user, same_name}
+use Rattle.hippo_policy.specs.Cells.{cell_words}
 use Rattle.hippo_policy.specs.Words.{LastWords, kept_words, with_word}
 use Rattle.hippo_policy.specs.Books.{BookStandsFor, BookIsAsBefore, BookAdds, AddsUser, AddsRule, rule_word, choice_word, user_word, item_word, cell_keys, leaves_book, cell_of}
 use Rattle.hippo_policy.proofs.AddLemmas.{IsKept-silent, IsKept-spoken}
@@ -65,10 +67,10 @@ module _ (old : PolicyBook) (number : ℕ) where
       → BookAdds old (record { rules = old.rules; choices = choices; users = old.users; items = old.items; last = OfChoice (record { subject = subject; item = item }) }) number (Choice subject item agreed)
   BookAdds-choice choices subject item agreed added = record {
     stands = λ history entry is seq next kept. record {
-      rules = IsKept-silent same_cell_key rule_word history entry old.rules (λ key. rw is refl) kept.rules;
-      choices = IsKept-spoken same_choice choice_word history entry old.choices choices (λ key. same_choice (record { subject = subject; item = item }) key) (record { number = number; word = agreed }) added (λ key. rw is refl) next kept.choices;
-      users = IsKept-silent same_user user_word history entry old.users (λ key. rw is refl) kept.users;
-      items = IsKept-silent same_name item_word history entry old.items (λ key. rw is refl) kept.items;
+      rules = IsKept-silent rule_word history entry (cell_words old.rules) (λ key. rw is refl) kept.rules;
+      choices = IsKept-spoken choice_word history entry (kept_words same_choice old.choices) (kept_words same_choice choices) (λ key. same_choice (record { subject = subject; item = item }) key) (record { number = number; word = agreed }) added (λ key. rw is refl) next kept.choices;
+      users = IsKept-silent user_word history entry (kept_words same_user old.users) (λ key. rw is refl) kept.users;
+      items = IsKept-silent item_word history entry (kept_words same_name old.items) (λ key. rw is refl) kept.items;
     };
     remembers = refl;
   }
@@ -78,10 +80,10 @@ module _ (old : PolicyBook) (number : ℕ) where
       → BookAdds old (record { rules = old.rules; choices = old.choices; users = old.users; items = items; last = OfItem item }) number (Item item kind)
   BookAdds-item items item kind added = record {
     stands = λ history entry is seq next kept. record {
-      rules = IsKept-silent same_cell_key rule_word history entry old.rules (λ key. rw is refl) kept.rules;
-      choices = IsKept-silent same_choice choice_word history entry old.choices (λ key. rw is refl) kept.choices;
-      users = IsKept-silent same_user user_word history entry old.users (λ key. rw is refl) kept.users;
-      items = IsKept-spoken same_name item_word history entry old.items items (same_name item) (record { number = number; word = kind }) added (λ key. rw is refl) next kept.items;
+      rules = IsKept-silent rule_word history entry (cell_words old.rules) (λ key. rw is refl) kept.rules;
+      choices = IsKept-silent choice_word history entry (kept_words same_choice old.choices) (λ key. rw is refl) kept.choices;
+      users = IsKept-silent user_word history entry (kept_words same_user old.users) (λ key. rw is refl) kept.users;
+      items = IsKept-spoken item_word history entry (kept_words same_name old.items) (kept_words same_name items) (same_name item) (record { number = number; word = kind }) added (λ key. rw is refl) next kept.items;
     };
     remembers = refl;
   }
@@ -90,10 +92,10 @@ module _ (old : PolicyBook) (number : ℕ) where
   silent-kept : (last : Matter) (history : History) (entry : Entry) → ((key : CellKey) → rule_word key entry ≡ None) → ((key : ChoiceKey) → choice_word key entry ≡ None) → ((key : UserKey) → user_word key entry ≡ None) → ((item : Name) → item_word item entry ≡ None) → BookStandsFor old history
       → BookStandsFor (record { rules = old.rules; choices = old.choices; users = old.users; items = old.items; last = last }) (history ++ entry ∷ [])
   silent-kept last history entry rules choices users items kept = record {
-    rules = IsKept-silent same_cell_key rule_word history entry old.rules rules kept.rules;
-    choices = IsKept-silent same_choice choice_word history entry old.choices choices kept.choices;
-    users = IsKept-silent same_user user_word history entry old.users users kept.users;
-    items = IsKept-silent same_name item_word history entry old.items items kept.items;
+    rules = IsKept-silent rule_word history entry (cell_words old.rules) rules kept.rules;
+    choices = IsKept-silent choice_word history entry (kept_words same_choice old.choices) choices kept.choices;
+    users = IsKept-silent user_word history entry (kept_words same_user old.users) users kept.users;
+    items = IsKept-silent item_word history entry (kept_words same_name old.items) items kept.items;
   }
 
   abbrev passed_over : PolicyBook
@@ -120,21 +122,21 @@ module _ (old : PolicyBook) (number : ℕ) where
       → ((key : CellKey) → rule_word key entry ≡ None) → ((key : ChoiceKey) → choice_word key entry ≡ None) → ((other : UserKey) → user_word other entry ≡ then_some (same_user key other) word) → ((item : Name) → item_word item entry ≡ None) → number ≡ length history + 1 → BookStandsFor old history
       → BookStandsFor (record { rules = old.rules; choices = old.choices; users = users; items = old.items; last = last }) (history ++ entry ∷ [])
   user-kept users last key word history entry added rules choices spoken items next kept = record {
-    rules = IsKept-silent same_cell_key rule_word history entry old.rules rules kept.rules;
-    choices = IsKept-silent same_choice choice_word history entry old.choices choices kept.choices;
-    users = IsKept-spoken same_user user_word history entry old.users users (same_user key) (record { number = number; word = word }) added spoken next kept.users;
-    items = IsKept-silent same_name item_word history entry old.items items kept.items;
+    rules = IsKept-silent rule_word history entry (cell_words old.rules) rules kept.rules;
+    choices = IsKept-silent choice_word history entry (kept_words same_choice old.choices) choices kept.choices;
+    users = IsKept-spoken user_word history entry (kept_words same_user old.users) (kept_words same_user users) (same_user key) (record { number = number; word = word }) added spoken next kept.users;
+    items = IsKept-silent item_word history entry (kept_words same_name old.items) items kept.items;
   }
 
-  rule-kept : (rules : LastWords CellKey Rule) (last : Matter) (keys : List CellKey) (word : Rule) (history : History) (entry : Entry)
-      → ((other : CellKey) → kept_words same_cell_key rules other ≡ with_word (list_any (λ key. same_cell_key key other) keys) (record { number = number; word = word }) (kept_words same_cell_key old.rules other))
+  rule-kept : (rules : RuledTables) (last : Matter) (keys : List CellKey) (word : Rule) (history : History) (entry : Entry)
+      → ((other : CellKey) → cell_words rules other ≡ with_word (list_any (λ key. same_cell_key key other) keys) (record { number = number; word = word }) (cell_words old.rules other))
       → ((other : CellKey) → rule_word other entry ≡ then_some (list_any (λ key. same_cell_key key other) keys) word) → ((key : ChoiceKey) → choice_word key entry ≡ None) → ((key : UserKey) → user_word key entry ≡ None) → ((item : Name) → item_word item entry ≡ None) → number ≡ length history + 1 → BookStandsFor old history
       → BookStandsFor (record { rules = rules; choices = old.choices; users = old.users; items = old.items; last = last }) (history ++ entry ∷ [])
   rule-kept rules last keys word history entry added spoken choices users items next kept = record {
-    rules = IsKept-spoken same_cell_key rule_word history entry old.rules rules (λ other. list_any (λ key. same_cell_key key other) keys) (record { number = number; word = word }) added spoken next kept.rules;
-    choices = IsKept-silent same_choice choice_word history entry old.choices choices kept.choices;
-    users = IsKept-silent same_user user_word history entry old.users users kept.users;
-    items = IsKept-silent same_name item_word history entry old.items items kept.items;
+    rules = IsKept-spoken rule_word history entry (cell_words old.rules) (cell_words rules) (λ other. list_any (λ key. same_cell_key key other) keys) (record { number = number; word = word }) added spoken next kept.rules;
+    choices = IsKept-silent choice_word history entry (kept_words same_choice old.choices) choices kept.choices;
+    users = IsKept-silent user_word history entry (kept_words same_user old.users) users kept.users;
+    items = IsKept-silent item_word history entry (kept_words same_name old.items) items kept.items;
   }
 
   abbrev user_key : Name → Name → Name → UserKey
@@ -176,5 +178,5 @@ module _ (old : PolicyBook) where
   pub as_before-users : (users : LastWords UserKey Authorization) → ((other : UserKey) → kept_words same_user users other ≡ kept_words same_user old.users other) → BookIsAsBefore old (record { rules = old.rules; choices = old.choices; users = users; items = old.items; last = old.last })
   as_before-users users same = record { stands = λ history kept. record { rules = kept.rules; choices = kept.choices; users = λ key. same key ∙ kept.users key; items = kept.items }; remembers = refl }
 
-  pub as_before-rules : (rules : LastWords CellKey Rule) → ((other : CellKey) → kept_words same_cell_key rules other ≡ kept_words same_cell_key old.rules other) → BookIsAsBefore old (record { rules = rules; choices = old.choices; users = old.users; items = old.items; last = old.last })
+  pub as_before-rules : (rules : RuledTables) → ((other : CellKey) → cell_words rules other ≡ cell_words old.rules other) → BookIsAsBefore old (record { rules = rules; choices = old.choices; users = old.users; items = old.items; last = old.last })
   as_before-rules rules same = record { stands = λ history kept. record { rules = λ key. same key ∙ kept.rules key; choices = kept.choices; users = kept.users; items = kept.items }; remembers = refl }

@@ -1,5 +1,5 @@
 -- What is done once at each of some keys, though keys stand among them twice.
-use Rattle.std.proofs.Common.{◌≡◌, ◌∙◌, sym, refl, ap, ℕ, ◌+◌, ◌<◌, List, [], length, take, get_or, Bool, true, false, ◌||◌, if◌then◌else◌, Option, Some}
+use Rattle.std.proofs.Common.{◌≡◌, ◌∙◌, sym, refl, ap, ℕ, ◌+◌, ◌<◌, List, length, take, get_or, Bool, true, false, ◌||◌, if◌then◌else◌, Option, Some}
 use Rattle.std.proofs.lemmas.Bool.{false≢true}
 use Rattle.std.proofs.lemmas.List.Folds.{list_any_more}
 use Rattle.std.proofs.lemmas.Map.{lookup-set_value}
@@ -7,8 +7,6 @@ use Rattle.std.specs.Cmp.{IsEquivalence}
 use Rattle.std.specs.List.{list_any}
 use Rattle.std.specs.Map.{lookup, set_value}
 use Rattle.std.specs.Option.{option_map_or}
-use Rattle.hippo_policy.specs.Words.{Said}
-use Rattle.hippo_policy.specs.declared.sayings.Sayings.{Sayings}
 
 module _ {X : Type 0} (f : X → X) where
   abbrev pub done_if : Bool → X → X
@@ -48,26 +46,26 @@ module _ {K X : Type 0} (same : K → K → Bool) (equivalence : IsEquivalence s
   done_before old now within is again so_far = rw (one_more within is) (done_again f (is_among place) (same key other) (list_any (λ one. same one key) (take place keys)) old now any_alike again so_far)
 
 -- What is kept at other keys once what was found at a key is changed.
-module _ {K A : Type 0} (same : K → K → Bool) (equivalence : IsEquivalence same) (entries : List (K × Sayings A)) (key other : K) (old new : Sayings A) (f : List (Said A) → List (Said A)) where
-  abbrev items_at : List (K × Sayings A) → List (Said A)
-  items_at kept = option_map_or (λ (words : Sayings A). words.said.items) (lookup (same other) kept) []
+module _ {K V X : Type 0} (same : K → K → Bool) (equivalence : IsEquivalence same) (entries : List (K × V)) (key other : K) (old new : V) (view : V → X) (none : X) (f : X → X) where
+  abbrev seen_at : List (K × V) → X
+  seen_at kept = option_map_or view (lookup (same other) kept) none
 
   alike_found : same key other ≡ true → lookup (same other) entries ≡ lookup (same key) entries
   alike_found is i = lookup (λ one. sym (equivalence.congr key other one is) i) entries
 
-  kept_by : (is_same : Bool) → same key other ≡ is_same → Some old ≡ lookup (same key) entries → new.said.items ≡ f old.said.items → items_at (set_value (same key) entries new) ≡ done_if f is_same (items_at entries)
+  kept_by : (is_same : Bool) → same key other ≡ is_same → Some old ≡ lookup (same key) entries → view new ≡ f (view old) → seen_at (set_value (same key) entries new) ≡ done_if f is_same (seen_at entries)
   kept_by true is found changed = rw (lookup-set_value equivalence (same key) (equivalence.congr key) other new entries (rw (sym found) refl), is, alike_found is, sym found) changed
   kept_by false is found changed = rw (lookup-set_value equivalence (same key) (equivalence.congr key) other new entries (rw (sym found) refl), is) refl
 
-  pub kept-changed : (written : List (K × Sayings A)) → written ≡ set_value (same key) entries new → Some old ≡ lookup (same key) entries → new.said.items ≡ f old.said.items → items_at written ≡ done_if f (same key other) (items_at entries)
-  kept-changed written is found changed = ap items_at is ∙ kept_by (same key other) refl found changed
+  pub kept-changed : (written : List (K × V)) → written ≡ set_value (same key) entries new → Some old ≡ lookup (same key) entries → view new ≡ f (view old) → seen_at written ≡ done_if f (same key other) (seen_at entries)
+  kept-changed written is found changed = ap seen_at is ∙ kept_by (same key other) refl found changed
 
 pub done_if-same : {X : Type 0} (is_done : Bool) (old : X) → done_if (λ value. value) is_done old ≡ old
 done_if-same true old = refl
 done_if-same false old = refl
 
--- And once words are written where none were.
-pub kept-begun : {A : Type 0} (is_same : Bool) (words : Sayings A) (found after : Option (Sayings A)) (items : List (Said A)) → after ≡ (if is_same then Some words else found) → words.said.items ≡ items
-    → option_map_or (λ (words : Sayings A). words.said.items) after [] ≡ (if is_same then items else option_map_or (λ (words : Sayings A). words.said.items) found [])
-kept-begun true words found after items is made = rw is made
-kept-begun false words found after items is made = rw is refl
+-- And once something is written where nothing was.
+pub kept-begun : {V X : Type 0} (view : V → X) (none : X) (is_same : Bool) (made : V) (found after : Option V) (seen : X) → after ≡ (if is_same then Some made else found) → view made ≡ seen
+    → option_map_or view after none ≡ (if is_same then seen else option_map_or view found none)
+kept-begun view none true made found after seen is made_is = rw is made_is
+kept-begun view none false made found after seen is made_is = rw is refl

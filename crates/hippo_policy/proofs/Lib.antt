@@ -1,4 +1,5 @@
 pub mod KeyLemmas
+pub mod CellLemmas
 pub mod SaidLemmas
 pub mod AddLemmas
 pub mod BookLemmas

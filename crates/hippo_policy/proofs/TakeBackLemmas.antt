@@ -16,8 +16,10 @@ use Rattle.hippo_policy.specs.declared.book.PolicyBook.{PolicyBook}
 use Rattle.hippo_policy.specs.declared.keys.CellKey.{CellKey}
 use Rattle.hippo_policy.specs.declared.keys.ChoiceKey.{ChoiceKey}
 use Rattle.hippo_policy.specs.declared.keys.UserKey.{UserKey}
+use Rattle.hippo_policy.specs.declared.ruled_tables.RuledTables.{RuledTables}
 use Rattle.hippo_policy.specs.Keys.{same_cell_key, same_choice, same_user, same_name}
-use Rattle.hippo_policy.specs.Words.{LastWords, kept_words, without_word}
+use Rattle.hippo_policy.specs.Cells.{cell_words}
+use Rattle.hippo_policy.specs.Words.{LastWords, Said, kept_words, without_word}
 use Rattle.hippo_policy.specs.Books.{BookStandsFor, IsKept, rule_word, choice_word, user_word, item_word, cell_keys, matter_of}
 use Rattle.hippo_policy.proofs.AddLemmas.{IsKept-unspoken, numbered_words-silent}
 use Rattle.hippo_policy.proofs.BookLemmas.{and-assoc, named}
@@ -70,8 +72,8 @@ module _ (entry : Entry) where
       (revoked entry.seq, record { rules = λ other. rw (is, same, named purpose recipient table other columns) refl; agreed = λ other. rw is refl; asked = λ other. rw is refl; kinds = λ other. rw is refl })
   says-cells keys act is of = absurd cc
 
-module _ {K A : Type 0} (same : K → K → Bool) (word : K → Entry → Option A) (history : History) (entry : Entry) where
-  IsKept-before : (kept : LastWords K A) → ((key : K) → word key entry ≡ None) → IsKept same kept word (history ++ entry ∷ []) → IsKept same kept word history
+module _ {K A : Type 0} (word : K → Entry → Option A) (history : History) (entry : Entry) where
+  IsKept-before : (kept : K → List (Said A)) → ((key : K) → word key entry ≡ None) → IsKept kept word (history ++ entry ∷ []) → IsKept kept word history
   IsKept-before kept silent is key = is key ∙ numbered_words-silent (word key) history entry (silent key)
 
 module _ (old : PolicyBook) (history : History) (entry : Entry) (kept : BookStandsFor old (history ++ entry ∷ [])) where
@@ -79,21 +81,21 @@ module _ (old : PolicyBook) (history : History) (entry : Entry) (kept : BookStan
   before-nothing of =
       let says = says-nothing entry entry.act refl of in
       record {
-        rules = IsKept-before same_cell_key rule_word history entry old.rules says.rules kept.rules;
-        choices = IsKept-before same_choice choice_word history entry old.choices says.agreed kept.choices;
-        users = IsKept-before same_user user_word history entry old.users says.asked kept.users;
-        items = IsKept-before same_name item_word history entry old.items says.kinds kept.items;
+        rules = IsKept-before rule_word history entry (cell_words old.rules) says.rules kept.rules;
+        choices = IsKept-before choice_word history entry (kept_words same_choice old.choices) says.agreed kept.choices;
+        users = IsKept-before user_word history entry (kept_words same_user old.users) says.asked kept.users;
+        items = IsKept-before item_word history entry (kept_words same_name old.items) says.kinds kept.items;
       }
 
-  pub before-cells : (keys : List CellKey) → Cells keys ≡ matter_of entry.act → (rules : LastWords CellKey Rule) → ((other : CellKey) → kept_words same_cell_key rules other ≡ without_word (list_any (λ key. same_cell_key key other) keys) (kept_words same_cell_key old.rules other))
+  pub before-cells : (keys : List CellKey) → Cells keys ≡ matter_of entry.act → (rules : RuledTables) → ((other : CellKey) → cell_words rules other ≡ without_word (list_any (λ key. same_cell_key key other) keys) (cell_words old.rules other))
       → BookStandsFor (record { rules = rules; choices = old.choices; users = old.users; items = old.items; last = old.last }) history
   before-cells keys of rules taken =
       let said = says-cells entry keys entry.act refl of in
       record {
-        rules = IsKept-unspoken same_cell_key rule_word history entry old.rules rules (λ other. list_any (λ key. same_cell_key key other) keys) said.0 taken said.1.rules kept.rules;
-        choices = IsKept-before same_choice choice_word history entry old.choices said.1.agreed kept.choices;
-        users = IsKept-before same_user user_word history entry old.users said.1.asked kept.users;
-        items = IsKept-before same_name item_word history entry old.items said.1.kinds kept.items;
+        rules = IsKept-unspoken rule_word history entry (cell_words old.rules) (cell_words rules) (λ other. list_any (λ key. same_cell_key key other) keys) said.0 taken said.1.rules kept.rules;
+        choices = IsKept-before choice_word history entry (kept_words same_choice old.choices) said.1.agreed kept.choices;
+        users = IsKept-before user_word history entry (kept_words same_user old.users) said.1.asked kept.users;
+        items = IsKept-before item_word history entry (kept_words same_name old.items) said.1.kinds kept.items;
       }
 
   pub before-choice : (key : ChoiceKey) → OfChoice key ≡ matter_of entry.act → (choices : LastWords ChoiceKey Bool) → ((other : ChoiceKey) → kept_words same_choice choices other ≡ without_word (same_choice key other) (kept_words same_choice old.choices other))
@@ -101,10 +103,10 @@ module _ (old : PolicyBook) (history : History) (entry : Entry) (kept : BookStan
   before-choice key of choices taken =
       let said = says-choice entry key entry.act refl of in
       record {
-        rules = IsKept-before same_cell_key rule_word history entry old.rules said.1.rules kept.rules;
-        choices = IsKept-unspoken same_choice choice_word history entry old.choices choices (same_choice key) said.0 taken said.1.agreed kept.choices;
-        users = IsKept-before same_user user_word history entry old.users said.1.asked kept.users;
-        items = IsKept-before same_name item_word history entry old.items said.1.kinds kept.items;
+        rules = IsKept-before rule_word history entry (cell_words old.rules) said.1.rules kept.rules;
+        choices = IsKept-unspoken choice_word history entry (kept_words same_choice old.choices) (kept_words same_choice choices) (same_choice key) said.0 taken said.1.agreed kept.choices;
+        users = IsKept-before user_word history entry (kept_words same_user old.users) said.1.asked kept.users;
+        items = IsKept-before item_word history entry (kept_words same_name old.items) said.1.kinds kept.items;
       }
 
   pub before-user : (key : UserKey) → User key ≡ matter_of entry.act → (users : LastWords UserKey Authorization) → ((other : UserKey) → kept_words same_user users other ≡ without_word (same_user key other) (kept_words same_user old.users other))
@@ -112,10 +114,10 @@ module _ (old : PolicyBook) (history : History) (entry : Entry) (kept : BookStan
   before-user key of users taken =
       let said = says-user entry key entry.act refl of in
       record {
-        rules = IsKept-before same_cell_key rule_word history entry old.rules said.1.rules kept.rules;
-        choices = IsKept-before same_choice choice_word history entry old.choices said.1.agreed kept.choices;
-        users = IsKept-unspoken same_user user_word history entry old.users users (same_user key) said.0 taken said.1.asked kept.users;
-        items = IsKept-before same_name item_word history entry old.items said.1.kinds kept.items;
+        rules = IsKept-before rule_word history entry (cell_words old.rules) said.1.rules kept.rules;
+        choices = IsKept-before choice_word history entry (kept_words same_choice old.choices) said.1.agreed kept.choices;
+        users = IsKept-unspoken user_word history entry (kept_words same_user old.users) (kept_words same_user users) (same_user key) said.0 taken said.1.asked kept.users;
+        items = IsKept-before item_word history entry (kept_words same_name old.items) said.1.kinds kept.items;
       }
 
   pub before-item : (key : Name) → OfItem key ≡ matter_of entry.act → (items : LastWords Name ItemKind) → ((other : Name) → kept_words same_name items other ≡ without_word (same_name key other) (kept_words same_name old.items other))
@@ -123,8 +125,8 @@ module _ (old : PolicyBook) (history : History) (entry : Entry) (kept : BookStan
   before-item key of items taken =
       let said = says-item entry key entry.act refl of in
       record {
-        rules = IsKept-before same_cell_key rule_word history entry old.rules said.1.rules kept.rules;
-        choices = IsKept-before same_choice choice_word history entry old.choices said.1.agreed kept.choices;
-        users = IsKept-before same_user user_word history entry old.users said.1.asked kept.users;
-        items = IsKept-unspoken same_name item_word history entry old.items items (same_name key) said.0 taken said.1.kinds kept.items;
+        rules = IsKept-before rule_word history entry (cell_words old.rules) said.1.rules kept.rules;
+        choices = IsKept-before choice_word history entry (kept_words same_choice old.choices) said.1.agreed kept.choices;
+        users = IsKept-before user_word history entry (kept_words same_user old.users) said.1.asked kept.users;
+        items = IsKept-unspoken item_word history entry (kept_words same_name old.items) (kept_words same_name items) (same_name key) said.0 taken said.1.kinds kept.items;
       }

@@ -16,8 +16,10 @@ use Rattle.hippo_policy.specs.declared.book.PolicyBook.{PolicyBook}
 use Rattle.hippo_policy.specs.declared.keys.CellKey.{CellKey}
 use Rattle.hippo_policy.specs.declared.keys.ChoiceKey.{ChoiceKey}
 use Rattle.hippo_policy.specs.declared.keys.UserKey.{UserKey}
+use Rattle.hippo_policy.specs.declared.ruled_tables.RuledTables.{RuledTables}
 use Rattle.hippo_policy.specs.Keys.{same_cell_key, same_choice, same_user, same_name}
-use Rattle.hippo_policy.specs.Words.{LastWords, kept_words, with_word, numbered_words, latest}
+use Rattle.hippo_policy.specs.Cells.{cell_words}
+use Rattle.hippo_policy.specs.Words.{LastWords, Said, kept_words, with_word, numbered_words, latest}
 
 abbrev pub cell_of : CellKey → RuledCell
 cell_of key =
@@ -47,17 +49,15 @@ abbrev pub item_word : Name → Entry → Option ItemKind
 item_word item entry = item_created item entry.act
 
 -- at each key stands what the entries of a history say of it, with their numbers
-abbrev pub IsKept : {K A : Type 0} → (K → K → Bool) → LastWords K A → (K → Entry → Option A)
-    → History → Type 0
-IsKept {K} same kept word history =
-    (key : K) → kept_words same kept key ≡ numbered_words (word key) history
+abbrev pub IsKept : {K A : Type 0} → (K → List (Said A)) → (K → Entry → Option A) → History → Type 0
+IsKept {K} kept word history = (key : K) → kept key ≡ numbered_words (word key) history
 
 -- a book that holds what a history says
 pub record BookStandsFor (book : PolicyBook) (history : History) : Type 0 where
-  pub rules : IsKept same_cell_key book.rules rule_word history
-  pub choices : IsKept same_choice book.choices choice_word history
-  pub users : IsKept same_user book.users user_word history
-  pub items : IsKept same_name book.items item_word history
+  pub rules : IsKept (cell_words book.rules) rule_word history
+  pub choices : IsKept (kept_words same_choice book.choices) choice_word history
+  pub users : IsKept (kept_words same_user book.users) user_word history
+  pub items : IsKept (kept_words same_name book.items) item_word history
 
 abbrev pub cell_keys : Name → Name → Name → List Place → List CellKey
 cell_keys purpose recipient table columns =
@@ -110,7 +110,7 @@ pub record BookAdds (old new : PolicyBook) (number : ℕ) (act : Act) : Type 0 w
   pub remembers : RemembersMatter new act
 
 -- a book with these rules, users and last matter, and the choices and items of another
-abbrev pub book_with : PolicyBook → LastWords CellKey Rule → LastWords UserKey Authorization
+abbrev pub book_with : PolicyBook → RuledTables → LastWords UserKey Authorization
     → Matter → PolicyBook
 book_with book rules users last =
     record {
@@ -132,10 +132,10 @@ pub record AddsUser (old new : PolicyBook) (number : ℕ) (key : UserKey) (word 
 -- a book has one word more on some cells
 pub record AddsRule (old new : PolicyBook) (number : ℕ) (keys : List CellKey) (word : Rule)
     : Type 0 where
-  pub rules : (other : CellKey) → kept_words same_cell_key new.rules other
+  pub rules : (other : CellKey) → cell_words new.rules other
       ≡ with_word (list_any (λ key. same_cell_key key other) keys)
       (record { number = number; word = word })
-      (kept_words same_cell_key old.rules other)
+      (cell_words old.rules other)
   pub others : new ≡ book_with old new.rules old.users (Cells keys)
 
 -- a book stands for what it stood for

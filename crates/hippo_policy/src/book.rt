@@ -8,6 +8,7 @@ ghost use Rattle.hippo_policy.specs.Rulings.{ruling_in};
 
 use crate::keys::{CellKey, ChoiceKey, KeyName, UserKey};
 use crate::last_words::{LastWords, Said};
+use crate::ruled_tables::RuledTables;
 use crate::ruling::Ruling;
 use hippo_model::{Act, Authorization, Entry, ItemKind};
 use hippo_values::{Memory, Name, Sequence};
@@ -26,7 +27,7 @@ enum Matter {
 /// The rules, choices, authorizations and items of a history, at every entry number.
 #[derive(Drop)]
 pub struct PolicyBook {
-    pub(crate) rules: LastWords<CellKey<'static>, Ruling>,
+    pub(crate) rules: RuledTables,
     pub(crate) choices: LastWords<ChoiceKey<'static>, bool>,
     pub(crate) users: LastWords<UserKey<'static>, Authorization>,
     pub(crate) items: LastWords<KeyName<'static>, ItemKind>,
@@ -80,7 +81,7 @@ impl PolicyBook {
         ensures { BookStandsFor result [] }
     {
         PolicyBook {
-            rules: LastWords::new(alloc),
+            rules: RuledTables::new(alloc),
             choices: LastWords::new(alloc),
             users: LastWords::new(alloc),
             items: LastWords::new(alloc),
@@ -172,7 +173,8 @@ impl PolicyBook {
     }
 
     /// Takes in the entry that comes next: the book then stands for the history with the entry
-    /// behind. It is unchanged where memory is short, which it never is for a Delete.
+    /// behind. It is unchanged where memory is short, which it never is for a Delete; a rule that
+    /// names a column from 65,536 on is answered as if it were.
     pub fn add(&mut self, alloc: Global, entry: &Entry) -> Result<(), Memory>
         ensures ok { OnOk result (BookAdds self.old self.new entry.now.seq entry.now.act) }
         ensures err { OnErr result (BookIsAsBefore self.old self.new) }

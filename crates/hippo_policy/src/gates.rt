@@ -1,12 +1,13 @@
 //! What decides whether the cells of tables are shown, at an entry number.
-ghost use Rattle.std.specs.Prelude.{◌≡◌, take, IfOk, Some, option_map, map};
+ghost use Rattle.std.specs.Prelude.{◌≡◌, take, IfOk, Some, option_copied, option_map, map};
 ghost use Rattle.hippo_model.specs.Terms.{History};
-ghost use Rattle.hippo_policy.specs.Books.{BookStandsFor, rule_of};
+ghost use Rattle.hippo_policy.specs.Books.{BookStandsFor};
 ghost use Rattle.hippo_policy.specs.Gates.{after, gate_of_age, gate_of_item, gate_by, table_rules};
 ghost use Rattle.hippo_model.specs.Rules.{allowed};
 
 use crate::book::PolicyBook;
-use crate::keys::CellKey;
+use crate::keys::TableKey;
+use crate::ruled_columns::latest_in;
 use crate::ruling::Ruling;
 use crate::verdicts::DAY;
 use hippo_model::{Gate, ItemKind, LentSchemas, RuleAt, RulesInForce, Schema, TableRules};
@@ -79,17 +80,18 @@ impl PolicyBook {
         }
     }
 
-    fn gate_at<'a>(
-        &'a self,
+    // The gate that stands for the rule that a cell has, if any.
+    fn gate_of(
+        &self,
         alloc: Global,
         n: u64,
         moment: &Moment,
-        cell: &CellKey<'a>,
+        ruling: Option<&Ruling>,
     ) -> Result<Gate, Memory>
         ensures { IfOk result (λ gate. (history : History) → BookStandsFor self.now history
-            → gate ≡ gate_by (take n history) moment.now (rule_of (take n history) cell.now)) }
+            → gate ≡ gate_by (take n history) moment.now (option_copied ruling.entry)) }
     {
-        match self.ruling_at(n, cell) {
+        match ruling {
             None => Ok(Gate::Never(0)),
             Some(ruling) => self.gate_by(alloc, n, moment, ruling),
         }
@@ -136,10 +138,12 @@ impl PolicyBook {
             (record { purpose = purpose.now; recipient = recipient.now; moment = moment.now })
             schema.now) }
     {
-        let mut gates = Sequence::new(alloc);
+        let table = TableKey::lent(purpose, recipient, &schema.name);
+        let columns = self.rules.columns_of(&table);
+        let mut gates = Sequence::with_capacity(alloc, schema.columns.len())?;
         for place in 0..schema.columns.len() {
-            let cell = CellKey::lent(purpose, recipient, &schema.name, place);
-            gates.push(self.gate_at(alloc, n, moment, &cell)?)?;
+            let ruling = latest_in(columns, n, place);
+            gates.push(self.gate_of(alloc, n, moment, ruling)?)?;
         }
         let key = schema.key.copy(alloc)?;
         Ok(TableRules {
@@ -165,7 +169,7 @@ impl PolicyBook {
             (record { purpose = purpose.now; recipient = recipient.now; moment = moment }))
             tables.now) }
     {
-        let mut rules = Sequence::new(alloc);
+        let mut rules = Sequence::with_capacity(alloc, tables.len())?;
         for place in 0..tables.len() {
             let schema = tables.get(place);
             rules.push(self.table_rules(alloc, n, &moment, purpose, recipient, schema)?)?;

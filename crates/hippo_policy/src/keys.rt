@@ -160,6 +160,32 @@ pub struct TableKey<'a> {
     pub table: KeyName<'a>,
 }
 
+impl<'a> TableKey<'a> {
+    pub fn lent(purpose: &'a Name, recipient: &'a Name, table: &'a Name) -> TableKey<'a>
+        ensures { result ≡ record {
+          purpose = purpose.now;
+          recipient = recipient.now;
+          table = table.now;
+        } }
+    {
+        TableKey {
+            purpose: KeyName::lent(purpose),
+            recipient: KeyName::lent(recipient),
+            table: KeyName::lent(table),
+        }
+    }
+
+    pub fn owned(alloc: Global, key: &TableKey<'_>) -> Result<TableKey<'a>, Memory>
+        ensures { IfOk result (λ made. made ≡ key.now) }
+    {
+        Ok(TableKey {
+            purpose: KeyName::owned(alloc, key.purpose.name())?,
+            recipient: KeyName::owned(alloc, key.recipient.name())?,
+            table: KeyName::owned(alloc, key.table.name())?,
+        })
+    }
+}
+
 /// A column of a table for a purpose and recipient.
 #[derive(Drop, PartialEq, Eq, Hash)]
 pub struct CellKey<'a> {
@@ -180,11 +206,7 @@ impl<'a> CellKey<'a> {
         } }
     {
         CellKey {
-            table: TableKey {
-                purpose: KeyName::lent(purpose),
-                recipient: KeyName::lent(recipient),
-                table: KeyName::lent(table),
-            },
+            table: TableKey::lent(purpose, recipient, table),
             column,
         }
     }
@@ -193,18 +215,8 @@ impl<'a> CellKey<'a> {
         ensures { IfOk result (λ made. made ≡ key.now) }
     {
         Ok(CellKey {
-            table: TableKey {
-                purpose: KeyName::owned(alloc, key.table.purpose.name())?,
-                recipient: KeyName::owned(alloc, key.table.recipient.name())?,
-                table: KeyName::owned(alloc, key.table.table.name())?,
-            },
+            table: TableKey::owned(alloc, &key.table)?,
             column: key.column,
         })
-    }
-}
-
-impl<'a> Duplicate for CellKey<'a> {
-    fn copy(&self, alloc: Global) -> Result<CellKey<'a>, Memory> {
-        CellKey::owned(alloc, self)
     }
 }

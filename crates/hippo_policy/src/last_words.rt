@@ -1,7 +1,6 @@
 //! What was said of a matter, and when: what the entries of a history say, by the key of what they
 //! speak of.
 ghost use Rattle.std.specs.Prelude.{◌≡◌, [], ◌∷◌, ◌-◌, take, Option, option_copied, OnOk, OnErr, if◌then◌else◌};
-ghost use Rattle.std.specs.List.{list_any};
 ghost use Rattle.std.specs.List.Sorted.{IsNonDecreasingBy};
 ghost use Rattle.hippo_model.specs.Terms.{History};
 ghost use Rattle.hippo_model.specs.Histories.{last_word};
@@ -9,7 +8,7 @@ ghost use Rattle.hippo_model.specs.declared.entry.Entry.{Entry};
 ghost use Rattle.hippo_policy.specs.Words.{Said, kept_words, no_earlier, with_word, without_word, numbered_words, latest};
 
 use crate::sayings::Sayings;
-use hippo_values::{Duplicate, Memory};
+use hippo_values::Memory;
 use std::alloc::Global;
 use std::collections::HashMap;
 use std::hash::Hash;
@@ -22,7 +21,7 @@ pub struct Said<W> {
 }
 
 // The last word up to entry number `n`, where the numbers rise.
-fn latest<W>(words: &[Said<W>], n: u64) -> Option<&W>
+pub(crate) fn latest<W>(words: &[Said<W>], n: u64) -> Option<&W>
     ensures { IsNonDecreasingBy (λ said. said.number) words.now
         → option_copied result ≡ latest n words.now }
 {
@@ -99,63 +98,5 @@ impl<K: Eq + Hash + Drop, W: Drop> LastWords<K, W> {
         if let Some(words) = self.words.get_mut(key) {
             words.pop();
         }
-    }
-}
-
-impl<K: Eq + Hash + Duplicate + Drop, W: Duplicate + Drop> LastWords<K, W> {
-    fn push_copy(&mut self, alloc: Global, key: &K, number: u64, word: &W) -> Result<(), Memory>
-        ensures ok { OnOk result ((other : K) → kept_words K.eq self.new other
-            ≡ with_word (K.eq key.now other) (record { number = number; word = word.now })
-            (kept_words K.eq self.old other)) }
-        ensures err { OnErr result ((other : K)
-            → kept_words K.eq self.new other ≡ kept_words K.eq self.old other) }
-    {
-        let key = key.copy(alloc)?;
-        let word = word.copy(alloc)?;
-        self.push(alloc, key, Said { number, word })
-    }
-
-    /// Takes back what was said last of each of these keys.
-    pub fn pop_all(&mut self, keys: &[K])
-        ensures { (other : K) → kept_words K.eq self.new other
-            ≡ without_word (list_any (λ key. K.eq key other) keys.now)
-            (kept_words K.eq self.old other) }
-    {
-        for place in 0..keys.len() {
-            let key = &keys[place];
-            if !keys[..place].contains(key) {
-                self.pop(key);
-            }
-        }
-    }
-
-    /// Adds what an entry says of each of these keys.
-    pub fn push_all(
-        &mut self,
-        alloc: Global,
-        keys: &[K],
-        number: u64,
-        word: &W,
-    ) -> Result<(), Memory>
-        ensures ok { OnOk result ((other : K) → kept_words K.eq self.new other
-            ≡ with_word (list_any (λ key. K.eq key other) keys.now)
-            (record { number = number; word = word.now })
-            (kept_words K.eq self.old other)) }
-        ensures err { OnErr result ((other : K)
-            → kept_words K.eq self.new other ≡ kept_words K.eq self.old other) }
-    {
-        for place in 0..keys.len() {
-            let key = &keys[place];
-            if !keys[..place].contains(key) {
-                match self.push_copy(alloc, key, number, word) {
-                    Ok(()) => {}
-                    Err(Memory) => {
-                        self.pop_all(&keys[..place]);
-                        return Err(Memory);
-                    }
-                }
-            }
-        }
-        Ok(())
     }
 }

@@ -8,6 +8,8 @@ mod keys;
 mod last_words;
 pub mod laws;
 mod lookups;
+mod ruled_columns;
+mod ruled_tables;
 mod ruling;
 mod sayings;
 mod verdicts;

@@ -1,8 +1,0 @@
--- What was said last of the keys so far is taken back.
-use Rattle.std.proofs.Common.{◌≡◌, take}
-use Rattle.std.specs.List.{list_any}
-use Rattle.hippo_policy.specs.Words.{kept_words, without_word}
-use Rattle.hippo_policy.proofs.last_words.LastWords.pop_all.Given as goal
-
-abbrev pub invariant-loop-place : goal.invariant-loop-place
-invariant-loop-place g l = (other : g.row.K.Denot) → kept_words g.K.PartialEq.eq l.self other ≡ without_word (list_any (λ key. g.K.PartialEq.eq key other) (take l.place l.keys)) (kept_words g.K.PartialEq.eq l.initial.self other)
