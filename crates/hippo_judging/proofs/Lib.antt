@@ -6,6 +6,7 @@ pub mod AuditLemmas
 pub mod EntryLemmas
 pub mod FollowingLemmas
 mod AskedLemmas
+mod BoxLemmas
 mod FindingLemmas
 mod RequestLemmas
 mod LookUpLemmas
