@@ -2,6 +2,7 @@ pub mod RangeLemmas
 pub mod QuoteLemmas
 pub mod PrefixLemmas
 pub mod WordLemmas
+mod WordByteLemmas
 pub mod QuotedLemmas
 pub mod SignLemmas
 pub mod NumeralLemmas

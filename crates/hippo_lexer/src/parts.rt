@@ -12,10 +12,22 @@ use hippo_text_forms::read_day;
 use hippo_values::{CellText, DayNumber, Keyword, Memory, Txt, Word, read_word};
 use std::alloc::Global;
 
+// Of each byte, 1 where it is a letter, a digit or `_`: a look-up takes half the time of the tests.
+const WORD_BYTES: [u8; 256] = [
+    0, 0, 0, 0, 0, 0, 0, 0, 0, 0, 0, 0, 0, 0, 0, 0, 0, 0, 0, 0, 0, 0, 0, 0, 0, 0, 0, 0, 0, 0, 0, 0,
+    0, 0, 0, 0, 0, 0, 0, 0, 0, 0, 0, 0, 0, 0, 0, 0, 1, 1, 1, 1, 1, 1, 1, 1, 1, 1, 0, 0, 0, 0, 0, 0,
+    0, 1, 1, 1, 1, 1, 1, 1, 1, 1, 1, 1, 1, 1, 1, 1, 1, 1, 1, 1, 1, 1, 1, 1, 1, 1, 1, 0, 0, 0, 0, 1,
+    0, 1, 1, 1, 1, 1, 1, 1, 1, 1, 1, 1, 1, 1, 1, 1, 1, 1, 1, 1, 1, 1, 1, 1, 1, 1, 1, 0, 0, 0, 0, 0,
+    0, 0, 0, 0, 0, 0, 0, 0, 0, 0, 0, 0, 0, 0, 0, 0, 0, 0, 0, 0, 0, 0, 0, 0, 0, 0, 0, 0, 0, 0, 0, 0,
+    0, 0, 0, 0, 0, 0, 0, 0, 0, 0, 0, 0, 0, 0, 0, 0, 0, 0, 0, 0, 0, 0, 0, 0, 0, 0, 0, 0, 0, 0, 0, 0,
+    0, 0, 0, 0, 0, 0, 0, 0, 0, 0, 0, 0, 0, 0, 0, 0, 0, 0, 0, 0, 0, 0, 0, 0, 0, 0, 0, 0, 0, 0, 0, 0,
+    0, 0, 0, 0, 0, 0, 0, 0, 0, 0, 0, 0, 0, 0, 0, 0, 0, 0, 0, 0, 0, 0, 0, 0, 0, 0, 0, 0, 0, 0, 0, 0,
+];
+
 fn is_word_byte(byte: u8) -> bool
     ensures { result ≡ is_word_byte byte }
 {
-    byte.is_ascii_alphanumeric() || byte == b'_'
+    WORD_BYTES[usize::from(byte)] == 1
 }
 
 fn is_blank(byte: u8) -> bool
@@ -120,6 +132,15 @@ fn begins_with_word_byte(bytes: &[u8]) -> bool
     match bytes {
         [] => false,
         [first, ..] => is_word_byte(*first),
+    }
+}
+
+fn begins_with_letter(bytes: &[u8]) -> bool
+    ensures { result ≡ begins_with is_ascii_alphabetic bytes.now }
+{
+    match bytes {
+        [] => false,
+        [first, ..] => first.is_ascii_alphabetic(),
     }
 }
 
@@ -250,8 +271,10 @@ pub fn token_first(alloc: Global, place: usize, text: &str) -> Result<(TokenKind
     requires { place + length text.now < 2 ^ 64 }
     ensures { GivesOutcome result (token_first place text.now) }
 {
+    if begins_with_letter(text.as_bytes()) {
+        return word_first(alloc, place, text);
+    }
     match text.as_bytes() {
-        [b'a'..=b'z' | b'A'..=b'Z', ..] => word_first(alloc, place, text),
         [b'0'..=b'9' | b'-', ..] => number_first(place, text),
         [b'\'', ..] => quoted_token(alloc, place, text),
         _ => sign_token(place, text),

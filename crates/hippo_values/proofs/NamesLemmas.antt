@@ -1,5 +1,5 @@
 -- A name in lower case is a name still, and its bytes are ASCII.
-use Rattle.std.proofs.Common.{◌≡◌, ℕ, List, [], ◌∷◌, ◌&&◌, length, nat_le, Option, Some, None, option_map, true, if◌then◌else◌, refl, ap, arith, bytes_eq, IsTrue, ◌<◌}
+use Rattle.std.proofs.Common.{◌≡◌, ℕ, zero, suc, ◌≤◌, List, [], ◌∷◌, ◌++◌, map, take, ◌&&◌, length, nat_le, Option, Some, None, option_map, true, if◌then◌else◌, refl, ap, arith, bytes_eq, IsTrue, ◌<◌}
 use Rattle.std.specs.List.{list_any, list_all}
 use Rattle.std.specs.Map.{lookup}
 use Rattle.std.specs.Option.{option_or}
@@ -70,3 +70,11 @@ name-ascii name bytes same named =
     let whole = and_parts _ _ named in
     let word = and_parts _ _ (and_parts _ _ whole.0).0 in
     IsAscii-same bytes name same (IsAscii-of_bytes name (word_bytes-ascii name word.1))
+
+-- Where the bytes in front of others are folded with some behind them, the front is the word in lower case.
+pub folded_front : (word copied zeros folded behind : List ℕ) (count : ℕ) → copied ≡ word → folded ≡ map to_ascii_lowercase (take count (copied ++ zeros)) → length word ≤ count → take (length word) (folded ++ behind) ≡ lower_case word
+folded_front [] copied zeros folded behind count same is within = refl
+folded_front (byte ∷ word) copied zeros folded behind zero same is within = absurd (omega (arith, within))
+folded_front (byte ∷ word) copied zeros folded behind (suc count) same is within =
+    let rest : length word ≤ count = omega (arith, within) in
+    rw (is, same) (λ i. to_ascii_lowercase byte ∷ folded_front word word zeros (map to_ascii_lowercase (take count (word ++ zeros))) behind count refl refl rest i)

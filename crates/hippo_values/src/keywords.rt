@@ -1,7 +1,9 @@
 //! The reserved words: those that stand in the grammar, and those of SQL that are refused.
 
-ghost use Rattle.std.specs.Prelude.{◌≡◌, ◌-◌, ◌<◌, ◌≤◌, length, map, take, drop, IfSome, bytes_eq};
+ghost use Rattle.std.specs.Prelude.{◌≡◌, true, ◌==◌, bit_or, ◌-◌, ◌<◌, ◌≤◌, length, map, take, drop, IfSome, bytes_eq};
 ghost use Rattle.std.specs.Map.{lookup};
+ghost use Rattle.std.specs.Char.{is_ascii_alphabetic, is_ascii_lowercase, to_ascii_lowercase};
+ghost use Rattle.std.specs.List.{list_all, zip};
 ghost use Rattle.hippo_values.specs.Names.{lower_case, letter_of, reserved_of};
 
 /// A word that stands in the grammar, written in whatever case.
@@ -160,6 +162,9 @@ const STARTS: [usize; 27] = [
     79, 80, 80,
 ];
 
+// The bit by which a letter in lower case differs from the one in upper case.
+const LOWER_CASE: u8 = 32;
+
 /// Whether a word is the known one, in whatever case.
 pub fn equals_folded(known: &str, word: &str) -> bool
     ensures { result ≡ bytes_eq (lower_case known.now) (lower_case word.now) }
@@ -180,6 +185,39 @@ pub fn find_word<T: Copy>(table: &[(&str, T)], word: &str) -> Option<T>
     None
 }
 
+// Whether each letter is the byte beside it with the bit of lower case set.
+fn all_written(letters: &[u8], word: &[u8]) -> bool
+    ensures { result ≡ list_all (λ p. p.0 == bit_or p.1 32) (zip letters.now word.now) }
+{
+    letters
+        .iter()
+        .zip(word)
+        .all(|(letter, byte)| *letter == (*byte | LOWER_CASE))
+}
+
+// Whether a word is the known one, which is of letters in lower case, in whatever case it is
+// written.
+fn is_written_by(known: &[u8], word: &[u8]) -> bool
+    requires { list_all is_ascii_lowercase known.now ≡ true }
+    ensures { result ≡ bytes_eq (lower_case known.now) (lower_case word.now) }
+{
+    known.len() == word.len() && all_written(known, word)
+}
+
+// As `find_word`, in a table whose words are of letters in lower case, which need no folding.
+fn find_written(table: &[(&str, Reserved)], word: &str) -> Option<Reserved>
+    requires { list_all (λ e. list_all is_ascii_lowercase e.0.now) table.now ≡ true }
+    ensures { result ≡ lookup (λ known. bytes_eq (lower_case known.now) (lower_case word.now))
+        table.now }
+{
+    for (known, meaning) in table {
+        if is_written_by(known.as_bytes(), word.as_bytes()) {
+            return Some(*meaning);
+        }
+    }
+    None
+}
+
 fn find_between(
     table: &[(&str, Reserved)],
     start: usize,
@@ -188,10 +226,19 @@ fn find_between(
 ) -> Option<Reserved>
     requires order { start ≤ end }
     requires within { end ≤ length table.now }
+    requires letters { list_all (λ e. list_all is_ascii_lowercase e.0.now) table.now ≡ true }
     ensures { result ≡ lookup (λ known. bytes_eq known (lower_case word.now))
         (take (end - start) (drop start (map (λ e. (lower_case e.0.now, e.1)) table.now))) }
 {
-    find_word(&table[start..end], word)
+    find_written(&table[start..end], word)
+}
+
+// The place of a letter in the alphabet.
+fn place_of(letter: u8) -> usize
+    requires { is_ascii_alphabetic letter ≡ true }
+    ensures { result ≡ to_ascii_lowercase letter - 97 }
+{
+    usize::from((letter | LOWER_CASE) - b'a')
 }
 
 // The place of a word's first letter in the alphabet.
@@ -200,9 +247,7 @@ fn letter_of(word: &str) -> Option<usize>
     ensures within { IfSome result (λ place. place < 26) }
 {
     match word.as_bytes() {
-        [first, ..] if first.is_ascii_alphabetic() => {
-            Some(usize::from(first.to_ascii_lowercase() - b'a'))
-        }
+        [first, ..] if first.is_ascii_alphabetic() => Some(place_of(*first)),
         _ => None,
     }
 }

@@ -22,7 +22,7 @@ use std::marker::Model;
 fn is_word_byte(byte: u8) -> bool
     ensures { result ≡ is_word_byte byte }
 {
-    byte.is_ascii_alphanumeric() || byte == b'_'
+    byte.is_ascii_alphabetic() || byte.is_ascii_digit() || byte == b'_'
 }
 
 fn begins_with_letter(bytes: &[u8]) -> bool
@@ -62,16 +62,23 @@ pub fn folded(alloc: Global, word: &str) -> Result<Txt, Memory>
     Ok(Txt::from_string(word.to_ascii_lowercase(alloc)?))
 }
 
-// The bytes of a short word in lower case, in front of zeros.
+// A length that is rounded up to a multiple of 8, but for the last one.
+fn eights_above(len: usize) -> usize
+    requires { len ≤ NAME_LIMIT }
+    ensures { (len ≤ result) × (result ≤ NAME_LIMIT) }
+{
+    ((len + 7) & !7).min(NAME_LIMIT)
+}
+
+// The bytes of a short word in lower case, in front of zeros. They are folded eight at a time.
 fn folded_bytes(word: &str) -> [u8; NAME_LIMIT]
     requires { length word.now ≤ NAME_LIMIT }
     ensures front { take (length word.now) result ≡ lower_case word.now }
     ensures len { length result ≡ NAME_LIMIT }
 {
     let mut bytes = [0; NAME_LIMIT];
-    let front = &mut bytes[..word.len()];
-    front.copy_from_slice(word.as_bytes());
-    front.make_ascii_lowercase();
+    bytes[..word.len()].copy_from_slice(word.as_bytes());
+    bytes[..eights_above(word.len())].make_ascii_lowercase();
     bytes
 }
 
