@@ -1,6 +1,6 @@
 //! Selects: their items, their sources and their condition.
 
-ghost use Rattle.std.specs.Prelude.{◌≡◌, [], ◌∷◌, ◌++◌, ◌<◌, ◌≤◌, length, IfOk, IfSome, OnOk, option_map, option_to_list, Some, None, if◌then◌else◌};
+ghost use Rattle.std.specs.Prelude.{◌≡◌, [], ◌∷◌, ◌++◌, ◌<◌, ◌≤◌, length, IfOk, IfSome, OnOk, flat_map, option_map, option_to_list, Some, None, if◌then◌else◌};
 ghost use Rattle.hippo_statements.specs.declared.statement.RawForm.TheVariants.{Plain, Distinct};
 ghost use Rattle.hippo_statements.specs.declared.statement.RawSelect.{RawSelect};
 ghost use Rattle.hippo_spj_reader.specs.Promises.{CanBeRead, Gives, GivesPart, LeavesNoMore, Reads, Passes, ReadsAll};
@@ -151,7 +151,7 @@ impl OfMember for RawOut {
 fn each<T: OfMember>(alloc: Global, members: Members) -> Result<Sequence<T>, SyntaxFault>
     ensures { Gives (λ x. x) result (each_of T.of members) }
 {
-    let mut list = Sequence::new(alloc);
+    let mut list = Sequence::with_capacity(alloc, members.len())?;
     for member in members.into_vec() {
         list.push(T::of(member)?)?;
     }
@@ -242,15 +242,32 @@ fn add_parts(list: &mut Conditions, condition: RawCond) -> Result<(), Memory>
     }
 }
 
-/// The conditions of ON and WHERE as one, in which an All among them is dissolved into its parts.
-pub fn whole_condition(alloc: Global, conditions: Conditions) -> Result<RawCond, Memory>
-    ensures { IfOk result (λ whole. whole ≡ whole_condition conditions) }
+// The parts of all conditions, in their order.
+fn all_parts(alloc: Global, conditions: Conditions) -> Result<Conditions, Memory>
+    ensures { IfOk result (λ parts. parts ≡ flat_map outer_parts conditions) }
 {
     let mut parts = Sequence::new(alloc);
     for condition in conditions.into_vec() {
         add_parts(&mut parts, condition)?;
     }
-    Ok(CondOf::All(parts))
+    Ok(parts)
+}
+
+// Adds the parts of the last condition, that of WHERE, where there is one.
+fn add_last(parts: &mut Conditions, last: Option<RawCond>) -> Result<(), Memory>
+    ensures { OnOk result (parts.new ≡ parts.old ++ flat_map outer_parts (option_to_list last)) }
+{
+    match last {
+        Some(last) => add_parts(parts, last),
+        None => Ok(()),
+    }
+}
+
+/// The conditions of ON and WHERE as one, in which an All among them is dissolved into its parts.
+pub fn whole_condition(alloc: Global, conditions: Conditions) -> Result<RawCond, Memory>
+    ensures { IfOk result (λ whole. whole ≡ whole_condition conditions) }
+{
+    Ok(CondOf::All(all_parts(alloc, conditions)?))
 }
 
 // The tables of FROM, and the conditions of its ONs.
@@ -266,7 +283,7 @@ fn first_source(alloc: Global, table: Name) -> Result<Sources, Memory>
 {
     let mut names = Sequence::new(alloc);
     names.push(table)?;
-    let conditions = Sequence::with_capacity(alloc, 2)?;
+    let conditions = Sequence::new(alloc);
     Ok(Sources { names, conditions })
 }
 
@@ -321,10 +338,11 @@ fn whole_scope(alloc: Global, sources: Sources, last: Option<RawCond>) -> Result
 {
     let Sources {
         names: tables,
-        mut conditions,
+        conditions,
     } = sources;
-    add_condition(&mut conditions, last)?;
-    let cond = whole_condition(alloc, conditions)?;
+    let mut parts = all_parts(alloc, conditions)?;
+    add_last(&mut parts, last)?;
+    let cond = CondOf::All(parts);
     Ok(Scope { tables, cond })
 }
 

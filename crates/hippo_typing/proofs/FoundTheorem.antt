@@ -1,6 +1,6 @@
 -- What is judged of a select with its columns found is what its definition judges.
 use Rattle.std.proofs.Common.{◌≡◌, ℕ, ◌+◌, ◌≤◌, Bool, true, false, List, [], ◌∷◌, ◌++◌, map, filter_map, length, refl, sym, ap, subst, ◌∙◌, arith}
-use Rattle.std.specs.Prelude.{not, ◌||◌, nat_lt, if◌then◌else◌}
+use Rattle.std.specs.Prelude.{not, ◌||◌, nat_lt, if◌then◌else◌, unwrap_or}
 use Rattle.std.specs.List.{flat_map, list_any, position_or_len}
 use Rattle.std.proofs.lemmas.List.{length-map}
 use borrow.Author.Tests.{ltb-false}
@@ -31,10 +31,9 @@ use Rattle.hippo_catalog.specs.StatementLimits.{too_many}
 use Rattle.hippo_catalog.specs.WrittenColumns.{column_of}
 use Rattle.hippo_catalog.specs.Selects.{outs_of, by_of, plain_column, argument_in, same_reference, lone_column, groups_refused, shown_outs, form_of, listed_columns, columns_refused, select_parts_refused, select_refused, query_of}
 use Rattle.hippo_typing.specs.Found.{with_column, with_out, plain_found, argument_found, lone_found, groups_found_refused, shown_found}
-use Rattle.hippo_typing.specs.FoundSelects.{list_found, select_found, items_of, form_found, head_of, head_refused}
+use Rattle.hippo_typing.specs.FoundSelects.{list_found, select_found, own_items, form_found, head_of, query_with, head_refused}
 use Rattle.hippo_typing.specs.declared.selects.FoundSelect.{FoundSelect}
 use Rattle.hippo_typing.specs.declared.selects.QueryHead.{QueryHead}
-use Rattle.hippo_model.specs.declared.query.Query.{Query}
 
 both_none : (refusals later : List NameFault) → refusals ++ later ≡ [] → (refusals ≡ []) × (later ≡ [])
 both_none [] later none = (refl, none)
@@ -103,7 +102,7 @@ module _ (schemas : List Schema) where
   abbrev found_with : List RawItem → CondOf Operand → RawForm → FoundSelect
   found_with items cond form = record { list = list_found schemas items form; cond = cond; by = map (with_column schemas) (by_of form) }
 
-  items_of_form : (items : List RawItem) (cond : CondOf Operand) (form : RawForm) → items_of form (found_with items cond form) ≡ listed_columns schemas items form
+  items_of_form : (items : List RawItem) (cond : CondOf Operand) (form : RawForm) → unwrap_or (own_items form (found_with items cond form)) (list_found schemas items form).items ≡ listed_columns schemas items form
   items_of_form items cond forms.Plain = refl
   items_of_form items cond forms.Distinct = refl
   items_of_form items cond (forms.Grouped outs by) =
@@ -117,11 +116,11 @@ module _ (schemas : List Schema) where
       ap (λ (n : ℕ). Grouped (record { keys = n; outs = shown_found (map (with_column schemas) by) n (map (with_out schemas) outs) })) count
       ∙ ap (λ (l : List Out). Grouped (record { keys = length by; outs = l })) (shown_of by (length by) outs)
 
-  -- a select's head, as it is found, is that of its meaning
-  pub head_of_select : (select : RawSelect) → head_of select (select_found schemas select) ≡ record { items = listed_columns schemas select.items select.form; tables = select.tables; form = form_of schemas select.form }
-  head_of_select select =
-      ap (λ (items : List Ref). record { items = items; tables = select.tables; form = form_found select.form (select_found schemas select) }) (items_of_form select.items (condition_of schemas select.cond) select.form)
-      ∙ ap (λ (form : Form). record { items = listed_columns schemas select.items select.form; tables = select.tables; form = form }) (form_of_form select.items (condition_of schemas select.cond) select.form)
+  -- what is found of a select makes the query that it means over these tables
+  pub query_found : (select : RawSelect) → (let found : FoundSelect = select_found schemas select in query_with (head_of select found) found ≡ record { items = listed_columns schemas select.items select.form; tables = select.tables; cond = found.cond; form = form_of schemas select.form })
+  query_found select =
+      ap (λ (items : List Ref). record { items = items; tables = select.tables; cond = condition_of schemas select.cond; form = form_found select.form (select_found schemas select) }) (items_of_form select.items (condition_of schemas select.cond) select.form)
+      ∙ ap (λ (form : Form). record { items = listed_columns schemas select.items select.form; tables = select.tables; cond = condition_of schemas select.cond; form = form }) (form_of_form select.items (condition_of schemas select.cond) select.form)
 
   pub head_refused_of_select : (select : RawSelect) → head_refused schemas select (select_found schemas select) ≡ groups_refused schemas (outs_of select.form) (by_of select.form) ++ kinds_refused schemas (condition_of schemas select.cond) ++ texts_refused (condition_of schemas select.cond) ++ select_parts_refused select
   head_refused_of_select select =
@@ -168,9 +167,9 @@ module _ (known : KnownNames) (select : RawSelect) (schemas : List Schema) (same
   pub none_of_select : columns_refused schemas select ≡ [] → head_refused schemas select (select_found schemas select) ≡ [] → select_refused known select ≡ []
   none_of_select none none_behind = all_behind none ∙ none_behind
 
-  pub query_of_select : (found : FoundSelect) (head : QueryHead) → found ≡ select_found schemas select → head ≡ head_of select (select_found schemas select) → (let made : Query = record { items = head.items; tables = head.tables; cond = found.cond; form = head.form } in made ≡ query_of known select)
+  pub query_of_select : (found : FoundSelect) (head : QueryHead) → found ≡ select_found schemas select → head ≡ head_of select (select_found schemas select) → query_with head found ≡ query_of known select
   query_of_select found head is_found is_head =
-      let of_head : head ≡ record { items = listed_columns schemas select.items select.form; tables = select.tables; form = form_of schemas select.form } = is_head ∙ head_of_select schemas select in
-      ap (λ (h : QueryHead). record { items = h.items; tables = h.tables; cond = found.cond; form = h.form }) of_head
-      ∙ ap (λ (f : FoundSelect). record { items = listed_columns schemas select.items select.form; tables = select.tables; cond = f.cond; form = form_of schemas select.form }) is_found
+      ap (λ (h : QueryHead). query_with h found) is_head
+      ∙ ap (λ (f : FoundSelect). query_with (head_of select (select_found schemas select)) f) is_found
+      ∙ query_found schemas select
       ∙ ap (λ (s : List Schema). record { items = listed_columns s select.items select.form; tables = select.tables; cond = condition_of s select.cond; form = form_of s select.form }) same

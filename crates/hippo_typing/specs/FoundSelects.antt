@@ -1,8 +1,9 @@
 -- A select with its columns found, before it is judged.
-use Rattle.std.specs.Prelude.{List, [], ◌++◌, map, filter_map, flat_map, length}
+use Rattle.std.specs.Prelude.{List, [], ◌++◌, Option, Some, None, unwrap_or, map, filter_map, flat_map, length}
 use Rattle.hippo_model.specs.declared.name_fault.NameFault.{NameFault}
 use Rattle.hippo_model.specs.declared.query.Form.{Form}
 use Rattle.hippo_model.specs.declared.query.Form.TheVariants.{Plain, Distinct, Grouped}
+use Rattle.hippo_model.specs.declared.query.Query.{Query}
 use Rattle.hippo_model.specs.declared.query.Ref.{Ref}
 use Rattle.hippo_model.specs.declared.schema.Schema.{Schema}
 use Rattle.hippo_statements.specs.declared.statement.RawForm.{RawForm}
@@ -35,10 +36,11 @@ head_refused schemas select found =
     groups_found_refused found.list.outs found.by ++ kinds_refused schemas found.cond
     ++ texts_refused found.cond ++ select_parts_refused select
 
-abbrev pub items_of : RawForm → FoundSelect → List Ref
-items_of (forms.Grouped outs by) found =
-    map (λ column. column.1) found.by ++ filter_map argument_found found.list.outs
-items_of form found = found.list.items
+-- the items of a grouped select; those of another one are found with its list
+abbrev pub own_items : RawForm → FoundSelect → Option (List Ref)
+own_items (forms.Grouped outs by) found =
+    Some (map (λ column. column.1) found.by ++ filter_map argument_found found.list.outs)
+own_items form found = None
 
 abbrev pub form_found : RawForm → FoundSelect → Form
 form_found forms.Plain found = Plain
@@ -53,8 +55,18 @@ form_found (forms.Grouped outs by) found =
 abbrev pub head_of : RawSelect → FoundSelect → QueryHead
 head_of select found =
     record {
-      items = items_of select.form found;
+      own_items = own_items select.form found;
       tables = select.tables;
       form = form_found
           select.form found;
+    }
+
+-- the query of a select that is not refused
+abbrev pub query_with : QueryHead → FoundSelect → Query
+query_with head found =
+    record {
+      items = unwrap_or head.own_items found.list.items;
+      tables = head.tables;
+      cond = found.cond;
+      form = head.form;
     }

@@ -96,7 +96,7 @@ pub fn found_columns<'a>(
     ensures { Resolves (flat_map (column_refused tables.now) written.now)
         (map (with_column tables.now) written.now) result }
 {
-    let mut found = Sequence::new(alloc);
+    let mut found = Sequence::with_capacity(alloc, written.len())?;
     for written in written {
         let column = found_column(alloc, tables, written)?;
         found.push(Found { written, column })?;

@@ -129,7 +129,7 @@ fn found_parts(
     ensures { Resolves (flat_map (operands_refused tables.now) parts.now)
         (map (condition_of tables.now) parts.now) result }
 {
-    let mut found = Sequence::new(alloc);
+    let mut found = Sequence::with_capacity(alloc, parts.len())?;
     for part in parts.as_slice() {
         found.push(found_condition(alloc, tables, part)?)?;
     }

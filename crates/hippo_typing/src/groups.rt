@@ -37,7 +37,7 @@ pub fn found_outs<'a>(
     ensures { Resolves (flat_map (λ out. column_refused tables.now (column_in out)) outs.now)
         (map (with_out tables.now) outs.now) result }
 {
-    let mut found = Sequence::new(alloc);
+    let mut found = Sequence::with_capacity(alloc, outs.len())?;
     for out in outs {
         let column = found_column(alloc, tables, column_in(out))?;
         found.push(Found {
@@ -218,7 +218,7 @@ pub fn shown_outs(
     requires { length by.now + length outs.now ≤ 256 }
     ensures { IfOk result (λ shown. shown ≡ shown_found by.now (length by.now) outs.now) }
 {
-    let mut shown = Sequence::new(alloc);
+    let mut shown = Sequence::with_capacity(alloc, outs.len())?;
     let mut next = by.len();
     for found in outs.as_slice() {
         shown.push(out_found(found, by, next))?;

@@ -8,7 +8,7 @@ ghost use Rattle.hippo_catalog.specs.Selects.{list_refused, columns_refused, sel
 ghost use Rattle.hippo_catalog.specs.Selects.{select_refused, query_of};
 ghost use Rattle.hippo_typing.specs.Found.{with_out, shown_found};
 ghost use Rattle.hippo_typing.specs.FoundSelects.{list_found, select_found, head_refused};
-ghost use Rattle.hippo_typing.specs.FoundSelects.{head_of, items_of, form_found};
+ghost use Rattle.hippo_typing.specs.FoundSelects.{head_of, own_items, form_found, query_with};
 
 use crate::columns::found_columns;
 use crate::conditions::found_condition;
@@ -40,10 +40,10 @@ pub struct FoundSelect<'a> {
     by: FoundColumns<'a>,
 }
 
-/// What a query has beside its condition.
+/// What a query has beside what was found of its select: its items, too, where it is grouped.
 #[derive(Drop)]
 pub struct QueryHead {
-    items: Refs,
+    own_items: Option<Refs>,
     tables: Names,
     form: Form,
 }
@@ -154,13 +154,16 @@ fn check_select(
     check_parts(select)
 }
 
-fn query_items(alloc: Global, form: &RawForm, found: &FoundSelect<'_>) -> Result<Refs, Memory>
-    ensures { IfOk result (λ items. items ≡ items_of form.now found.now) }
+fn own_items(alloc: Global, form: &RawForm, found: &FoundSelect<'_>) -> Result<Option<Refs>, Memory>
+    ensures { IfOk result (λ own. own ≡ own_items form.now found.now) }
 {
     match form {
-        RawForm::Plain => found.list.items.copy(alloc),
-        RawForm::Distinct => found.list.items.copy(alloc),
-        RawForm::Grouped { .. } => grouped_items(alloc, &found.list.outs, &found.by),
+        RawForm::Plain => Ok(None),
+        RawForm::Distinct => Ok(None),
+        RawForm::Grouped { .. } => {
+            let items = grouped_items(alloc, &found.list.outs, &found.by)?;
+            Ok(Some(items))
+        }
     }
 }
 
@@ -197,11 +200,11 @@ fn query_head(
     requires { length found.now.by + length found.now.list.outs ≤ 256 }
     ensures { IfOk result (λ head. head ≡ head_of select.now found.now) }
 {
-    let items = query_items(alloc, &select.form, found)?;
+    let own_items = own_items(alloc, &select.form, found)?;
     let tables = select.tables.copy(alloc)?;
     let form = query_form(alloc, &select.form, found)?;
     Ok(QueryHead {
-        items,
+        own_items,
         tables,
         form,
     })
@@ -223,25 +226,17 @@ fn checked_head(
 }
 
 fn query(found: FoundSelect<'_>, head: QueryHead) -> Query
-    ensures { result ≡ record {
-      items = head.items;
-      tables = head.tables;
-      cond = found.entry.cond;
-      form = head.form;
-    } }
+    ensures { result ≡ query_with head found.entry }
 {
-    let FoundSelect {
-        list: _,
-        cond,
-        by: _,
-    } = found;
+    let FoundSelect { list, cond, by: _ } = found;
+    let FoundList { items, outs: _ } = list;
     let QueryHead {
-        items,
+        own_items,
         tables,
         form,
     } = head;
     Query {
-        items,
+        items: own_items.unwrap_or(items),
         tables,
         cond,
         form,

@@ -35,7 +35,7 @@ pub fn found_each<W: Written>(
     ensures { Resolves (flat_map (W.refused tables.now) written.now)
         (map (W.meant tables.now) written.now) result }
 {
-    let mut found = Sequence::new(alloc);
+    let mut found = Sequence::with_capacity(alloc, written.len())?;
     for member in written {
         found.push(member.find(alloc, tables)?)?;
     }

@@ -3,7 +3,7 @@ use Rattle.std.proofs.Common.{◌≡◌, ◌++◌}
 use Rattle.std.specs.List.{flat_map}
 use Rattle.std.specs.Vec.Iter.{into_iter_items}
 use Rattle.hippo_model.specs.Conditions.{outer_parts}
-use Rattle.hippo_spj_reader.proofs.selects.whole_condition.Given as goal
+use Rattle.hippo_spj_reader.proofs.selects.all_parts.Given as goal
 
 abbrev pub invariant-loop-condition : goal.invariant-loop-condition
 invariant-loop-condition l =
