@@ -234,6 +234,7 @@ fn add_condition(list: &mut Conditions, condition: Option<RawCond>) -> Result<()
     }
 }
 
+#[inline(always)]
 fn add_parts(list: &mut Conditions, condition: RawCond) -> Result<(), Memory>
     ensures { OnOk result (list.new ≡ list.old ++ outer_parts condition) }
 {
@@ -252,6 +253,17 @@ fn all_parts(alloc: Global, conditions: Conditions) -> Result<Conditions, Memory
         add_parts(&mut parts, condition)?;
     }
     Ok(parts)
+}
+
+// The parts of the conditions of ON. Most selects have none, and nothing is made of these.
+#[inline(always)]
+fn parts_of_on(alloc: Global, conditions: Conditions) -> Result<Conditions, Memory>
+    ensures { IfOk result (λ parts. parts ≡ flat_map outer_parts conditions) }
+{
+    if conditions.is_empty() {
+        return Ok(conditions);
+    }
+    all_parts(alloc, conditions)
 }
 
 // Adds the parts of the last condition, that of WHERE, where there is one.
@@ -341,7 +353,7 @@ fn whole_scope(alloc: Global, sources: Sources, last: Option<RawCond>) -> Result
         names: tables,
         conditions,
     } = sources;
-    let mut parts = all_parts(alloc, conditions)?;
+    let mut parts = parts_of_on(alloc, conditions)?;
     add_last(&mut parts, last)?;
     Ok(Scope { tables, parts })
 }
