@@ -1,5 +1,6 @@
 -- The select that can be found at the front of a list of tokens, part by part: the longest one.
 use Rattle.std.specs.Prelude.{ℕ, zero, suc, Bool, true, false, if◌then◌else◌, codes, List, [], ◌∷◌, ◌++◌, length, option_to_list, Option, Some, None}
+use Rattle.std.specs.List.{flat_map}
 use Rattle.hippo_values.specs.declared.names.Name.{Name}
 use Rattle.hippo_statements.specs.declared.statement.RawColumn.{RawColumn}
 use Rattle.hippo_statements.specs.declared.statement.RawItem.{RawItem}
@@ -10,6 +11,7 @@ use Rattle.hippo_statements.specs.declared.statement.RawOut.TheVariants as out
 use Rattle.hippo_statements.specs.declared.statement.RawSelect.{RawSelect}
 use Rattle.hippo_values.specs.declared.keywords.Keyword.TheVariants.{KDistinct, KFrom, KGroup, KInner, KJoin, KMax, KMin, KOn, KSelect, KWhere}
 use Rattle.hippo_values.specs.Options.{◌>>=◌}
+use Rattle.hippo_model.specs.Conditions.{outer_parts}
 use Rattle.hippo_lexer.specs.declared.kinds.Symbol.TheVariants.{Comma, Dot, LeftParen, RightParen, Star}
 use Rattle.hippo_spj_reader.specs.declared.selects.Draft.{Draft}
 use Rattle.hippo_spj_reader.specs.declared.selects.JoinedTable.{JoinedTable}
@@ -22,7 +24,7 @@ use Rattle.hippo_spj_reader.specs.ConditionGrammar.{RawCond}
 use Rattle.hippo_spj_reader.specs.ConditionFinder.{leading_column, leading_condition}
 use Rattle.hippo_spj_reader.specs.Front.{Kinds, Finder, after_keyword, after_symbol, after_word, leading_name}
 use Rattle.hippo_spj_reader.specs.ListFinder.{leading_list}
-use Rattle.hippo_spj_reader.specs.SelectGrammar.{whole_condition, select_with}
+use Rattle.hippo_spj_reader.specs.SelectGrammar.{select_with}
 
 -- the table of `t.*`
 abbrev pub leading_whole_table : Finder Name
@@ -133,21 +135,21 @@ leading_where tokens =
     (λ behind. leading_condition behind >>= λ c. Some (Some c.0, c.1))
     (Some (None, tokens))
 
--- the tables, and one condition of those of ON and that of WHERE
+-- the tables, and the parts of the conditions of ON and of that of WHERE
 abbrev pub whole_scope : Sources → Option RawCond → Scope
 whole_scope sources last = record {
   tables = sources.names;
-  cond = whole_condition (sources.conditions ++ option_to_list last);
+  parts = flat_map outer_parts (sources.conditions ++ option_to_list last);
 }
 
--- the tables and the whole condition, from FROM on
+-- the tables and the parts of the condition, from FROM on
 unfoldable pub leading_scope : Finder Scope
 leading_scope tokens = do
   named ← after_keyword KFrom tokens
   sources ← leading_sources named
   last ← leading_where sources.1
-  let cond = whole_condition (sources.0.conditions ++ option_to_list last.0)
-  Some (record { tables = sources.0.names; cond = cond }, last.1)
+  let parts = flat_map outer_parts (sources.0.conditions ++ option_to_list last.0)
+  Some (record { tables = sources.0.names; parts = parts }, last.1)
 
 abbrev pub draft_of : Bool → List Member → Scope → Draft
 draft_of distinct members scope = record { distinct = distinct; members = members; scope = scope }

@@ -63,19 +63,19 @@ pub data IsWhere : Kinds → Option RawCond → Kinds → Type 0 where
 abbrev pub whole_condition : List RawCond → RawCond
 whole_condition conditions = All (flat_map outer_parts conditions)
 
--- FROM t {"," t | [INNER] JOIN t ON cond} [WHERE cond]: the tables, and the whole condition
+-- FROM t {"," t | [INNER] JOIN t ON cond} [WHERE cond]: the tables, and the parts of the condition
 pub data IsScope : Kinds → Scope → Kinds → Type 0 where
-  scope : {table : Name} {tables : List Name} {whole : RawCond} {conditions : List RawCond}
+  scope : {table : Name} {tables : List Name} {parts conditions : List RawCond}
       {last : Option RawCond} {joined behind rest : Kinds} →
       AreJoined joined tables conditions behind → IsWhere behind last rest →
-      whole ≡ whole_condition (conditions ++ option_to_list last) →
+      parts ≡ flat_map outer_parts (conditions ++ option_to_list last) →
       IsScope (Keyword KFrom ∷ Word table ∷ joined)
-      (record { tables = table ∷ tables; cond = whole }) rest
+      (record { tables = table ∷ tables; parts = parts }) rest
 
--- a select with these items and of this form
+-- a select with these items and of this form: the parts of its condition are one All
 abbrev pub select_with : List RawItem → Scope → RawForm → RawSelect
 select_with items in_scope form =
-    record { items = items; tables = in_scope.tables; cond = in_scope.cond; form = form }
+    record { items = items; tables = in_scope.tables; cond = All in_scope.parts; form = form }
 
 -- gitem = column | (MIN | MAX) "(" column ")"
 pub data IsOut : Kinds → RawOut → Kinds → Type 0 where

@@ -248,6 +248,7 @@ fn all_of(parts: Sequence<RawCond>) -> RawCond
 }
 
 #[cycle(condition)]
+#[inline(always)]
 fn primary(alloc: Global, tokens: &[Token]) -> Result<(RawCond, &[Token]), SyntaxFault>
     ensures found { (n : ℕ) → length tokens.now ≤ n →
         GivesPart result (primary_with (leading_negation n) (kinds tokens.now)) }
@@ -290,6 +291,7 @@ fn add_negation<'a>(
 }
 
 #[cycle(condition)]
+#[inline(always)]
 fn conjunction(alloc: Global, tokens: &[Token]) -> Result<(RawCond, &[Token]), SyntaxFault>
     ensures found { (n : ℕ) → length tokens.now < n →
         GivesPart result (conjunction_with (leading_negation n) (kinds tokens.now)) }

@@ -1,10 +1,11 @@
 //! Selects: their items, their sources and their condition.
 
-ghost use Rattle.std.specs.Prelude.{◌≡◌, [], ◌∷◌, ◌++◌, ◌<◌, ◌≤◌, length, IfOk, IfSome, OnOk, flat_map, option_map, option_to_list, Some, None, if◌then◌else◌};
+ghost use Rattle.std.specs.Prelude.{◌≡◌, [], ◌∷◌, ◌++◌, ◌<◌, ◌≤◌, length, IfOk, IfSome, OnOk, flat_map, option_map, option_to_list, true, false, Some, None, if◌then◌else◌};
+ghost use Rattle.hippo_values.specs.declared.keywords.Keyword.TheVariants.{KDistinct};
 ghost use Rattle.hippo_statements.specs.declared.statement.RawForm.TheVariants.{Plain, Distinct};
 ghost use Rattle.hippo_statements.specs.declared.statement.RawSelect.{RawSelect};
-ghost use Rattle.hippo_spj_reader.specs.Promises.{CanBeRead, Gives, GivesPart, LeavesNoMore, Reads, Passes, ReadsAll};
-ghost use Rattle.hippo_spj_reader.specs.Front.{kinds, kinds_between};
+ghost use Rattle.hippo_spj_reader.specs.Promises.{CanBeRead, either, Gives, GivesPart, LeavesNoMore, Reads, Passes, ReadsAll};
+ghost use Rattle.hippo_spj_reader.specs.Front.{kinds, kinds_between, after_keyword};
 ghost use Rattle.hippo_spj_reader.specs.SelectGrammar.{whole_condition, select_with, IsSelect};
 ghost use Rattle.hippo_model.specs.Conditions.{outer_parts};
 ghost use Rattle.hippo_spj_reader.specs.SelectFinder.{leading_whole_table, leading_item, leading_argument, leading_member, leading_members, out_of, each_of, select_by, after_join, leading_joined_by_comma, leading_joined_on, leading_joined, leading_sources, leading_where, whole_scope, leading_scope, leading_draft_of, leading_draft, ungrouped_select, leading_grouped, leading_select};
@@ -233,6 +234,7 @@ fn add_condition(list: &mut Conditions, condition: Option<RawCond>) -> Result<()
     }
 }
 
+#[inline(always)]
 fn add_parts(list: &mut Conditions, condition: RawCond) -> Result<(), Memory>
     ensures { OnOk result (list.new ≡ list.old ++ outer_parts condition) }
 {
@@ -251,6 +253,17 @@ fn all_parts(alloc: Global, conditions: Conditions) -> Result<Conditions, Memory
         add_parts(&mut parts, condition)?;
     }
     Ok(parts)
+}
+
+// The parts of the conditions of ON. Most selects have none, and nothing is made of these.
+#[inline(always)]
+fn parts_of_on(alloc: Global, conditions: Conditions) -> Result<Conditions, Memory>
+    ensures { IfOk result (λ parts. parts ≡ flat_map outer_parts conditions) }
+{
+    if conditions.is_empty() {
+        return Ok(conditions);
+    }
+    all_parts(alloc, conditions)
 }
 
 // Adds the parts of the last condition, that of WHERE, where there is one.
@@ -325,14 +338,14 @@ pub fn after_where(
     Ok((Some(found), rest))
 }
 
-// The tables of a select, and its whole condition.
+// The tables of a select, and the parts of its condition.
 #[derive(Drop)]
 struct Scope {
     tables: Names,
-    cond: RawCond,
+    parts: Conditions,
 }
 
-// The tables, and one condition of those of ON and the last one, that of WHERE.
+// The tables, and the parts of the conditions of ON and of the last one, that of WHERE.
 fn whole_scope(alloc: Global, sources: Sources, last: Option<RawCond>) -> Result<Scope, Memory>
     ensures { IfOk result (λ scope. scope ≡ whole_scope sources last) }
 {
@@ -340,10 +353,9 @@ fn whole_scope(alloc: Global, sources: Sources, last: Option<RawCond>) -> Result
         names: tables,
         conditions,
     } = sources;
-    let mut parts = all_parts(alloc, conditions)?;
+    let mut parts = parts_of_on(alloc, conditions)?;
     add_last(&mut parts, last)?;
-    let cond = CondOf::All(parts);
-    Ok(Scope { tables, cond })
+    Ok(Scope { tables, parts })
 }
 
 #[tactic(auto, unfolding(crate::specs::SelectFinder::leading_scope))]
@@ -384,21 +396,33 @@ fn draft_of(
     ))
 }
 
+// Whether DISTINCT stands first, and the tokens behind it.
+fn after_distinct(tokens: &[Token]) -> (bool, &[Token])
+    ensures found { leading_draft_of result.0 (kinds result.1.now)
+        ≡ either (after_keyword KDistinct (kinds tokens.now)) (leading_draft_of true)
+        (leading_draft_of false (kinds tokens.now)) }
+    ensures no_longer { length result.1.now ≤ length tokens.now }
+{
+    match after_keyword(tokens, Keyword::KDistinct) {
+        Some(behind) => (true, behind),
+        None => (false, tokens),
+    }
+}
+
 #[tactic(auto, unfolding(crate::specs::SelectFinder::leading_draft))]
 fn select_draft(alloc: Global, tokens: &[Token]) -> Result<(Draft, &[Token]), SyntaxFault>
     ensures { Reads leading_draft tokens.now result }
 {
     let rest = expect_keyword(tokens, Keyword::KSelect)?;
-    match after_keyword(rest, Keyword::KDistinct) {
-        Some(behind) => draft_of(alloc, true, behind),
-        None => draft_of(alloc, false, rest),
-    }
+    let (distinct, rest) = after_distinct(rest);
+    draft_of(alloc, distinct, rest)
 }
 
 fn select_with(items: RawItems, scope: Scope, form: RawForm) -> RawSelect
     ensures { result ≡ select_with items scope form }
 {
-    let Scope { tables, cond } = scope;
+    let Scope { tables, parts } = scope;
+    let cond = CondOf::All(parts);
     RawSelect {
         items,
         tables,

@@ -97,8 +97,7 @@ fn found_list<'a>(
         (list_found tables.now select.now.items select.now.form) result }
 {
     match &select.form {
-        RawForm::Plain => plain_list(alloc, tables, select),
-        RawForm::Distinct => plain_list(alloc, tables, select),
+        RawForm::Plain | RawForm::Distinct => plain_list(alloc, tables, select),
         RawForm::Grouped { outs, .. } => grouped_list(alloc, tables, outs),
     }
 }
