@@ -1,5 +1,5 @@
 //! The first token of a text by its kind: words, numbers, quoted texts, days and signs.
-ghost use Rattle.std.specs.Prelude.{◌≡◌, true, ◌+◌, ◌++◌, ◌<◌, ◌≤◌, ◌^◌, length, drop, IfOk, IfSome};
+ghost use Rattle.std.specs.Prelude.{◌≡◌, true, if◌then◌else◌, Ok, ◌+◌, ◌++◌, ◌<◌, ◌≤◌, ◌^◌, length, drop, IfOk, IfSome};
 ghost use Rattle.std.specs.Char.{is_ascii_alphabetic};
 ghost use Rattle.hippo_values.specs.Names.{is_word_byte, is_word};
 ghost use Rattle.hippo_lexer.specs.Spelling.{is_blank, begins_with};
@@ -56,27 +56,6 @@ fn blanks_len(bytes: &[u8]) -> usize
     ensures { result ≡ blanks_len bytes.now }
 {
     bytes.iter().take_while(|byte| is_blank(**byte)).count()
-}
-
-fn kind_of(word: Word) -> TokenKind
-    ensures { result ≡ kind_of_word word }
-{
-    match word {
-        Word::Name(name) => TokenKind::Word(name),
-        Word::Keyword(keyword) => TokenKind::Keyword(keyword),
-        Word::Unsupported(word) => TokenKind::Unsupported(word),
-    }
-}
-
-// What a word says; none where it is too long.
-fn word_kind(alloc: Global, word: &str) -> Result<Option<TokenKind>, Memory>
-    requires { is_word word.now ≡ true }
-    ensures { IfOk result (λ kind. kind ≡ word_kind word.now) }
-{
-    match read_word(alloc, word)? {
-        Some(word) => Ok(Some(kind_of(word))),
-        None => Ok(None),
-    }
 }
 
 // A text whose last run is found.
@@ -211,12 +190,6 @@ fn day_first(
     Ok((TokenKind::Day(day), len + quoted_len))
 }
 
-fn is_date(kind: &TokenKind) -> bool
-    ensures { result ≡ is_date kind.now }
-{
-    matches!(kind, TokenKind::Keyword(Keyword::KDate))
-}
-
 // The token of the word DATE, of `len` bytes, and its length.
 #[tactic(auto, unfolding(crate::specs::Cutting::date_first))]
 fn date_first(
@@ -235,6 +208,26 @@ fn date_first(
     }
 }
 
+// The token of a word of `len` bytes, and its length.
+fn said_first(
+    alloc: Global,
+    place: usize,
+    len: usize,
+    word: Word,
+    behind: &str,
+) -> Result<(TokenKind, usize), LexFault>
+    requires { len + length behind.now < 2 ^ 64 }
+    ensures { GivesOutcome result (if is_date (kind_of_word word)
+        then date_first place len behind.now else Ok (kind_of_word word, len)) }
+{
+    match word {
+        Word::Name(name) => Ok((TokenKind::Word(name), len)),
+        Word::Keyword(Keyword::KDate) => date_first(alloc, place, len, behind),
+        Word::Keyword(keyword) => Ok((TokenKind::Keyword(keyword), len)),
+        Word::Unsupported(word) => Ok((TokenKind::Unsupported(word), len)),
+    }
+}
+
 // The token of the word at the front, and its length.
 #[tactic(auto, unfolding(crate::specs::Cutting::word_first))]
 fn word_first(alloc: Global, place: usize, text: &str) -> Result<(TokenKind, usize), LexFault>
@@ -243,11 +236,8 @@ fn word_first(alloc: Global, place: usize, text: &str) -> Result<(TokenKind, usi
 {
     let len = word_len(text.as_bytes());
     let (word, behind) = text.split_at(len);
-    let kind = word_kind(alloc, word)?.ok_or(LexFault::BadToken(place))?;
-    if is_date(&kind) {
-        return date_first(alloc, place, len, behind);
-    }
-    Ok((kind, len))
+    let said = read_word(alloc, word)?.ok_or(LexFault::BadToken(place))?;
+    said_first(alloc, place, len, said, behind)
 }
 
 fn quoted_token(alloc: Global, place: usize, text: &str) -> Result<(TokenKind, usize), LexFault>

@@ -8,7 +8,7 @@ pub split_at-requires : goal.split_at-requires
 split_at-requires c =
     rw (c.word_len-len.ensures, c.as_bytes.ensures.value) (boundary-word c.args.text.now c.utf8.text)
 
-pub word_kind-requires : goal.word_kind-requires
-word_kind-requires c =
+pub read_word-requires : goal.read_word-requires
+read_word-requires c =
     let len : c.word_len-len.result ≡ word_len c.args.text.now = c.word_len-len.ensures ∙ ap word_len c.as_bytes.ensures.value in
     rw (c.split_at.ensures.front, len) (front_is_word c.args.text.now c.requires)
