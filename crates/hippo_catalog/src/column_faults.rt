@@ -5,9 +5,10 @@ ghost use Rattle.hippo_model.specs.declared.name_fault.NameFault.TheVariants as 
 ghost use Rattle.hippo_catalog.specs.Refusals.{IsFirstOf};
 ghost use Rattle.hippo_catalog.specs.WrittenColumns.{column_text};
 
+use crate::name_faults::boxed_name;
 use hippo_model::NameFault;
 use hippo_statements::RawColumn;
-use hippo_values::{Duplicate, Memory, Name, Txt};
+use hippo_values::{Memory, Name, Txt};
 use std::alloc::Global;
 
 // A column as it is written: with its table and a point before it, or without.
@@ -72,7 +73,7 @@ pub fn unknown_star(alloc: Global, table: &Name) -> NameFault
 pub fn ambiguous_column(alloc: Global, column: &Name) -> NameFault
     ensures { IsFirstOf (faults.AmbiguousColumn column.now ∷ []) result }
 {
-    match column.copy(alloc) {
+    match boxed_name(alloc, column) {
         Ok(column) => NameFault::AmbiguousColumn(column),
         Err(_) => NameFault::Memory,
     }
@@ -82,7 +83,7 @@ pub fn ambiguous_column(alloc: Global, column: &Name) -> NameFault
 pub fn not_grouped(alloc: Global, column: &Name) -> NameFault
     ensures { IsFirstOf (faults.NotGrouped column.now ∷ []) result }
 {
-    match column.copy(alloc) {
+    match boxed_name(alloc, column) {
         Ok(column) => NameFault::NotGrouped(column),
         Err(_) => NameFault::Memory,
     }
@@ -92,7 +93,7 @@ pub fn not_grouped(alloc: Global, column: &Name) -> NameFault
 pub fn null_not_allowed(alloc: Global, column: &Name) -> NameFault
     ensures { IsFirstOf (faults.NullNotAllowed column.now ∷ []) result }
 {
-    match column.copy(alloc) {
+    match boxed_name(alloc, column) {
         Ok(column) => NameFault::NullNotAllowed(column),
         Err(_) => NameFault::Memory,
     }
@@ -102,7 +103,7 @@ pub fn null_not_allowed(alloc: Global, column: &Name) -> NameFault
 pub fn key_changed(alloc: Global, column: &Name) -> NameFault
     ensures { IsFirstOf (faults.KeyChanged column.now ∷ []) result }
 {
-    match column.copy(alloc) {
+    match boxed_name(alloc, column) {
         Ok(column) => NameFault::KeyChanged(column),
         Err(_) => NameFault::Memory,
     }

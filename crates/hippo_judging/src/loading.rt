@@ -6,18 +6,21 @@ ghost use Rattle.std.specs.Str.{is_utf8};
 ghost use Rattle.hippo_values.specs.Moments.{is_day, is_signed_number};
 ghost use Rattle.hippo_model.specs.Keepable.{is_folded_name};
 ghost use Rattle.hippo_model.specs.Terms.{History};
+ghost use Rattle.hippo_model.specs.declared.name_fault.NameFault.TheVariants as faults;
 ghost use Rattle.hippo_csv.specs.declared.faults.CsvFault.TheVariants as fields;
 ghost use Rattle.hippo_csv.specs.Loading.{row_of_fields};
 ghost use Rattle.hippo_following.specs.Written.{is_typed, is_written};
 ghost use Rattle.hippo_report.specs.declared.speaker.Speaker.TheVariants.{Console};
 ghost use Rattle.hippo_replay.specs.Standing.{StandsFor, MayFollow, IsTimely};
 ghost use Rattle.hippo_report.specs.declared.refusal.Refusal.TheVariants.{Memory as NoMemory};
+ghost use Rattle.hippo_report.specs.declared.refusal.Refusal.TheVariants as refusals;
 ghost use Rattle.hippo_judging.specs.Checks.{Finds};
 ghost use Rattle.hippo_judging.specs.Judging.{record_refusal, loaded_row, loaded_insert, judged_load};
 ghost use Rattle.hippo_judging.specs.Changes.{FindsChange};
 
 use crate::changes::entry_of_change;
 use hippo_catalog::Catalog;
+use hippo_catalog::name_faults::boxed_name;
 use hippo_csv::{CsvFault, Fields, field_values, read_fields};
 use hippo_following::name_fits;
 use hippo_lines::WrittenName;
@@ -26,7 +29,7 @@ use hippo_replay::State;
 use hippo_report::Refusal;
 use hippo_sessions::WorldView;
 use hippo_statements::Stmt;
-use hippo_values::{Boxed, DayNumber, Duplicate, Memory, Name, Value};
+use hippo_values::{Boxed, DayNumber, Memory, Name, Value};
 use std::alloc::Global;
 
 // The refusal of the field at a place, which names its column.
@@ -34,7 +37,7 @@ fn field_refusal(alloc: Global, schema: &Schema, place: usize) -> Refusal
     ensures { (result ≡ record_refusal schema.now (fields.Field place)) ⊎ (result ≡ NoMemory) }
 {
     match schema.columns.as_slice().get(place) {
-        Some(column) => match column.name.copy(alloc) {
+        Some(column) => match boxed_name(alloc, &column.name) {
             Ok(name) => Refusal::BadField(name),
             Err(Memory) => Refusal::Memory,
         },
@@ -117,6 +120,16 @@ fn insert_fits(table: &Name, values: &[Value])
     values_fit(values);
 }
 
+// There is no table of this name.
+fn unknown_table(alloc: Global, table: &Name) -> Refusal
+    ensures { (result ≡ refusals.Meaningless (faults.UnknownTable table.now)) ⊎ (result ≡ NoMemory) }
+{
+    match boxed_name(alloc, table) {
+        Ok(table) => Refusal::Meaningless(NameFault::UnknownTable(table)),
+        Err(Memory) => Refusal::Memory,
+    }
+}
+
 // The INSERT of that row into a table.
 fn insert_into(alloc: Global, catalog: &Catalog, table: Name, text: &str) -> Result<Stmt, Refusal>
     ensures found { Finds (λ insert. insert) (loaded_insert catalog.now.names table text.now)
@@ -129,7 +142,7 @@ fn insert_into(alloc: Global, catalog: &Catalog, table: Name, text: &str) -> Res
             insert_fits(&table, values.as_slice());
             Ok(Stmt::Insert { table, values })
         }
-        None => Err(Refusal::Meaningless(NameFault::UnknownTable(table))),
+        None => Err(unknown_table(alloc, &table)),
     }
 }
 

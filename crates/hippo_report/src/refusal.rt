@@ -1,5 +1,5 @@
 use hippo_model::NameFault;
-use hippo_values::{Moment, Name, Txt};
+use hippo_values::{Boxed, Moment, Name, Txt};
 
 /// Why a line is not carried out, with what the refusal names.
 #[derive(Drop)]
@@ -57,7 +57,7 @@ pub enum Refusal {
     /// The bytes of a record are not exactly one record.
     BadRecord,
     /// The column whose field is not of its form.
-    BadField(Name),
+    BadField(Boxed<Name>),
     /// There are eight watches.
     WatchLimit,
     /// The watch that is not set.
