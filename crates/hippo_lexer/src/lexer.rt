@@ -12,8 +12,9 @@ use crate::parts::{token_first, without_blanks};
 use hippo_values::Sequence;
 use std::alloc::Global;
 
-// How many bytes a token takes with the blanks before it, at least about.
-const TOKEN_LENGTH: usize = 3;
+// How many bytes a token takes with the blanks before it, about. Too much room costs time as too
+// little does: allocators are slower above a kibibyte.
+const TOKEN_LENGTH: usize = 4;
 
 fn cut_tokens(alloc: Global, text: &str) -> Result<Tokens, LexFault>
     ensures { GivesOutcome result (outcome_of text.now) }
