@@ -294,8 +294,7 @@ fn first_source(alloc: Global, table: Name) -> Result<Sources, Memory>
     ensures names { IfOk result (λ sources. sources.names ≡ table ∷ []) }
     ensures conditions { IfOk result (λ sources. sources.conditions ≡ []) }
 {
-    let mut names = Sequence::new(alloc);
-    names.push(table)?;
+    let names = only(alloc, table)?;
     let conditions = Sequence::new(alloc);
     Ok(Sources { names, conditions })
 }
