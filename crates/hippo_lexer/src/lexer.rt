@@ -12,14 +12,16 @@ use crate::parts::{token_first, without_blanks};
 use hippo_values::Sequence;
 use std::alloc::Global;
 
-// How many bytes a token takes with the blanks before it, about. Too much room costs time as too
-// little does: allocators are slower above a kibibyte.
+// How many bytes a token takes with the blanks before it, about.
 const TOKEN_LENGTH: usize = 4;
+
+// So many tokens take less than a kibibyte, above which allocators are slower.
+const FEW_TOKENS: usize = 11;
 
 fn cut_tokens(alloc: Global, text: &str) -> Result<Tokens, LexFault>
     ensures { GivesOutcome result (outcome_of text.now) }
 {
-    let mut found = Sequence::with_capacity(alloc, text.len() / TOKEN_LENGTH)?;
+    let mut found = Sequence::with_capacity(alloc, FEW_TOKENS.max(text.len() / TOKEN_LENGTH))?;
     let mut rest = without_blanks(text);
     while !rest.is_empty() {
         let start = text.len() - rest.len();

@@ -7,9 +7,9 @@ ghost use Rattle.hippo_lines.specs.Lent.{form};
 use crate::forms::LineForm;
 use crate::numbers::small_number;
 use crate::requests::request_by;
-use crate::short_words::short_word_of;
+use crate::short_words::{equals_folded, short_word_of};
 use crate::words::{around_space, first_word, is_blank, only_word};
-use hippo_values::{SESSION_LIMIT, equals_folded};
+use hippo_values::SESSION_LIMIT;
 
 fn is_comment(line: &[u8]) -> bool
     ensures { result ≡ is_comment line.now }

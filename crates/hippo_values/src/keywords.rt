@@ -165,26 +165,6 @@ const STARTS: [usize; 27] = [
 // The bit by which a letter in lower case differs from the one in upper case.
 const LOWER_CASE: u8 = 32;
 
-/// Whether a word is the known one, in whatever case.
-pub fn equals_folded(known: &str, word: &str) -> bool
-    ensures { result ≡ bytes_eq (lower_case known.now) (lower_case word.now) }
-{
-    known.eq_ignore_ascii_case(word)
-}
-
-/// What a table of words says of the word, in whatever case it is written.
-pub fn find_word<T: Copy>(table: &[(&str, T)], word: &str) -> Option<T>
-    ensures { result ≡ lookup (λ known. bytes_eq (lower_case known.now) (lower_case word.now))
-        table.now }
-{
-    for (known, meaning) in table {
-        if equals_folded(known, word) {
-            return Some(*meaning);
-        }
-    }
-    None
-}
-
 // Whether each letter is the byte beside it with the bit of lower case set.
 fn all_written(letters: &[u8], word: &[u8]) -> bool
     ensures { result ≡ list_all (λ p. p.0 == bit_or p.1 32) (zip letters.now word.now) }
@@ -204,7 +184,8 @@ fn is_written_by(known: &[u8], word: &[u8]) -> bool
     known.len() == word.len() && all_written(known, word)
 }
 
-// As `find_word`, in a table whose words are of letters in lower case, which need no folding.
+// What a table of words says of the word, in whatever case it is written. The table's words are of
+// letters in lower case, which need no folding.
 fn find_written(table: &[(&str, Reserved)], word: &str) -> Option<Reserved>
     requires { list_all (λ e. list_all is_ascii_lowercase e.0.now) table.now ≡ true }
     ensures { result ≡ lookup (λ known. bytes_eq (lower_case known.now) (lower_case word.now))
@@ -233,21 +214,15 @@ fn find_between(
     find_written(&table[start..end], word)
 }
 
-// The place of a letter in the alphabet.
-fn place_of(letter: u8) -> usize
-    requires { is_ascii_alphabetic letter ≡ true }
-    ensures { result ≡ to_ascii_lowercase letter - 97 }
-{
-    usize::from((letter | LOWER_CASE) - b'a')
-}
-
 // The place of a word's first letter in the alphabet.
 fn letter_of(word: &str) -> Option<usize>
     ensures letter { result ≡ letter_of word.now }
     ensures within { IfSome result (λ place. place < 26) }
 {
     match word.as_bytes() {
-        [first, ..] if first.is_ascii_alphabetic() => Some(place_of(*first)),
+        [first, ..] if first.is_ascii_alphabetic() => {
+            Some(usize::from(first.to_ascii_lowercase() - b'a'))
+        }
         _ => None,
     }
 }

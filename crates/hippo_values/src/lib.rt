@@ -16,7 +16,7 @@ mod words;
 
 pub use boxed::Boxed;
 pub use cell_texts::CellText;
-pub use keywords::{Keyword, Reserved, equals_folded, find_word, reserved_of};
+pub use keywords::{Keyword, Reserved, reserved_of};
 pub use limits::{
     COLUMN_LIMIT, CURSOR_LIMIT, DEPTH_LIMIT, FETCH_LIMIT, FROM_LIMIT, ITEM_LIMIT, JOB_LIMIT,
     LINE_LIMIT, NAME_LIMIT, PAIR_LIMIT, RETENTION_LIMIT, SESSION_LIMIT, STEP_LIMIT, TABLE_LIMIT,

@@ -28,12 +28,6 @@ pub trait Duplicate {
         ensures { IfOk result (λ made. made ≡ self.now) };
 }
 
-impl Duplicate for u8 {
-    fn copy(&self, _alloc: Global) -> Result<u8, Memory> {
-        Ok(*self)
-    }
-}
-
 impl Duplicate for u64 {
     fn copy(&self, _alloc: Global) -> Result<u64, Memory> {
         Ok(*self)

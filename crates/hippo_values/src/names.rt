@@ -12,7 +12,6 @@ ghost use Rattle.hippo_values.specs.Names.{lower_case, is_word_byte, begins_with
 use crate::keywords::reserved_of;
 use crate::limits::NAME_LIMIT;
 use crate::memory::{Duplicate, Memory};
-use crate::texts::Txt;
 use std::alloc::Global;
 use std::cmp::Ordering;
 use std::fmt::{self, Debug, Formatter, Write};
@@ -55,13 +54,6 @@ pub fn is_name(word: &str) -> bool
     is_word(word) && word.len() <= NAME_LIMIT && reserved_of(word).is_none()
 }
 
-/// The word in lower case.
-pub fn folded(alloc: Global, word: &str) -> Result<Txt, Memory>
-    ensures { IfOk result (λ text. text ≡ lower_case word.now) }
-{
-    Ok(Txt::from_string(word.to_ascii_lowercase(alloc)?))
-}
-
 // A length that is rounded up to a multiple of 8, but for the last one.
 fn eights_above(len: usize) -> usize
     requires { len ≤ NAME_LIMIT }
@@ -92,6 +84,7 @@ pub struct Name {
 
 impl Model for Name {
     ghost use Rattle.std.specs.Prelude.{◌≡◌, ◌≤◌, List, ℕ, IsTrue, length, take};
+    ghost use Rattle.std.specs.List.{list_all};
     ghost use Rattle.hippo_values.specs.Names.{lower_case, is_name};
 
     ghost Value = { List ℕ };

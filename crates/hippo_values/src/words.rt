@@ -6,7 +6,7 @@ ghost use Rattle.hippo_values.specs.Words.{word_of};
 
 use crate::keywords::{Keyword, Reserved, reserved_of};
 use crate::memory::Memory;
-use crate::names::{Name, folded};
+use crate::names::Name;
 use crate::texts::Txt;
 use std::alloc::Global;
 
@@ -28,7 +28,10 @@ pub fn read_word(alloc: Global, word: &str) -> Result<Option<Word>, Memory>
 {
     match reserved_of(word) {
         Some(Reserved::Keyword(keyword)) => Ok(Some(Word::Keyword(keyword))),
-        Some(Reserved::Unsupported) => Ok(Some(Word::Unsupported(folded(alloc, word)?))),
+        Some(Reserved::Unsupported) => {
+            let folded = Txt::from_string(word.to_ascii_lowercase(alloc)?);
+            Ok(Some(Word::Unsupported(folded)))
+        }
         None => Ok(Name::unreserved(word).map(Word::Name)),
     }
 }
