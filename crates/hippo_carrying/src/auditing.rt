@@ -13,6 +13,7 @@ use hippo_engine::Engine;
 use hippo_findings::tell_flags;
 use hippo_keeper::{Keeper, Steps};
 use hippo_model::Audit;
+use hippo_values::Boxed;
 use std::alloc::Global;
 use std::sync::ledger::Ledger;
 
@@ -22,7 +23,7 @@ pub(crate) fn audit_history<P: Keeper, L: Ledger>(
     engine: &mut Engine,
     alloc: Global,
     keeper: &mut P,
-    audit: Audit,
+    audit: Boxed<Audit>,
     steps: &mut Steps<L>,
 ) -> Result<(), EngineFault>
     requires at_work { AtWork engine.old (P.state keeper.old) }
@@ -38,7 +39,7 @@ pub(crate) fn audit_history<P: Keeper, L: Ledger>(
         keeper,
         &engine.state,
         engine.world.format,
-        audit,
+        audit.into_inner(),
         &mut engine.reply,
         steps,
     )

@@ -76,7 +76,7 @@ fn perform<P: Keeper, L: Ledger>(
             return answer_question(engine, alloc, keeper, question, delivery);
         }
         Deed::Explain { entry } => return explain(engine, alloc, keeper, entry, steps),
-        Deed::Audit { audit } => return audit_history(engine, alloc, keeper, audit.into_inner(), steps),
+        Deed::Audit { audit } => return audit_history(engine, alloc, keeper, audit, steps),
         Deed::BeginAudit { job, audit } => engine.begin_audit(alloc, job, audit.into_inner()),
         Deed::Watch { watch, audit } => engine.watch(alloc, watch, audit.into_inner()),
     }

@@ -37,7 +37,11 @@ fn meaning(alloc: Global, catalog: &Catalog, written: &RawAudit) -> Result<Boxed
 
 /// The audit that an audit expression of the console means; or its first refusal: that its names,
 /// types or period are wrong. Want of memory may refuse it, too.
-pub(crate) fn audit_in(alloc: Global, state: &State, written: &RawAudit) -> Result<Boxed<Audit>, Refusal>
+pub(crate) fn audit_in(
+    alloc: Global,
+    state: &State,
+    written: &RawAudit,
+) -> Result<Boxed<Audit>, Refusal>
     requires sound { IsSound state.now }
     ensures found { (history : History) → StandsFor state.now history
         → Finds (λ audit. audit) (audit_in history Console written.now) result }

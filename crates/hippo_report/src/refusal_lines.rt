@@ -19,9 +19,15 @@ fn fault_said(fault: &NameFault) -> (&'static str, Detail<'_>)
     match fault {
         NameFault::UnknownTable(name) => ("30 UnknownTable", Detail::Text(name.get().as_str())),
         NameFault::UnknownColumn(text) => ("31 UnknownColumn", Detail::Text(text.as_str())),
-        NameFault::AmbiguousColumn(name) => ("32 AmbiguousColumn", Detail::Text(name.get().as_str())),
+        NameFault::AmbiguousColumn(name) => (
+            "32 AmbiguousColumn",
+            Detail::Text(name.get().as_str()),
+        ),
         NameFault::UnknownPurpose(name) => ("33 UnknownPurpose", Detail::Text(name.get().as_str())),
-        NameFault::UnknownRecipient(name) => ("34 UnknownRecipient", Detail::Text(name.get().as_str())),
+        NameFault::UnknownRecipient(name) => (
+            "34 UnknownRecipient",
+            Detail::Text(name.get().as_str()),
+        ),
         NameFault::UnknownItem(name) => ("35 UnknownItem", Detail::Text(name.get().as_str())),
         NameFault::AlreadyThere(name) => ("36 AlreadyThere", Detail::Text(name.get().as_str())),
         NameFault::RepeatedName(name) => ("37 RepeatedName", Detail::Text(name.get().as_str())),
