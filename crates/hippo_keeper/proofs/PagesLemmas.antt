@@ -10,7 +10,7 @@ use Rattle.hippo_keeper.specs.Keeping.{Store, RisesAbove, last_number}
 use Rattle.hippo_keeper.specs.Selecting.{is_any, is_selected, handed_over, IsHandedOver}
 use Rattle.hippo_keeper.specs.Paging.{paged, AreFilled, picked, with_picked}
 use Rattle.hippo_keeper.specs.declared.selection.Sought.{Sought}
-use Rattle.hippo_keeper.proofs.RisingLemmas.{RisesAbove-filter, RisesAbove-take, RisesAbove-above}
+use Rattle.hippo_keeper.proofs.RisingLemmas.{last_rises, RisesAbove-filter, RisesAbove-take, RisesAbove-above}
 use Rattle.hippo_keeper.proofs.PickLemmas.{picked-append, with_picked-append}
 
 -- one more page
@@ -31,14 +31,6 @@ RisesAbove-front number (entry ∷ rest) back rises = (rises.0, RisesAbove-front
 RisesAbove-back : (number : ℕ) (front back : Store) → RisesAbove number (front ++ back) → RisesAbove (last_number number front) back
 RisesAbove-back number [] back rises = rises
 RisesAbove-back number (entry ∷ rest) back rises = RisesAbove-back entry.seq rest back rises.1
-
--- the last number is the highest
-last_rises : (number : ℕ) (entries : Store) → RisesAbove number entries → number ≤ last_number number entries
-last_rises number [] rises = omega arith
-last_rises number (entry ∷ rest) rises =
-    let first : number < entry.seq = rises.0 in
-    let later = last_rises entry.seq rest rises.1 in
-    omega arith
 
 last_above : (number : ℕ) (page : Store) → 0 < length page → RisesAbove number page → number < last_number 0 page
 last_above number [] some rises = absurd (omega arith)

@@ -44,6 +44,14 @@ last_number-append : (number : ℕ) (kept : List StoredEntry) (entry : StoredEnt
 last_number-append number [] entry = refl
 last_number-append number (first ∷ rest) entry = last_number-append first.seq rest entry
 
+-- the last number is the highest
+pub last_rises : (number : ℕ) (entries : List StoredEntry) → RisesAbove number entries → number ≤ last_number number entries
+last_rises number [] rises = omega arith
+last_rises number (entry ∷ rest) rises =
+    let first : number < entry.seq = rises.0 in
+    let later = last_rises entry.seq rest rises.1 in
+    omega arith
+
 -- the next number after one more entry
 pub next_number-append : (kept : List StoredEntry) (entry : StoredEntry) → next_number (kept ++ entry ∷ []) ≡ entry.seq + 1
 next_number-append kept entry = ap (λ number. number + 1) (last_number-append 0 kept entry)

@@ -53,14 +53,12 @@ impl Head {
     fn entry(&self, alloc: Global, table: &str, body: &[u8]) -> Result<StoredEntry, Memory>
         ensures { IfOk result (λ entry. entry ≡ entry_with self.now table.now body.now) }
     {
-        let table = Txt::from_str(alloc, table)?;
-        let body = Bytes::from_slice(alloc, body)?;
         Ok(StoredEntry {
             seq: self.seq,
             moment: self.moment,
             kind: self.kind,
-            table,
-            body,
+            table: Txt::from_str(alloc, table)?,
+            body: Bytes::from_slice(alloc, body)?,
         })
     }
 

@@ -213,8 +213,8 @@ fn said_first(
     alloc: Global,
     place: usize,
     len: usize,
-    word: Word,
     behind: &str,
+    word: Word,
 ) -> Result<(TokenKind, usize), LexFault>
     requires { len + length behind.now < 2 ^ 64 }
     ensures { GivesOutcome result (if is_date (kind_of_word word)
@@ -237,7 +237,7 @@ fn word_first(alloc: Global, place: usize, text: &str) -> Result<(TokenKind, usi
     let len = word_len(text.as_bytes());
     let (word, behind) = text.split_at(len);
     let said = read_word(alloc, word)?.ok_or(LexFault::BadToken(place))?;
-    said_first(alloc, place, len, said, behind)
+    said_first(alloc, place, len, behind, said)
 }
 
 fn quoted_token(alloc: Global, place: usize, text: &str) -> Result<(TokenKind, usize), LexFault>

@@ -13,6 +13,7 @@ use Rattle.hippo_model.specs.StoredForms.{stored}
 use Rattle.hippo_model.specs.Terms.{History}
 use Rattle.hippo_catalog.specs.Catalogs.{KnownNames}
 use Rattle.hippo_keeper.specs.Keeping.{Store, RisesAbove, last_number}
+use Rattle.hippo_keeper.proofs.RisingLemmas.{last_rises}
 use Rattle.hippo_replay.proofs.TakingInLemmas.{take_at_entry}
 use Rattle.hippo_showing.specs.declared.asking.Excerpt.{Excerpt}
 use Rattle.hippo_programs.specs.declared.endings.Ending.{Ending}
@@ -191,12 +192,5 @@ pub last_above : (number : ℕ) (entries : Store) → RisesAbove number entries 
 last_above number [] rises some = absurd (some refl)
 last_above number (entry ∷ rest) rises some =
     let above : number < entry.seq = rises.0 in
-    let later = not_below entry.seq rest rises.1 in
+    let later = last_rises entry.seq rest rises.1 in
     omega arith
-  where
-    not_below : (number : ℕ) (entries : Store) → RisesAbove number entries → number ≤ last_number number entries
-    not_below number [] rises = omega arith
-    not_below number (entry ∷ rest) rises =
-        let above : number < entry.seq = rises.0 in
-        let later = not_below entry.seq rest rises.1 in
-        omega arith
