@@ -176,10 +176,15 @@ fn is_plain(byte: u8) -> bool
     byte >= 32 && byte != 127
 }
 
+// No byte ends the loop, so that many are looked at at once.
 fn are_plain(bytes: &[u8]) -> bool
     ensures { result ≡ list_all is_plain bytes.now }
 {
-    bytes.iter().all(|byte| is_plain(*byte))
+    let mut are_plain = true;
+    for byte in bytes {
+        are_plain &= is_plain(*byte);
+    }
+    are_plain
 }
 
 /// Whether a text may stand in a cell: at most 4096 bytes, and no character U+0000 to U+001F or
