@@ -64,16 +64,8 @@ pub fn judge<'t, P: Keeper, L: Ledger, W: WorldView>(
             statement,
             text,
         } => {
-            let judged = judge_statement(
-                alloc,
-                state,
-                world,
-                keeper,
-                who,
-                statement.get(),
-                text,
-                steps,
-            );
+            let read = statement.get();
+            let judged = judge_statement(alloc, state, world, keeper, who, read, text, steps);
             drop(statement);
             judged
         }
