@@ -1,15 +1,11 @@
 -- What is made of the state of a history is the answer.
-use Rattle.std.proofs.Common.{◌≡◌, ◌∙◌, sym, refl, ap, arith, ℕ, ℤ, true, List, [], ◌∷◌, map, take, Option, None, Some, option_map}
-use Rattle.std.specs.Prelude.{is_some}
-use Rattle.std.specs.List.{list_all, cons_option}
-use Rattle.std.proofs.lemmas.Bool.{and_parts}
+use Rattle.std.proofs.Common.{◌≡◌, ◌∙◌, refl, ap, arith, ℤ, List, [], ◌∷◌, map, take}
 use Rattle.std.proofs.lemmas.List.{take_all}
 use Rattle.hippo_values.specs.declared.names.Name.{Name}
 use Rattle.hippo_model.specs.declared.query.Masked.{Masked}
 use Rattle.hippo_model.specs.declared.query.Query.{Query}
 use Rattle.hippo_model.specs.declared.schema.Schema.{Schema}
 use Rattle.hippo_model.specs.Terms.{History, Meaning}
-use Rattle.hippo_model.specs.Histories.{schema_at}
 use Rattle.hippo_model.specs.Rows.{table_rows}
 use Rattle.hippo_keyed_rows.specs.RowSets.{KeyedRows, kept_at}
 use Rattle.hippo_model.specs.Rules.{choice_at}
@@ -17,7 +13,6 @@ use Rattle.hippo_model.specs.Verdicts.{Context, context_of}
 use Rattle.hippo_model.specs.Forms.{rows_by_form}
 use Rattle.hippo_model.specs.Masking.{Choices, masked_answer}
 use Rattle.hippo_eval.specs.Walks.{rows_of}
-use Rattle.hippo_tables.specs.KeptTables.{table_at}
 use Rattle.hippo_tables.specs.Standing.{AreKeptTables, schemas_at}
 use Rattle.hippo_tables.proofs.NamedLemmas.{are_created-AreKeptTables, schemas_are}
 use Rattle.hippo_rewrite.specs.Rewriting.{rewritten_query}

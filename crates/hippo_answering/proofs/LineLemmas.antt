@@ -1,16 +1,24 @@
 -- Lines of an answer, a row more, and of all rows.
-use Rattle.std.proofs.Common.{◌≡◌, ℕ, ◌+◌, ◌<◌, ◌≤◌, List, [], ◌∷◌, ◌++◌, map, length, decimal, codes, append_assoc, refl, sym, ap, subst, ◌∙◌, arith}
+use Rattle.std.proofs.Common.{◌≡◌, ℕ, ◌+◌, ◌<◌, ◌≤◌, List, [], ◌∷◌, ◌++◌, map, length, decimal, codes, append_assoc, refl, sym, ap, subst, ◌∙◌, arith, Err}
 use Rattle.std.proofs.lemmas.List.{append-nil, length-append}
 use Rattle.std.proofs.lemmas.List.Folds.{flat_map-map}
 use Rattle.std.proofs.lemmas.Grind.{flat_map-append}
 use Rattle.hippo_values.specs.Texts.{Txt}
 use Rattle.hippo_model.specs.declared.query.Masked.{Masked}
 use Rattle.hippo_model.specs.Terms.{Combination, ShownRow}
-use Rattle.hippo_model.specs.Masking.{Choices, masked_cell, masked_items}
+use Rattle.hippo_model.specs.Answers.{product}
+use Rattle.hippo_model.specs.Masking.{Choices, masked_answer, masked_cell, masked_items}
+use Rattle.hippo_keyed_rows.specs.RowSets.{KeyedRows}
+use Rattle.hippo_eval.specs.declared.answers.EvalFault.{EvalFault}
+use Rattle.hippo_eval.specs.declared.answers.EvalFault.TheVariants.{TooManyRows, Memory}
+use Rattle.hippo_eval.specs.Walks.{rows_of}
+use Rattle.hippo_sides.specs.Visiting.{counting}
+use Rattle.hippo_join.specs.Plans.{IsUnvisited}
+use Rattle.hippo_join.proofs.GatheringLemmas.{length-counted}
 use Rattle.hippo_report.specs.Cells.{answer_line, cell_text, comma, separated_text}
 use Rattle.hippo_eval.specs.Gathering.{IsGathered}
 use Rattle.hippo_answering.specs.declared.lines.Lines.{Lines}
-use Rattle.hippo_answering.specs.Lines.{AreLinesOf, line_front}
+use Rattle.hippo_answering.specs.Lines.{AreLinesOf, IsSaid, line_front}
 
 -- what members are made of is printed as they are
 pub separated_text_map : {A B : Type 0} (text : B → Txt) (separator : Txt) (made : A → B) (members : List A)
@@ -58,3 +66,8 @@ module _ (session limit : ℕ) (rows : List ShownRow) (lines : Lines) (are : IsG
       let front : limit < length are.front = subst (λ (n : ℕ). limit < n) are.holds.count many in
       let long : length rows ≡ length are.front + length are.later = ap length are.is ∙ length-append are.front are.later in
       omega (arith, front, long)
+
+-- rows that are not visited are not said
+pub not_said : (choices : Choices) (query : Masked) (sets : List KeyedRows) (limit session : ℕ) (fault : EvalFault) → IsUnvisited limit (counting choices query (product (rows_of sets))) fault → IsSaid limit session (masked_answer choices query (rows_of sets)) (Err fault)
+not_said choices query sets limit session TooManyRows more = omega (arith, more, length-counted choices query sets)
+not_said choices query sets limit session Memory wanted = tt

@@ -11,13 +11,13 @@ ghost use Rattle.hippo_answering.specs.States.{AreStateOf, IsMasked, answer_from
 ghost use Rattle.hippo_answering.specs.Lines.{IsSaid};
 
 use crate::inquiry::Inquiry;
-use crate::lines::{Lines, lines_of, walked_lines};
+use crate::lines::{Lines, lines_of, printed_lines};
 use crate::sizes::sizes_of;
 use crate::standpoint::Standpoint;
 use hippo_distinct::distinct;
 use hippo_eval::{ANSWER_LIMIT, EvalFault};
 use hippo_groups::grouped;
-use hippo_join::{is_in_order, plan, run};
+use hippo_join::{plan, run};
 use hippo_model::{Answer, ChoiceView, Form, Masked, Names, Query, RulesInForce};
 use hippo_policy::ChoicesAt;
 use hippo_rewrite::rewrite;
@@ -112,38 +112,6 @@ fn said(alloc: Global, session: u8, answer: Result<Answer, EvalFault>) -> Result
     Ok(lines_of(alloc, session, rows.as_slice())?)
 }
 
-// The lines of all rows of an answer, by joins: printed as they are found where the plan has the
-// order of the answer.
-fn joined_lines(alloc: Global, session: u8, inquiry: &Inquiry<'_>) -> Result<Lines, EvalFault>
-    requires { length inquiry.now.sets ≡ length inquiry.now.query.now.tables }
-    ensures { IsSaid ANSWER_LIMIT session (masked_answer
-        (⟦<ChoicesAt<'static> as ChoiceView>⟧.choices inquiry.now.choices) inquiry.now.query.now
-        (rows_of inquiry.now.sets)) result }
-{
-    let sizes = sizes_of(alloc, &inquiry.sets)?;
-    let plan = plan(alloc, inquiry.query, &sizes)?;
-    if is_in_order(&plan) {
-        walked_lines(alloc, session, inquiry)
-    } else {
-        let answer = run(alloc, &plan, inquiry.query, &inquiry.sets, &inquiry.choices);
-        said(alloc, session, answer)
-    }
-}
-
-// The same; over one table there is nothing to plan.
-fn plain_lines(alloc: Global, session: u8, inquiry: &Inquiry<'_>) -> Result<Lines, EvalFault>
-    requires { length inquiry.now.sets ≡ length inquiry.now.query.now.tables }
-    ensures { IsSaid ANSWER_LIMIT session (masked_answer
-        (⟦<ChoicesAt<'static> as ChoiceView>⟧.choices inquiry.now.choices) inquiry.now.query.now
-        (rows_of inquiry.now.sets)) result }
-{
-    if inquiry.sets.len() < 2 {
-        walked_lines(alloc, session, inquiry)
-    } else {
-        joined_lines(alloc, session, inquiry)
-    }
-}
-
 // The lines of the rows of an answer, by its form.
 fn lines(alloc: Global, session: u8, form: &Form, inquiry: &Inquiry<'_>) -> Result<Lines, EvalFault>
     requires { length inquiry.now.sets ≡ length inquiry.now.query.now.tables }
@@ -152,7 +120,7 @@ fn lines(alloc: Global, session: u8, form: &Form, inquiry: &Inquiry<'_>) -> Resu
         (rows_of inquiry.now.sets))) result }
 {
     match form {
-        Form::Plain => plain_lines(alloc, session, inquiry),
+        Form::Plain => printed_lines(alloc, session, inquiry),
         _ => said(alloc, session, formed(alloc, form, inquiry)),
     }
 }
@@ -243,8 +211,8 @@ pub fn answer(
 }
 
 /// The answer of a query as the lines that say its rows to a session, as `answer_line` prints each.
-/// Where the rows are found in the order of the answer, each is printed as it is found, and no cell
-/// is copied. Wants and answers what `answer` does.
+/// Where neither DISTINCT nor groups are asked for, each is printed from the rows as they stand, and
+/// no cell is copied. Wants and answers what `answer` does.
 pub fn answer_as_lines(
     alloc: Global,
     standpoint: &Standpoint<'_>,

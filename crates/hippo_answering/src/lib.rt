@@ -6,6 +6,7 @@ mod inquiry;
 mod lines;
 mod sizes;
 mod standpoint;
+mod visits;
 
 pub use answers::{answer, answer_as_lines};
 pub use lines::{LINES_ROOM, Lines};

@@ -1,5 +1,5 @@
-//! Answers as the lines that say their rows, which are printed as the rows are found.
-ghost use Rattle.std.specs.Prelude.{◌≡◌, ◌++◌, ℕ, List, [], flat_map, OnOk, IfOk};
+//! Answers as the lines that say their rows.
+ghost use Rattle.std.specs.Prelude.{◌≡◌, ◌++◌, ℕ, List, [], flat_map, length, OnOk, IfOk};
 ghost use Rattle.hippo_model.specs.Terms.{ShownRow};
 ghost use Rattle.hippo_model.specs.Masking.{masked_cell, masked_items, masked_answer};
 ghost use Rattle.hippo_report.specs.Cells.{answer_line, cell_text, comma, separated_text};
@@ -9,8 +9,8 @@ ghost use Rattle.hippo_eval.specs.Walks.{rows_of};
 ghost use Rattle.hippo_answering.specs.Lines.{AreLinesOf, IsSaid, line_front};
 
 use crate::inquiry::Inquiry;
+use crate::visits::visit_rows;
 use hippo_eval::{ANSWER_LIMIT, EvalFault, LentCell, Onward, Visitor, cell};
-use hippo_join::walk_joined;
 use hippo_model::{Cell, CellRow, ChoiceView, Combo, Expr, Masked};
 use hippo_policy::ChoicesAt;
 use hippo_report::{Printed, append_joined};
@@ -189,13 +189,14 @@ fn within_limit(lines: Lines) -> Result<Lines, EvalFault>
 }
 
 /// The lines of the rows that a query with the policy written into it makes, over unmasked rows and
-/// patients' choices, printed as a walk in the order of FROM finds them. TooManyRows exactly where
-/// these are more than 100,000.
-pub(crate) fn walked_lines(
+/// patients' choices, printed from the rows as they stand. TooManyRows exactly where these are more
+/// than 100,000.
+pub(crate) fn printed_lines(
     alloc: Global,
     session: u8,
     inquiry: &Inquiry<'_>,
 ) -> Result<Lines, EvalFault>
+    requires { length inquiry.now.sets ≡ length inquiry.now.query.now.tables }
     ensures { IsSaid ANSWER_LIMIT session (masked_answer
         (⟦<ChoicesAt<'static> as ChoiceView>⟧.choices inquiry.now.choices) inquiry.now.query.now
         (rows_of inquiry.now.sets)) result }
@@ -208,7 +209,7 @@ pub(crate) fn walked_lines(
         front: front.as_str(),
     };
     let mut lines = Lines::new(alloc)?;
-    match walk_joined(
+    match visit_rows(
         alloc,
         inquiry.query,
         &inquiry.sets,
@@ -217,7 +218,7 @@ pub(crate) fn walked_lines(
         &mut lines,
     ) {
         Ok(()) => within_limit(lines),
-        Err(Memory) => Err(EvalFault::Memory),
+        Err(fault) => Err(fault),
     }
 }
 

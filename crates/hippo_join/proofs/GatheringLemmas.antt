@@ -1,5 +1,6 @@
 -- The rows of the combinations that count.
-use Rattle.std.proofs.Common.{◌≡◌, map, refl}
+use Rattle.std.proofs.Common.{◌≡◌, map, length, refl, sym, ap, ◌∙◌}
+use Rattle.std.proofs.lemmas.List.{length-map}
 use Rattle.hippo_model.specs.declared.query.Masked.{Masked}
 use Rattle.hippo_model.specs.Answers.{product}
 use Rattle.hippo_model.specs.Masking.{Choices, masked_items, masked_answer}
@@ -13,3 +14,6 @@ use Rattle.std.specs.Prelude.{List}
 pub counted-answer : (choices : Choices) (query : Masked) (sets : List KeyedRows) → map (masked_items choices query) (counting choices query (product (rows_of sets))) ≡ masked_answer choices query (rows_of sets)
 unfolding stays
 counted-answer choices query sets = refl
+
+pub length-counted : (choices : Choices) (query : Masked) (sets : List KeyedRows) → length (counting choices query (product (rows_of sets))) ≡ length (masked_answer choices query (rows_of sets))
+length-counted choices query sets = sym (length-map (counting choices query (product (rows_of sets))) (masked_items choices query)) ∙ ap length (counted-answer choices query sets)

@@ -1,6 +1,6 @@
 pub mod ExistenceLemmas
 pub mod SettlingLemmas
-pub mod AnswerLemmas
 pub mod OrderLemmas
 pub mod VisitingLemmas
 pub mod GatheringLemmas
+pub mod PlannedLemmas

@@ -1,10 +1,25 @@
--- The orders in which a query's tables may be joined.
-use Rattle.std.specs.Prelude.{length}
+-- The orders in which a query's tables may be joined, and what a visit by one comes to.
+use Rattle.std.specs.Prelude.{ℕ, ◌<◌, List, ◌++◌, length, Result, Ok, Err}
 use Rattle.std.specs.List.{range_with_len}
 use Rattle.std.specs.List.Sorted.{IsPermutation}
 use Rattle.hippo_model.specs.declared.combo.Plan.{Plan}
 use Rattle.hippo_model.specs.declared.query.Masked.{Masked}
+use Rattle.hippo_model.specs.Terms.{Combination}
+use Rattle.hippo_eval.specs.declared.answers.EvalFault.{EvalFault}
+use Rattle.hippo_eval.specs.declared.answers.EvalFault.TheVariants.{TooManyRows, Memory}
 
 -- a plan of a query has the place of each of its tables once
 abbrev pub IsPlanOf : Masked → Plan → Type 0
 IsPlanOf query plan = IsPermutation (range_with_len 0 (length query.tables)) plan.order
+
+-- why some combinations are not visited: they are more than a limit; or want of memory
+abbrev pub IsUnvisited : ℕ → List Combination → EvalFault → Type 0
+IsUnvisited limit these TooManyRows = limit < length these
+IsUnvisited limit these Memory = Unit {0}
+
+-- what a state keeps, after combinations that were visited before, of some more, unless these are
+-- more than a limit; or want of memory
+abbrev pub KeptWithin : {S : Type 0} → ℕ → (List Combination → S → Type 0)
+    → Result (Unit {0}) EvalFault → List Combination → List Combination → S → Type 0
+KeptWithin limit keeps (Ok done) before these state = keeps (before ++ these) state
+KeptWithin limit keeps (Err fault) before these state = IsUnvisited limit these fault

@@ -121,7 +121,7 @@ pub fn plan(alloc: Global, query: &Masked, sizes: &Sizes) -> Result<Plan, Memory
 }
 
 /// Whether a plan joins the tables in the order of FROM.
-pub fn is_in_order(plan: &Plan) -> bool
+pub(crate) fn is_in_order(plan: &Plan) -> bool
     ensures { IsTrue result → plan.now.order ≡ range_with_len 0 (length plan.now.order) }
 {
     let tables = plan.order.as_slice();

@@ -1,21 +1,20 @@
--- A plan has each table once.
-use Rattle.std.proofs.Common.{ℕ, ◌<◌, List, length, subst, sym, ap, arith}
-use Rattle.std.specs.List.{All, Contains}
-use Rattle.hippo_model.specs.Terms.{Place}
-use Rattle.hippo_keyed_rows.specs.RowSets.{KeyedRows}
-use Rattle.hippo_sides.proofs.FindingLemmas.{below-order, whole-order}
+-- The visit begins with no row, and tells what the answer is made of.
+use Rattle.std.proofs.Common.{◌≡◌, [], List, subst}
+use Rattle.hippo_model.specs.Terms.{ShownRow}
+use Rattle.hippo_eval.specs.declared.answers.TheConstants.{ANSWER_LIMIT}
+use Rattle.hippo_eval.specs.Gathering.{IsGathered}
+use Rattle.hippo_eval.proofs.FoundLemmas.{gathered-none}
+use Rattle.hippo_join.proofs.GatheringLemmas.{counted-answer}
+use Rattle.hippo_join.proofs.PlannedLemmas.{not-answered}
 use Rattle.hippo_join.proofs.joins.run.Goals as goal
 
-pub answer-requires-clause-below : goal.answer-requires-clause-below
-answer-requires-clause-below g c =
-    subst (λ (n : ℕ). All (λ table. table < n) c.as_slice.result.now) (sym (ap (length {A = KeyedRows}) c.side_of-side.ensures.sets))
-    (subst (λ (order : List Place). All (λ table. table < length c.args.sets.now) order) (sym c.as_slice.ensures)
-    (subst (λ (n : ℕ). All (λ table. table < n) c.args.plan.now.order) (sym c.requires.sets) (below-order (length c.args.query.now.tables) c.args.plan.now.order c.requires.plan)))
+pub returns-in-Ok : goal.returns-in-Ok
+returns-in-Ok g c =
+    let counted = c.in-Ok.ensures [] (gathered-none (λ found rows. rows ≡ found) (λ found. found) ANSWER_LIMIT c.start-rows.result c.start-rows.ensures) in
+    c.answered.ensures _
+    (subst (λ (found : List ShownRow). IsGathered (λ found rows. rows ≡ found) (λ found. found) ANSWER_LIMIT found c.visit_planned.new.state) (counted-answer (g.C.ChoiceView.choices c.args.choices.now) c.args.query.now c.args.sets.now) counted)
 
-pub answer-requires-clause-whole : goal.answer-requires-clause-whole
-answer-requires-clause-whole g c =
-    λ table within. subst (λ (order : List Place). Contains order table) (sym c.as_slice.ensures)
-    (whole-order (length c.args.query.now.tables) c.args.plan.now.order c.requires.plan table (omega (arith, within, c.requires.sets, ap (length {A = KeyedRows}) c.side_of-side.ensures.sets)))
-
-pub returns : goal.returns
-returns g c = rw (c.side_of-side.ensures.query, c.side_of-side.ensures.sets, c.side_of-side.ensures.choices) at c.answer.ensures
+pub returns-in-Err : goal.returns-in-Err
+returns-in-Err g c =
+    not-answered (g.C.ChoiceView.choices c.args.choices.now) c.args.query.now c.args.sets.now ANSWER_LIMIT c.in-Err.fault
+    (c.in-Err.ensures [] (gathered-none (λ found rows. rows ≡ found) (λ found. found) ANSWER_LIMIT c.start-rows.result c.start-rows.ensures))

@@ -1,15 +1,15 @@
--- What is found of all that counts is the answer, unless it is too much.
+-- All that counts is found, or more than the limit.
 use Rattle.std.proofs.Common.{◌≡◌, true, []}
 use Rattle.std.proofs.lemmas.Bool.{false≢true}
 use Rattle.hippo_eval.specs.declared.answers.TheConstants.{ANSWER_LIMIT}
 use Rattle.hippo_lookups.specs.Places.{stands}
 use Rattle.hippo_sides.proofs.FindingLemmas.{found-are, found-none}
-use Rattle.hippo_join.proofs.joins.answer.Goals as goal
+use Rattle.hippo_join.proofs.planned.visit_ordered.Goals as goal
 
 pub walk_all-requires-clause-rises : goal.walk_all-requires-clause-rises
 walk_all-requires-clause-rises g c = λ asked. absurd (false≢true asked)
 
-pub answer_found-requires : goal.answer_found-requires
-answer_found-requires g c =
+pub visit_found-requires : goal.visit_found-requires
+visit_found-requires g c =
     let visited = c.in-Ok.ensures [] [] (found-none ANSWER_LIMIT c.new-found.result.keys c.new-found.ensures.empty) in
     found-are (λ places. stands (g.C.ChoiceView.choices c.args.side.now.choices.now) c.args.side.now.query.now c.args.side.now.sets.now places ≡ true) ANSWER_LIMIT visited.all c.walk_all.new.state.keys visited.are.sound visited.are.whole visited.kept

@@ -1,0 +1,156 @@
+//! A visit of the combinations that a planned join finds, in the order of the product.
+ghost use Rattle.std.specs.Prelude.{◌≡◌, ◌<◌, true, List, length, map, slice_get, unwrap_or};
+ghost use Rattle.std.specs.List.{All, Contains};
+ghost use Rattle.std.specs.Option.{option_map_or};
+ghost use Rattle.hippo_model.specs.Terms.{Combination, Place};
+ghost use Rattle.hippo_model.specs.Answers.{product};
+ghost use Rattle.hippo_eval.specs.Walks.{rows_of, KeptAfter};
+ghost use Rattle.hippo_lookups.specs.Places.{chosen_rows, stands};
+ghost use Rattle.hippo_sides.specs.Finding.{AreFound};
+ghost use Rattle.hippo_sides.specs.Visiting.{counting};
+ghost use Rattle.hippo_join.specs.Plans.{IsPlanOf, KeptWithin};
+
+use crate::finding::PlaceFinder;
+use crate::joins::{blank_row, side_of};
+use crate::orders::is_in_order;
+use crate::visiting::walk_joined;
+use crate::walking::walk_all;
+use hippo_eval::{ANSWER_LIMIT, EvalFault, Onward, Visitor};
+use hippo_model::{BornRow, ChoiceView, Combo, Masked, Places, Plan};
+use hippo_rows::{RowSet, Sets};
+use hippo_sides::Side;
+use hippo_values::Memory;
+use std::alloc::Global;
+use std::collections::BTreeSet;
+
+fn place_at(places: &[usize], table: usize) -> Option<usize>
+    ensures { result ≡ slice_get places.now table }
+{
+    places.get(table).copied()
+}
+
+// The row at a place of a table, or a blank one.
+fn row_at<'a>(set: &'a RowSet, place: Option<usize>, blank: &'a BornRow) -> &'a BornRow
+    ensures { result.now ≡ option_map_or (λ place. unwrap_or (slice_get set.now.rows place)
+        blank.now) place blank.now }
+{
+    match place {
+        Some(place) if place < set.len() => set.born_row(place),
+        _ => blank,
+    }
+}
+
+// Puts the rows at these places in the place of those before.
+fn choose<'a, C: ChoiceView>(side: &Side<'a, C>, places: &[usize], rows: &mut Combo<'a>)
+    requires { length rows.old ≡ length side.now.sets.now }
+    ensures { rows.new ≡ chosen_rows side.now.sets.now places.now }
+{
+    for table in 0..side.sets.len() {
+        let place = place_at(places, table);
+        let row = row_at(side.sets.get(table), place, side.blank);
+        rows.set(table, &row.row, row.born);
+    }
+}
+
+// Visits combinations by their places, one after the other, until the visitor has enough.
+fn visit_each<C: ChoiceView, V: Visitor>(
+    side: &Side<'_, C>,
+    alloc: Global,
+    found: &BTreeSet<Places>,
+    visitor: &V,
+    state: &mut V::State,
+) -> Result<Onward, Memory>
+    ensures { (before : List Combination) → V.Keeps visitor.now before state.old
+        → KeptAfter (V.Keeps visitor.now) result before
+        (map (chosen_rows side.now.sets.now) found.now.keys) state.new }
+{
+    let mut rows = side.rows(alloc, &[])?;
+    for places in found {
+        choose(side, places.as_slice(), &mut rows);
+        let onward = visitor.visit(alloc, state, &rows)?;
+        if let Onward::Enough = onward {
+            return Ok(Onward::Enough);
+        }
+    }
+    Ok(Onward::More)
+}
+
+// Visits the combinations that count, where all of them are found, or more than the limit.
+fn visit_found<C: ChoiceView, V: Visitor>(
+    side: &Side<'_, C>,
+    alloc: Global,
+    found: &BTreeSet<Places>,
+    visitor: &V,
+    state: &mut V::State,
+) -> Result<(), EvalFault>
+    requires { AreFound (λ places. stands (C.choices side.now.choices.now) side.now.query.now
+        side.now.sets.now
+        places ≡ true) ANSWER_LIMIT found.now.keys }
+    ensures { (before : List Combination) → V.Keeps visitor.now before state.old
+        → KeptWithin ANSWER_LIMIT (V.Keeps visitor.now) result before
+        (counting (C.choices side.now.choices.now) side.now.query.now
+        (product (rows_of side.now.sets.now))) state.new }
+{
+    // The order of a set's members is known where its length was asked for.
+    if found.len() > ANSWER_LIMIT {
+        return Err(EvalFault::TooManyRows);
+    }
+    let _onward = visit_each(side, alloc, found, visitor, state)?;
+    Ok(())
+}
+
+// Visits the combinations that count, by joins of the tables in an order.
+fn visit_ordered<C: ChoiceView, V: Visitor>(
+    side: &Side<'_, C>,
+    alloc: Global,
+    order: &[usize],
+    visitor: &V,
+    state: &mut V::State,
+) -> Result<(), EvalFault>
+    requires below { All (λ table. table < length side.now.sets.now) order.now }
+    requires whole { (table : Place) → table < length side.now.sets.now
+        → Contains order.now table }
+    ensures { (before : List Combination) → V.Keeps visitor.now before state.old
+        → KeptWithin ANSWER_LIMIT (V.Keeps visitor.now) result before
+        (counting (C.choices side.now.choices.now) side.now.query.now
+        (product (rows_of side.now.sets.now))) state.new }
+{
+    let finder = PlaceFinder {
+        limit: ANSWER_LIMIT,
+    };
+    let mut found = BTreeSet::new(alloc);
+    match walk_all(side, alloc, order, false, &finder, &mut found) {
+        Ok(()) => visit_found(side, alloc, &found, visitor, state),
+        Err(Memory) => Err(EvalFault::Memory),
+    }
+}
+
+/// Visits each combination of one row of each table that counts for a query with the policy written
+/// into it, in the order of the product, the first table slowest, until the visitor has enough: the
+/// same as `walk_joined`, whatever the plan. Wants a plan of the query, and the rows of each of its
+/// tables, which are joined in the plan's order as `run` joins them. Where that is not the order of
+/// FROM, the places of what counts are found before the first visit, in memory in proportion to
+/// them; TooManyRows, and no visit, only where more than 100,000 combinations count.
+pub fn visit_planned<C: ChoiceView, V: Visitor>(
+    alloc: Global,
+    plan: &Plan,
+    query: &Masked,
+    sets: &Sets<'_>,
+    choices: &C,
+    visitor: &V,
+    state: &mut V::State,
+) -> Result<(), EvalFault>
+    requires sets { length sets.now ≡ length query.now.tables }
+    requires plan { IsPlanOf query.now plan.now }
+    ensures { (before : List Combination) → V.Keeps visitor.now before state.old
+        → KeptWithin ANSWER_LIMIT (V.Keeps visitor.now) result before
+        (counting (C.choices choices.now) query.now (product (rows_of sets.now))) state.new }
+{
+    if is_in_order(plan) {
+        walk_joined(alloc, query, sets, choices, visitor, state)?;
+        return Ok(());
+    }
+    let blank = blank_row(alloc)?;
+    let side = side_of(query, sets, choices, &blank);
+    visit_ordered(&side, alloc, plan.order.as_slice(), visitor, state)
+}
