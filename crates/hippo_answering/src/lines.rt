@@ -209,14 +209,7 @@ pub(crate) fn printed_lines(
         front: front.as_str(),
     };
     let mut lines = Lines::new(alloc)?;
-    match visit_rows(
-        alloc,
-        inquiry.query,
-        &inquiry.sets,
-        &inquiry.choices,
-        &printer,
-        &mut lines,
-    ) {
+    match visit_rows(alloc, inquiry, &printer, &mut lines) {
         Ok(()) => within_limit(lines),
         Err(fault) => Err(fault),
     }

@@ -68,10 +68,10 @@ pub fn run<C: ChoiceView>(
         (rows_of sets.now)) result }
 {
     let finder = RowFinder {
-        query,
-        choices,
         limit: ANSWER_LIMIT,
         gatherer: &Every,
+        query,
+        choices,
     };
     let mut rows = Every.start(alloc);
     match visit_planned(alloc, plan, query, sets, choices, &finder, &mut rows) {

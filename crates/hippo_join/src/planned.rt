@@ -1,7 +1,6 @@
 //! A visit of the combinations that a planned join finds, in the order of the product.
-ghost use Rattle.std.specs.Prelude.{◌≡◌, ◌<◌, true, List, length, map, slice_get, unwrap_or};
+ghost use Rattle.std.specs.Prelude.{◌≡◌, ◌<◌, true, List, length, map, slice_get};
 ghost use Rattle.std.specs.List.{All, Contains};
-ghost use Rattle.std.specs.Option.{option_map_or};
 ghost use Rattle.hippo_model.specs.Terms.{Combination, Place};
 ghost use Rattle.hippo_model.specs.Answers.{product};
 ghost use Rattle.hippo_eval.specs.Walks.{rows_of, KeptAfter};
@@ -16,9 +15,9 @@ use crate::orders::is_in_order;
 use crate::visiting::walk_joined;
 use crate::walking::walk_all;
 use hippo_eval::{ANSWER_LIMIT, EvalFault, Onward, Visitor};
-use hippo_model::{BornRow, ChoiceView, Combo, Masked, Places, Plan};
-use hippo_rows::{RowSet, Sets};
-use hippo_sides::Side;
+use hippo_model::{ChoiceView, Combo, Masked, Places, Plan};
+use hippo_rows::Sets;
+use hippo_sides::{Side, chosen_row};
 use hippo_values::Memory;
 use std::alloc::Global;
 use std::collections::BTreeSet;
@@ -29,17 +28,6 @@ fn place_at(places: &[usize], table: usize) -> Option<usize>
     places.get(table).copied()
 }
 
-// The row at a place of a table, or a blank one.
-fn row_at<'a>(set: &'a RowSet, place: Option<usize>, blank: &'a BornRow) -> &'a BornRow
-    ensures { result.now ≡ option_map_or (λ place. unwrap_or (slice_get set.now.rows place)
-        blank.now) place blank.now }
-{
-    match place {
-        Some(place) if place < set.len() => set.born_row(place),
-        _ => blank,
-    }
-}
-
 // Puts the rows at these places in the place of those before.
 fn choose<'a, C: ChoiceView>(side: &Side<'a, C>, places: &[usize], rows: &mut Combo<'a>)
     requires { length rows.old ≡ length side.now.sets.now }
@@ -47,16 +35,16 @@ fn choose<'a, C: ChoiceView>(side: &Side<'a, C>, places: &[usize], rows: &mut Co
 {
     for table in 0..side.sets.len() {
         let place = place_at(places, table);
-        let row = row_at(side.sets.get(table), place, side.blank);
+        let row = chosen_row(side.sets.get(table), place, side.blank);
         rows.set(table, &row.row, row.born);
     }
 }
 
 // Visits combinations by their places, one after the other, until the visitor has enough.
 fn visit_each<C: ChoiceView, V: Visitor>(
+    found: &BTreeSet<Places>,
     side: &Side<'_, C>,
     alloc: Global,
-    found: &BTreeSet<Places>,
     visitor: &V,
     state: &mut V::State,
 ) -> Result<Onward, Memory>
@@ -95,21 +83,21 @@ fn visit_found<C: ChoiceView, V: Visitor>(
     if found.len() > ANSWER_LIMIT {
         return Err(EvalFault::TooManyRows);
     }
-    let _onward = visit_each(side, alloc, found, visitor, state)?;
+    let _onward = visit_each(found, side, alloc, visitor, state)?;
     Ok(())
 }
 
 // Visits the combinations that count, by joins of the tables in an order.
 fn visit_ordered<C: ChoiceView, V: Visitor>(
+    order: &[usize],
     side: &Side<'_, C>,
     alloc: Global,
-    order: &[usize],
     visitor: &V,
     state: &mut V::State,
 ) -> Result<(), EvalFault>
-    requires below { All (λ table. table < length side.now.sets.now) order.now }
     requires whole { (table : Place) → table < length side.now.sets.now
         → Contains order.now table }
+    requires below { All (λ table. table < length side.now.sets.now) order.now }
     ensures { (before : List Combination) → V.Keeps visitor.now before state.old
         → KeptWithin ANSWER_LIMIT (V.Keeps visitor.now) result before
         (counting (C.choices side.now.choices.now) side.now.query.now
@@ -152,5 +140,5 @@ pub fn visit_planned<C: ChoiceView, V: Visitor>(
     }
     let blank = blank_row(alloc)?;
     let side = side_of(query, sets, choices, &blank);
-    visit_ordered(&side, alloc, plan.order.as_slice(), visitor, state)
+    visit_ordered(plan.order.as_slice(), &side, alloc, visitor, state)
 }

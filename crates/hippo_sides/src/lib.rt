@@ -13,5 +13,5 @@ mod sufficing;
 pub use following::{Following, ascends, listed};
 pub use keys::Span;
 pub use reaching::{open_slots, push_if};
-pub use sides::Side;
+pub use sides::{Side, chosen_row};
 pub use stages::Stage;

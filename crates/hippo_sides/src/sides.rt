@@ -28,8 +28,8 @@ pub struct Side<'a, C> {
     ghost is_blank: { blank.now ≡ blank_row },
 }
 
-// The row that is chosen in a table, or the blank one.
-fn chosen_row<'a>(set: &'a RowSet, slot: Option<usize>, blank: &'a BornRow) -> &'a BornRow
+/// The row that is chosen in a table, or the blank one.
+pub fn chosen_row<'a>(set: &'a RowSet, slot: Option<usize>, blank: &'a BornRow) -> &'a BornRow
     ensures { result.now ≡ option_map_or (λ place. unwrap_or (slice_get set.now.rows place)
         blank.now) slot blank.now }
 {
