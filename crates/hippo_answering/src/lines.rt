@@ -209,7 +209,14 @@ pub(crate) fn printed_lines(
         front: front.as_str(),
     };
     let mut lines = Lines::new(alloc)?;
-    match visit_rows(alloc, inquiry, &printer, &mut lines) {
+    match visit_rows(
+        alloc,
+        &printer,
+        &mut lines,
+        inquiry.query,
+        &inquiry.sets,
+        &inquiry.choices,
+    ) {
         Ok(()) => within_limit(lines),
         Err(fault) => Err(fault),
     }

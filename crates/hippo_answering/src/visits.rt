@@ -6,31 +6,28 @@ ghost use Rattle.hippo_eval.specs.Walks.{rows_of};
 ghost use Rattle.hippo_sides.specs.Visiting.{counting};
 ghost use Rattle.hippo_join.specs.Plans.{KeptWithin};
 
-use crate::inquiry::Inquiry;
 use crate::sizes::sizes_of;
 use hippo_eval::{ANSWER_LIMIT, EvalFault, Visitor};
 use hippo_join::{plan, visit_planned, walk_joined};
-use hippo_model::ChoiceView;
-use hippo_policy::ChoicesAt;
+use hippo_model::{ChoiceView, Masked};
+use hippo_rows::Sets;
 use std::alloc::Global;
 
 /// Visits the combinations that count, in the order of the product, by joins in an order that is
 /// planned; over one table there is nothing to plan.
-pub(crate) fn visit_rows<V: Visitor>(
+pub(crate) fn visit_rows<C: ChoiceView, V: Visitor>(
     alloc: Global,
-    inquiry: &Inquiry<'_>,
     visitor: &V,
     state: &mut V::State,
+    query: &Masked,
+    sets: &Sets<'_>,
+    choices: &C,
 ) -> Result<(), EvalFault>
-    requires { length inquiry.now.sets ≡ length inquiry.now.query.now.tables }
+    requires { length sets.now ≡ length query.now.tables }
     ensures { (before : List Combination) → V.Keeps visitor.now before state.old
         → KeptWithin ANSWER_LIMIT (V.Keeps visitor.now) result before
-        (counting (⟦<ChoicesAt<'static> as ChoiceView>⟧.choices inquiry.now.choices)
-        inquiry.now.query.now (product (rows_of inquiry.now.sets))) state.new }
+        (counting (C.choices choices.now) query.now (product (rows_of sets.now))) state.new }
 {
-    let query = inquiry.query;
-    let sets = &inquiry.sets;
-    let choices = &inquiry.choices;
     if sets.len() < 2 {
         walk_joined(alloc, query, sets, choices, visitor, state)?;
         return Ok(());
