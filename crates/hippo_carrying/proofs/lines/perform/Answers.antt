@@ -24,7 +24,9 @@ pub returns-in-SetClock-clause-performs : goal.returns-in-SetClock-clause-perfor
 returns-in-SetClock-clause-performs g c = rw c.in-SetClock.is (λ command does. by_quiet c.requires.at_work (c.set_clock.ensures command does))
 
 pub returns-in-LogIn-clause-performs : goal.returns-in-LogIn-clause-performs
-returns-in-LogIn-clause-performs g c = rw c.in-LogIn.is (λ command does. by_quiet c.requires.at_work (c.log_in.ensures command does))
+returns-in-LogIn-clause-performs g c =
+    let opens = rw (c.into_inner.ensures, c.into_inner-in-LogIn.ensures) at c.log_in.ensures in
+    rw c.in-LogIn.is (λ command does. by_quiet c.requires.at_work (opens command does))
 
 pub returns-in-LogOut-clause-performs : goal.returns-in-LogOut-clause-performs
 returns-in-LogOut-clause-performs g c = rw c.in-LogOut.is (λ command does. by_quiet c.requires.at_work (c.log_out.ensures command does))
@@ -84,15 +86,17 @@ pub returns-in-Audit-clause-performs : goal.returns-in-Audit-clause-performs
 returns-in-Audit-clause-performs g c = rw c.in-Audit.is c.audit_history.ensures.carries
 
 pub begin_audit-requires : goal.begin_audit-requires
-begin_audit-requires g c = let needs = rw c.in-BeginAudit.is at c.requires.needs in record { differ = needs.1.1.differ }
+begin_audit-requires g c = let needs = rw c.in-BeginAudit.is at c.requires.needs in record { differ = rw c.into_inner-in-BeginAudit.ensures needs.1.1.differ }
 
 pub returns-in-BeginAudit-clause-performs : goal.returns-in-BeginAudit-clause-performs
 returns-in-BeginAudit-clause-performs g c =
     rw c.in-BeginAudit.is
-    (λ command does. by_nothing c.requires.at_work (AddsNothing-does command c.in-BeginAudit.job c.in-BeginAudit.audit c.args.engine.now c.begin_audit.new.self does c.begin_audit.ensures))
+    (λ command does. by_nothing c.requires.at_work (AddsNothing-does command c.in-BeginAudit.job c.in-BeginAudit.audit c.args.engine.now c.begin_audit.new.self does (rw c.into_inner-in-BeginAudit.ensures at c.begin_audit.ensures)))
 
 pub watch-requires : goal.watch-requires
-watch-requires g c = let needs = rw c.in-Watch.is at c.requires.needs in record { differ = needs.1.1.differ }
+watch-requires g c = let needs = rw c.in-Watch.is at c.requires.needs in record { differ = rw c.into_inner-in-Watch.ensures needs.1.1.differ }
 
 pub returns-in-Watch-clause-performs : goal.returns-in-Watch-clause-performs
-returns-in-Watch-clause-performs g c = rw c.in-Watch.is (λ command does. by_nothing c.requires.at_work (c.watch.ensures command does))
+returns-in-Watch-clause-performs g c =
+    let watches = rw c.into_inner-in-Watch.ensures at c.watch.ensures in
+    rw c.in-Watch.is (λ command does. by_nothing c.requires.at_work (watches command does))
