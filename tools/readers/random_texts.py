@@ -1,5 +1,5 @@
 #!/usr/bin/env python3
-"""Prints random texts for hippo_read and for second_reader.py, each behind the word of a rule.
+"""Prints random texts for hippo_try_reading and for second_reader.py, each behind the word of a rule.
 
 About half of the texts are right, the others broken or odd. A third word prints those of one half alone.
 usage: random_texts.py SEED COUNT [right|broken]

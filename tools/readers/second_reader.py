@@ -2,7 +2,7 @@
 """A second reader of the statement language, written from the grammar alone: it shares no code with the proved one.
 
 Each line of standard input is the word of a rule (tokens, statement, select, condition or audit), a space and a text. What
-the text is by that rule, or why it is nothing, is printed as one line, in the form that hippo_read has.
+the text is by that rule, or why it is nothing, is printed as one line, in the form that hippo_try_reading has.
 """
 import re
 import sys

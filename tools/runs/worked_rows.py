@@ -1,4 +1,4 @@
-"""Writes the lines of each worked row of hippo_runs that is a run in which nothing fails, a file a row.
+"""Writes the lines of each worked row of hippo_try_runs that is a run in which nothing fails, a file a row.
 
 usage: worked_rows.py FOLDER
 """
@@ -7,7 +7,7 @@ import re
 import sys
 
 HERE = pathlib.Path(__file__).resolve().parent
-ROWS = HERE.parent.parent / "crates/hippo_runs"
+ROWS = HERE.parent.parent / "crates/hippo_try_runs"
 FAULTS = {"reads", "writes", "fails", "keeps", "room"}
 
 

@@ -2,14 +2,14 @@
 //! output; the history is in a SQLite file, or in memory.
 #![tactic(auto)]
 
-ghost use Rattle.hippo_running.specs.Endings.{statuses};
-ghost use Rattle.hippo_start.specs.Statuses.{AnswersAmong, TellsFault};
-ghost use Rattle.hippo_words.specs.CommandLine.{call_of};
+ghost use Rattle.hippo_serve_jobs.specs.Endings.{statuses};
+ghost use Rattle.hippo_program_start.specs.Statuses.{AnswersAmong, TellsFault};
+ghost use Rattle.hippo_serve_args.specs.CommandLine.{call_of};
 
-use hippo_files::FileKeeper;
 use hippo_io::{Sink, Source};
+use hippo_program_start::{Ended, Host, Program, start};
 use hippo_serve::hippo_top;
-use hippo_start::{Ended, Host, Program, start};
+use hippo_sqlite_files::FileKeeper;
 use hippo_values::Txt;
 use std::sync::ledger::Ledger;
 

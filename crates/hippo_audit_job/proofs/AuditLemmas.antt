@@ -10,17 +10,17 @@ use Rattle.hippo_model.specs.declared.name_fault.NameFault.TheVariants.{UnknownT
 use Rattle.hippo_model.specs.declared.query.Ref.{Ref}
 use Rattle.hippo_model.specs.declared.schema.Column.{Column}
 use Rattle.hippo_model.specs.declared.schema.Schema.{Schema}
-use Rattle.hippo_statements.specs.declared.statement.RawAudit.{RawAudit}
-use Rattle.hippo_statements.specs.declared.statement.RawColumn.{RawColumn}
+use Rattle.hippo_stmt_ast.specs.declared.statement.RawAudit.{RawAudit}
+use Rattle.hippo_stmt_ast.specs.declared.statement.RawColumn.{RawColumn}
 use Rattle.hippo_model.specs.Terms.{History, Place}
 use Rattle.hippo_model.specs.Histories.{schema_at}
 use Rattle.hippo_model.specs.Validity.{is_valid}
-use Rattle.hippo_catalog.specs.declared.period.Period.{Period}
-use Rattle.hippo_catalog.specs.AuditExpressions.{audit_refused, audit_of}
-use Rattle.hippo_catalog.specs.Catalogs.{KnownNames, known_at, table_of, schemas_of}
-use Rattle.hippo_catalog.specs.Refusals.{fault_if, unknown_table}
-use Rattle.hippo_catalog.proofs.DifferLemmas.{none_of_both, names_differ, distinct_so}
-use Rattle.hippo_catalog.specs.WrittenColumns.{place_of, may_stand_in, home_in, homes, homes_refused, column_refused, column_of}
+use Rattle.hippo_typing_catalog.specs.declared.period.Period.{Period}
+use Rattle.hippo_typing_catalog.specs.AuditExpressions.{audit_refused, audit_of}
+use Rattle.hippo_typing_catalog.specs.Catalogs.{KnownNames, known_at, table_of, schemas_of}
+use Rattle.hippo_typing_catalog.specs.Refusals.{fault_if, unknown_table}
+use Rattle.hippo_typing_catalog.proofs.DifferLemmas.{none_of_both, names_differ, distinct_so}
+use Rattle.hippo_typing_catalog.specs.WrittenColumns.{place_of, may_stand_in, home_in, homes, homes_refused, column_refused, column_of}
 use Rattle.hippo_typing.specs.ResolutionLaws.{NamesAreThoseOf}
 use Rattle.hippo_typing.specs.Meanings.{meaning}
 use Rattle.hippo_typing.proofs.CatalogTheorem.{valid_names}
@@ -28,14 +28,14 @@ use Rattle.hippo_typing.proofs.LastingNames.{extends_later, audit_lasts}
 use Rattle.hippo_audit_job.specs.Examining.{IsColumnOf, IsAuditOf}
 
 -- the column stands in the schema at its table's place behind this one
-record StandsBehind (place : ℕ) (schemas : List Schema) (column : Ref) : Type 0 where
+record StandsAfter (place : ℕ) (schemas : List Schema) (column : Ref) : Type 0 where
   offset : ℕ
   table_is : column.table ≡ place + offset
   schema : Schema
   there : slice_get schemas offset ≡ Some schema
   within : nat_lt column.column (length schema.columns) ≡ true
 
-one_further : (place : ℕ) (first : Schema) (rest : List Schema) (column : Ref) → StandsBehind (place + 1) rest column → StandsBehind place (first ∷ rest) column
+one_further : (place : ℕ) (first : Schema) (rest : List Schema) (column : Ref) → StandsAfter (place + 1) rest column → StandsAfter place (first ∷ rest) column
 one_further place first rest column stands =
     let table_is = stands.table_is in
     record {
@@ -46,7 +46,7 @@ one_further place first rest column stands =
       within = stands.within;
     }
 
-all_further : (place : ℕ) (first : Schema) (rest : List Schema) (columns : List Ref) → AllByRecursion (StandsBehind (place + 1) rest) columns → AllByRecursion (StandsBehind place (first ∷ rest)) columns
+all_further : (place : ℕ) (first : Schema) (rest : List Schema) (columns : List Ref) → AllByRecursion (StandsAfter (place + 1) rest) columns → AllByRecursion (StandsAfter place (first ∷ rest)) columns
 all_further place first rest [] all = tt
 all_further place first rest (column ∷ columns) all = (one_further place first rest column all.0, all_further place first rest columns all.1)
 
@@ -59,29 +59,29 @@ found_within schema name place found = by schema.columns refl
         absurd cc
     by (first ∷ rest) same = lt-ltb place (length schema.columns) (position-Some (λ (known : Column). bytes_eq name known.name) schema.columns place first found).0
 
-homes_there : (written : RawColumn) (place : ℕ) (schemas : List Schema) → AllByRecursion (StandsBehind place schemas) (filter_map (λ (at, schema). home_in written at schema) (enumerate_from place schemas))
+homes_there : (written : RawColumn) (place : ℕ) (schemas : List Schema) → AllByRecursion (StandsAfter place schemas) (filter_map (λ (at, schema). home_in written at schema) (enumerate_from place schemas))
 homes_there written place [] = tt
 homes_there written place (schema ∷ rest) =
     let later = all_further place schema rest _ (homes_there written (place + 1) rest) in
     with_home (may_stand_in written.table schema.name) (place_of schema written.column) refl _ later
   where
-    with_home : (may : Bool) (found : Option Place) → place_of schema written.column ≡ found → (columns : List Ref) → AllByRecursion (StandsBehind place (schema ∷ rest)) columns
-        → AllByRecursion (StandsBehind place (schema ∷ rest)) (cons_option (cond may (option_map (λ column. record { table = place; column = column }) found) None) columns)
+    with_home : (may : Bool) (found : Option Place) → place_of schema written.column ≡ found → (columns : List Ref) → AllByRecursion (StandsAfter place (schema ∷ rest)) columns
+        → AllByRecursion (StandsAfter place (schema ∷ rest)) (cons_option (cond may (option_map (λ column. record { table = place; column = column }) found) None) columns)
     with_home false found is columns later = later
     with_home true None is columns later = later
     with_home true (Some column) is columns later = (record { offset = 0; table_is = omega arith; schema = schema; there = refl; within = found_within schema written.column column is }, later)
 
 -- a column that is one of the statement's is found there
-found_there : (schemas : List Schema) (written : RawColumn) → column_refused schemas written ≡ [] → StandsBehind 0 schemas (column_of schemas written)
+found_there : (schemas : List Schema) (written : RawColumn) → column_refused schemas written ≡ [] → StandsAfter 0 schemas (column_of schemas written)
 found_there schemas written none = by (homes schemas written) (homes_there written 0 schemas) refl
   where
-    by : (found : List Ref) → AllByRecursion (StandsBehind 0 schemas) (homes schemas written) → homes schemas written ≡ found → StandsBehind 0 schemas (column_of schemas written)
+    by : (found : List Ref) → AllByRecursion (StandsAfter 0 schemas) (homes schemas written) → homes schemas written ≡ found → StandsAfter 0 schemas (column_of schemas written)
     by [] all is =
         let none_there = sym (ap (homes_refused written) is) ∙ none in
         absurd cc
     by (home ∷ rest) all is =
         let first : column_of schemas written ≡ home = ap (λ (l : List Ref). unwrap_or (slice_get l 0) (record { table = 0; column = 0 })) is in
-        subst (StandsBehind 0 schemas) (sym first) (subst (AllByRecursion (StandsBehind 0 schemas)) is all).0
+        subst (StandsAfter 0 schemas) (sym first) (subst (AllByRecursion (StandsAfter 0 schemas)) is all).0
 
 module _ (known : KnownNames) where
   known_table : (table : Name) → unknown_table known table ≡ [] → ((schema : Schema) × (table_of known table ≡ Some schema))
@@ -105,14 +105,14 @@ module _ (known : KnownNames) where
       by : (place : ℕ) (first : Schema) → table_of known table ≡ Some first → flat_map (unknown_table known) rest ≡ [] → slice_get (first ∷ schemas_of known rest) place ≡ Some schema → ((later : ℕ) → slice_get (schemas_of known rest) later ≡ Some schema → (later < length rest) × (table_of known (slice_index_or rest later []) ≡ Some schema)) → (place < length (table ∷ rest)) × (table_of known (slice_index_or (table ∷ rest) place []) ≡ Some schema)
       by zero first is none same others = (omega arith, is ∙ same)
       by (suc later) first is none same others =
-          let behind = others later same in
-          (omega (arith, behind.0), behind.1)
+          let remaining = others later same in
+          (omega (arith, remaining.0), remaining.1)
 
 module _ (history : History) (names : NamesAreThoseOf history) (tables : List Name) (none : flat_map (unknown_table (known_at history)) tables ≡ []) where
-  is_column : (column : Ref) → StandsBehind 0 (schemas_of (known_at history) tables) column → IsColumnOf history tables column
+  is_column : (column : Ref) → StandsAfter 0 (schemas_of (known_at history) tables) column → IsColumnOf history tables column
   is_column column stands =
-      let behind = stands.table_is in
-      let table_is : column.table ≡ stands.offset = omega (arith, behind) in
+      let remaining = stands.table_is in
+      let table_is : column.table ≡ stands.offset = omega (arith, remaining) in
       let there = table_there (known_at history) tables none stands.offset stands.schema stands.there in
       let passes : Option Schema → Bool = λ found. option_map_or (λ schema. nat_lt column.column (length schema.columns)) found false in
       record {

@@ -18,7 +18,7 @@ use Rattle.hippo_model.specs.StoredForms.{stored}
 use Rattle.hippo_model.specs.Validity.{is_valid}
 use Rattle.hippo_model.specs.Versions.{versions}
 use Rattle.hippo_model.specs.Audits.{flag_by, flag_of, flags_between, shared_tuple}
-use Rattle.hippo_laws.proofs.ValidFronts.{entry_has_its_number}
+use Rattle.hippo_model_laws.proofs.ValidFronts.{entry_has_its_number}
 use Rattle.hippo_entry.specs.Forms.{IsEntryOf}
 use Rattle.hippo_keeper.specs.Keeping.{Store, KeeperState, RisesAbove, last_number}
 use Rattle.hippo_typing.specs.Meanings.{meaning}
@@ -67,9 +67,9 @@ skipped history audit ahead low high valid le split moved same =
     let parts : filter test (take high history) ≡ filter test (take low history) ++ filter test more = ap (λ (n : ℕ). filter test (take n history)) whole ∙ ap (filter test) (take-add low (high - low) history) ∙ filter-append test (take low history) more in
     no_questions meaning history audit more (none_pass test more (nothing_more (filter test (take low history)) (filter test more) (sym parts ∙ sym other ∙ same ∙ one)))
 
-at_end : (front behind : History) (entry : Entry) → slice_get (front ++ entry ∷ behind) (length front) ≡ Some entry
-at_end [] behind entry = refl
-at_end (first ∷ front) behind entry = at_end front behind entry
+at_end : (front remaining : History) (entry : Entry) → slice_get (front ++ entry ∷ remaining) (length front) ≡ Some entry
+at_end [] remaining entry = refl
+at_end (first ∷ front) remaining entry = at_end front remaining entry
 
 one_there : (history : History) (place : ℕ) (entry : Entry) → slice_get history place ≡ Some entry → take 1 (drop place history) ≡ entry ∷ []
 one_there [] place entry is = absurd cc
@@ -148,13 +148,13 @@ module _ {X : Type 0} (terms : Examination X) where
     -- it is a question of the history
     pub is_there : IsQuestionOf history job.audit waits.entry
     is_there = record {
-      stands = record { valid = valid; place = length there.front; stands = ap (λ (h : History). slice_get h (length there.front)) there.whole ∙ at_end there.front there.behind waits.entry };
+      stands = record { valid = valid; place = length there.front; stands = ap (λ (h : History). slice_get h (length there.front)) there.whole ∙ at_end there.front there.remaining waits.entry };
       asked = there.passes;
     }
 
     is_kept : is_keepable waits.entry ≡ true
     is_kept =
-        let may = may_there meaning there.front there.behind waits.entry (ap (is_valid meaning) (sym there.whole) ∙ valid) in
+        let may = may_there meaning there.front there.remaining waits.entry (ap (is_valid meaning) (sym there.whole) ∙ valid) in
         (and_parts _ _ (and_parts _ _ (and_parts _ _ may).0).0).0
 
     -- which has a form

@@ -38,10 +38,10 @@ flags_parted history audit above cut upto low high =
     let here : ℕ = cut - above in
     let later : ℕ = upto - cut in
     let whole : upto - above ≡ here + later = omega (arith, low, high) in
-    let behind : above + here ≡ cut = omega (arith, low) in
+    let remaining : above + here ≡ cut = omega (arith, low) in
     let entries : take (upto - above) (drop above history) ≡ take here (drop above history) ++ take later (drop cut history) =
     ap (λ (n : ℕ). take n (drop above history)) whole ∙ take-add here later (drop above history)
-    ∙ ap (λ (rest : History). take here (drop above history) ++ take later rest) (drop-drop here above history ∙ ap (λ (n : ℕ). drop n history) behind) in
+    ∙ ap (λ (rest : History). take here (drop above history) ++ take later rest) (drop-drop here above history ∙ ap (λ (n : ℕ). drop n history) remaining) in
     ap (filter_map (flag_of meaning history audit)) entries
     ∙ filter_map-append (flag_of meaning history audit) (take here (drop above history)) (take later (drop cut history))
 

@@ -23,8 +23,8 @@ use Rattle.hippo_model.specs.Rules.{authorized_at}
 use Rattle.hippo_model.specs.Verdicts.{Context}
 use Rattle.hippo_model.specs.Columns.{names_all}
 use Rattle.hippo_model.specs.Audits.{in_period, is_exempt, shared_by, shared_in, flag_by, flag_of, flags_between}
-use Rattle.hippo_laws.specs.Audits.{StandsIn}
-use Rattle.hippo_laws.proofs.ValidFronts.{before-append, entry_has_its_number, front_is_valid}
+use Rattle.hippo_model_laws.specs.Audits.{StandsIn}
+use Rattle.hippo_model_laws.proofs.ValidFronts.{before-append, entry_has_its_number, front_is_valid}
 use Rattle.hippo_typing.specs.Meanings.{meaning}
 use Rattle.hippo_typing.proofs.LastingMeanings.{meaning_lasts}
 use Rattle.hippo_backlog.proofs.VersionsTheorem.{may_there}
@@ -103,8 +103,8 @@ pub first_there : (place : ℕ) (history : History) (entry : Entry) (rest : Hist
 first_there zero [] entry rest is = absurd cc
 first_there zero (first ∷ others) entry rest is =
     let same : first ≡ entry = cc in
-    let behind : others ≡ rest = cc in
-    (ap Some same, behind)
+    let remaining : others ≡ rest = cc in
+    (ap Some same, remaining)
 first_there (suc place) [] entry rest is = absurd cc
 first_there (suc place) (first ∷ others) entry rest is = first_there place others entry rest is
 

@@ -16,9 +16,9 @@ use Rattle.hippo_model.specs.Validity.{is_valid, table_passes}
 use Rattle.hippo_model.specs.Verdicts.{Context}
 use Rattle.hippo_model.specs.Versions.{versions}
 use Rattle.hippo_model.specs.Audits.{first_serving}
-use Rattle.hippo_laws.specs.Audits.{StandsIn}
+use Rattle.hippo_model_laws.specs.Audits.{StandsIn}
 use Rattle.hippo_keeper.specs.Keeping.{KeeperState, IsReady, IsAfterCall, KeepsSame}
-use Rattle.hippo_catalog.specs.Catalogs.{known_at}
+use Rattle.hippo_typing_catalog.specs.Catalogs.{known_at}
 use Rattle.hippo_policy.specs.Books.{BookStandsFor}
 use Rattle.hippo_typing.specs.Meanings.{meaning}
 use Rattle.hippo_backlog.specs.declared.faults.ReadFault.{ReadFault}

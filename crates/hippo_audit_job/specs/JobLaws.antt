@@ -7,15 +7,15 @@ use Rattle.hippo_model.specs.declared.audit.Audit.{Audit}
 use Rattle.hippo_model.specs.declared.entry.Act.TheVariants.{Asked}
 use Rattle.hippo_model.specs.declared.entry.Entry.{Entry}
 use Rattle.hippo_model.specs.declared.query.Query.{Query}
-use Rattle.hippo_statements.specs.declared.statement.RawAudit.{RawAudit}
+use Rattle.hippo_stmt_ast.specs.declared.statement.RawAudit.{RawAudit}
 use Rattle.hippo_model.specs.Terms.{History, Meaning}
 use Rattle.hippo_model.specs.Histories.{before_entry}
 use Rattle.hippo_model.specs.Validity.{is_valid}
 use Rattle.hippo_model.specs.Audits.{flags_between}
-use Rattle.hippo_laws.specs.Audits.{StandsIn}
-use Rattle.hippo_catalog.specs.declared.period.Period.{Period}
-use Rattle.hippo_catalog.specs.Catalogs.{known_at}
-use Rattle.hippo_catalog.specs.AuditExpressions.{audit_refused, audit_of}
+use Rattle.hippo_model_laws.specs.Audits.{StandsIn}
+use Rattle.hippo_typing_catalog.specs.declared.period.Period.{Period}
+use Rattle.hippo_typing_catalog.specs.Catalogs.{known_at}
+use Rattle.hippo_typing_catalog.specs.AuditExpressions.{audit_refused, audit_of}
 use Rattle.hippo_typing.specs.Meanings.{meaning}
 use Rattle.hippo_audit_job.specs.Examining.{IsAuditOf}
 use Rattle.hippo_audit_job.specs.Looking.{is_question_in_period}

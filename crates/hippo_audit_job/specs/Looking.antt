@@ -15,7 +15,7 @@ use Rattle.hippo_model.specs.HandedOver.{is_question}
 use Rattle.hippo_model.specs.Columns.{names_all}
 use Rattle.hippo_model.specs.Stores.{IsStoreOf}
 use Rattle.hippo_model.specs.Audits.{in_period, shared_tuple}
-use Rattle.hippo_laws.specs.Audits.{StandsIn}
+use Rattle.hippo_model_laws.specs.Audits.{StandsIn}
 use Rattle.hippo_entry.specs.Forms.{IsEntryOf}
 use Rattle.hippo_keeper.specs.Keeping.{KeeperState, IsAfterCall, RisesAbove, last_number, KeepsSame}
 use Rattle.hippo_typing.specs.Meanings.{meaning_in, meaning}

@@ -1,6 +1,6 @@
 //! What is known of the history whose past is looked at.
-use hippo_catalog::Catalog;
 use hippo_policy::PolicyBook;
+use hippo_typing_catalog::Catalog;
 
 /// The names, the rules and choices, and the length of the history as it stands now: whoever looks
 /// at its past reads the rest from the keeper.

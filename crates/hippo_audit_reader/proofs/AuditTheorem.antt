@@ -2,8 +2,8 @@
 use Rattle.std.proofs.Common.{◌≡◌, ℕ, suc, ◌<◌, Bool, List, [], ◌∷◌, length, Option, Some, None, refl, arith}
 use Rattle.std.proofs.lemmas.Option.{none-some, some_pair_parts}
 use Rattle.hippo_model.specs.declared.audit.Pair.{Pair}
-use Rattle.hippo_statements.specs.declared.statement.RawAudit.{RawAudit}
-use Rattle.hippo_statements.specs.declared.statement.RawColumn.{RawColumn}
+use Rattle.hippo_stmt_ast.specs.declared.statement.RawAudit.{RawAudit}
+use Rattle.hippo_stmt_ast.specs.declared.statement.RawColumn.{RawColumn}
 use Rattle.hippo_values.specs.declared.keywords.Keyword.TheVariants.{KAudit, KDuring, KFrom, KOtherthan, KShown, KTo, KWhere}
 use Rattle.hippo_lexer.specs.declared.kinds.Symbol.TheVariants.{Comma, LeftParen, RightParen, Semicolon}
 use Rattle.hippo_lexer.specs.declared.kinds.TokenKind.{TokenKind}
@@ -25,15 +25,15 @@ use Rattle.hippo_audit_reader.specs.AuditGrammar.{IsPair, pair, AreExempt, none_
 use Rattle.hippo_audit_reader.specs.AuditFinder.{leading_quoted, leading_pair, leading_exempt, period_of, leading_period, leading_shown, audit_with, leading_audit}
 
 leading_quoted-some : (tokens rest : List TokenKind) (text : List ℕ) → leading_quoted tokens ≡ Some (text, rest) → tokens ≡ Quoted text ∷ rest
-leading_quoted-some (Quoted first ∷ behind) rest text e = let p = some_pair_parts first text behind rest e in rw (p.0, p.1) refl
+leading_quoted-some (Quoted first ∷ remaining) rest text e = let p = some_pair_parts first text remaining rest e in rw (p.0, p.1) refl
 leading_quoted-some _ rest text e = absurd (none-some _ e)
 
 pair_found : (tokens : List TokenKind) (p : Pair) (rest : List TokenKind) → leading_pair tokens ≡ Some (p, rest) → IsPair tokens p rest
 unfolding leading_pair
 pair_found tokens p rest e =
     symbol_then LeftParen tokens _ _ e (λ inside is_open e.
-    name_then inside _ _ e (λ purpose behind is_purpose e.
-    symbol_then Comma behind _ _ e (λ after is_comma e.
+    name_then inside _ _ e (λ purpose remaining is_purpose e.
+    symbol_then Comma remaining _ _ e (λ after is_comma e.
     name_then after _ _ e (λ recipient last is_recipient e.
     symbol_then RightParen last _ _ e (λ left is_close e.
     rw (is_open, is_purpose, is_comma, is_recipient, is_close) (read_as IsPair _ _ _ _ _ e pair))))))
@@ -49,9 +49,9 @@ exempt_found : (tokens : List TokenKind) (pairs : List Pair) (rest : List TokenK
 unfolding leading_exempt
 exempt_found tokens pairs rest e =
     keyword_choice KOtherthan tokens _ _ _ e
-    (λ behind is_otherthan e. rw is_otherthan (otherthan
+    (λ remaining is_otherthan e. rw is_otherthan (otherthan
     (parts_found leading_pair (after_symbol Comma) IsPair (Symbol Comma) (IsListOf IsPair (Symbol Comma)) pair_found (after_symbol-some Comma)
-    (λ _ _ _ d. last_part d) (λ _ _ _ _ _ d ds. more_parts d ds) (suc (length behind)) behind pairs rest e)))
+    (λ _ _ _ d. last_part d) (λ _ _ _ _ _ d ds. more_parts d ds) (suc (length remaining)) remaining pairs rest e)))
     (λ _ e. read_as AreExempt tokens _ _ _ _ e none_exempt)
 
 exempt_complete : (tokens : List TokenKind) (pairs : List Pair) (rest : List TokenKind) → AreExempt tokens pairs rest → after_symbol Comma rest ≡ None → after_keyword KOtherthan rest ≡ None → leading_exempt tokens ≡ Some (pairs, rest)
@@ -64,7 +64,7 @@ shown_found : (tokens : List TokenKind) (shown : Bool) (rest : List TokenKind) �
 unfolding leading_shown
 shown_found tokens shown rest e =
     keyword_choice KShown tokens _ _ _ e
-    (λ behind is_shown e. rw is_shown (read_as IsShown _ _ _ _ _ e shown_cells))
+    (λ remaining is_shown e. rw is_shown (read_as IsShown _ _ _ _ _ e shown_cells))
     (λ _ e. read_as IsShown tokens _ _ _ _ e all_cells)
 
 columns-no_shown : (tokens : List TokenKind) (columns : List RawColumn) (rest : List TokenKind) → IsListOf IsColumn (Symbol Comma) tokens columns rest → after_keyword KShown tokens ≡ None
@@ -127,13 +127,13 @@ ends-semicolon rest = record { condition_ends = record { no_dot = refl; no_and =
 -- the audit expression is found, whole, where nothing behind it goes on with it
 pub complete : (tokens : List TokenKind) (a : RawAudit) (rest : List TokenKind) → IsAudit tokens a rest → AuditEnds rest → leading_audit tokens ≡ Some (a, rest)
 unfolding leading_audit leading_period
-complete _ _ rest (audit_expression {audit = audit} {last = last} {tokens = tokens} {audited = audited} {listed = listed} {named = named} {behind = behind}
+complete _ _ rest (audit_expression {audit = audit} {last = last} {tokens = tokens} {audited = audited} {listed = listed} {named = named} {remaining = remaining}
     are_exempt is_shown are_columns are_tables is_where is_whole) ends =
     rw (
       exempt_complete tokens audit.exempt (Keyword KAudit ∷ audited) are_exempt refl refl,
       shown_complete audited audit.shown listed is_shown (columns-no_shown listed audit.columns (Keyword KFrom ∷ named) are_columns),
       columns_complete listed audit.columns (Keyword KFrom ∷ named) are_columns refl refl,
-      names_complete named audit.tables behind are_tables (where-no_comma behind last rest is_where ends.no_comma),
-      where_complete behind last rest is_where ends.condition_ends ends.no_where,
+      names_complete named audit.tables remaining are_tables (where-no_comma remaining last rest is_where ends.no_comma),
+      where_complete remaining last rest is_where ends.condition_ends ends.no_where,
       ← is_whole,
     ) refl

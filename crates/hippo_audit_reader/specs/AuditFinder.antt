@@ -4,8 +4,8 @@ use Rattle.std.specs.Prelude.{Bool, true, false, List, [], ◌∷◌, Option, op
 use Rattle.hippo_values.specs.Texts.{Txt}
 use Rattle.hippo_values.specs.declared.names.Name.{Name}
 use Rattle.hippo_model.specs.declared.audit.Pair.{Pair}
-use Rattle.hippo_statements.specs.declared.statement.RawAudit.{RawAudit}
-use Rattle.hippo_statements.specs.declared.statement.RawColumn.{RawColumn}
+use Rattle.hippo_stmt_ast.specs.declared.statement.RawAudit.{RawAudit}
+use Rattle.hippo_stmt_ast.specs.declared.statement.RawColumn.{RawColumn}
 use Rattle.hippo_values.specs.declared.keywords.Keyword.TheVariants.{KAudit, KDuring, KFrom, KOtherthan, KShown, KTo}
 use Rattle.hippo_values.specs.Options.{◌>>=◌}
 use Rattle.hippo_lexer.specs.declared.kinds.Symbol.TheVariants.{Comma, LeftParen, RightParen}
@@ -28,8 +28,8 @@ unfoldable pub leading_pair : Finder Pair
 leading_pair tokens = do
   inside ← after_symbol LeftParen tokens
   purpose ← leading_name inside
-  behind ← after_symbol Comma purpose.1
-  recipient ← leading_name behind
+  remaining ← after_symbol Comma purpose.1
+  recipient ← leading_name remaining
   rest ← after_symbol RightParen recipient.1
   Some (record { purpose = purpose.0; recipient = recipient.0 }, rest)
 

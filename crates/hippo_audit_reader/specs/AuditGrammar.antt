@@ -3,7 +3,7 @@
 use Rattle.std.specs.Prelude.{◌≡◌, Bool, true, false, List, [], ◌∷◌, Option, option_to_list}
 use Rattle.hippo_values.specs.declared.names.Name.{Name}
 use Rattle.hippo_model.specs.declared.audit.Pair.{Pair}
-use Rattle.hippo_statements.specs.declared.statement.RawAudit.{RawAudit}
+use Rattle.hippo_stmt_ast.specs.declared.statement.RawAudit.{RawAudit}
 use Rattle.hippo_values.specs.declared.keywords.Keyword.TheVariants.{KAudit, KDuring, KFrom, KOtherthan, KShown, KTo}
 use Rattle.hippo_lexer.specs.declared.kinds.Symbol.TheVariants.{Comma, LeftParen, RightParen}
 use Rattle.hippo_lexer.specs.declared.kinds.TokenKind.TheVariants.{Word, Keyword, Quoted, Symbol}
@@ -35,12 +35,12 @@ pub data IsShown : Kinds → Bool → Kinds → Type 0 where
 --         AUDIT [SHOWN] column {"," column} FROM t {"," t} [WHERE cond]
 pub data IsAudit : Kinds → RawAudit → Kinds → Type 0 where
   audit_expression : {audit : RawAudit} {last : Option RawCond}
-      {tokens audited listed named behind rest : Kinds} →
+      {tokens audited listed named remaining rest : Kinds} →
       AreExempt tokens audit.exempt (Keyword KAudit ∷ audited) →
       IsShown audited audit.shown listed →
       IsListOf IsColumn (Symbol Comma) listed audit.columns (Keyword KFrom ∷ named) →
-      IsListOf IsName (Symbol Comma) named audit.tables behind →
-      IsWhere behind last rest →
+      IsListOf IsName (Symbol Comma) named audit.tables remaining →
+      IsWhere remaining last rest →
       audit.cond ≡ whole_condition (option_to_list last) →
       IsAudit (Keyword KDuring ∷ Quoted audit.from ∷ Keyword KTo ∷ Quoted audit.to ∷ tokens) audit
       rest

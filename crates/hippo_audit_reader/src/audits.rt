@@ -13,7 +13,7 @@ use hippo_spj_reader::{
     ColumnPart, Commas, NamePart, Part, after_keyword, after_where, expect_keyword, expect_symbol,
     list, name, split, whole, whole_condition,
 };
-use hippo_statements::{RawAudit, RawCond};
+use hippo_stmt_ast::{RawAudit, RawCond};
 use hippo_values::{Memory, Sequence, Txt};
 use std::alloc::Global;
 
@@ -57,10 +57,10 @@ impl Part for PairPart {
 fn exempt(alloc: Global, tokens: &[Token]) -> Result<(Pairs, &[Token]), SyntaxFault>
     ensures { Reads leading_exempt tokens.now result }
 {
-    let Some(behind) = after_keyword(tokens, Keyword::KOtherthan) else {
+    let Some(remaining) = after_keyword(tokens, Keyword::KOtherthan) else {
         return Ok((Sequence::new(alloc), tokens));
     };
-    list::<PairPart, Commas>(alloc, behind)
+    list::<PairPart, Commas>(alloc, remaining)
 }
 
 // The texts of the period's beginning and end.

@@ -12,7 +12,7 @@ use Rattle.hippo_model.specs.Terms.{History, Meaning}
 use Rattle.hippo_model.specs.StoredForms.{stored}
 use Rattle.hippo_model.specs.Validity.{is_valid}
 use Rattle.hippo_model.specs.Versions.{is_version, versions}
-use Rattle.hippo_laws.proofs.ValidFronts.{front_is_valid, next_number}
+use Rattle.hippo_model_laws.proofs.ValidFronts.{front_is_valid, next_number}
 use Rattle.hippo_keeper.specs.Keeping.{Store, RisesAbove, last_number}
 use Rattle.hippo_keeper.specs.Selecting.{is_stored_version, stored_versions, handed_over}
 use Rattle.hippo_keeper.proofs.RisingLemmas.{RisesAbove-lower, RisesAbove-append}
@@ -24,9 +24,9 @@ use Rattle.hippo_backlog.proofs.VersionsTheorem.{may_there}
 versions-append : (first second : History) → versions (first ++ second) ≡ versions first + versions second
 versions-append first second = sum_by-append (λ (entry : Entry). cond (is_version entry.act) 1 0) first second
 
-AreUpTo-behind : (number : ℕ) (front rest : History) → AreUpTo number (front ++ rest) → AreUpTo number rest
-AreUpTo-behind number [] rest up_to = up_to
-AreUpTo-behind number (entry ∷ front) rest up_to = AreUpTo-behind number front rest up_to.1
+AreUpTo-remaining : (number : ℕ) (front rest : History) → AreUpTo number (front ++ rest) → AreUpTo number rest
+AreUpTo-remaining number [] rest up_to = up_to
+AreUpTo-remaining number (entry ∷ front) rest up_to = AreUpTo-remaining number front rest up_to.1
 
 AreUpTo-take : (max number : ℕ) (history : History) → AreUpTo number history → AreUpTo number (take max history)
 AreUpTo-take zero number history up_to = tt
@@ -81,10 +81,10 @@ filter-both one other (entry ∷ rest) =
     ] refl
 
 -- a front of rising numbers, and those behind it
-behind_rises : (number max : ℕ) (later : History) → RisesAbove number (map stored later) → RisesAbove (last_number number (map stored (take max later))) (map stored (drop max later))
-behind_rises number zero later above = above
-behind_rises number (suc max) [] above = tt
-behind_rises number (suc max) (entry ∷ rest) above = behind_rises entry.seq max rest above.1
+after_rises : (number max : ℕ) (later : History) → RisesAbove number (map stored later) → RisesAbove (last_number number (map stored (take max later))) (map stored (drop max later))
+after_rises number zero later above = above
+after_rises number (suc max) [] above = tt
+after_rises number (suc max) (entry ∷ rest) above = after_rises entry.seq max rest above.1
 
 take_rises : (number max : ℕ) (later : History) → RisesAbove number (map stored later) → RisesAbove number (map stored (take max later))
 take_rises number zero later above = tt
@@ -257,7 +257,7 @@ module _ (test : Entry → Bool) where
         ∙ ap (λ (h : History). take max (map stored h)) (filter-both test above history ∙ ap (filter above) parts ∙ above_parts ahead.reached split.used split.later up_to split.later_above)
         ∙ take-map stored max split.later in
         let whole = take-append-drop max split.later in
-        let all_within = AreUpTo-behind (length history) split.used split.later (subst (λ (h : History). AreUpTo (length history) h) parts (filter-AreUpTo test (length history) history (valid-AreUpTo meaning history valid))) in
+        let all_within = AreUpTo-remaining (length history) split.used split.later (subst (λ (h : History). AreUpTo (length history) h) parts (filter-AreUpTo test (length history) history (valid-AreUpTo meaning history valid))) in
         let last_is : last_number ahead.reached piece ≡ last_number ahead.reached (map stored (take max split.later)) = ap (last_number ahead.reached) front in
         let rises = take_rises ahead.reached max split.later split.later_above in
         let last_up = last-above ahead.reached (map stored (take max split.later)) rises in
@@ -289,7 +289,7 @@ module _ (test : Entry → Bool) where
                   let few : length piece < max = is_below (length piece) max (both_true (nat_lt (length piece) max) (nat_lt (last_number ahead.reached piece) end) is).0 in
                   let none = short_front max split.later (subst (λ (s : Store). length s < max) front few) in
                   subst (λ (h : History). RisesAbove end (map stored h)) (sym none) tt
-              | false ↦ λ is. subst (λ (s : Store). RisesAbove (last_number ahead.reached s) (map stored (drop max split.later))) (sym front) (behind_rises ahead.reached max split.later split.later_above)
+              | false ↦ λ is. subst (λ (s : Store). RisesAbove (last_number ahead.reached s) (map stored (drop max split.later))) (sym front) (after_rises ahead.reached max split.later split.later_above)
             ] refl
 
     more_rises : (number : ℕ) (left : History) (entry : Entry) (passes : Bool) → number ≤ length history → entry.seq ≡ length history + 1 → AreUpTo (length history) left → RisesAbove number (map stored left) → RisesAbove number (map stored (left ++ cond passes (entry ∷ []) []))
@@ -307,8 +307,8 @@ module _ (test : Entry → Bool) where
         let reached_in = split.reached_within in
         let old_valid = front_is_valid meaning history (entry ∷ []) valid in
         let up_to = subst (λ (h : History). AreUpTo (length history) h) split.parts (filter-AreUpTo test (length history) history (valid-AreUpTo meaning history old_valid)) in
-        let left_up_to = AreUpTo-behind (length history) split.used (split.waiting ++ split.later) up_to in
-        let later_up_to = AreUpTo-behind (length history) split.waiting split.later left_up_to in
+        let left_up_to = AreUpTo-remaining (length history) split.used (split.waiting ++ split.later) up_to in
+        let later_up_to = AreUpTo-remaining (length history) split.waiting split.later left_up_to in
         let regrouped = append_assoc split.waiting split.later more in (
           record {
             used = split.used;

@@ -8,7 +8,7 @@ use Rattle.hippo_model.specs.declared.stored.StoredEntry.{StoredEntry}
 use Rattle.hippo_model.specs.Terms.{History, Meaning}
 use Rattle.hippo_model.specs.StoredForms.{stored}
 use Rattle.hippo_model.specs.Validity.{is_valid}
-use Rattle.hippo_laws.proofs.ValidFronts.{holds_of_each_valid, next_number}
+use Rattle.hippo_model_laws.proofs.ValidFronts.{holds_of_each_valid, next_number}
 use Rattle.hippo_keeper.specs.Keeping.{Store, RisesAbove, last_number}
 use Rattle.hippo_keeper.proofs.RisingLemmas.{RisesAbove-lower}
 use Rattle.hippo_backlog.specs.ReadingAhead.{AreUpTo}

@@ -7,7 +7,7 @@ use Rattle.hippo_model.specs.declared.entry.Entry.{Entry}
 use Rattle.hippo_model.specs.declared.schema.Schema.{Schema}
 use Rattle.hippo_model.specs.Terms.{History, Meaning, Place}
 use Rattle.hippo_model.specs.Histories.{schema_at}
-use Rattle.hippo_keyed_rows.specs.RowSets.{KeyedRows, kept_at}
+use Rattle.hippo_tables_keyed.specs.RowSets.{KeyedRows, kept_at}
 use Rattle.hippo_model.specs.StoredForms.{table_changed}
 use Rattle.hippo_model.specs.Validity.{is_valid}
 use Rattle.hippo_model.specs.Versions.{is_version, versions}

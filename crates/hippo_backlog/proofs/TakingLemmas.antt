@@ -11,11 +11,11 @@ use Rattle.hippo_model.specs.declared.entry.Entry.{Entry}
 use Rattle.hippo_model.specs.declared.schema.Schema.{Schema}
 use Rattle.hippo_model.specs.declared.stored.StoredEntry.{StoredEntry}
 use Rattle.hippo_model.specs.Terms.{Row, Key, Place}
-use Rattle.hippo_keyed_rows.specs.Changes.{with_renewed_row, changed}
+use Rattle.hippo_tables_keyed.specs.Changes.{with_renewed_row, changed}
 use Rattle.hippo_model.specs.Rows.{key_of}
-use Rattle.hippo_keyed_rows.specs.RowSets.{KeyedRows, with_row, without_row, find_row, row_with}
+use Rattle.hippo_tables_keyed.specs.RowSets.{KeyedRows, with_row, without_row, find_row, row_with}
 use Rattle.hippo_model.specs.Versions.{row_fits, key_fits}
-use Rattle.hippo_keyed_rows.proofs.KeptRows.{slice_get-find_row, is_some-find_row}
+use Rattle.hippo_tables_keyed.proofs.KeptRows.{slice_get-find_row, is_some-find_row}
 use Rattle.hippo_entry.specs.Forms.{IsEntryOf}
 use Rattle.hippo_backlog.specs.declared.faults.ReadFault.TheVariants.{Damaged}
 use Rattle.hippo_backlog.specs.Taking.{put_with, Becomes, result_of_fit, TakesVersion}

@@ -15,17 +15,17 @@ use Rattle.hippo_model.specs.declared.entry.Entry.{Entry}
 use Rattle.hippo_model.specs.declared.schema.Schema.{Schema}
 use Rattle.hippo_model.specs.declared.stored.StoredEntry.{StoredEntry}
 use Rattle.hippo_model.specs.Terms.{History, Meaning}
-use Rattle.hippo_keyed_rows.specs.Changes.{with_renewed_row, changed}
-use Rattle.hippo_model.specs.HandedOver.{is_sought_version, IsFit}
+use Rattle.hippo_tables_keyed.specs.Changes.{with_renewed_row, changed}
+use Rattle.hippo_model.specs.HandedOver.{is_wanted_version, IsFit}
 use Rattle.hippo_model.specs.Keepable.{is_keepable}
 use Rattle.hippo_model.specs.Rows.{key_of}
-use Rattle.hippo_keyed_rows.specs.RowSets.{KeyedRows, kept_at, with_row, without_row, row_with}
+use Rattle.hippo_tables_keyed.specs.RowSets.{KeyedRows, kept_at, with_row, without_row, row_with}
 use Rattle.hippo_model.specs.StoredForms.{table_changed, stored}
 use Rattle.hippo_model.specs.Stores.{IsStoreOf}
 use Rattle.hippo_model.specs.Validity.{is_valid}
 use Rattle.hippo_model.specs.Versions.{row_fits, version_fits}
-use Rattle.hippo_keyed_rows.proofs.ChangesOfRows.{changed-kept_at}
-use Rattle.hippo_laws.proofs.ActCodes.{stored_again}
+use Rattle.hippo_tables_keyed.proofs.ChangesOfRows.{changed-kept_at}
+use Rattle.hippo_model_laws.proofs.ActCodes.{stored_again}
 use Rattle.hippo_entry.specs.Forms.{HasForm}
 use Rattle.hippo_keeper.specs.declared.faults.KeeperFault.{KeeperFault}
 use Rattle.hippo_keeper.specs.Keeping.{Store, RisesAbove, KeeperState, IsReady}
@@ -111,7 +111,7 @@ module _ (schema : Schema) (number : ℕ) where
         one.parts ∙ ap (λ (s : Store). map stored one.taken ++ s) there.parts ∙ sym (append_assoc (map stored one.taken) (map stored there.taken) (there.entry ∷ there.rest))
         ∙ ap (λ (s : Store). s ++ there.entry ∷ there.rest) (sym (map-append stored one.taken there.taken));
     number_is = there.number_is;
-    unfit = subst (λ (h : History). ¬ (IsFit (is_sought_version schema 0 h) there.entry)) (append_assoc earlier one.taken there.taken) there.unfit;
+    unfit = subst (λ (h : History). ¬ (IsFit (is_wanted_version schema 0 h) there.entry)) (append_assoc earlier one.taken there.taken) there.unfit;
   }
 
   pub NamesUnfit-then : {A : Type 0} (result : Result A ReadFault) (handed : Store) (old mid : HeldVersions) → TakesInVersions schema number handed old mid → NamesUnfit schema result mid.ahead.waiting mid → NamesUnfit schema result (old.ahead.waiting ++ handed) old
@@ -236,7 +236,7 @@ module _ (schema : Schema) (old : HeldVersions) (kept : StoredEntry) (first : sl
       let front = first_stored split.waiting kept (subst (λ (s : Store). slice_get s 0 ≡ Some kept) split.forms first) in
       let parts = split.parts ∙ ap (λ (w : History). split.used ++ (w ++ split.later)) front.waiting_is in
       let stands = stands_at (is_version_of schema.name) history split.used (front.rest ++ split.later) front.entry parts in
-      let may = may_there meaning stands.front stands.behind front.entry (ap (is_valid meaning) (sym stands.whole) ∙ valid) in
+      let may = may_there meaning stands.front stands.remaining front.entry (ap (is_valid meaning) (sym stands.whole) ∙ valid) in
       let keepable = (and_parts (is_keepable front.entry) _ (and_parts _ _ (and_parts _ _ may).0).0).0 in
       let left = subst (λ (w : History). RisesAbove old.place (map stored (w ++ split.later))) front.waiting_is split.left_above in
       let seq = ap (λ (e : StoredEntry). e.seq) front.form in

@@ -18,12 +18,12 @@ use Rattle.hippo_model.specs.declared.entry.Entry.{Entry}
 use Rattle.hippo_model.specs.Terms.{History, Meaning, Key}
 use Rattle.hippo_model.specs.Histories.{last_word, schema_created, schema_at}
 use Rattle.hippo_model.specs.Rows.{key_of, key_named, names_key, row_left, row_at, is_insert, born_at, born_row_at, with_key, keys_named, table_rows}
-use Rattle.hippo_keyed_rows.specs.RowSets.{kept_at}
+use Rattle.hippo_tables_keyed.specs.RowSets.{kept_at}
 use Rattle.hippo_model.specs.StoredForms.{table_changed}
 use Rattle.hippo_model.specs.Validity.{is_acceptable, is_table_version, may_follow, is_valid}
 use Rattle.hippo_model.specs.Versions.{is_version, row_fits, key_fits, version_fits}
 use Rattle.hippo_model.proofs.LastWords.{last_word-append}
-use Rattle.hippo_laws.proofs.ValidFronts.{front_is_valid, is_valid-append}
+use Rattle.hippo_model_laws.proofs.ValidFronts.{front_is_valid, is_valid-append}
 use Rattle.hippo_backlog.specs.Backlogs.{is_version_of, versions_of}
 
 option_or-None : {A : Type 0} (word : Option A) → option_or word None ≡ word
@@ -119,9 +119,9 @@ module _ (meaning : Meaning) where
       ∙ ap (λ word. option_or word (schema_at history table)) (created_none history table schema entry.act (acceptable history entry may) is) ∙ is
 
   -- an entry of a valid history may follow those before it
-  pub may_there : (front behind : History) (entry : Entry) → is_valid meaning (front ++ entry ∷ behind) ≡ true → may_follow meaning front entry ≡ true
-  may_there front behind entry valid =
-      let short = front_is_valid meaning (front ++ entry ∷ []) behind (ap (is_valid meaning) (append_assoc front (entry ∷ []) behind) ∙ valid) in
+  pub may_there : (front remaining : History) (entry : Entry) → is_valid meaning (front ++ entry ∷ remaining) ≡ true → may_follow meaning front entry ≡ true
+  may_there front remaining entry valid =
+      let short = front_is_valid meaning (front ++ entry ∷ []) remaining (ap (is_valid meaning) (append_assoc front (entry ∷ []) remaining) ∙ valid) in
       (and_parts (is_valid meaning front) (may_follow meaning front entry) (sym (is_valid-append meaning front entry) ∙ short)).1
 
   -- in a valid history a table keeps its schema
@@ -136,8 +136,8 @@ module _ (meaning : Meaning) where
 -- where a member of those that pass a test stands
 pub record StandsAt (test : Entry → Bool) (history passed : History) (entry : Entry) : Type 0 where
   pub front : History
-  pub behind : History
-  pub whole : history ≡ front ++ entry ∷ behind
+  pub remaining : History
+  pub whole : history ≡ front ++ entry ∷ remaining
   pub before : filter test front ≡ passed
   pub passes : test entry ≡ true
 
@@ -145,12 +145,12 @@ module _ (test : Entry → Bool) where
   here : (first entry : Entry) (history rest later : History) → test first ≡ true → first ∷ rest ≡ entry ∷ later → StandsAt test (first ∷ history) [] entry
   here first entry history rest later is same =
       let one : first ≡ entry = cc in
-      record { front = []; behind = history; whole = λ i. one i ∷ history; before = refl; passes = ap test (sym one) ∙ is }
+      record { front = []; remaining = history; whole = λ i. one i ∷ history; before = refl; passes = ap test (sym one) ∙ is }
 
   later_there : (first entry : Entry) (history passed : History) (other : Entry) → test first ≡ true → first ≡ other → StandsAt test history passed entry → StandsAt test (first ∷ history) (other ∷ passed) entry
   later_there first entry history passed other is one there = record {
     front = first ∷ there.front;
-    behind = there.behind;
+    remaining = there.remaining;
     whole = ap (λ rest. first ∷ rest) there.whole;
     before = rw is (λ i. one i ∷ there.before i);
     passes = there.passes;
@@ -159,7 +159,7 @@ module _ (test : Entry → Bool) where
   passed_over : (first entry : Entry) (history passed : History) → test first ≡ false → StandsAt test history passed entry → StandsAt test (first ∷ history) passed entry
   passed_over first entry history passed is there = record {
     front = first ∷ there.front;
-    behind = there.behind;
+    remaining = there.remaining;
     whole = ap (λ rest. first ∷ rest) there.whole;
     before = rw is there.before;
     passes = there.passes;
@@ -185,15 +185,15 @@ module _ (test : Entry → Bool) where
         | false ↦ λ is same. passed_over first entry history (other ∷ passed) is (stands_at history (other ∷ passed) later entry same)
       ] refl e
 
-module _ (meaning : Meaning) (front behind : History) (entry : Entry) (schema : Schema) (valid : is_valid meaning (front ++ entry ∷ behind) ≡ true)
-    (created : schema_at (front ++ entry ∷ behind) schema.name ≡ Some schema) where
+module _ (meaning : Meaning) (front remaining : History) (entry : Entry) (schema : Schema) (valid : is_valid meaning (front ++ entry ∷ remaining) ≡ true)
+    (created : schema_at (front ++ entry ∷ remaining) schema.name ≡ Some schema) where
   for_table : (table : Name) (act : Act) → bytes_eq table schema.name ≡ true → is_table_version front table act ≡ true → version_fits schema front act ≡ true
   for_table table act named fits =
       let same_name = (bytes_eq-Decides table schema.name).0 named in
       elim (schema_at front table) as (λ found. schema_at front table ≡ found → option_map_or (λ s. version_fits s front act) found false ≡ true → version_fits schema front act ≡ true) [
         | None ↦ λ e fits. absurd (false≢true fits)
         | Some other ↦ λ e fits.
-            let there = schemas_last meaning front (entry ∷ behind) schema.name other valid (ap (schema_at front) (sym same_name) ∙ e) in
+            let there = schemas_last meaning front (entry ∷ remaining) schema.name other valid (ap (schema_at front) (sym same_name) ∙ e) in
             ap (λ s. version_fits s front act) (some_is schema other (sym created ∙ there)) ∙ fits
       ] refl fits
 
@@ -204,11 +204,11 @@ module _ (meaning : Meaning) (front behind : History) (entry : Entry) (schema : 
   fits_front act passes fits = absurd (false≢true passes)
 
   pub version_there : is_version_of schema.name entry ≡ true → version_fits schema front entry.act ≡ true
-  version_there passes = fits_front entry.act passes (acceptable meaning front entry (may_there meaning front behind entry valid))
+  version_there passes = fits_front entry.act passes (acceptable meaning front entry (may_there meaning front remaining entry valid))
 
 -- each version of a table fits the versions of the table before it
 pub versions_fit : (meaning : Meaning) (history : History) (schema : Schema) → is_valid meaning history ≡ true → schema_at history schema.name ≡ Some schema → (earlier later : History) (entry : Entry) → versions_of schema.name history ≡ earlier ++ entry ∷ later → version_fits schema earlier entry.act ≡ true
 versions_fit meaning history schema valid created earlier later entry split =
     let there = stands_at (is_version_of schema.name) history earlier later entry split in
-    let fits = version_there meaning there.front there.behind entry schema (ap (is_valid meaning) (sym there.whole) ∙ valid) (ap (λ h. schema_at h schema.name) (sym there.whole) ∙ created) there.passes in
+    let fits = version_there meaning there.front there.remaining entry schema (ap (is_valid meaning) (sym there.whole) ∙ valid) (ap (λ h. schema_at h schema.name) (sym there.whole) ∙ created) there.passes in
     ap (λ h. version_fits schema h entry.act) (sym there.before) ∙ version_fits-versions schema there.front entry.act ∙ fits

@@ -5,7 +5,7 @@ use Rattle.hippo_model.specs.declared.entry.Entry.{Entry}
 use Rattle.hippo_model.specs.declared.schema.Schema.{Schema}
 use Rattle.hippo_model.specs.Terms.{History, Meaning}
 use Rattle.hippo_model.specs.Histories.{schema_at}
-use Rattle.hippo_keyed_rows.specs.RowSets.{kept_at}
+use Rattle.hippo_tables_keyed.specs.RowSets.{kept_at}
 use Rattle.hippo_model.specs.Validity.{is_valid}
 use Rattle.hippo_model.specs.Versions.{version_fits}
 use Rattle.hippo_backlog.specs.Backlogs.{versions_of}

@@ -6,8 +6,8 @@ use Rattle.hippo_model.specs.declared.schema.Schema.{Schema}
 use Rattle.hippo_model.specs.declared.stored.StoredEntry.{StoredEntry}
 use Rattle.hippo_model.specs.Terms.{History, Meaning, Place}
 use Rattle.hippo_model.specs.Histories.{schema_at}
-use Rattle.hippo_model.specs.HandedOver.{is_sought_version, IsFit}
-use Rattle.hippo_keyed_rows.specs.RowSets.{KeyedRows, kept_at}
+use Rattle.hippo_model.specs.HandedOver.{is_wanted_version, IsFit}
+use Rattle.hippo_tables_keyed.specs.RowSets.{KeyedRows, kept_at}
 use Rattle.hippo_model.specs.StoredForms.{table_changed, stored}
 use Rattle.hippo_model.specs.Stores.{IsStoreOf}
 use Rattle.hippo_model.specs.Validity.{is_valid}
@@ -77,7 +77,7 @@ pub record HasUnfit (schema : Schema) (earlier : History) (entries : Store) (pla
   pub rest : Store
   pub parts : entries ≡ map stored taken ++ entry ∷ rest
   pub number_is : entry.seq ≡ place
-  pub unfit : ¬ (IsFit (is_sought_version schema 0 (earlier ++ taken)) entry)
+  pub unfit : ¬ (IsFit (is_wanted_version schema 0 (earlier ++ taken)) entry)
 
 -- Damaged names an unfit entry of these
 abbrev pub NamesUnfit : {A : Type 0} → Schema → Result A ReadFault → Store → HeldVersions → Type 0

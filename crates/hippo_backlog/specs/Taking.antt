@@ -9,8 +9,8 @@ use Rattle.hippo_model.specs.declared.schema.Schema.{Schema}
 use Rattle.hippo_model.specs.declared.stored.StoredEntry.{StoredEntry}
 use Rattle.hippo_model.specs.Terms.{Row}
 use Rattle.hippo_model.specs.Versions.{row_fits}
-use Rattle.hippo_keyed_rows.specs.RowSets.{KeyedRows, with_row}
-use Rattle.hippo_keyed_rows.specs.Changes.{changed}
+use Rattle.hippo_tables_keyed.specs.RowSets.{KeyedRows, with_row}
+use Rattle.hippo_tables_keyed.specs.Changes.{changed}
 use Rattle.hippo_entry.specs.Forms.{HasForm}
 use Rattle.hippo_backlog.specs.declared.faults.ReadFault.{ReadFault}
 use Rattle.hippo_backlog.specs.declared.faults.ReadFault.TheVariants.{Keeper, Damaged}

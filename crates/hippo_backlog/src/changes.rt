@@ -2,17 +2,17 @@
 ghost use Rattle.std.specs.Prelude.{◌≡◌, ◌&&◌, not, Ok, is_some, option_map, bytes_eq};
 ghost use Rattle.std.specs.Bool.{then_some};
 ghost use Rattle.hippo_model.specs.declared.entry.Act.TheVariants.{Delete};
-ghost use Rattle.hippo_keyed_rows.specs.Changes.{changed};
+ghost use Rattle.hippo_tables_keyed.specs.Changes.{changed};
 ghost use Rattle.hippo_model.specs.Rows.{key_of};
-ghost use Rattle.hippo_keyed_rows.specs.RowSets.{row_with};
+ghost use Rattle.hippo_tables_keyed.specs.RowSets.{row_with};
 ghost use Rattle.hippo_model.specs.Versions.{row_fits, key_fits};
 ghost use Rattle.hippo_backlog.specs.Taking.{put_with, Becomes, result_of_fit, TakesVersion};
 
 use crate::faults::ReadFault;
 use hippo_entry::decode;
 use hippo_model::{Act, Cells, Entry, Schema, StoredEntry};
-use hippo_rows::RowSet;
 use hippo_tables::{key_fits, row_fits};
+use hippo_tables_rows::RowSet;
 use hippo_values::{Memory, Moment, Name};
 use std::alloc::Global;
 

@@ -7,7 +7,7 @@ use crate::faults::ReadFault;
 use crate::versions::Versions;
 use hippo_keeper::{Keeper, Steps};
 use hippo_model::Schema;
-use hippo_rows::RowSet;
+use hippo_tables_rows::RowSet;
 use hippo_values::{Duplicate, Memory};
 use std::alloc::Global;
 use std::sync::ledger::Ledger;

@@ -11,7 +11,7 @@ use crate::changes::take;
 use crate::faults::{ReadFault, fault_of};
 use hippo_keeper::{Keeper, Steps};
 use hippo_model::{Places, Schema};
-use hippo_rows::RowSet;
+use hippo_tables_rows::RowSet;
 use std::alloc::Global;
 use std::marker::Model;
 use std::sync::ledger::Ledger;

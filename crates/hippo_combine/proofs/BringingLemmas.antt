@@ -15,7 +15,7 @@ use Rattle.hippo_model.specs.Stores.{IsStoreOf}
 use Rattle.hippo_model.specs.StoredForms.{stored}
 use Rattle.hippo_keeper.specs.Answering.{has_failed}
 use Rattle.hippo_keeper.specs.Keeping.{KeeperState, IsReady}
-use Rattle.hippo_catalog.specs.Catalogs.{KnownNames, table_of}
+use Rattle.hippo_typing_catalog.specs.Catalogs.{KnownNames, table_of}
 use Rattle.hippo_typing.specs.Meanings.{meaning}
 use Rattle.hippo_typing.proofs.CatalogTheorem.{valid_names}
 use Rattle.hippo_rewrite.proofs.FittingRows.{schema_named}

@@ -11,8 +11,8 @@ use Rattle.hippo_model.specs.Answers.{audit_answer, unmasked_combinations}
 use Rattle.hippo_model.specs.Audits.{needs, query_needs, audit_needs, has_tuple, serves, first_serving}
 use Rattle.hippo_model.specs.Terms.{History}
 use Rattle.hippo_model.specs.Verdicts.{Context}
-use Rattle.hippo_laws.specs.Audits.{StandsIn}
-use Rattle.hippo_laws.proofs.ValidFronts.{entry_has_its_number}
+use Rattle.hippo_model_laws.specs.Audits.{StandsIn}
+use Rattle.hippo_model_laws.proofs.ValidFronts.{entry_has_its_number}
 use Rattle.hippo_keeper.specs.Answering.{has_failed}
 use Rattle.hippo_keeper.proofs.Results.{err_of}
 use Rattle.hippo_typing.specs.Meanings.{meaning}

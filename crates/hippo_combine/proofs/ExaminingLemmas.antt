@@ -15,21 +15,21 @@ use Rattle.hippo_model.specs.Columns.{names_all}
 use Rattle.hippo_model.specs.Histories.{schema_at}
 use Rattle.hippo_model.specs.Masking.{Choices}
 use Rattle.hippo_model.specs.Rules.{choice_at}
-use Rattle.hippo_keyed_rows.specs.RowSets.{KeyedRows}
+use Rattle.hippo_tables_keyed.specs.RowSets.{KeyedRows}
 use Rattle.hippo_model.specs.StoredForms.{stored}
 use Rattle.hippo_model.specs.Terms.{History}
 use Rattle.hippo_model.specs.Validity.{is_valid}
 use Rattle.hippo_model.specs.Verdicts.{Context}
-use Rattle.hippo_laws.specs.Audits.{StandsIn}
+use Rattle.hippo_model_laws.specs.Audits.{StandsIn}
 use Rattle.hippo_keeper.specs.Answering.{has_failed}
 use Rattle.hippo_keeper.specs.Keeping.{KeeperState, IsReady}
-use Rattle.hippo_catalog.specs.Catalogs.{KnownNames, known_at, table_of}
+use Rattle.hippo_typing_catalog.specs.Catalogs.{KnownNames, known_at, table_of}
 use Rattle.hippo_policy.specs.declared.book.PolicyBook.{PolicyBook}
 use Rattle.hippo_typing.specs.Meanings.{meaning}
 use Rattle.hippo_typing.proofs.CatalogTheorem.{valid_names}
 use Rattle.hippo_rewrite.specs.RewritingLaws.{rules_at}
 use Rattle.hippo_rewrite.proofs.FittingRows.{schema_named}
-use Rattle.hippo_shared.specs.Sharing.{HaveSameRows}
+use Rattle.hippo_audit_search.specs.Sharing.{HaveSameRows}
 use Rattle.hippo_backlog.specs.declared.faults.ReadFault.{ReadFault}
 use Rattle.hippo_backlog.specs.declared.faults.ReadFault.TheVariants.{Damaged, Memory}
 use Rattle.hippo_backlog.specs.Calls.{reading_as_call}
@@ -40,7 +40,7 @@ use Rattle.hippo_intervals.specs.Living.{HeldLives}
 use Rattle.hippo_audit_job.specs.declared.past.Past.{Past}
 use Rattle.hippo_audit_job.specs.Examining.{IsPastOf, IsAuditOf, IsServing, FindsServing, IsNew, Examines}
 use Rattle.hippo_model.specs.Audits.{first_serving}
-use Rattle.hippo_examining.specs.Examining.{AreOfHistory}
+use Rattle.hippo_audit_needs.specs.Examining.{AreOfHistory}
 use Rattle.hippo_combine.specs.declared.combine.Combine.{Combine}
 use Rattle.hippo_combine.specs.Held.{schema_held, rows_held, are_held, AreHeldUpTo, all_taken, unread_count, TablesFit}
 use Rattle.hippo_combine.specs.Bringing.{AreKnown, AreHeldIfKnown, Brings}
@@ -49,7 +49,7 @@ use Rattle.hippo_combine.specs.Combining.{IsSoundCombine, combine_terms}
 use Rattle.hippo_combine.proofs.ExaminerLemmas.{only_memory, undamaged, no_entry}
 use Rattle.hippo_combine.proofs.HeldLemmas.{all-from}
 use Rattle.hippo_combine.proofs.UnreadLemmas.{taken_and_unread}
-use Rattle.hippo_examining.proofs.PastLemmas.{front_valid, lasting, created_by_meaning, are_common}
+use Rattle.hippo_audit_needs.proofs.PastLemmas.{front_valid, lasting, created_by_meaning, are_common}
 use Rattle.hippo_combine.proofs.SharingLemmas.{as_many, same_rows, stand_so, sets_are, schemas_are}
 
 -- ---- what is shared over the rows that are held

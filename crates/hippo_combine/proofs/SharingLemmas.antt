@@ -19,21 +19,21 @@ use Rattle.hippo_model.specs.Answers.{product, answer_of, query_answer, seen_com
 use Rattle.hippo_model.specs.Audits.{needs, query_needs, audit_needs, has_tuple, serves, first_serving}
 use Rattle.hippo_model.specs.Forms.{rows_by_form}
 use Rattle.hippo_model.specs.Histories.{schema_at}
-use Rattle.hippo_keyed_rows.specs.RowSets.{KeyedRows, kept_at}
+use Rattle.hippo_tables_keyed.specs.RowSets.{KeyedRows, kept_at}
 use Rattle.hippo_model.specs.Terms.{History, ShownRow}
 use Rattle.hippo_model.specs.Validity.{is_valid}
 use Rattle.hippo_model.specs.Verdicts.{Context}
 use Rattle.hippo_model.specs.Views.{view_at, unmasked_at}
 use Rattle.hippo_typing.specs.Meanings.{meaning}
-use Rattle.hippo_commons.specs.Commons.{common_tables, place_in}
-use Rattle.hippo_shared.specs.Sharing.{rows_named, HaveSameRows}
-use Rattle.hippo_shared.specs.HistoryLaws.{sets_at}
-use Rattle.hippo_shared.proofs.CommonLemmas.{place-found, common-in-query, common-in-audit}
+use Rattle.hippo_audit_common.specs.Commons.{common_tables, place_in}
+use Rattle.hippo_audit_search.specs.Sharing.{rows_named, HaveSameRows}
+use Rattle.hippo_audit_search.specs.HistoryLaws.{sets_at}
+use Rattle.hippo_audit_search.proofs.CommonLemmas.{place-found, common-in-query, common-in-audit}
 use Rattle.hippo_intervals.specs.Living.{HeldLives, LivesFit}
 use Rattle.hippo_intervals.proofs.LivesLemmas.{LivesAreThoseOf-fits}
 use Rattle.hippo_combine.specs.Held.{lives_of, schema_held, rows_held, place_held, has_some, are_held, AreHeldAt, TablesFit}
 use Rattle.hippo_combine.proofs.ExaminerLemmas.{find_none, nothing_of_audit}
-use Rattle.hippo_examining.proofs.PastLemmas.{front_valid, lasting, no_rows_yet, no_length, flat_map_none}
+use Rattle.hippo_audit_needs.proofs.PastLemmas.{front_valid, lasting, no_rows_yet, no_length, flat_map_none}
 
 abbrev no_set : KeyedRows
 no_set = record { key = []; rows = [] }

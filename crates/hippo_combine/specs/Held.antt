@@ -6,7 +6,7 @@ use Rattle.hippo_values.specs.declared.names.Name.{Name}
 use Rattle.hippo_model.specs.declared.entry.Entry.{Entry}
 use Rattle.hippo_model.specs.declared.schema.Schema.{Schema}
 use Rattle.hippo_model.specs.Terms.{History}
-use Rattle.hippo_keyed_rows.specs.RowSets.{KeyedRows}
+use Rattle.hippo_tables_keyed.specs.RowSets.{KeyedRows}
 use Rattle.hippo_model.specs.Versions.{is_version}
 use Rattle.hippo_backlog.specs.Backlogs.{is_version_of}
 use Rattle.hippo_intervals.specs.Living.{HeldLives, taken_by, LivesFit}

@@ -6,7 +6,7 @@ ghost use Rattle.hippo_combine.specs.Held.{lives_of, schema_held, rows_held, has
 
 use hippo_intervals::Lives;
 use hippo_model::{Lent, LentSchemas};
-use hippo_rows::Sets;
+use hippo_tables_rows::Sets;
 use hippo_values::{Memory, Name};
 use std::alloc::Global;
 

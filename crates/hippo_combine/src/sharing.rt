@@ -8,7 +8,7 @@ ghost use Rattle.hippo_combine.specs.Sharing.{HoldsBoth};
 
 use crate::asked::rules_asked;
 use crate::held::{have_rows, sets_of, tables_of};
-use hippo_examining::shared_of;
+use hippo_audit_needs::shared_of;
 use hippo_intervals::Lives;
 use hippo_model::{Audit, Entry, Query, SharedTuple};
 use hippo_policy::PolicyBook;

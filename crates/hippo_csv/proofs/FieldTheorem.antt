@@ -9,7 +9,7 @@ use Rattle.std.proofs.lemmas.Bool.Decides.{nat_tests}
 use Rattle.std.proofs.lemmas.Int.{ints}
 use Rattle.std.proofs.lemmas.Fmt.{decimal_is_IsNumeral, digits_decimal, digits_value-decimal}
 use Rattle.std.proofs.lemmas.Str.Parse.{IsNumeralModel, numerals_by_value}
-use Rattle.hippo_text_forms.specs.Dates.{day_text}
+use Rattle.hippo_values_text.specs.Dates.{day_text}
 use Rattle.hippo_values.specs.Moments.{is_signed_number, is_day, IsDayNumber, first_day, last_day}
 use Rattle.hippo_values.specs.declared.values.Value.{Value}
 use Rattle.hippo_values.specs.declared.values.Value.TheVariants as values

@@ -10,11 +10,11 @@ use Rattle.std.specs.Str.{IsAscii}
 use Rattle.std.proofs.lemmas.Bool.Decides.{nat_tests}
 use Rattle.std.proofs.lemmas.Fmt.{IsAscii-decimal}
 use Rattle.std.proofs.lemmas.Int.{ints}
-use Rattle.hippo_text_forms.specs.Dates.{day_text}
+use Rattle.hippo_values_text.specs.Dates.{day_text}
 use Rattle.hippo_values.specs.Moments.{is_signed_number, IsDayNumber}
 use Rattle.hippo_values.specs.declared.values.Value.{Value}
 use Rattle.hippo_values.specs.declared.values.Value.TheVariants as values
-use Rattle.hippo_text_forms.proofs.DateTextLemmas.{date_text-of_day, IsAscii-date_text}
+use Rattle.hippo_values_text.proofs.DateTextLemmas.{date_text-of_day, IsAscii-date_text}
 use Rattle.hippo_lexer.proofs.NumberLemmas.{fits-signed}
 use Rattle.hippo_model.specs.declared.cells.Cell.TheVariants.{Shown}
 use Rattle.hippo_model.specs.Keepable.{value_is_keepable}
@@ -47,12 +47,12 @@ no-bom-third a b c other = elim (cases_Bool (a == 239)) [
 ]
 
 -- a field that begins with no mark, and a byte behind it that no mark has
-behind-field : (field rest : List ℕ) (next : ℕ) → (next == 239) ≡ false → (next == 187) ≡ false → (next == 191) ≡ false
+remaining-field : (field rest : List ℕ) (next : ℕ) → (next == 239) ≡ false → (next == 187) ≡ false → (next == 191) ≡ false
     → begins_with_mark field ≡ false → strip_bom (field ++ next ∷ rest) ≡ field ++ next ∷ rest
-behind-field [] rest next first second third none = other-first next rest first
-behind-field (a ∷ []) rest next first second third none = other-second a next rest second
-behind-field (a ∷ b ∷ []) rest next first second third none = other-third a b next rest (no-bom-third a b next third)
-behind-field (a ∷ b ∷ c ∷ more) rest next first second third none = other-third a b c (more ++ next ∷ rest) none
+remaining-field [] rest next first second third none = other-first next rest first
+remaining-field (a ∷ []) rest next first second third none = other-second a next rest second
+remaining-field (a ∷ b ∷ []) rest next first second third none = other-third a b next rest (no-bom-third a b next third)
+remaining-field (a ∷ b ∷ c ∷ more) rest next first second third none = other-third a b c (more ++ next ∷ rest) none
 
 not-blank : (n : ℕ) → (suc n == 0) ≡ false
 not-blank n = ne_eqb (suc n) 0 (λ z. cc z)
@@ -63,10 +63,10 @@ plain-record : (field : List ℕ) (rest : List (List ℕ)) → list_any (needs_b
 unfolding is_blank fields_text
 plain-record [] [] plain none = other-first 34 (34 ∷ 10 ∷ []) refl
 plain-record (byte ∷ bytes) [] plain none =
-    rw (plain, not-blank (length bytes), append-nil bytes) (behind-field (byte ∷ bytes) [] 10 refl refl refl none)
+    rw (plain, not-blank (length bytes), append-nil bytes) (remaining-field (byte ∷ bytes) [] 10 refl refl refl none)
 plain-record field (next ∷ more) plain none =
     let text = append_assoc field (44 ∷ field_text default_writer next ++ fields_text default_writer more) (10 ∷ []) in
-    rw (plain, text) (behind-field field _ 44 refl refl refl none)
+    rw (plain, text) (remaining-field field _ 44 refl refl refl none)
 
 -- what is written of fields of which the first begins with no mark has no mark in front
 pub unmarked-record : (field : List ℕ) (rest : List (List ℕ)) → begins_with_mark field ≡ false

@@ -51,7 +51,7 @@ further_record : (text rest : List ℕ) (fields more : List (List ℕ)) (state :
     → Reached default_config st.StartRecord text (fields ∷ more ∷ []) state rest
     → None ≡ only_member (records default_config text)
 unfolding Reached records_from next_record
-further_record [] rest fields more state (read, first, same, behind) = absurd cc
+further_record [] rest fields more state (read, first, same, remaining) = absurd cc
 further_record (byte ∷ text) rest fields more state (read, first, same, (second, next, also, end)) =
     rw (first_record (length (byte ∷ text)) st.StartRecord (byte ∷ text), first, next) refl
 
@@ -85,5 +85,5 @@ pub two_read : {R : Type 0} (told : R → Option (List ℕ)) (reader after end :
     → None ≡ only_member (records default_config text)
 two_read told reader after end text fields more begins read next =
     let (rest, source, reached) = one_read told reader after text fields begins read in
-    let (behind, told_behind, both) = rows-more told after end more default_config st.StartRecord text rest (fields ∷ []) (read.2 ∙ begins.config) source reached next in
-    further_record text behind fields more (reader_state end) both
+    let (remaining, told_after, both) = rows-more told after end more default_config st.StartRecord text rest (fields ∷ []) (read.2 ∙ begins.config) source reached next in
+    further_record text remaining fields more (reader_state end) both

@@ -14,9 +14,9 @@ use Rattle.hippo_csv.specs.Records.{field_value}
 use Rattle.hippo_csv.specs.Loading.{GivesValues, all_values}
 
 -- behind values that are there stands the first that is not
-missing-behind : (row : Row) (rest : List (Option Value)) → position_or_len is_none (map Some row ++ None ∷ rest) ≡ length row
-missing-behind [] rest = refl
-missing-behind (value ∷ row) rest = rw (missing-behind row rest) (omega arith)
+missing-remaining : (row : Row) (rest : List (Option Value)) → position_or_len is_none (map Some row ++ None ∷ rest) ≡ length row
+missing-remaining [] rest = refl
+missing-remaining (value ∷ row) rest = rw (missing-remaining row rest) (omega arith)
 
 missing-never : (row : Row) → position_or_len is_none (map Some row) ≡ length row
 missing-never [] = refl
@@ -36,7 +36,7 @@ all-there values row are =
 pub one-missing : (row : Row) (rest : List (Option Value)) → all_values (map Some row ++ None ∷ rest) ≡ Err (faults.Field (length row))
 one-missing row rest =
     let within : nat_lt (length row) (length (map Some row ++ None ∷ rest)) ≡ true = rw (length-append (map Some row) (None ∷ rest), length-map row Some) (grind (arith, nat_tests)) in
-    rw (missing-behind row rest, within) refl
+    rw (missing-remaining row rest, within) refl
 
 -- the value of the field at a place
 value-there : (columns : List Column) (fields : List (List ℕ)) (place : ℕ) (column : Column) (field : List ℕ)
@@ -72,8 +72,8 @@ front-and-rest : {A : Type 0} (values : List A) (place : ℕ) (value : A) → sl
 front-and-rest values place value there =
     let within = slice_get_within values place value there in
     let read = get_or_from_slice_get values place value value there in
-    let behind = drop_more values place value within ∙ ap (λ next. next ∷ drop (place + 1) values) read in
-    sym (take-append-drop place values) ∙ ap (λ rest. take place values ++ rest) behind
+    let remaining = drop_more values place value within ∙ ap (λ next. next ∷ drop (place + 1) values) read in
+    sym (take-append-drop place values) ∙ ap (λ rest. take place values ++ rest) remaining
 
 pub one-more : (values : List (Option Value)) (row : Row) (place : ℕ) (value : Value) → map Some row ≡ take place values
     → slice_get values place ≡ Some (Some value) → map Some (row ++ value ∷ []) ≡ take (place + 1) values

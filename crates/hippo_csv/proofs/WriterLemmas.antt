@@ -26,5 +26,5 @@ row-flexible (field ∷ next ∷ rest) = rw (escaped-flexible field, escaped-fle
 pub handed_on : (old left all new rest row same : List ℕ) → new ++ rest ≡ all → rest ≡ [] → all ≡ (old ++ left) ++ row → left ≡ []
     → row ≡ same → new ≡ old ++ same
 handed_on old left all new rest row same flushed done wrote none alike =
-    sym (append-nil new) ∙ ap (λ behind. new ++ behind) (sym done) ∙ flushed ∙ wrote
-    ∙ ap (λ behind. (old ++ behind) ++ row) none ∙ ap (λ front. front ++ row) (append-nil old) ∙ ap (λ text. old ++ text) alike
+    sym (append-nil new) ∙ ap (λ remaining. new ++ remaining) (sym done) ∙ flushed ∙ wrote
+    ∙ ap (λ remaining. (old ++ remaining) ++ row) none ∙ ap (λ front. front ++ row) (append-nil old) ∙ ap (λ text. old ++ text) alike

@@ -2,7 +2,7 @@
 ghost use Rattle.std.specs.Prelude.{◌≡◌, ◌++◌, ◌∷◌, [], map, flat_map, codes, decimal, OnOk};
 ghost use Rattle.csv.specs.Records.{fields_of};
 ghost use Rattle.csv.specs.Writing.{default_writer, row_text, writer_under};
-ghost use Rattle.hippo_text_forms.specs.Printing.{AddsText};
+ghost use Rattle.hippo_values_text.specs.Printing.{AddsText};
 ghost use Rattle.hippo_model.specs.declared.cells.Cell.TheVariants.{Shown, Denied};
 ghost use Rattle.hippo_report.specs.Adding.{AddsWhole};
 ghost use Rattle.hippo_report.specs.Cells.{cell_text};
@@ -11,8 +11,8 @@ ghost use Rattle.hippo_csv.specs.Extracting.{IsBetween};
 
 use csv::{Error, StringRecord, Writer, WriterBuilder};
 use hippo_model::{Cell, CellRow};
-use hippo_text_forms::print_value;
 use hippo_values::{Memory, RoomyTxt, Txt, Value};
+use hippo_values_text::print_value;
 use itoa::Buffer;
 use std::alloc::Global;
 use std::slice;

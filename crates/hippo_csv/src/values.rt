@@ -14,8 +14,8 @@ ghost use Rattle.hippo_csv.specs.Loading.{GivesValues, is_signed_numeral, all_va
 use crate::faults::CsvFault;
 use crate::fields::Fields;
 use hippo_model::{Cells, ColumnKind, Schema};
-use hippo_text_forms::read_day;
 use hippo_values::{CellText, DayNumber, Memory, Value};
+use hippo_values_text::read_day;
 use std::alloc::Global;
 
 fn without_sign(bytes: &[u8]) -> &[u8]

@@ -17,7 +17,7 @@ use Rattle.hippo_model.specs.Terms.{ShownRow}
 use Rattle.hippo_model.specs.Bags.{same_cell, same_row}
 use Rattle.hippo_model.specs.Forms.{different_rows}
 use Rattle.hippo_model.proofs.SameRows.{same_cell-refl}
-use Rattle.hippo_keyed_rows.proofs.Orders.{same_exact}
+use Rattle.hippo_tables_keyed.proofs.Orders.{same_exact}
 use Rattle.hippo_distinct.specs.DistinctRows.{stands_in}
 use Rattle.hippo_values.specs.declared.values.Value.{Value}
 

@@ -11,7 +11,7 @@ use crate::guesses::{Guesses, mark_of, mark_of_row};
 use hippo_eval::{ANSWER_LIMIT, EvalFault, Gatherer, refill};
 use hippo_join::gather_joined;
 use hippo_model::{Answer, CellRow, ChoiceView, Combo, Expr, Masked};
-use hippo_rows::Sets;
+use hippo_tables_rows::Sets;
 use hippo_values::{Memory, Sequence};
 use indexmap::IndexSet;
 use std::alloc::Global;

@@ -3,8 +3,8 @@ use Rattle.std.proofs.Common.{◌≡◌, [], ◌∷◌, refl, codes}
 use Rattle.std.specs.Fmt.{digits}
 use Rattle.hippo_drill.specs.Counting.{second_word, lines_with, summary_of}
 
-the_second_word_stands_behind_the_first_space : second_word (codes "1 row 'a b'") ≡ codes "row"
-the_second_word_stands_behind_the_first_space = refl
+the_second_word_stands_after_the_first_space : second_word (codes "1 row 'a b'") ≡ codes "row"
+the_second_word_stands_after_the_first_space = refl
 
 one_word_has_no_second : second_word (codes "row") ≡ []
 one_word_has_no_second = refl

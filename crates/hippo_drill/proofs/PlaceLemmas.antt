@@ -14,15 +14,15 @@ pub each : {A : Type 0} (f : ℕ → A) (rest : List A) (n place : ℕ) → plac
     → Some (f (place + 1)) ≡ slice_get (map f (range_with_len 1 n) ++ rest) place
 each f rest n place within = each_from f rest 1 n place (place + 1) within (omega arith)
 
-behind_from : {A : Type 0} (f : ℕ → A) (rest : List A) (a n place k : ℕ) → n + k ≡ place
+after_from : {A : Type 0} (f : ℕ → A) (rest : List A) (a n place k : ℕ) → n + k ≡ place
     → slice_get rest k ≡ slice_get (map f (range_with_len a n) ++ rest) place
-behind_from f rest a zero place k at = let same : k ≡ place = omega arith in ap (slice_get rest) same
-behind_from f rest a (suc n) zero k at = absurd (omega arith)
-behind_from f rest a (suc n) (suc place) k at = behind_from f rest (a + 1) n place k (omega arith)
+after_from f rest a zero place k at = let same : k ≡ place = omega arith in ap (slice_get rest) same
+after_from f rest a (suc n) zero k at = absurd (omega arith)
+after_from f rest a (suc n) (suc place) k at = after_from f rest (a + 1) n place k (omega arith)
 
-pub behind : {A : Type 0} (f : ℕ → A) (rest : List A) (n place k : ℕ) → n + k ≡ place
+pub remaining : {A : Type 0} (f : ℕ → A) (rest : List A) (n place k : ℕ) → n + k ≡ place
     → slice_get rest k ≡ slice_get (map f (range_with_len 1 n) ++ rest) place
-behind f rest n place k at = behind_from f rest 1 n place k at
+remaining f rest n place k at = after_from f rest 1 n place k at
 
 -- of members by turns
 abbrev turns : {A : Type 0} → (ℕ → A) → (ℕ → A) → List ℕ → List A
@@ -49,12 +49,12 @@ second_from f g rest a (suc n) (suc turn) (suc zero) j within at is = absurd (om
 second_from f g rest a (suc n) (suc turn) (suc (suc place)) j within at is =
     second_from f g rest (a + 1) n turn place j (omega arith) (omega arith) (omega arith)
 
-turns_behind_from : {A : Type 0} (f g : ℕ → A) (rest : List A) (a n place k : ℕ) → 2 * n + k ≡ place
+turns_after_from : {A : Type 0} (f g : ℕ → A) (rest : List A) (a n place k : ℕ) → 2 * n + k ≡ place
     → slice_get rest k ≡ slice_get (turns f g (range_with_len a n) ++ rest) place
-turns_behind_from f g rest a zero place k at = let same : k ≡ place = omega arith in ap (slice_get rest) same
-turns_behind_from f g rest a (suc n) zero k at = absurd (omega arith)
-turns_behind_from f g rest a (suc n) (suc zero) k at = absurd (omega arith)
-turns_behind_from f g rest a (suc n) (suc (suc place)) k at = turns_behind_from f g rest (a + 1) n place k (omega arith)
+turns_after_from f g rest a zero place k at = let same : k ≡ place = omega arith in ap (slice_get rest) same
+turns_after_from f g rest a (suc n) zero k at = absurd (omega arith)
+turns_after_from f g rest a (suc n) (suc zero) k at = absurd (omega arith)
+turns_after_from f g rest a (suc n) (suc (suc place)) k at = turns_after_from f g rest (a + 1) n place k (omega arith)
 
 pub first_of_turn : {A : Type 0} (f g : ℕ → A) (rest : List A) (n turn place : ℕ) → turn < n → 2 * turn ≡ place
     → Some (f (turn + 1)) ≡ slice_get (turns f g (range_with_len 1 n) ++ rest) place
@@ -64,14 +64,14 @@ pub second_of_turn : {A : Type 0} (f g : ℕ → A) (rest : List A) (n turn plac
     → Some (g (turn + 1)) ≡ slice_get (turns f g (range_with_len 1 n) ++ rest) place
 second_of_turn f g rest n turn place within at = second_from f g rest 1 n turn place (turn + 1) within at (omega arith)
 
-pub behind_turns : {A : Type 0} (f g : ℕ → A) (rest : List A) (n place k : ℕ) → 2 * n + k ≡ place
+pub after_turns : {A : Type 0} (f g : ℕ → A) (rest : List A) (n place k : ℕ) → 2 * n + k ≡ place
     → slice_get rest k ≡ slice_get (turns f g (range_with_len 1 n) ++ rest) place
-behind_turns f g rest n place k at = turns_behind_from f g rest 1 n place k at
+after_turns f g rest n place k at = turns_after_from f g rest 1 n place k at
 
 -- none stands behind the last
-pub behind_one : {A : Type 0} (x : A) (place : ℕ) → 0 < place → slice_get (x ∷ []) place ≡ None
-behind_one x zero some = absurd (omega arith)
-behind_one x (suc place) some = refl
+pub after_one : {A : Type 0} (x : A) (place : ℕ) → 0 < place → slice_get (x ∷ []) place ≡ None
+after_one x zero some = absurd (omega arith)
+after_one x (suc place) some = refl
 
 -- what is left from a place on: that member and the others, or nothing
 pub left_more : {A : Type 0} (xs : List A) (place : ℕ) (x : A) → slice_get xs place ≡ Some x → drop place xs ≡ x ∷ drop (place + 1) xs

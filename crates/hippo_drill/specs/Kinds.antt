@@ -17,19 +17,19 @@ script_text number (Question j) = question_line number j
 script_text number Audit = audit_line number
 
 -- the lines behind the login, for so many patients
-abbrev pub behind_login : ℕ → ℕ → List Txt
-behind_login patients number =
+abbrev pub after_login : ℕ → ℕ → List Txt
+after_login patients number =
     flat_map (λ j. phone_line j ∷ question_line number j ∷ []) (up_to patients) ++ audit_line number
     ∷ []
 
 -- those behind the visits
-abbrev pub behind_visits : ℕ → ℕ → List Txt
-behind_visits patients number =
+abbrev pub after_visits : ℕ → ℕ → List Txt
+after_visits patients number =
     map (λ k. choice_line (10 * k)) (up_to (patients / 10)) ++ login_line
-    ∷ behind_login patients number
+    ∷ after_login patients number
 
 -- those behind the opening
-abbrev pub behind_opening : ℕ → ℕ → List Txt
-behind_opening patients number =
+abbrev pub after_opening : ℕ → ℕ → List Txt
+after_opening patients number =
     map (patient_line number) (up_to patients) ++
-    (map visit_line (up_to patients) ++ behind_visits patients number)
+    (map visit_line (up_to patients) ++ after_visits patients number)

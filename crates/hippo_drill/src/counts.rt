@@ -27,7 +27,7 @@ fn before_space(text: &str) -> &str
     }
 }
 
-fn behind_space(text: &str) -> &str
+fn after_space(text: &str) -> &str
     ensures { result.now ≡ after_first is_space text.now }
 {
     match text.split_once(' ') {
@@ -39,7 +39,7 @@ fn behind_space(text: &str) -> &str
 fn has_second_word(line: &str, word: &str) -> bool
     ensures { result ≡ bytes_eq (second_word line.now) word.now }
 {
-    before_space(behind_space(line)) == word
+    before_space(after_space(line)) == word
 }
 
 fn lines_with(reply: &str, word: &str) -> usize

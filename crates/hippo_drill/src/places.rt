@@ -1,7 +1,7 @@
 //! Which line stands at a place of the script.
 ghost use Rattle.std.specs.Prelude.{◌≡◌, ℕ, ◌+◌, ◌*◌, ◌≤◌, option_map, slice_get, IfSome};
 ghost use Rattle.hippo_drill.specs.Script.{lines_for};
-ghost use Rattle.hippo_drill.specs.Kinds.{script_text, behind_login, behind_visits, behind_opening};
+ghost use Rattle.hippo_drill.specs.Kinds.{script_text, after_login, after_visits, after_opening};
 
 use crate::script_line::ScriptLine;
 
@@ -23,9 +23,9 @@ const LOGIN: &str = "1 login ann treatment nurse";
 
 // The line at a place among those behind the login: by turns a phone changes and a question is
 // asked, and at last there is an audit.
-fn line_behind_login(patients: u64, place: u128) -> Option<ScriptLine>
+fn line_after_login(patients: u64, place: u128) -> Option<ScriptLine>
     ensures text { (number : ℕ) → option_map (script_text number) result
-        ≡ slice_get (behind_login patients number) place }
+        ≡ slice_get (after_login patients number) place }
     ensures limit { IfSome result (λ line. place ≤ 2 * patients) }
 {
     let turn = place / 2;
@@ -46,9 +46,9 @@ fn line_behind_login(patients: u64, place: u128) -> Option<ScriptLine>
 
 // The line at a place among those behind the visits: one patient in ten opts out, and a nurse logs
 // in.
-fn line_behind_visits(patients: u64, place: u128) -> Option<ScriptLine>
+fn line_after_visits(patients: u64, place: u128) -> Option<ScriptLine>
     ensures text { (number : ℕ) → option_map (script_text number) result
-        ≡ slice_get (behind_visits patients number) place }
+        ≡ slice_get (after_visits patients number) place }
     ensures limit { IfSome result (λ line. place ≤ 3 * patients + 1) }
 {
     let choices = u128::from(patients / 10);
@@ -58,13 +58,13 @@ fn line_behind_visits(patients: u64, place: u128) -> Option<ScriptLine>
     if place == choices {
         return Some(ScriptLine::Same(LOGIN));
     }
-    line_behind_login(patients, place - choices - 1)
+    line_after_login(patients, place - choices - 1)
 }
 
 // The line at a place among those behind the opening: the patients and their visits are inserted.
-fn line_behind_opening(patients: u64, place: u128) -> Option<ScriptLine>
+fn line_after_opening(patients: u64, place: u128) -> Option<ScriptLine>
     ensures text { (number : ℕ) → option_map (script_text number) result
-        ≡ slice_get (behind_opening patients number) place }
+        ≡ slice_get (after_opening patients number) place }
     ensures limit { IfSome result (λ line. place ≤ 5 * patients + 1) }
 {
     let each = u128::from(patients);
@@ -75,7 +75,7 @@ fn line_behind_opening(patients: u64, place: u128) -> Option<ScriptLine>
     if place < each {
         return Some(ScriptLine::Visit(place as u64 + 1));
     }
-    line_behind_visits(patients, place - each)
+    line_after_visits(patients, place - each)
 }
 
 /// The line at a place, counted from 0, of the script for so many patients; none behind the last.
@@ -87,6 +87,6 @@ pub(crate) fn line_at(patients: u64, place: u128) -> Option<ScriptLine>
     if place < 10 {
         Some(ScriptLine::Same(OPENING[place as usize]))
     } else {
-        line_behind_opening(patients, place - 10)
+        line_after_opening(patients, place - 10)
     }
 }

@@ -19,24 +19,24 @@ use Rattle.hippo_report.specs.declared.refusal.Refusal.{Refusal}
 use Rattle.hippo_report.specs.declared.refusal.Refusal.TheVariants.{Memory}
 use Rattle.hippo_report.specs.Refusals.{refusal_line}
 use Rattle.hippo_values.specs.Texts.{Txt}
-use Rattle.hippo_sessions.specs.Tallies.{JobTally}
-use Rattle.hippo_sessions.specs.Worlds.{World, opening}
+use Rattle.hippo_engine_sessions.specs.Tallies.{JobTally}
+use Rattle.hippo_engine_sessions.specs.Worlds.{World, opening}
 use Rattle.hippo_report.specs.declared.format.Format.{Format}
 use Rattle.hippo_values.specs.declared.moments.Moment.{Moment}
-use Rattle.hippo_world.specs.Holding.{world_of, JobsFit, WatchesFit}
-use Rattle.hippo_world.proofs.AuditLemmas.{JobsFit-opening, WatchesFit-opening, JobsFit-same, WatchesFit-same, tallies_of-same}
-use Rattle.hippo_commands.specs.Commands.{Command, nothing, wrong, make_request, make_statement, who_commands, may_want, IsCommand}
-use Rattle.hippo_commands.specs.Commands as commands
+use Rattle.hippo_engine_world.specs.Holding.{world_of, JobsFit, WatchesFit}
+use Rattle.hippo_engine_world.proofs.AuditLemmas.{JobsFit-opening, WatchesFit-opening, JobsFit-same, WatchesFit-same, tallies_of-same}
+use Rattle.hippo_stmt_lines.specs.Commands.{Command, nothing, wrong, make_request, make_statement, who_commands, may_want, IsCommand}
+use Rattle.hippo_stmt_lines.specs.Commands as commands
 use Rattle.hippo_engine.specs.declared.engine.Engine.{Engine}
-use Rattle.hippo_effects.specs.declared.faults.EngineFault.{EngineFault}
-use Rattle.hippo_effects.specs.declared.faults.EngineFault.TheVariants.{Keeper, Write, Damaged}
-use Rattle.hippo_effects.specs.Effects.{Effect, only_reply, effect_of, IsEffect}
-use Rattle.hippo_judging.proofs.LengthLemmas.{plain_fits}
-use Rattle.hippo_judging.specs.Findings.{IsOfLine, may_do_nothing}
-use Rattle.hippo_effects.specs.Ledgers.{Tallies, none_taken, at_once, job_begun, job_stepped, job_dropped}
+use Rattle.hippo_engine_rules.specs.declared.faults.EngineFault.{EngineFault}
+use Rattle.hippo_engine_rules.specs.declared.faults.EngineFault.TheVariants.{Keeper, Write, Damaged}
+use Rattle.hippo_engine_rules.specs.Effects.{Effect, only_reply, effect_of, IsEffect}
+use Rattle.hippo_engine_checks.proofs.LengthLemmas.{plain_fits}
+use Rattle.hippo_engine_checks.specs.Findings.{IsOfLine, may_do_nothing}
+use Rattle.hippo_engine_rules.specs.Ledgers.{Tallies, none_taken, at_once, job_begun, job_stepped, job_dropped}
 use Rattle.hippo_engine.specs.Carrying.{Holds, AtWork, is_carried, shown_effect, IsQuiet, AddsNothing, BreaksOff, Carries}
-use Rattle.hippo_effects.proofs.ClockLemmas.{int_le-refl, clock_rises}
-use Rattle.hippo_effects.proofs.ShortLemmas.{short}
+use Rattle.hippo_engine_rules.proofs.ClockLemmas.{int_le-refl, clock_rises}
+use Rattle.hippo_engine_rules.proofs.ShortLemmas.{short}
 
 -- the state of an engine that is at work is backed by its keeper
 pub IsBacked-of : (engine : Engine) (keeper : KeeperState) → AtWork engine keeper → IsBacked engine.state keeper

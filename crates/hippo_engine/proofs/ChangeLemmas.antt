@@ -6,7 +6,7 @@ use Rattle.hippo_values.specs.Texts.{Txt}
 use Rattle.hippo_model.specs.declared.entry.Entry.{Entry}
 use Rattle.hippo_model.specs.Terms.{History}
 use Rattle.hippo_model.specs.Validity.{may_follow, is_valid}
-use Rattle.hippo_laws.proofs.ValidFronts.{is_valid-append}
+use Rattle.hippo_model_laws.proofs.ValidFronts.{is_valid-append}
 use Rattle.hippo_typing.specs.Meanings.{meaning}
 use Rattle.hippo_keeper.specs.declared.faults.KeeperFault.{KeeperFault}
 use Rattle.hippo_keeper.specs.declared.faults.KeeperFault.TheVariants.{Failed, Memory}
@@ -21,30 +21,30 @@ use Rattle.hippo_report.specs.declared.speaker.Speaker.TheVariants.{Console}
 use Rattle.hippo_report.specs.declared.refusal.Refusal.TheVariants as refusals
 use Rattle.hippo_report.specs.Notices.{number_line}
 use Rattle.hippo_report.specs.Refusals.{refusal_line}
-use Rattle.hippo_world.specs.declared.worlds.World.{World as HeldWorld}
-use Rattle.hippo_sessions.specs.Worlds.{World}
+use Rattle.hippo_engine_world.specs.declared.worlds.World.{World as HeldWorld}
+use Rattle.hippo_engine_sessions.specs.Worlds.{World}
 use Rattle.hippo_tables.specs.declared.tables.Tables.{Tables}
 use Rattle.hippo_tables.specs.Standing.{TablesStandFor}
 use Rattle.hippo_watch.specs.Watches.{ComesNext}
-use Rattle.hippo_world.specs.Auditing.{AreLooking, AreAudits, job_tallies}
-use Rattle.hippo_world.specs.Holding.{world_of, WatchesFollow, WatchesGoBack}
-use Rattle.hippo_world.proofs.AuditLemmas.{JobsFit-more, AreAudits-of}
-use Rattle.hippo_commands.specs.Commands.{Command, who_commands}
+use Rattle.hippo_engine_world.specs.Auditing.{AreLooking, AreAudits, job_tallies}
+use Rattle.hippo_engine_world.specs.Holding.{world_of, WatchesFollow, WatchesGoBack}
+use Rattle.hippo_engine_world.proofs.AuditLemmas.{JobsFit-more, AreAudits-of}
+use Rattle.hippo_stmt_lines.specs.Commands.{Command, who_commands}
 use Rattle.hippo_engine.specs.declared.engine.Engine.{Engine}
-use Rattle.hippo_effects.specs.declared.faults.EngineFault.{EngineFault}
-use Rattle.hippo_effects.specs.declared.faults.EngineFault.TheVariants.{Keeper}
+use Rattle.hippo_engine_rules.specs.declared.faults.EngineFault.{EngineFault}
+use Rattle.hippo_engine_rules.specs.declared.faults.EngineFault.TheVariants.{Keeper}
 use Rattle.hippo_engine.specs.Carrying.{AtWork, Carries}
-use Rattle.hippo_judging.specs.Changes.{IsChange}
+use Rattle.hippo_engine_checks.specs.Changes.{IsChange}
 use Rattle.hippo_engine.specs.Changing.{Changes, change_effect}
-use Rattle.hippo_judging.specs.Findings.{AddsNextEntry}
-use Rattle.hippo_judging.specs.Deeds.{next_entry}
-use Rattle.hippo_judging.specs.Deeds as deeds
-use Rattle.hippo_effects.specs.Effects.{Effect, only_reply, deed_effect, effect_of, judgement_effect, IsEffect}
-use Rattle.hippo_judging.specs.Judging.{judged}
-use Rattle.hippo_effects.specs.Ledgers.{none_taken}
+use Rattle.hippo_engine_checks.specs.Findings.{AddsNextEntry}
+use Rattle.hippo_engine_checks.specs.Deeds.{next_entry}
+use Rattle.hippo_engine_checks.specs.Deeds as deeds
+use Rattle.hippo_engine_rules.specs.Effects.{Effect, only_reply, deed_effect, effect_of, judgement_effect, IsEffect}
+use Rattle.hippo_engine_checks.specs.Judging.{judged}
+use Rattle.hippo_engine_rules.specs.Ledgers.{none_taken}
 use Rattle.hippo_engine.proofs.CarryingLemmas.{Carries-unkept, Holds-same, Holds-more}
-use Rattle.hippo_effects.proofs.ClockLemmas.{int_le-refl}
-use Rattle.hippo_effects.proofs.ShortLemmas.{short}
+use Rattle.hippo_engine_rules.proofs.ClockLemmas.{int_le-refl}
+use Rattle.hippo_engine_rules.proofs.ShortLemmas.{short}
 
 -- want of memory is told either way
 pub told_short : (reply : Txt) → (reply ≡ refusal_line Console refusals.Memory) ⊎ (reply ≡ refusal_line Console refusals.Memory) → reply ≡ refusal_line Console refusals.Memory

@@ -4,33 +4,33 @@ use Rattle.std.specs.Prelude.{codes, ok_or, option_map}
 use Rattle.hippo_values.specs.Results.{◌>>=◌}
 use Rattle.hippo_model.specs.declared.audit.Audit.{Audit}
 use Rattle.hippo_model.specs.Terms.{History}
-use Rattle.hippo_lines.specs.Forms as requests
-use Rattle.hippo_commands.specs.Commands.{Command, make_request}
-use Rattle.hippo_following.proofs.RefusalLemmas.{mapped}
+use Rattle.hippo_stmt_lines.specs.Forms as requests
+use Rattle.hippo_stmt_lines.specs.Commands.{Command, make_request}
+use Rattle.hippo_typing_laws.proofs.RefusalLemmas.{mapped}
 use Rattle.hippo_audit_job.specs.Examining.{IsAuditOf}
 use Rattle.hippo_audit_job.specs.Jobs.{OpenAudit, open_audit}
 use Rattle.hippo_replay.specs.Standing.{StandsFor}
 use Rattle.hippo_report.specs.declared.speaker.Speaker.TheVariants.{Console}
 use Rattle.hippo_report.specs.declared.refusal.Refusal.TheVariants as refusals
 use Rattle.hippo_report.specs.Notices.{done_line, number_line}
-use Rattle.hippo_world.specs.declared.worlds.World.{World as HeldWorld}
-use Rattle.hippo_sessions.specs.Tallies.{JobTally}
-use Rattle.hippo_world.specs.Auditing.{HeldJob, HasBegun, IsLooking, AreLooking, job_tally, job_tallies}
-use Rattle.hippo_world.specs.Holding.{world_of, WatchesFit, tallies_of}
-use Rattle.hippo_sessions.specs.Worlds.{at_number, with_at, free_number}
-use Rattle.hippo_sessions.proofs.HeldLemmas.{seen-at, seen-with, seen-free}
-use Rattle.hippo_world.proofs.AuditLemmas.{all_with, IsLooking-begun, tally-begun}
+use Rattle.hippo_engine_world.specs.declared.worlds.World.{World as HeldWorld}
+use Rattle.hippo_engine_sessions.specs.Tallies.{JobTally}
+use Rattle.hippo_engine_world.specs.Auditing.{HeldJob, HasBegun, IsLooking, AreLooking, job_tally, job_tallies}
+use Rattle.hippo_engine_world.specs.Holding.{world_of, WatchesFit, tallies_of}
+use Rattle.hippo_engine_sessions.specs.Worlds.{at_number, with_at, free_number}
+use Rattle.hippo_engine_sessions.proofs.HeldLemmas.{seen-at, seen-with, seen-free}
+use Rattle.hippo_engine_world.proofs.AuditLemmas.{all_with, IsLooking-begun, tally-begun}
 use Rattle.hippo_engine.specs.declared.engine.Engine.{Engine}
-use Rattle.hippo_judging.specs.Checks.{StandsJob}
+use Rattle.hippo_engine_checks.specs.Checks.{StandsJob}
 use Rattle.hippo_engine.specs.Carrying.{shown_effect, AddsNothing}
-use Rattle.hippo_judging.specs.Deeds as deeds
-use Rattle.hippo_effects.specs.Effects.{only_reply, with_job, new_open_audit}
+use Rattle.hippo_engine_checks.specs.Deeds as deeds
+use Rattle.hippo_engine_rules.specs.Effects.{only_reply, with_job, new_open_audit}
 use Rattle.hippo_engine.specs.Jobs.{BeginsAt}
-use Rattle.hippo_judging.specs.Judging.{judged}
-use Rattle.hippo_effects.specs.Ledgers.{begins_job, job_begun, job_dropped}
-use Rattle.hippo_judging.specs.Findings.{IsJudged, Does}
-use Rattle.hippo_judging.specs.declared.deeds.Deed.TheVariants as kinds
-use Rattle.hippo_effects.proofs.ShortLemmas.{done_for}
+use Rattle.hippo_engine_checks.specs.Judging.{judged}
+use Rattle.hippo_engine_rules.specs.Ledgers.{begins_job, job_begun, job_dropped}
+use Rattle.hippo_engine_checks.specs.Findings.{IsJudged, Does}
+use Rattle.hippo_engine_checks.specs.declared.deeds.Deed.TheVariants as kinds
+use Rattle.hippo_engine_rules.proofs.ShortLemmas.{done_for}
 
 -- the world with another job at a number, as it is seen
 pub world_with : (held : HeldWorld) (number : ℕ) (job : Option HeldJob) (jobs : List (Option HeldJob)) → jobs ≡ with_at held.jobs number job

@@ -4,15 +4,15 @@ use Rattle.hippo_model.specs.Terms.{History}
 use Rattle.hippo_report.specs.declared.speaker.Speaker.{Speaker}
 use Rattle.hippo_report.specs.declared.refusal.Refusal.TheVariants.{Memory}
 use Rattle.hippo_report.specs.Refusals.{refusal_line}
-use Rattle.hippo_world.specs.declared.worlds.World.{World as HeldWorld}
-use Rattle.hippo_world.specs.Holding.{world_of, KeepsAudits}
-use Rattle.hippo_commands.specs.Commands.{Command, who_commands}
-use Rattle.hippo_judging.specs.Deeds as deeds
-use Rattle.hippo_judging.specs.Findings.{IsJudged, may_do_nothing}
+use Rattle.hippo_engine_world.specs.declared.worlds.World.{World as HeldWorld}
+use Rattle.hippo_engine_world.specs.Holding.{world_of, KeepsAudits}
+use Rattle.hippo_stmt_lines.specs.Commands.{Command, who_commands}
+use Rattle.hippo_engine_checks.specs.Deeds as deeds
+use Rattle.hippo_engine_checks.specs.Findings.{IsJudged, may_do_nothing}
 use Rattle.hippo_engine.specs.declared.engine.Engine.{Engine}
 use Rattle.hippo_engine.specs.Carrying.{shown_effect, IsQuiet}
-use Rattle.hippo_effects.specs.Effects.{Effect, only_reply, deed_effect, IsEffect}
-use Rattle.hippo_effects.proofs.ShortLemmas.{short, done_for}
+use Rattle.hippo_engine_rules.specs.Effects.{Effect, only_reply, deed_effect, IsEffect}
+use Rattle.hippo_engine_rules.proofs.ShortLemmas.{short, done_for}
 
 -- a deed that leaves state, jobs and watches alone is done
 pub quiet_done : (command : Command) (deed : deeds.Deed) (old new : Engine) → IsJudged command old.state (world_of old.world) (Ok deed) → new.state ≡ old.state → KeepsAudits old.world new.world

@@ -5,32 +5,32 @@ use Rattle.hippo_model.specs.declared.audit.Audit.{Audit}
 use Rattle.hippo_model.specs.Terms.{History}
 use Rattle.hippo_audit_job.specs.Examining.{IsAuditOf}
 use Rattle.hippo_tables.specs.Standing.{TablesStandFor}
-use Rattle.hippo_hits.specs.declared.counts.AuditHits.{AuditHits}
-use Rattle.hippo_hits.specs.Counts.{AreHits}
+use Rattle.hippo_watch_counts.specs.declared.counts.AuditHits.{AuditHits}
+use Rattle.hippo_watch_counts.specs.Counts.{AreHits}
 use Rattle.hippo_watch.specs.Watches.{IsWatchOf}
 use Rattle.hippo_replay.specs.Standing.{StandsFor}
 use Rattle.hippo_report.specs.declared.speaker.Speaker.TheVariants.{Console}
 use Rattle.hippo_report.specs.Notices.{done_line, number_line}
 use Rattle.hippo_report.specs.declared.refusal.Refusal.TheVariants.{Memory}
 use Rattle.hippo_report.specs.Refusals.{refusal_line}
-use Rattle.hippo_world.specs.declared.worlds.World.{World as HeldWorld}
-use Rattle.hippo_sessions.specs.Worlds.{with_at}
-use Rattle.hippo_world.specs.Holding.{world_of, JobsFit, WatchesFit, tallies_of}
-use Rattle.hippo_world.specs.Auditing.{watched}
-use Rattle.hippo_world.proofs.AuditLemmas.{all_with}
-use Rattle.hippo_sessions.proofs.HeldLemmas.{seen-with}
-use Rattle.hippo_commands.specs.Commands.{Command, who_commands}
+use Rattle.hippo_engine_world.specs.declared.worlds.World.{World as HeldWorld}
+use Rattle.hippo_engine_sessions.specs.Worlds.{with_at}
+use Rattle.hippo_engine_world.specs.Holding.{world_of, JobsFit, WatchesFit, tallies_of}
+use Rattle.hippo_engine_world.specs.Auditing.{watched}
+use Rattle.hippo_engine_world.proofs.AuditLemmas.{all_with}
+use Rattle.hippo_engine_sessions.proofs.HeldLemmas.{seen-with}
+use Rattle.hippo_stmt_lines.specs.Commands.{Command, who_commands}
 use Rattle.hippo_engine.specs.declared.engine.Engine.{Engine}
 use Rattle.hippo_engine.specs.Carrying.{AddsNothing, shown_effect}
-use Rattle.hippo_judging.specs.Deeds.{Deed}
-use Rattle.hippo_judging.specs.Deeds as deeds
-use Rattle.hippo_effects.specs.Effects.{only_reply, deed_effect}
-use Rattle.hippo_effects.specs.Ledgers.{none_taken}
-use Rattle.hippo_judging.specs.declared.deeds.Deed.TheVariants as kinds
-use Rattle.hippo_judging.specs.Findings.{IsJudged, Does, may_do_nothing}
+use Rattle.hippo_engine_checks.specs.Deeds.{Deed}
+use Rattle.hippo_engine_checks.specs.Deeds as deeds
+use Rattle.hippo_engine_rules.specs.Effects.{only_reply, deed_effect}
+use Rattle.hippo_engine_rules.specs.Ledgers.{none_taken}
+use Rattle.hippo_engine_checks.specs.declared.deeds.Deed.TheVariants as kinds
+use Rattle.hippo_engine_checks.specs.Findings.{IsJudged, Does, may_do_nothing}
 use Rattle.hippo_engine.proofs.CarryingLemmas.{AddsNothing-quiet}
 use Rattle.hippo_engine.proofs.QuietLemmas.{quiet_short}
-use Rattle.hippo_effects.proofs.ShortLemmas.{done_for}
+use Rattle.hippo_engine_rules.proofs.ShortLemmas.{done_for}
 
 -- the world with another watch at a number, as it is seen
 world_with : (held : HeldWorld) (number : ℕ) (watch : Option AuditHits) (new : HeldWorld) → new ≡ record held { watches = with_at held.watches number watch }

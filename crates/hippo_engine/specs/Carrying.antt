@@ -15,14 +15,14 @@ use Rattle.hippo_replay.specs.Standing.{StandsFor, IsSound, IsTimely}
 use Rattle.hippo_replay.specs.Recording.{HasKept}
 use Rattle.hippo_report.specs.declared.refusal.Refusal.{Refusal}
 use Rattle.hippo_report.specs.declared.refusal.Refusal.TheVariants.{NoSuchQuery}
-use Rattle.hippo_world.specs.Holding.{world_of, KeepsAudits, JobsFit, WatchesFit, tallies_of}
-use Rattle.hippo_commands.specs.Commands.{Command}
+use Rattle.hippo_engine_world.specs.Holding.{world_of, KeepsAudits, JobsFit, WatchesFit, tallies_of}
+use Rattle.hippo_stmt_lines.specs.Commands.{Command}
 use Rattle.hippo_engine.specs.declared.engine.Engine.{Engine}
-use Rattle.hippo_effects.specs.declared.faults.EngineFault.{EngineFault}
-use Rattle.hippo_effects.specs.declared.faults.EngineFault.TheVariants.{Keeper, Write, Damaged}
-use Rattle.hippo_judging.specs.Judging.{judged}
-use Rattle.hippo_effects.specs.Effects.{Effect, only_reply, effect_of, IsEffect}
-use Rattle.hippo_effects.specs.Ledgers.{reads_kept, Tallies}
+use Rattle.hippo_engine_rules.specs.declared.faults.EngineFault.{EngineFault}
+use Rattle.hippo_engine_rules.specs.declared.faults.EngineFault.TheVariants.{Keeper, Write, Damaged}
+use Rattle.hippo_engine_checks.specs.Judging.{judged}
+use Rattle.hippo_engine_rules.specs.Effects.{Effect, only_reply, effect_of, IsEffect}
+use Rattle.hippo_engine_rules.specs.Ledgers.{reads_kept, Tallies}
 
 -- a keeper keeps a history, and an engine holds what it says
 pub record Holds (history : History) (engine : Engine) (keeper : KeeperState) : Type 0 where

@@ -5,13 +5,13 @@ use Rattle.hippo_model.specs.Terms.{History}
 use Rattle.hippo_replay.specs.Standing.{StandsFor}
 use Rattle.hippo_report.specs.declared.speaker.Speaker.TheVariants.{Console}
 use Rattle.hippo_report.specs.Notices.{number_line}
-use Rattle.hippo_sessions.specs.Worlds.{World}
-use Rattle.hippo_world.specs.Holding.{world_of}
-use Rattle.hippo_commands.specs.Commands.{Command, who_commands}
+use Rattle.hippo_engine_sessions.specs.Worlds.{World}
+use Rattle.hippo_engine_world.specs.Holding.{world_of}
+use Rattle.hippo_stmt_lines.specs.Commands.{Command, who_commands}
 use Rattle.hippo_engine.specs.declared.engine.Engine.{Engine}
-use Rattle.hippo_judging.specs.Deeds.{next_entry}
-use Rattle.hippo_effects.specs.Effects.{Effect, effect_of}
-use Rattle.hippo_judging.specs.Findings.{may_do_nothing}
+use Rattle.hippo_engine_checks.specs.Deeds.{next_entry}
+use Rattle.hippo_engine_rules.specs.Effects.{Effect, effect_of}
+use Rattle.hippo_engine_checks.specs.Findings.{may_do_nothing}
 
 -- an entry is added, and its number is said
 abbrev pub change_effect : World → Entry → Effect

@@ -2,8 +2,8 @@
 use Rattle.std.specs.Prelude.{◌≡◌, ℕ, Some, codes}
 use Rattle.hippo_model.specs.declared.audit.Audit.{Audit}
 use Rattle.hippo_report.specs.Notices.{number_line}
-use Rattle.hippo_world.specs.Auditing.{HeldJob, HasBegun}
-use Rattle.hippo_sessions.specs.Worlds.{with_at}
+use Rattle.hippo_engine_world.specs.Auditing.{HeldJob, HasBegun}
+use Rattle.hippo_engine_sessions.specs.Worlds.{with_at}
 use Rattle.hippo_engine.specs.declared.engine.Engine.{Engine}
 
 -- a job over all that is there begins at a number, which is said

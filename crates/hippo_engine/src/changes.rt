@@ -1,13 +1,13 @@
 //! Changes: each adds an entry to the history.
 ghost use Rattle.std.specs.Prelude.{◌≢◌, ℕ, ◌^◌, ◌<◌, Err};
 ghost use Rattle.hippo_replay.specs.Standing.{MayFollow};
-ghost use Rattle.hippo_commands.specs.Commands.{Command};
-ghost use Rattle.hippo_effects.specs.declared.faults.EngineFault.TheVariants.{Write as WriteFailed};
+ghost use Rattle.hippo_stmt_lines.specs.Commands.{Command};
+ghost use Rattle.hippo_engine_rules.specs.declared.faults.EngineFault.TheVariants.{Write as WriteFailed};
 ghost use Rattle.hippo_engine.specs.Carrying.{AtWork, Carries};
 ghost use Rattle.hippo_engine.specs.Changing.{Changes};
 
 use crate::engine::Engine;
-use hippo_effects::{EngineFault, refuse, say_number};
+use hippo_engine_rules::{EngineFault, refuse, say_number};
 use hippo_keeper::{Keeper, KeeperFault};
 use hippo_model::Entry;
 use hippo_report::{Refusal, Speaker};

@@ -1,13 +1,13 @@
 //! The engine: the state of a history, and what a run holds beside it.
 ghost use Rattle.std.specs.Prelude.{◌≡◌, [], IfOk};
-ghost use Rattle.hippo_sessions.specs.Worlds.{opening};
-ghost use Rattle.hippo_world.specs.Holding.{world_of};
+ghost use Rattle.hippo_engine_sessions.specs.Worlds.{opening};
+ghost use Rattle.hippo_engine_world.specs.Holding.{world_of};
 
-use hippo_effects::Reply;
+use hippo_engine_rules::Reply;
+use hippo_engine_world::World;
 use hippo_replay::State;
 use hippo_report::Format;
 use hippo_values::{Memory, Moment};
-use hippo_world::World;
 use std::alloc::Global;
 
 /// The state of a history, what a run holds beside it, and the reply to the last line.

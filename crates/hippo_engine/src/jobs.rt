@@ -1,19 +1,19 @@
 //! Audit jobs at the console: one begins, or is dropped.
 ghost use Rattle.std.specs.Prelude.{bytes_eq};
 ghost use Rattle.std.specs.List.{IsDistinct};
-ghost use Rattle.hippo_lines.specs.Forms as requests;
+ghost use Rattle.hippo_stmt_lines.specs.Forms as requests;
 ghost use Rattle.hippo_report.specs.declared.speaker.Speaker.TheVariants.{Console};
-ghost use Rattle.hippo_commands.specs.Commands.{make_request};
-ghost use Rattle.hippo_world.specs.Holding.{world_of};
-ghost use Rattle.hippo_judging.specs.Checks.{StandsJob};
+ghost use Rattle.hippo_stmt_lines.specs.Commands.{make_request};
+ghost use Rattle.hippo_engine_world.specs.Holding.{world_of};
+ghost use Rattle.hippo_engine_checks.specs.Checks.{StandsJob};
 ghost use Rattle.hippo_engine.specs.Carrying.{AddsNothing};
 ghost use Rattle.hippo_engine.specs.Jobs.{BeginsAt};
 
 use crate::engine::Engine;
-use hippo_effects::{say_done, say_number};
+use hippo_engine_rules::{say_done, say_number};
+use hippo_engine_world::AuditJob;
 use hippo_model::Audit;
 use hippo_report::Speaker;
-use hippo_world::AuditJob;
 use std::alloc::Global;
 
 impl Engine {

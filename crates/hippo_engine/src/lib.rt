@@ -10,4 +10,4 @@ mod sessions;
 mod watches;
 
 pub use engine::Engine;
-pub use hippo_effects::{EngineFault, Reply};
+pub use hippo_engine_rules::{EngineFault, Reply};

@@ -1,12 +1,12 @@
 //! The clock, sessions and cursors.
-ghost use Rattle.hippo_world.specs.Holding.{world_of};
-ghost use Rattle.hippo_commands.specs.Commands.{Command};
-ghost use Rattle.hippo_judging.specs.declared.deeds.Deed.TheVariants as deeds;
-ghost use Rattle.hippo_judging.specs.Findings.{Does};
+ghost use Rattle.hippo_engine_world.specs.Holding.{world_of};
+ghost use Rattle.hippo_stmt_lines.specs.Commands.{Command};
+ghost use Rattle.hippo_engine_checks.specs.declared.deeds.Deed.TheVariants as deeds;
+ghost use Rattle.hippo_engine_checks.specs.Findings.{Does};
 ghost use Rattle.hippo_engine.specs.Carrying.{IsQuiet};
 
 use crate::engine::Engine;
-use hippo_effects::{refuse_for_memory, say_done};
+use hippo_engine_rules::{refuse_for_memory, say_done};
 use hippo_model::Pair;
 use hippo_report::Speaker;
 use hippo_values::{Memory, Moment, Name};

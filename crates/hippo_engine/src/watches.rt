@@ -1,14 +1,14 @@
 //! Watches: how one is set and ended.
 ghost use Rattle.std.specs.Prelude.{bytes_eq};
 ghost use Rattle.std.specs.List.{IsDistinct};
-ghost use Rattle.hippo_world.specs.Holding.{world_of};
-ghost use Rattle.hippo_commands.specs.Commands.{Command};
-ghost use Rattle.hippo_judging.specs.declared.deeds.Deed.TheVariants as deeds;
-ghost use Rattle.hippo_judging.specs.Findings.{Does};
+ghost use Rattle.hippo_engine_world.specs.Holding.{world_of};
+ghost use Rattle.hippo_stmt_lines.specs.Commands.{Command};
+ghost use Rattle.hippo_engine_checks.specs.declared.deeds.Deed.TheVariants as deeds;
+ghost use Rattle.hippo_engine_checks.specs.Findings.{Does};
 ghost use Rattle.hippo_engine.specs.Carrying.{AddsNothing};
 
 use crate::engine::Engine;
-use hippo_effects::{refuse_for_memory, say_done, say_number};
+use hippo_engine_rules::{refuse_for_memory, say_done, say_number};
 use hippo_model::Audit;
 use hippo_report::Speaker;
 use hippo_values::Memory;

@@ -9,8 +9,8 @@ use Rattle.hippo_values.specs.declared.memory.Memory.{Memory}
 use Rattle.hippo_model.specs.declared.entry.Entry.{Entry}
 use Rattle.hippo_model.specs.declared.stored.StoredEntry.{StoredEntry}
 use Rattle.hippo_model.specs.StoredForms.{body}
-use Rattle.hippo_entry_forms.specs.Readings.{leading_entry}
-use Rattle.hippo_entry_forms.proofs.EntryAgain.{entry_again}
+use Rattle.hippo_entry_codec.specs.Readings.{leading_entry}
+use Rattle.hippo_entry_codec.proofs.EntryAgain.{entry_again}
 use Rattle.hippo_entry.specs.Forms.{HasForm, IsEntryOf}
 
 -- what is read from the body of a stored form is its entry

@@ -4,7 +4,7 @@ ghost use Rattle.std.specs.Bool.{then_some};
 ghost use Rattle.std.specs.Result.{result_map_both};
 ghost use Rattle.hippo_entry.specs.Forms.{HasForm, IsEntryOf};
 
-use hippo_entry_forms::{Fault, Keepable, encode, read_entry};
+use hippo_entry_codec::{Fault, Keepable, encode, read_entry};
 use hippo_model::{Entry, StoredEntry};
 use hippo_values::Memory;
 use std::alloc::Global;

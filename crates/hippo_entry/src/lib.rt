@@ -4,4 +4,4 @@
 mod decoding;
 
 pub use decoding::decode;
-pub use hippo_entry_forms::encode;
+pub use hippo_entry_codec::encode;

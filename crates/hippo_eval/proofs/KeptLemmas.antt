@@ -6,11 +6,11 @@ use Rattle.std.proofs.lemmas.Option.{same_Some}
 use Rattle.hippo_values.specs.declared.moments.Moment.{Moment}
 use Rattle.hippo_model.specs.declared.born_row.BornRow.{BornRow}
 use Rattle.hippo_model.specs.Terms.{Row, Combination}
-use Rattle.hippo_keyed_rows.specs.RowSets.{KeyedRows}
+use Rattle.hippo_tables_keyed.specs.RowSets.{KeyedRows}
 use Rattle.hippo_model.specs.Answers.{product}
 use Rattle.hippo_eval.specs.declared.walks.Onward.{Onward}
 use Rattle.hippo_eval.specs.declared.walks.Onward.TheVariants.{More, Enough}
-use Rattle.hippo_eval.specs.Walks.{rows_of, combinations_behind, KeptAfter}
+use Rattle.hippo_eval.specs.Walks.{rows_of, combinations_after, KeptAfter}
 use Rattle.hippo_eval.proofs.WalkLemmas.{beginning, drop_at, one_row_more, all_rows}
 
 module _ {S : Type 0} (keeps : List Combination → S → Type 0) where
@@ -18,18 +18,18 @@ module _ {S : Type 0} (keeps : List Combination → S → Type 0) where
   kept_whole More before these state kept = kept
   kept_whole Enough before these state kept = subst (λ (all : List Combination). keeps all state) (append-nil (before ++ these)) (kept [])
 
-  pub from_the_start : (before these : List Combination) (state : S) → keeps (before ++ combinations_behind [] these) state → keeps (before ++ these) state
+  pub from_the_start : (before these : List Combination) (state : S) → keeps (before ++ combinations_after [] these) state → keeps (before ++ these) state
   from_the_start before these state kept = subst (λ (all : List Combination). keeps (before ++ all) state) (map-id these) kept
 
   module _ (front : Combination) (rest : List Combination) (rows : List BornRow) (i : ℕ) (row : BornRow) (e : slice_get rows i ≡ Some row) (before : List Combination) (state : S) where
     abbrev up_to : ℕ → List Combination
-    up_to n = combinations_behind front (flat_map (beginning rest) (take n rows))
+    up_to n = combinations_after front (flat_map (beginning rest) (take n rows))
 
-    abbrev those_behind : List Combination
-    those_behind = combinations_behind front (flat_map (beginning rest) (drop (i + 1) rows))
+    abbrev those_after : List Combination
+    those_after = combinations_after front (flat_map (beginning rest) (drop (i + 1) rows))
 
     abbrev with_row : List Combination
-    with_row = combinations_behind (front ++ row ∷ []) rest
+    with_row = combinations_after (front ++ row ∷ []) rest
 
     -- all that begin with a row were visited
     pub kept_more : (onward : Onward) → KeptAfter keeps (Ok onward) (before ++ up_to i) with_row state → keeps (before ++ up_to (i + 1)) state
@@ -38,12 +38,12 @@ module _ {S : Type 0} (keeps : List Combination → S → Type 0) where
         subst (λ (some : List Combination). keeps some state) all (kept_whole onward (before ++ up_to i) with_row state kept)
 
     -- what is kept holds whatever follows
-    pub kept_enough : KeptAfter keeps (Ok Enough) (before ++ up_to i) with_row state → (later : List Combination) → keeps (before ++ combinations_behind front (flat_map (beginning rest) rows) ++ later) state
+    pub kept_enough : KeptAfter keeps (Ok Enough) (before ++ up_to i) with_row state → (later : List Combination) → keeps (before ++ combinations_after front (flat_map (beginning rest) rows) ++ later) state
     kept_enough kept later =
-        let joined : before ++ up_to i ++ with_row ++ (those_behind ++ later) ≡ before ++ (up_to i ++ with_row ++ those_behind) ++ later = simp append_assoc in
-        let all : before ++ up_to i ++ with_row ++ (those_behind ++ later) ≡ before ++ combinations_behind front (flat_map (beginning rest) rows) ++ later =
+        let joined : before ++ up_to i ++ with_row ++ (those_after ++ later) ≡ before ++ (up_to i ++ with_row ++ those_after) ++ later = simp append_assoc in
+        let all : before ++ up_to i ++ with_row ++ (those_after ++ later) ≡ before ++ combinations_after front (flat_map (beginning rest) rows) ++ later =
         joined ∙ ap (λ (some : List Combination). before ++ some ++ later) (sym (all_rows front rest rows i row e)) in
-        subst (λ (some : List Combination). keeps some state) all (kept (those_behind ++ later))
+        subst (λ (some : List Combination). keeps some state) all (kept (those_after ++ later))
 
 -- a row with its birth
 pub born_row : (kept : Option BornRow) (row : Row) (born : Moment) → option_map (λ k. k.row) kept ≡ Some row → option_map (λ k. k.born) kept ≡ Some born → kept ≡ Some (record { row = row; born = born })

@@ -2,7 +2,7 @@
 use Rattle.std.specs.Prelude.{List, ◌++◌, map, Result, Ok, Err}
 use Rattle.hippo_values.specs.declared.memory.Memory.{Memory}
 use Rattle.hippo_model.specs.declared.born_row.BornRow.{BornRow}
-use Rattle.hippo_keyed_rows.specs.RowSets.{KeyedRows}
+use Rattle.hippo_tables_keyed.specs.RowSets.{KeyedRows}
 use Rattle.hippo_model.specs.Terms.{Combination}
 use Rattle.hippo_eval.specs.declared.walks.Onward.{Onward}
 use Rattle.hippo_eval.specs.declared.walks.Onward.TheVariants.{More, Enough}
@@ -12,8 +12,8 @@ abbrev pub rows_of : List KeyedRows → List (List BornRow)
 rows_of sets = map (λ set. set.rows) sets
 
 -- combinations with these rows in front of each
-abbrev pub combinations_behind : Combination → List Combination → List Combination
-combinations_behind front combinations = map (λ others. front ++ others) combinations
+abbrev pub combinations_after : Combination → List Combination → List Combination
+combinations_after front combinations = map (λ others. front ++ others) combinations
 
 -- what a state keeps, after combinations that were visited before, of some more; where a visitor
 -- has enough, what it keeps of them holds with whatever follows them

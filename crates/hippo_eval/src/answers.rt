@@ -9,7 +9,7 @@ use crate::gathering::{Gatherer, RowFinder};
 use crate::queries::{passes, project};
 use crate::walks::{Onward, Visitor, walk};
 use hippo_model::{Answer, ChoiceView, Combo, Masked};
-use hippo_rows::Sets;
+use hippo_tables_rows::Sets;
 use hippo_values::{Memory, Sequence};
 use std::alloc::Global;
 

@@ -2,10 +2,10 @@
 ghost use Rattle.std.specs.Prelude.{◌≡◌, [], ◌∷◌, ◌++◌, List, drop, OnOk};
 ghost use Rattle.hippo_model.specs.Terms.{Combination};
 ghost use Rattle.hippo_model.specs.Answers.{product};
-ghost use Rattle.hippo_eval.specs.Walks.{rows_of, combinations_behind, KeptAfter};
+ghost use Rattle.hippo_eval.specs.Walks.{rows_of, combinations_after, KeptAfter};
 
 use hippo_model::Combo;
-use hippo_rows::Sets;
+use hippo_tables_rows::Sets;
 use hippo_values::Memory;
 use std::alloc::Global;
 
@@ -51,7 +51,7 @@ fn walk_from<'a, V: Visitor>(
     ensures same { OnOk result (combo.new ≡ combo.old) }
     ensures kept { (before : List Combination) → V.Keeps visitor.now before state.old
         → KeptAfter (V.Keeps visitor.now) result before
-        (combinations_behind combo.old (product (rows_of (drop place sets.now)))) state.new }
+        (combinations_after combo.old (product (rows_of (drop place sets.now)))) state.new }
 {
     if place >= sets.len() {
         return visitor.visit(alloc, state, combo);

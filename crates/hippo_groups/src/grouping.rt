@@ -13,7 +13,7 @@ use crate::members::{LentRow, Member};
 use hippo_eval::{ANSWER_LIMIT, EvalFault, Gatherer, refill};
 use hippo_join::gather_joined;
 use hippo_model::{Answer, Cell, CellRow, ChoiceView, Combo, Masked, Shape};
-use hippo_rows::Sets;
+use hippo_tables_rows::Sets;
 use hippo_values::{Memory, Sequence};
 use indexmap::IndexSet;
 use std::alloc::Global;

@@ -2,14 +2,14 @@
 //! ask for: its entries, one by one, or the rules in force.
 #![tactic(auto)]
 
-ghost use Rattle.hippo_showing.specs.CommandLine.{asked_of};
-ghost use Rattle.hippo_showing.specs.Endings.{showing_statuses};
-ghost use Rattle.hippo_start.specs.Statuses.{AnswersAmong, TellsFault};
+ghost use Rattle.hippo_history_top.specs.CommandLine.{asked_of};
+ghost use Rattle.hippo_history_top.specs.Endings.{showing_statuses};
+ghost use Rattle.hippo_program_start.specs.Statuses.{AnswersAmong, TellsFault};
 
-use hippo_files::FileKeeper;
+use hippo_history_top::history_top;
 use hippo_io::{Sink, Source};
-use hippo_showing::history_top;
-use hippo_start::{Ended, Host, Program, start};
+use hippo_program_start::{Ended, Host, Program, start};
+use hippo_sqlite_files::FileKeeper;
 use hippo_values::Txt;
 use std::sync::ledger::Ledger;
 

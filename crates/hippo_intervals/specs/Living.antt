@@ -2,7 +2,7 @@
 use Rattle.std.specs.Prelude.{◌≡◌, ◌≢◌, true, false, ℕ, ◌+◌, ◌≤◌, ◌++◌, length, take, Result, Err, OnOk}
 use Rattle.hippo_model.specs.declared.schema.Schema.{Schema}
 use Rattle.hippo_model.specs.Terms.{History, Meaning}
-use Rattle.hippo_keyed_rows.specs.RowSets.{kept_at}
+use Rattle.hippo_tables_keyed.specs.RowSets.{kept_at}
 use Rattle.hippo_model.specs.Stores.{IsStoreOf}
 use Rattle.hippo_keeper.specs.Keeping.{Store, KeeperState, IsAfterCall, KeepsSame}
 use Rattle.hippo_keeper.specs.Selecting.{stored_versions}

@@ -6,7 +6,7 @@ ghost use Rattle.hippo_intervals.specs.Living.{no_lives, taken_by, Advances};
 use hippo_backlog::{ReadFault, Versions};
 use hippo_keeper::{Keeper, Steps};
 use hippo_model::Schema;
-use hippo_rows::RowSet;
+use hippo_tables_rows::RowSet;
 use hippo_values::{Duplicate, Memory};
 use std::alloc::Global;
 use std::marker::Model;

@@ -5,11 +5,11 @@ use Rattle.std.proofs.lemmas.List.{take-append-le, length-take, length-take-le, 
 use Rattle.std.proofs.lemmas.Slice.{between_is}
 use Rattle.std.specs.Prelude.{Option, slice_range}
 use borrow.Rule.Slice.PartMut.{put_mid}
-use Rattle.hippo_io.specs.Told.{Takes, TakesBehind}
+use Rattle.hippo_io.specs.Told.{Takes, TakesAfter}
 
 -- what stands up to n bytes behind the place of a write
-take_behind : (a k n : ℕ) (xs ys : List ℕ) → a ≤ length xs → n ≤ length ys → take (a + n) (put_mid a k xs ys) ≡ take a xs ++ take n ys
-take_behind a k n xs ys inside short =
+take_after : (a k n : ℕ) (xs ys : List ℕ) → a ≤ length xs → n ≤ length ys → take (a + n) (put_mid a k xs ys) ≡ take a xs ++ take n ys
+take_after a k n xs ys inside short =
     let e : length (take a xs) ≡ a = length-take-le a xs inside in
     ap (λ m. take (m + n) (put_mid a k xs ys)) (sym e) ∙ take-append-add (take a xs) _ n ∙ ap (λ l. take a xs ++ l) (take-append-le n ys _ short)
 
@@ -17,15 +17,15 @@ take_behind a k n xs ys inside short =
 told_enough : (n : ℕ) (told buffer : List ℕ) → n ≤ length buffer → take n told ≡ take n buffer → n ≤ length told
 told_enough n told buffer short same = omega (arith, ap length same, length-take n told, length-take n buffer)
 
-pub TakesBehind-from_read : {E : Type 0} (r : Result ℕ E) (old new : Option (List ℕ)) (a k : ℕ) (xs ys : List ℕ) → a ≤ length xs
-    → IfOk r (λ n. n ≤ length ys) → IfOk r (λ n. Takes old new n ys) → IfOk r (λ n. TakesBehind old new n (take a xs) (take (a + n) (put_mid a k xs ys)))
-TakesBehind-from_read (Ok n) old new a k xs ys inside short taken = λ told is.
+pub TakesAfter-from_read : {E : Type 0} (r : Result ℕ E) (old new : Option (List ℕ)) (a k : ℕ) (xs ys : List ℕ) → a ≤ length xs
+    → IfOk r (λ n. n ≤ length ys) → IfOk r (λ n. Takes old new n ys) → IfOk r (λ n. TakesAfter old new n (take a xs) (take (a + n) (put_mid a k xs ys)))
+TakesAfter-from_read (Ok n) old new a k xs ys inside short taken = λ told is.
     let moved = taken told is in (
       told_enough n told ys short moved.0,
-      take_behind a k n xs ys inside short ∙ ap (λ l. take a xs ++ l) (sym moved.0),
+      take_after a k n xs ys inside short ∙ ap (λ l. take a xs ++ l) (sym moved.0),
       moved.1,
     )
-TakesBehind-from_read (Err e) old new a k xs ys inside short taken = taken
+TakesAfter-from_read (Err e) old new a k xs ys inside short taken = taken
 
 -- the part that begins n later
 pub window_later : (xs : List ℕ) (from n to : ℕ) → slice_range xs (from + n) to ≡ drop n (slice_range xs from to)

@@ -4,7 +4,7 @@ use Rattle.hippo_values.specs.Limits.{line_limit}
 use Rattle.hippo_io.specs.Lines.{LineText, too_long_line, line_feed, feeds}
 use Rattle.hippo_io.specs.Position.{Position}
 use Rattle.hippo_io.specs.HandingOut.{input_limit, bytes_handed_out, HasHandedOut, HasGivenUp}
-use Rattle.hippo_io.specs.Told.{TakesBehind}
+use Rattle.hippo_io.specs.Told.{TakesAfter}
 use Rattle.hippo_io.specs.declared.lines.Found.{Found}
 use Rattle.hippo_io.specs.declared.lines.Found.TheVariants.{Whole, Rest, Skipped}
 use Rattle.hippo_io.specs.declared.lines.LineFault.{LineFault}
@@ -24,7 +24,7 @@ pub record IsGoing (reader : Position) : Type 0 where
 pub record Refills (before after : Position) (left_before left_after : Option (List ℕ)) (n : ℕ)
     : Type 0 where
   pub going : IsGoing after
-  pub waiting : TakesBehind left_before left_after n before.waiting after.waiting
+  pub waiting : TakesAfter left_before left_after n before.waiting after.waiting
   pub front : take (length before.waiting) after.waiting ≡ before.waiting
   pub count : length after.waiting ≡ length before.waiting + n
   pub taken : after.taken ≡ before.taken + n

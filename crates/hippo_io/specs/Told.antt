@@ -26,7 +26,7 @@ AppendsFront old new bytes = (n : ℕ) × Appends old new (take n bytes)
 
 -- whatever bytes the old one tells, the first n of them are now behind the others, and the new one
 -- tells the rest
-abbrev pub TakesBehind : Option (List ℕ) → Option (List ℕ) → ℕ → List ℕ → List ℕ → Type 0
-TakesBehind old new n others together =
+abbrev pub TakesAfter : Option (List ℕ) → Option (List ℕ) → ℕ → List ℕ → List ℕ → Type 0
+TakesAfter old new n others together =
     (told : List ℕ) → old ≡ Some told
     → (n ≤ length told) × (together ≡ others ++ take n told) × (new ≡ Some (drop n told))

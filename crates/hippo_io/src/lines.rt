@@ -7,7 +7,7 @@ ghost use Rattle.hippo_values.specs.Limits.{line_limit};
 ghost use Rattle.hippo_io.specs.Lines.{line_of, line_feed, carriage_return, feeds};
 ghost use Rattle.hippo_io.specs.LineTexts.{line_text};
 ghost use Rattle.hippo_io.specs.Moves.{BeginsWithLine};
-ghost use Rattle.hippo_io.specs.Told.{Keeps, IsAtEnd, TakesBehind};
+ghost use Rattle.hippo_io.specs.Told.{Keeps, IsAtEnd, TakesAfter};
 
 use crate::source::{Failed, Source};
 use hippo_values::{LINE_LIMIT, Memory};
@@ -92,7 +92,7 @@ fn move_to_front(buffer: &mut [u8], start: usize, end: usize)
 }
 
 // Reads at most so many bytes into the buffer, behind those that fill it so far.
-fn read_behind<S: Source>(
+fn read_after<S: Source>(
     source: &mut S,
     buffer: &mut [u8],
     filled: usize,
@@ -101,7 +101,7 @@ fn read_behind<S: Source>(
     requires room { filled < length buffer.old }
     requires some { 0 < most }
     ensures count { IfOk result (λ n. (n ≤ most) × (filled + n ≤ length buffer.old)) }
-    ensures taken { IfOk result (λ n. TakesBehind (S.left source.old) (S.left source.new) n
+    ensures taken { IfOk result (λ n. TakesAfter (S.left source.old) (S.left source.new) n
         (take filled buffer.old) (take (filled + n) buffer.new)) }
     ensures end { IfOk result (λ n. n ≡ 0 → IsAtEnd (S.left source.old)) }
     ensures failed { OnErr result (Keeps (S.left source.old) (S.left source.new)) }
@@ -223,7 +223,7 @@ impl LineReader {
         self.end -= self.start;
         self.start = 0;
         let most = (INPUT_LIMIT - self.taken).max(1) as usize;
-        match read_behind(source, self.buffer.as_mut_slice(), self.end, most) {
+        match read_after(source, self.buffer.as_mut_slice(), self.end, most) {
             Ok(n) => {
                 self.end += n;
                 self.taken += n as u64;

@@ -11,15 +11,15 @@ use Rattle.std.proofs.lemmas.List.Folds.{Any-from_list_any, list_any-append, lis
 use Rattle.hippo_model.specs.declared.query.Expr.{Expr}
 use Rattle.hippo_model.specs.declared.query.Masked.{Masked}
 use Rattle.hippo_model.specs.Terms.{Place}
-use Rattle.hippo_keyed_rows.specs.RowSets.{KeyedRows}
+use Rattle.hippo_tables_keyed.specs.RowSets.{KeyedRows}
 use Rattle.hippo_model.specs.Masking.{Choices}
-use Rattle.hippo_lookups.specs.Places.{Fits, chosen_rows}
-use Rattle.hippo_lookups.specs.Known.{is_chosen}
-use Rattle.hippo_sides.specs.Finding.{Covers, has_places}
-use Rattle.hippo_sides.specs.Visiting.{AreAll, Completes}
+use Rattle.hippo_join_lookups.specs.Places.{Fits, chosen_rows}
+use Rattle.hippo_join_lookups.specs.Known.{is_chosen}
+use Rattle.hippo_join_stages.specs.Finding.{Covers, has_places}
+use Rattle.hippo_join_stages.specs.Visiting.{AreAll, Completes}
 use Rattle.hippo_join.specs.Existence.{are_shown, HasOne, Decides}
-use Rattle.hippo_sides.proofs.FindingLemmas.{whole-chosen_rows, covered-whole}
-use Rattle.hippo_sides.proofs.FoundLemmas.{same_places}
+use Rattle.hippo_join_stages.proofs.FindingLemmas.{whole-chosen_rows, covered-whole}
+use Rattle.hippo_join_stages.proofs.FoundLemmas.{same_places}
 
 pub decided : (fact : Type 0) (answer : Bool) → (answer ≡ true → fact) → (answer ≡ false → ¬ fact) → Decides fact (Ok answer)
 decided fact true so not = so refl

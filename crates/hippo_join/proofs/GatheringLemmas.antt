@@ -4,10 +4,10 @@ use Rattle.std.proofs.lemmas.List.{length-map}
 use Rattle.hippo_model.specs.declared.query.Masked.{Masked}
 use Rattle.hippo_model.specs.Answers.{product}
 use Rattle.hippo_model.specs.Masking.{Choices, masked_items, masked_answer}
-use Rattle.hippo_keyed_rows.specs.RowSets.{KeyedRows}
+use Rattle.hippo_tables_keyed.specs.RowSets.{KeyedRows}
 use Rattle.hippo_eval.specs.Walks.{rows_of}
-use Rattle.hippo_lookups.specs.Places.{stays}
-use Rattle.hippo_sides.specs.Visiting.{counting}
+use Rattle.hippo_join_lookups.specs.Places.{stays}
+use Rattle.hippo_join_stages.specs.Visiting.{counting}
 use Rattle.std.specs.Prelude.{List}
 
 -- the rows of what counts are the answer

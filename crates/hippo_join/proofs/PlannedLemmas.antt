@@ -9,7 +9,7 @@ use Rattle.hippo_model.specs.declared.query.Masked.{Masked}
 use Rattle.hippo_model.specs.Terms.{Combination, Place}
 use Rattle.hippo_model.specs.Answers.{product}
 use Rattle.hippo_model.specs.Masking.{Choices, masked_answer}
-use Rattle.hippo_keyed_rows.specs.RowSets.{KeyedRows}
+use Rattle.hippo_tables_keyed.specs.RowSets.{KeyedRows}
 use Rattle.hippo_eval.specs.Answering.{IsAnswered}
 use Rattle.hippo_eval.specs.declared.answers.EvalFault.{EvalFault}
 use Rattle.hippo_eval.specs.declared.answers.EvalFault.TheVariants.{TooManyRows, Memory}
@@ -18,11 +18,11 @@ use Rattle.hippo_eval.specs.declared.walks.Onward.TheVariants.{Enough}
 use Rattle.hippo_eval.specs.Walks.{KeptAfter, rows_of}
 use Rattle.hippo_eval.proofs.WalkLemmas.{take_row}
 use Rattle.hippo_eval.proofs.KeptLemmas.{kept_whole}
-use Rattle.hippo_lookups.specs.Places.{blank, chosen_rows, row_at_place, stands}
-use Rattle.hippo_lookups.proofs.SlotLemmas.{length-rows_at}
-use Rattle.hippo_sides.specs.Finding.{AreFound, IsRising}
-use Rattle.hippo_sides.specs.Visiting.{counting}
-use Rattle.hippo_sides.proofs.FoundLemmas.{length-found, rows-in-order}
+use Rattle.hippo_join_lookups.specs.Places.{blank, chosen_rows, row_at_place, stands}
+use Rattle.hippo_join_lookups.proofs.SlotLemmas.{length-rows_at}
+use Rattle.hippo_join_stages.specs.Finding.{AreFound, IsRising}
+use Rattle.hippo_join_stages.specs.Visiting.{counting}
+use Rattle.hippo_join_stages.proofs.FoundLemmas.{length-found, rows-in-order}
 use Rattle.hippo_join.specs.Plans.{IsUnvisited}
 use Rattle.hippo_join.proofs.GatheringLemmas.{length-counted}
 

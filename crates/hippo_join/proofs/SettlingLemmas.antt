@@ -7,18 +7,18 @@ use Rattle.std.proofs.lemmas.Bool.{false≢true}
 use Rattle.std.proofs.lemmas.Option.{slice_get-get_or}
 use Rattle.hippo_model.specs.declared.query.Masked.{Masked}
 use Rattle.hippo_model.specs.Terms.{Place}
-use Rattle.hippo_keyed_rows.specs.RowSets.{KeyedRows}
+use Rattle.hippo_tables_keyed.specs.RowSets.{KeyedRows}
 use Rattle.hippo_model.specs.Masking.{Choices}
-use Rattle.hippo_sides.specs.declared.stages.Stage.{Stage}
-use Rattle.hippo_lookups.specs.Known.{is_chosen, is_open}
-use Rattle.hippo_lookups.specs.Places.{Fits, stands}
+use Rattle.hippo_join_stages.specs.declared.stages.Stage.{Stage}
+use Rattle.hippo_join_lookups.specs.Known.{is_chosen, is_open}
+use Rattle.hippo_join_lookups.specs.Places.{Fits, stands}
 use Rattle.hippo_join.specs.Settling.{Settles}
-use Rattle.hippo_sides.specs.Stages.{Reaches, ReachesFrom}
-use Rattle.hippo_sides.specs.Walking.{IsWalkable, AreWalkable, CanWalk}
-use Rattle.hippo_lookups.proofs.PlaceSteps.{get_or_default}
-use Rattle.hippo_sides.proofs.FindingLemmas.{closed_chosen, first_or_later}
-use Rattle.hippo_lookups.proofs.PruneLemmas.{long-enough}
-use Rattle.hippo_lookups.proofs.SlotLemmas.{Fits-set}
+use Rattle.hippo_join_stages.specs.Stages.{Reaches, ReachesFrom}
+use Rattle.hippo_join_stages.specs.Walking.{IsWalkable, AreWalkable, CanWalk}
+use Rattle.hippo_join_lookups.proofs.PlaceSteps.{get_or_default}
+use Rattle.hippo_join_stages.proofs.FindingLemmas.{closed_chosen, first_or_later}
+use Rattle.hippo_join_lookups.proofs.PruneLemmas.{long-enough}
+use Rattle.hippo_join_lookups.proofs.SlotLemmas.{Fits-set}
 
 module _ (choices : Choices) (query : Masked) (sets : List KeyedRows) where
   pub Settles_refl : (slots : List (Option Place)) → Settles choices query sets slots slots
@@ -58,12 +58,12 @@ Contains-kept : (test : Place → Bool) (xs : List Place) (x : Place) → Contai
 Contains-kept test [] x has good = absurd (omega (arith, has.1))
 Contains-kept test (first ∷ xs) x has good = elim (first_or_later first xs x has) as (λ _. Contains (filter test (first ∷ xs)) x) [
   | inl here ↦ subst (λ (b : Bool). Contains (cond b (first ∷ filter test xs) (filter test xs)) x) (sym (ap test here ∙ good)) (0, omega arith, here)
-  | inr later ↦ behind (test first) (Contains-kept test xs x later good)
+  | inr later ↦ remaining (test first) (Contains-kept test xs x later good)
 ]
   where
-    behind : (b : Bool) → Contains (filter test xs) x → Contains (cond b (first ∷ filter test xs) (filter test xs)) x
-    behind true has = (suc has.0, omega (arith, has.1), has.2)
-    behind false has = has
+    remaining : (b : Bool) → Contains (filter test xs) x → Contains (cond b (first ∷ filter test xs) (filter test xs)) x
+    remaining true has = (suc has.0, omega (arith, has.1), has.2)
+    remaining false has = has
 
 open_or_not : (b : Bool) → (b ≡ true) ⊎ (b ≡ false)
 open_or_not true = inl refl

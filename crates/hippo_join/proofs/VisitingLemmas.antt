@@ -16,27 +16,27 @@ use Rattle.std.proofs.lemmas.List.Kept.{AllPairs-from_increasing, IsStrictlySort
 use Rattle.std.proofs.lemmas.Option.{slice_get-get_or}
 use Rattle.hippo_model.specs.declared.query.Masked.{Masked}
 use Rattle.hippo_model.specs.Terms.{Combination, Place}
-use Rattle.hippo_keyed_rows.specs.RowSets.{KeyedRows}
+use Rattle.hippo_tables_keyed.specs.RowSets.{KeyedRows}
 use Rattle.hippo_model.specs.declared.born_row.BornRow.{BornRow}
 use Rattle.hippo_model.specs.Masking.{Choices, is_guarded, masked_passes}
 use Rattle.hippo_values.specs.declared.memory.Memory.{Memory}
 use Rattle.hippo_eval.specs.Walks.{KeptAfter}
 use Rattle.hippo_eval.specs.declared.walks.Onward.{Onward}
 use Rattle.hippo_eval.specs.declared.walks.Onward.TheVariants.{More, Enough}
-use Rattle.hippo_lookups.specs.Places.{Fits, are_there, blank, chosen_rows, in_range, places_of, row_at_place, rows_at, stands, stays}
-use Rattle.hippo_lookups.specs.Known.{is_chosen, is_open}
-use Rattle.hippo_sides.specs.Finding.{has_places, IsRising}
-use Rattle.hippo_sides.specs.Stages.{Counts, ReachesFrom}
-use Rattle.hippo_sides.specs.Walking.{CanWalk}
-use Rattle.hippo_sides.specs.declared.stages.Stage.{Stage}
-use Rattle.hippo_sides.specs.Visiting.{Completes, KeptOn, AreAll, Visited}
-use Rattle.hippo_lookups.proofs.PlaceSteps.{below_or_at, get_or_default, rises-range}
+use Rattle.hippo_join_lookups.specs.Places.{Fits, are_there, blank, chosen_rows, in_range, places_of, row_at_place, rows_at, stands, stays}
+use Rattle.hippo_join_lookups.specs.Known.{is_chosen, is_open}
+use Rattle.hippo_join_stages.specs.Finding.{has_places, IsRising}
+use Rattle.hippo_join_stages.specs.Stages.{Counts, ReachesFrom}
+use Rattle.hippo_join_stages.specs.Walking.{CanWalk}
+use Rattle.hippo_join_stages.specs.declared.stages.Stage.{Stage}
+use Rattle.hippo_join_stages.specs.Visiting.{Completes, KeptOn, AreAll, Visited}
+use Rattle.hippo_join_lookups.proofs.PlaceSteps.{below_or_at, get_or_default, rises-range}
 use Rattle.hippo_join.proofs.ExistenceLemmas.{Fits-unset, all-chosen_rows, fits-itself}
-use Rattle.hippo_sides.proofs.FindingLemmas.{before-chosen_rows, counts-is, open-unchosen, open-within, walk-again, walk-chosen_rows, walk-closed}
-use Rattle.hippo_sides.proofs.FoundLemmas.{has-both, has-filter, has-first, or-cases, same_places}
-use Rattle.hippo_sides.proofs.ProductLemmas.{Below, rising-append, same-first, has-places_of, rising-places_of}
-use Rattle.hippo_lookups.proofs.PruneLemmas.{below-rows, in-range, long-enough}
-use Rattle.hippo_lookups.proofs.SlotLemmas.{Fits-open, Fits-set, Fits-whole, rows-chosen, there-set, there-whole}
+use Rattle.hippo_join_stages.proofs.FindingLemmas.{before-chosen_rows, counts-is, open-unchosen, open-within, walk-again, walk-chosen_rows, walk-closed}
+use Rattle.hippo_join_stages.proofs.FoundLemmas.{has-both, has-filter, has-first, or-cases, same_places}
+use Rattle.hippo_join_stages.proofs.ProductLemmas.{Below, rising-append, same-first, has-places_of, rising-places_of}
+use Rattle.hippo_join_lookups.proofs.PruneLemmas.{below-rows, in-range, long-enough}
+use Rattle.hippo_join_lookups.proofs.SlotLemmas.{Fits-open, Fits-set, Fits-whole, rows-chosen, there-set, there-whole}
 use Rattle.hippo_join.specs.Walked.{Join, CanGoOn, StandAt}
 
 not_true : (b : Bool) → ¬ (b ≡ true) → b ≡ false

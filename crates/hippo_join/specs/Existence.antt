@@ -5,9 +5,9 @@ use Rattle.hippo_values.specs.declared.memory.Memory.{Memory}
 use Rattle.hippo_model.specs.declared.query.Expr.{Expr}
 use Rattle.hippo_model.specs.declared.query.Masked.{Masked}
 use Rattle.hippo_model.specs.Terms.{Combination, Place}
-use Rattle.hippo_keyed_rows.specs.RowSets.{KeyedRows}
+use Rattle.hippo_tables_keyed.specs.RowSets.{KeyedRows}
 use Rattle.hippo_model.specs.Masking.{Choices, masked_cell, is_shown_cell}
-use Rattle.hippo_lookups.specs.Places.{chosen_rows, Fits, stands}
+use Rattle.hippo_join_lookups.specs.Places.{chosen_rows, Fits, stands}
 
 -- whether each of some expressions is a shown cell
 abbrev pub are_shown : Choices → List Expr → Combination → Bool

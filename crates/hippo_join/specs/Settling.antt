@@ -2,9 +2,9 @@
 use Rattle.std.specs.Prelude.{◌≡◌, true, List, length, Option}
 use Rattle.hippo_model.specs.declared.query.Masked.{Masked}
 use Rattle.hippo_model.specs.Terms.{Place}
-use Rattle.hippo_keyed_rows.specs.RowSets.{KeyedRows}
+use Rattle.hippo_tables_keyed.specs.RowSets.{KeyedRows}
 use Rattle.hippo_model.specs.Masking.{Choices}
-use Rattle.hippo_lookups.specs.Places.{Fits, stands}
+use Rattle.hippo_join_lookups.specs.Places.{Fits, stands}
 
 -- a combination that counts and has the rows that are chosen before has those that are chosen
 -- after, too

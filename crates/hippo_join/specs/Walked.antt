@@ -5,14 +5,14 @@ use Rattle.hippo_values.specs.declared.memory.Memory.{Memory}
 use Rattle.hippo_model.specs.declared.query.Masked.{Masked}
 use Rattle.hippo_model.specs.Terms.{Combination, Place}
 use Rattle.hippo_model.specs.Masking.{Choices}
-use Rattle.hippo_keyed_rows.specs.RowSets.{KeyedRows}
+use Rattle.hippo_tables_keyed.specs.RowSets.{KeyedRows}
 use Rattle.hippo_eval.specs.declared.walks.Onward.{Onward}
-use Rattle.hippo_lookups.specs.Known.{is_open}
-use Rattle.hippo_lookups.specs.Places.{are_there, rows_at}
-use Rattle.hippo_sides.specs.declared.stages.Stage.{Stage}
-use Rattle.hippo_sides.specs.Stages.{AllCount, ReachesFrom}
-use Rattle.hippo_sides.specs.Visiting.{Completes, Visits}
-use Rattle.hippo_sides.specs.Walking.{CanWalk}
+use Rattle.hippo_join_lookups.specs.Known.{is_open}
+use Rattle.hippo_join_lookups.specs.Places.{are_there, rows_at}
+use Rattle.hippo_join_stages.specs.declared.stages.Stage.{Stage}
+use Rattle.hippo_join_stages.specs.Stages.{AllCount, ReachesFrom}
+use Rattle.hippo_join_stages.specs.Visiting.{Completes, Visits}
+use Rattle.hippo_join_stages.specs.Walking.{CanWalk}
 use Rattle.hippo_join.specs.declared.walking.Walk.{Walk}
 
 -- what is joined, and whether it is visited in the order of the product

@@ -2,15 +2,15 @@
 ghost use Rattle.std.specs.Prelude.{◌≡◌, false, OnOk, length};
 ghost use Rattle.std.specs.List.{All};
 ghost use Rattle.hippo_model.specs.Masking.{masked_cell, is_shown_cell};
-ghost use Rattle.hippo_sides.specs.Finding.{Covers};
-ghost use Rattle.hippo_sides.specs.Stages.{IsStage};
-ghost use Rattle.hippo_sides.specs.Walking.{CanWalk};
+ghost use Rattle.hippo_join_stages.specs.Finding.{Covers};
+ghost use Rattle.hippo_join_stages.specs.Stages.{IsStage};
+ghost use Rattle.hippo_join_stages.specs.Walking.{CanWalk};
 ghost use Rattle.hippo_join.specs.Existence.{are_shown, HasOne, Decides};
 
 use crate::walking::{PlaceVisitor, Walk, are_there};
 use hippo_eval::{Onward, cell};
+use hippo_join_stages::{Side, Stage};
 use hippo_model::{ChoiceView, Combo, Expr};
-use hippo_sides::{Side, Stage};
 use hippo_values::Memory;
 use std::alloc::Global;
 
@@ -42,7 +42,7 @@ pub(crate) struct Seeker<'w, 'a, C> {
 impl<'w, 'a, C: ChoiceView> PlaceVisitor for Seeker<'w, 'a, C> {
     ghost use Rattle.std.specs.Prelude.{◌≡◌};
     ghost use Rattle.std.specs.List.{list_any};
-    ghost use Rattle.hippo_lookups.specs.Places.{chosen_rows};
+    ghost use Rattle.hippo_join_lookups.specs.Places.{chosen_rows};
     ghost use Rattle.hippo_join.specs.Existence.{are_shown};
 
     type State = bool;

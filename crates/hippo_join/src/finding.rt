@@ -1,6 +1,6 @@
 //! All combinations of rows that count, by their places.
 ghost use Rattle.std.specs.Prelude.{◌≡◌, map, unwrap_or, IfOk, OnOk, OnErr};
-ghost use Rattle.hippo_sides.specs.Finding.{HasOnePlaceMore};
+ghost use Rattle.hippo_join_stages.specs.Finding.{HasOnePlaceMore};
 
 use crate::walking::PlaceVisitor;
 use hippo_eval::Onward;
@@ -33,7 +33,7 @@ pub(crate) struct PlaceFinder {
 
 impl PlaceVisitor for PlaceFinder {
     ghost use Rattle.std.specs.Prelude.{◌≡◌, true};
-    ghost use Rattle.hippo_sides.specs.Finding.{AreFound, has_places};
+    ghost use Rattle.hippo_join_stages.specs.Finding.{AreFound, has_places};
 
     type State = BTreeSet<Places>;
 

@@ -6,7 +6,7 @@ ghost use Rattle.hippo_eval.specs.Walks.{rows_of};
 use crate::visiting::walk_joined;
 use hippo_eval::{EvalFault, Gatherer, RowFinder};
 use hippo_model::{Answer, ChoiceView, Masked};
-use hippo_rows::Sets;
+use hippo_tables_rows::Sets;
 use std::alloc::Global;
 
 /// What is answered of the rows that a query with the policy written into it makes, over unmasked

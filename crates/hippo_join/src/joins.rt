@@ -3,14 +3,14 @@ ghost use Rattle.std.specs.Prelude.{◌≡◌, IfOk, length};
 ghost use Rattle.hippo_model.specs.Masking.{masked_answer};
 ghost use Rattle.hippo_eval.specs.Answering.{IsAnswered};
 ghost use Rattle.hippo_eval.specs.Walks.{rows_of};
-ghost use Rattle.hippo_lookups.specs.Places.{blank};
+ghost use Rattle.hippo_join_lookups.specs.Places.{blank};
 ghost use Rattle.hippo_join.specs.Plans.{IsPlanOf};
 
 use crate::planned::visit_planned;
 use hippo_eval::{ANSWER_LIMIT, EvalFault, Every, Gatherer, RowFinder};
+use hippo_join_stages::Side;
 use hippo_model::{Answer, BornRow, ChoiceView, Masked, Plan};
-use hippo_rows::Sets;
-use hippo_sides::Side;
+use hippo_tables_rows::Sets;
 use hippo_values::{Memory, Moment, Sequence};
 use std::alloc::Global;
 

@@ -4,9 +4,9 @@ ghost use Rattle.std.specs.List.{range_with_len};
 ghost use Rattle.std.specs.List.Sorted.{IsPermutation};
 ghost use Rattle.hippo_join.specs.Plans.{IsPlanOf};
 
-use hippo_lookups::{column_of, find_tie, outer_parts};
+use hippo_join_lookups::{column_of, find_tie, outer_parts};
+use hippo_join_stages::open_slots;
 use hippo_model::{CondOf, Expr, Masked, Plan, Sizes};
-use hippo_sides::open_slots;
 use hippo_values::{CompareOp, Memory, Sequence};
 use std::alloc::Global;
 
@@ -80,7 +80,7 @@ fn mark(slots: &mut [Option<usize>], table: usize) {
 /// Some tables of a query, and then the others that are left, in an order in which they can be
 /// joined behind the first: next comes a table that an equality ties to one before it, if there is
 /// one, then one of which an equality with a literal says a value, and of several the smallest.
-pub fn order_behind(
+pub fn order_after(
     alloc: Global,
     query: &Masked,
     sizes: &Sizes,
@@ -114,7 +114,7 @@ pub fn plan(alloc: Global, query: &Masked, sizes: &Sizes) -> Result<Plan, Memory
     ensures { IfOk result (λ plan. IsPlanOf query.now plan) }
 {
     let tables = tables_below(alloc, query.tables.len())?;
-    let order = order_behind(alloc, query, sizes, &[], &tables)?;
+    let order = order_after(alloc, query, sizes, &[], &tables)?;
     Ok(Plan {
         order: Sequence::from_vec(order),
     })

@@ -3,17 +3,17 @@
 ghost use Rattle.std.specs.Prelude.{◌≡◌, ◌<◌, ◌≤◌, true, List, IfOk, IfSome, OnOk, Some, filter, get_or, length, slice_set};
 ghost use Rattle.std.specs.List.{All, Contains};
 ghost use Rattle.hippo_model.specs.Terms.{Place};
-ghost use Rattle.hippo_lookups.specs.Known.{is_open};
-ghost use Rattle.hippo_lookups.specs.Places.{Fits, stands};
+ghost use Rattle.hippo_join_lookups.specs.Known.{is_open};
+ghost use Rattle.hippo_join_lookups.specs.Places.{Fits, stands};
 ghost use Rattle.hippo_join.specs.Existence.{HasOne, Decides};
 ghost use Rattle.hippo_join.specs.Settling.{Settles};
-ghost use Rattle.hippo_sides.specs.Stages.{Reaches};
-ghost use Rattle.hippo_sides.specs.Walking.{following_places};
+ghost use Rattle.hippo_join_stages.specs.Stages.{Reaches};
+ghost use Rattle.hippo_join_stages.specs.Walking.{following_places};
 
 use crate::existence::Seeker;
-use hippo_lookups::is_open;
+use hippo_join_lookups::is_open;
+use hippo_join_stages::{Following, Side, listed, open_slots, push_if};
 use hippo_model::{ChoiceView, Expr};
-use hippo_sides::{Following, Side, listed, open_slots, push_if};
 use hippo_values::Memory;
 use std::alloc::Global;
 
@@ -170,7 +170,7 @@ pub fn has_joined<C: ChoiceView>(
 {
     let left = still_open(alloc, order, slots)?;
     let chosen = Vec::from_slice(alloc, slots)?;
-    let stages = side.stages_behind(alloc, chosen, &left, false)?;
+    let stages = side.stages_after(alloc, chosen, &left, false)?;
     let seeker = Seeker { side, seen };
     seeker.has_along(alloc, &stages, slots)
 }

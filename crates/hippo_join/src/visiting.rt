@@ -3,15 +3,15 @@ ghost use Rattle.std.specs.Prelude.{◌++◌, List, OnOk};
 ghost use Rattle.hippo_model.specs.Terms.{Combination};
 ghost use Rattle.hippo_model.specs.Answers.{product};
 ghost use Rattle.hippo_eval.specs.Walks.{rows_of};
-ghost use Rattle.hippo_sides.specs.Visiting.{counting};
+ghost use Rattle.hippo_join_stages.specs.Visiting.{counting};
 
 use crate::joins::{blank_row, side_of};
 use crate::orders::tables_below;
 use crate::walking::{PlaceVisitor, walk_all};
 use hippo_eval::{Onward, Visitor};
+use hippo_join_stages::Side;
 use hippo_model::{ChoiceView, Combo, Masked};
-use hippo_rows::Sets;
-use hippo_sides::Side;
+use hippo_tables_rows::Sets;
 use hippo_values::Memory;
 use std::alloc::Global;
 
@@ -23,7 +23,7 @@ struct RowTeller<'a, V> {
 
 impl<'a, V: Visitor> PlaceVisitor for RowTeller<'a, V> {
     ghost use Rattle.std.specs.Prelude.{◌++◌, map};
-    ghost use Rattle.hippo_lookups.specs.Places.{chosen_rows};
+    ghost use Rattle.hippo_join_lookups.specs.Places.{chosen_rows};
 
     type State = V::State;
 

@@ -5,18 +5,18 @@ ghost use Rattle.std.specs.List.Sorted.{IsStrictlyIncreasing};
 ghost use Rattle.std.specs.Option.{option_map_or};
 ghost use Rattle.hippo_model.specs.Terms.{Combination, Place};
 ghost use Rattle.hippo_eval.specs.declared.walks.Onward.TheVariants.{More as MoreOn};
-ghost use Rattle.hippo_lookups.specs.Known.{is_open};
-ghost use Rattle.hippo_lookups.specs.Places.{are_there, rows_at, stands, stays};
-ghost use Rattle.hippo_sides.specs.Stages.{AllCount, Counts, ReachesFrom, suffices};
-ghost use Rattle.hippo_sides.specs.Walking.{following_places, IsWalkable};
-ghost use Rattle.hippo_sides.specs.Visiting.{Visited};
+ghost use Rattle.hippo_join_lookups.specs.Known.{is_open};
+ghost use Rattle.hippo_join_lookups.specs.Places.{are_there, rows_at, stands, stays};
+ghost use Rattle.hippo_join_stages.specs.Stages.{AllCount, Counts, ReachesFrom, suffices};
+ghost use Rattle.hippo_join_stages.specs.Walking.{following_places, IsWalkable};
+ghost use Rattle.hippo_join_stages.specs.Visiting.{Visited};
 ghost use Rattle.hippo_join.specs.Walked.{join_of, CanGoOn, Follow, HasGoneOn, HasWalked};
 
 use hippo_eval::{Onward, passes};
-use hippo_lookups::is_open;
+use hippo_join_lookups::is_open;
+use hippo_join_stages::{Following, Side, Stage, ascends, listed, open_slots};
 use hippo_model::{ChoiceView, Combo};
-use hippo_rows::RowSet;
-use hippo_sides::{Following, Side, Stage, ascends, listed, open_slots};
+use hippo_tables_rows::RowSet;
 use hippo_values::Memory;
 use std::alloc::Global;
 
@@ -25,9 +25,9 @@ use std::alloc::Global;
 pub(crate) trait PlaceVisitor {
     ghost use Rattle.std.specs.Prelude.{◌≡◌, [], ◌∷◌, List, map, Some, IfOk};
     ghost use Rattle.hippo_model.specs.Terms.{Combination, Place};
-    ghost use Rattle.hippo_keyed_rows.specs.RowSets.{KeyedRows};
-    ghost use Rattle.hippo_lookups.specs.Places.{chosen_rows};
-    ghost use Rattle.hippo_sides.specs.Visiting.{KeptOn};
+    ghost use Rattle.hippo_tables_keyed.specs.RowSets.{KeyedRows};
+    ghost use Rattle.hippo_join_lookups.specs.Places.{chosen_rows};
+    ghost use Rattle.hippo_join_stages.specs.Visiting.{KeptOn};
 
     type State;
 
@@ -142,10 +142,10 @@ impl<'w, 'a, C: ChoiceView, V: PlaceVisitor> Walk<'w, 'a, C, V> {
         ensures { IfSome result (λ places. Follow (join_of C.choices self.now) stage.now slots.now
             (suffices stage.now slots.now) places.now) }
     {
-        if stage.is_sought {
+        if stage.is_searched {
             return None;
         }
-        let places = self.side.places_behind(stage, slots, rows);
+        let places = self.side.places_after(stage, slots, rows);
         if self.in_order && !ascends(places) {
             return None;
         }

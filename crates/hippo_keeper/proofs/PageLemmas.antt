@@ -16,8 +16,8 @@ stands_at tables name place found =
     slice_get-get_or tables place [] at.0 ∙ ap Some ((bytes_eq-Decides (get_or tables place []) name).0 at.1)
 
 -- and behind the others, where it is added
-pub stands_behind : (tables : List (List ℕ)) (name : List ℕ) → slice_get (tables ++ name ∷ []) (length tables) ≡ Some name
-stands_behind tables name =
+pub stands_after : (tables : List (List ℕ)) (name : List ℕ) → slice_get (tables ++ name ∷ []) (length tables) ≡ Some name
+stands_after tables name =
     slice_get-get_or (tables ++ name ∷ []) (length tables) [] (omega (arith, length-append tables (name ∷ []))) ∙ ap Some (get_or-append_seam tables name)
   where
     get_or-append_seam : (front : List (List ℕ)) (last : List ℕ) → get_or (front ++ last ∷ []) (length front) [] ≡ last
@@ -78,14 +78,14 @@ body_kept bodies body start end first last =
     ap (take (end - start)) (drop-append-le start bodies body (omega arith))
     ∙ take-append-le (end - start) (drop start bodies) body (omega (arith, length-drop start bodies))
 
-body_behind : (bodies body : List ℕ) (start end : ℕ) → start ≡ length bodies → end ≡ length bodies + length body → take (end - start) (drop start (bodies ++ body)) ≡ body
-body_behind bodies body start end first last =
+body_after : (bodies body : List ℕ) (start end : ℕ) → start ≡ length bodies → end ≡ length bodies + length body → take (end - start) (drop start (bodies ++ body)) ≡ body
+body_after bodies body start end first last =
     let size : end - start ≡ length body = omega arith in
     rw (size, first) (ap (take (length body)) (drop-append_seam bodies body) ∙ take-length body)
 
 pub page_entries-put : (tables : List (List ℕ)) (bodies body : List ℕ) (head : Head) (start : ℕ) (heads : List Head) → AreWithin (length tables) (length bodies) start heads → head.end ≡ length bodies + length body → page_entries tables (bodies ++ body) start (heads ++ head ∷ []) ≡ page_entries tables bodies start heads ++ entry_with head (get_or tables head.table []) body ∷ []
 page_entries-put tables bodies body head start [] within end =
-    λ i. entry_with head (get_or tables head.table []) (body_behind bodies body start head.end within end i) ∷ []
+    λ i. entry_with head (get_or tables head.table []) (body_after bodies body start head.end within end i) ∷ []
 page_entries-put tables bodies body head start (first ∷ rest) within end =
     let kept = body_kept bodies body start first.end within.1.0 (AreWithin-start (length tables) (length bodies) first.end rest within.1.1) in
     λ i. entry_with first (get_or tables first.table []) (kept i) ∷ page_entries-put tables bodies body head first.end rest within.1.1 end i

@@ -9,7 +9,7 @@ use Rattle.hippo_model.specs.declared.stored.StoredEntry.{StoredEntry}
 use Rattle.hippo_keeper.specs.Keeping.{Store, RisesAbove, last_number}
 use Rattle.hippo_keeper.specs.Selecting.{is_any, is_selected, handed_over, IsHandedOver}
 use Rattle.hippo_keeper.specs.Paging.{paged, AreFilled, picked, with_picked}
-use Rattle.hippo_keeper.specs.declared.selection.Sought.{Sought}
+use Rattle.hippo_keeper.specs.declared.selection.ReadQuery.{ReadQuery}
 use Rattle.hippo_keeper.proofs.RisingLemmas.{last_rises, RisesAbove-filter, RisesAbove-take, RisesAbove-above}
 use Rattle.hippo_keeper.proofs.PickLemmas.{picked-append, with_picked-append}
 
@@ -81,15 +81,15 @@ pages_from after number (page ∷ rest) (suc place) filled rises split =
     ∙ sym (filter-append (λ entry. nat_lt after entry.seq) page (paged rest) ∙ ap (λ front. front ++ filter (λ entry. nat_lt after entry.seq) (paged rest)) none)
 
 -- what is picked of pages from one on, and then of the last entries
-pub picked_of_all : (sought : Sought) (above full last first list : Store) → first ≡ with_picked sought [] above → list ≡ with_picked sought first last → filter (λ entry. nat_lt sought.after entry.seq) above ≡ filter (λ entry. nat_lt sought.after entry.seq) full → list ≡ handed_over (is_selected sought.selection) sought.after sought.max (full ++ last)
-picked_of_all sought above full last first list before behind same =
-    let all : sought.max - 0 ≡ sought.max = omega arith in
-    behind
-    ∙ ap (λ list. with_picked sought list last) before
-    ∙ with_picked-append sought [] above last
-    ∙ (λ i. take (all i) (picked-append sought above last i))
-    ∙ ap (λ entries. take sought.max (filter (is_selected sought.selection) entries ++ picked sought last)) same
-    ∙ ap (take sought.max) (sym (picked-append sought full last))
+pub picked_of_all : (read_query : ReadQuery) (above full last first list : Store) → first ≡ with_picked read_query [] above → list ≡ with_picked read_query first last → filter (λ entry. nat_lt read_query.after entry.seq) above ≡ filter (λ entry. nat_lt read_query.after entry.seq) full → list ≡ handed_over (is_selected read_query.selection) read_query.after read_query.max (full ++ last)
+picked_of_all read_query above full last first list before remaining same =
+    let all : read_query.max - 0 ≡ read_query.max = omega arith in
+    remaining
+    ∙ ap (λ list. with_picked read_query list last) before
+    ∙ with_picked-append read_query [] above last
+    ∙ (λ i. take (all i) (picked-append read_query above last i))
+    ∙ ap (λ entries. take read_query.max (filter (is_selected read_query.selection) entries ++ picked read_query last)) same
+    ∙ ap (take read_query.max) (sym (picked-append read_query full last))
 
 -- what was picked so is what a read hands over
 pub IsHandedOver-of : (test : StoredEntry → Bool) (after max : ℕ) (kept list : Store) → list ≡ handed_over test after max kept → RisesAbove 0 kept → IsHandedOver ⊤ test after max kept list

@@ -5,7 +5,7 @@ use Rattle.hippo_model.specs.declared.stored.StoredEntry.{StoredEntry}
 use Rattle.hippo_keeper.specs.Keeping.{Store}
 use Rattle.hippo_keeper.specs.Selecting.{is_selected}
 use Rattle.hippo_keeper.specs.declared.head.Head.{Head}
-use Rattle.hippo_keeper.specs.declared.selection.Sought.{Sought}
+use Rattle.hippo_keeper.specs.declared.selection.ReadQuery.{ReadQuery}
 
 -- an entry: what a page says of it, its table's name, and its body
 abbrev pub entry_with : Head → List ℕ → List ℕ → StoredEntry
@@ -41,10 +41,10 @@ AreFilled [] = Unit {0}
 AreFilled (page ∷ rest) = (0 < length page) × AreFilled rest
 
 -- those of some entries that a read asks for
-abbrev pub picked : Sought → Store → Store
-picked sought entries =
-    filter (is_selected sought.selection) (filter (λ entry. nat_lt sought.after entry.seq) entries)
+abbrev pub picked : ReadQuery → Store → Store
+picked read_query entries =
+    filter (is_selected read_query.selection) (filter (λ entry. nat_lt read_query.after entry.seq) entries)
 
 -- a list, and behind it what a read picks of some entries while there is room
-abbrev pub with_picked : Sought → Store → Store → Store
-with_picked sought list entries = list ++ take (sought.max - length list) (picked sought entries)
+abbrev pub with_picked : ReadQuery → Store → Store → Store
+with_picked read_query list entries = list ++ take (read_query.max - length list) (picked read_query entries)

@@ -3,7 +3,7 @@ ghost use Rattle.std.specs.Prelude.{◌≡◌, ◌<◌, [], ◌∷◌, length, I
 ghost use Rattle.hippo_keeper.specs.Selecting.{is_selected};
 ghost use Rattle.hippo_keeper.specs.Paging.{entry_with, with_picked};
 
-use crate::selection::{ASKED, Selection, Sought, is_version};
+use crate::selection::{ASKED, ReadQuery, Selection, is_version};
 use hippo_model::{StoredEntry, StoredList};
 use hippo_values::{Bytes, Memory, Txt};
 use std::alloc::Global;
@@ -68,14 +68,14 @@ impl Head {
         alloc: Global,
         table: &str,
         body: &[u8],
-        sought: &Sought<'_>,
+        read_query: &ReadQuery<'_>,
         list: &mut StoredList,
     ) -> Result<(), Memory>
-        requires { length list.old < sought.now.max }
-        ensures { OnOk result (list.new ≡ with_picked sought.now list.old
+        requires { length list.old < read_query.now.max }
+        ensures { OnOk result (list.new ≡ with_picked read_query.now list.old
             (entry_with self.now table.now body.now ∷ [])) }
     {
-        if sought.after < self.seq && is_among(&sought.selection, self, table) {
+        if read_query.after < self.seq && is_among(&read_query.selection, self, table) {
             list.push(self.entry(alloc, table, body)?)?;
         }
         Ok(())

@@ -4,7 +4,7 @@ ghost use Rattle.hippo_keeper.specs.Keeping.{KeeperState, IsReady, next_number, 
 ghost use Rattle.hippo_keeper.specs.Selecting.{is_any, is_stored_version_of, was_asked_in, is_selected, versions_read, ReadsEntries};
 
 use crate::faults::KeeperFault;
-use crate::selection::{Lot, Selection, Sought};
+use crate::selection::{ReadQuery, ReadResult, Selection};
 use crate::steps::Steps;
 use hippo_model::StoredEntry;
 use hippo_values::{Moment, Name};
@@ -36,17 +36,29 @@ pub trait Keeper {
 
     /// The first so many entries, from 1 to 1,000, that are sought. Each version among them is a
     /// step.
-    fn read<L: Ledger>(&mut self, alloc: Global, sought: &Sought<'_>, steps: &mut Steps<L>) -> Lot
+    fn read<L: Ledger>(
+        &mut self,
+        alloc: Global,
+        read_query: &ReadQuery<'_>,
+        steps: &mut Steps<L>,
+    ) -> ReadResult
         requires ready { IsReady true (state self.old) }
-        requires some { 0 < sought.now.max }
-        requires limit { sought.now.max ≤ 1000 }
-        ensures reads { ReadsEntries (is_selected sought.now.selection) sought.now.after
-            sought.now.max result (state self.old) (state self.new) }
+        requires some { 0 < read_query.now.max }
+        requires limit { read_query.now.max ≤ 1000 }
+        ensures reads { ReadsEntries (is_selected read_query.now.selection) read_query.now.after
+            read_query.now.max result (state self.old) (state self.new) }
         ensures steps { steps.new ≡ steps.old + versions_read result };
 
     /// The first `max` questions, from 1 to 1,000, that were asked from one moment to another, both
     /// among them, and whose numbers are above `after`.
-    fn read_asked(&mut self, alloc: Global, from: Moment, to: Moment, after: u64, max: u64) -> Lot
+    fn read_asked(
+        &mut self,
+        alloc: Global,
+        from: Moment,
+        to: Moment,
+        after: u64,
+        max: u64,
+    ) -> ReadResult
         requires ready { IsReady true (state self.old) }
         requires some { 0 < max }
         requires limit { max ≤ 1000 }
@@ -61,19 +73,19 @@ pub trait Keeper {
         after: u64,
         max: u64,
         steps: &mut Steps<L>,
-    ) -> Lot
+    ) -> ReadResult
         requires ready { IsReady true (state self.old) }
         requires some { 0 < max }
         requires limit { max ≤ 1000 }
         ensures reads { ReadsEntries is_any after max result (state self.old) (state self.new) }
         ensures steps { steps.new ≡ steps.old + versions_read result }
     {
-        let sought = Sought {
+        let read_query = ReadQuery {
             selection: Selection::All,
             after,
             max,
         };
-        self.read(alloc, &sought, steps)
+        self.read(alloc, &read_query, steps)
     }
 
     /// The first `max` versions of a table's rows, from 1 to 1,000, whose numbers are above
@@ -85,7 +97,7 @@ pub trait Keeper {
         after: u64,
         max: u64,
         steps: &mut Steps<L>,
-    ) -> Lot
+    ) -> ReadResult
         requires ready { IsReady true (state self.old) }
         requires some { 0 < max }
         requires limit { max ≤ 1000 }
@@ -94,11 +106,11 @@ pub trait Keeper {
             (state self.new) }
         ensures steps { steps.new ≡ steps.old + versions_read result }
     {
-        let sought = Sought {
+        let read_query = ReadQuery {
             selection: Selection::VersionsOf(table),
             after,
             max,
         };
-        self.read(alloc, &sought, steps)
+        self.read(alloc, &read_query, steps)
     }
 }

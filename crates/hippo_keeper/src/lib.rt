@@ -15,6 +15,6 @@ mod steps;
 pub use faults::{KeeperFail, KeeperFails, KeeperFault};
 pub use keeper::Keeper;
 pub use memory_keeper::MemoryKeeper;
-pub use selection::{Lot, Selection, Sought, counted};
+pub use selection::{ReadQuery, ReadResult, Selection, counted};
 pub use standing::Standing;
 pub use steps::Steps;

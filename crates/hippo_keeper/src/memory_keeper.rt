@@ -9,7 +9,7 @@ use crate::calls::KeeperCalls;
 use crate::faults::{KeeperFails, KeeperFault};
 use crate::keeper::Keeper;
 use crate::pages::Pages;
-use crate::selection::{Lot, Selection, Sought, counted};
+use crate::selection::{ReadQuery, ReadResult, Selection, counted};
 use crate::steps::Steps;
 use hippo_model::{StoredEntry, StoredList};
 use hippo_values::{Memory, Moment};
@@ -68,12 +68,12 @@ impl MemoryKeeper {
     pub fn kept(&self, alloc: Global) -> Result<StoredList, Memory>
         ensures { IfOk result (λ list. list ≡ self.now.kept) }
     {
-        let sought = Sought {
+        let read_query = ReadQuery {
             selection: Selection::All,
             after: 0,
             max: u64::MAX,
         };
-        let list = self.kept.select(alloc, &sought)?;
+        let list = self.kept.select(alloc, &read_query)?;
         // No list has as many members, so none was left out.
         let count = list.as_slice().len();
         prove!(count < usize::MAX);
@@ -95,16 +95,16 @@ impl MemoryKeeper {
     }
 
     // The kept entries that are sought, where the call is not to fail.
-    fn find(&mut self, alloc: Global, sought: &Sought<'_>) -> Lot
+    fn find(&mut self, alloc: Global, read_query: &ReadQuery<'_>) -> ReadResult
         ensures call { self.new ≡ memory_after_call self.old }
         ensures fails { has_failed result ≡ is_some (next_failure self.old.calls) }
-        ensures read { IfOk result (IsHandedOver ⊤ (is_selected sought.now.selection)
-            sought.now.after sought.now.max self.old.kept) }
+        ensures read { IfOk result (IsHandedOver ⊤ (is_selected read_query.now.selection)
+            read_query.now.after read_query.now.max self.old.kept) }
     {
         if self.calls.begin_call().is_some() {
             return Err(KeeperFault::Failed);
         }
-        match self.kept.select(alloc, sought) {
+        match self.kept.select(alloc, read_query) {
             Ok(list) => Ok(list),
             Err(_) => Err(KeeperFault::Memory),
         }
@@ -172,24 +172,36 @@ impl Keeper for MemoryKeeper {
         self.calls.standing.settle(answer)
     }
 
-    fn read<L: Ledger>(&mut self, alloc: Global, sought: &Sought<'_>, steps: &mut Steps<L>) -> Lot
-        ensures reads { ReadsInMemory (is_selected sought.now.selection) sought.now.after
-            sought.now.max result self.old self.new }
+    fn read<L: Ledger>(
+        &mut self,
+        alloc: Global,
+        read_query: &ReadQuery<'_>,
+        steps: &mut Steps<L>,
+    ) -> ReadResult
+        ensures reads { ReadsInMemory (is_selected read_query.now.selection) read_query.now.after
+            read_query.now.max result self.old self.new }
         ensures steps { steps.new ≡ steps.old + versions_read result }
     {
-        let answer = counted(self.find(alloc, sought), steps);
+        let answer = counted(self.find(alloc, read_query), steps);
         self.calls.standing.settle(answer)
     }
 
-    fn read_asked(&mut self, alloc: Global, from: Moment, to: Moment, after: u64, max: u64) -> Lot
+    fn read_asked(
+        &mut self,
+        alloc: Global,
+        from: Moment,
+        to: Moment,
+        after: u64,
+        max: u64,
+    ) -> ReadResult
         ensures reads { ReadsInMemory (was_asked_in from to) after max result self.old self.new }
     {
-        let sought = Sought {
+        let read_query = ReadQuery {
             selection: Selection::AskedIn(from, to),
             after,
             max,
         };
-        let answer = self.find(alloc, &sought);
+        let answer = self.find(alloc, &read_query);
         self.calls.standing.settle(answer)
     }
 }

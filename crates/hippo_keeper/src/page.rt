@@ -4,7 +4,7 @@ ghost use Rattle.hippo_keeper.specs.Keeping.{last_number};
 ghost use Rattle.hippo_keeper.specs.Paging.{page_entries, AreWithin, with_picked};
 
 use crate::head::Head;
-use crate::selection::Sought;
+use crate::selection::ReadQuery;
 use hippo_model::{StoredEntry, StoredList};
 use hippo_values::{Duplicate, Memory, Sequence, Txt};
 use std::alloc::Global;
@@ -71,7 +71,7 @@ fn table_in(alloc: Global, tables: &mut Sequence<Txt>, name: &str) -> Result<u16
 
 // Where a body ends that is put behind the others; want of memory where a head cannot say it, which
 // takes a body of some four gigabytes.
-fn end_behind(bodies: &[u8], body: &[u8]) -> Result<u32, Memory>
+fn end_after(bodies: &[u8], body: &[u8]) -> Result<u32, Memory>
     ensures { IfOk result (λ end. end ≡ length bodies.now + length body.now) }
 {
     match u32::try_from(bodies.len() + body.len()) {
@@ -116,22 +116,22 @@ fn pick(
     bodies: &[u8],
     heads: &[Head],
     alloc: Global,
-    sought: &Sought<'_>,
+    read_query: &ReadQuery<'_>,
     list: &mut StoredList,
 ) -> Result<(), Memory>
     requires { AreWithin (length tables.now) (length bodies.now) 0 heads.now }
-    ensures { OnOk result (list.new ≡ with_picked sought.now list.old
+    ensures { OnOk result (list.new ≡ with_picked read_query.now list.old
         (page_entries tables.now bodies.now 0 heads.now)) }
 {
     let mut start = 0;
     for head in heads {
-        if list.len() as u64 >= sought.max {
+        if list.len() as u64 >= read_query.max {
             break;
         }
         let end = head.end as usize;
         let table = tables[usize::from(head.table)].as_str();
         let body = body_between(bodies, start, end);
-        head.pick(alloc, table, body, sought, list)?;
+        head.pick(alloc, table, body, read_query, list)?;
         start = end;
     }
     Ok(())
@@ -173,7 +173,7 @@ impl Page {
         ensures err { OnErr result (self.new ≡ self.old) }
     {
         let body = entry.body.as_slice();
-        let end = end_behind(self.bodies.as_slice(), body)?;
+        let end = end_after(self.bodies.as_slice(), body)?;
         let table = table_in(alloc, &mut self.tables, entry.table.as_str())?;
         let head = Head::of(entry, end, table);
         put(&mut self.heads, &mut self.bodies, &head, body)?;
@@ -193,17 +193,17 @@ impl Page {
     pub(crate) fn pick(
         &self,
         alloc: Global,
-        sought: &Sought<'_>,
+        read_query: &ReadQuery<'_>,
         list: &mut StoredList,
     ) -> Result<(), Memory>
-        ensures { OnOk result (list.new ≡ with_picked sought.now list.old self.now) }
+        ensures { OnOk result (list.new ≡ with_picked read_query.now list.old self.now) }
     {
         pick(
             self.tables.as_slice(),
             self.bodies.as_slice(),
             self.heads.as_slice(),
             alloc,
-            sought,
+            read_query,
             list,
         )
     }

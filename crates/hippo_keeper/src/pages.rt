@@ -5,7 +5,7 @@ ghost use Rattle.hippo_keeper.specs.Selecting.{is_selected, IsHandedOver};
 ghost use Rattle.hippo_keeper.specs.Paging.{paged, AreFilled, with_picked};
 
 use crate::page::Page;
-use crate::selection::Sought;
+use crate::selection::ReadQuery;
 use hippo_model::{StoredEntry, StoredList};
 use hippo_values::{Duplicate, Memory, Sequence};
 use std::alloc::Global;
@@ -61,16 +61,16 @@ fn pages_above(pages: &[Page], after: u64) -> &[Page]
 fn pick(
     pages: &[Page],
     alloc: Global,
-    sought: &Sought<'_>,
+    read_query: &ReadQuery<'_>,
     list: &mut StoredList,
 ) -> Result<(), Memory>
-    ensures { OnOk result (list.new ≡ with_picked sought.now list.old (paged pages.now)) }
+    ensures { OnOk result (list.new ≡ with_picked read_query.now list.old (paged pages.now)) }
 {
     for page in pages {
-        if list.len() as u64 >= sought.max {
+        if list.len() as u64 >= read_query.max {
             break;
         }
-        page.pick(alloc, sought, list)?;
+        page.pick(alloc, read_query, list)?;
     }
     Ok(())
 }
@@ -107,15 +107,19 @@ impl Pages {
     }
 
     /// Copies of the entries that a read asks for.
-    pub(crate) fn select(&self, alloc: Global, sought: &Sought<'_>) -> Result<StoredList, Memory>
+    pub(crate) fn select(
+        &self,
+        alloc: Global,
+        read_query: &ReadQuery<'_>,
+    ) -> Result<StoredList, Memory>
         requires { RisesAbove 0 self.now }
-        ensures { IfOk result (IsHandedOver ⊤ (is_selected sought.now.selection)
-            sought.now.after sought.now.max self.now) }
+        ensures { IfOk result (IsHandedOver ⊤ (is_selected read_query.now.selection)
+            read_query.now.after read_query.now.max self.now) }
     {
         let mut list = StoredList::new(alloc);
-        let pages = pages_above(self.full.as_slice(), sought.after);
-        pick(pages, alloc, sought, &mut list)?;
-        self.last.pick(alloc, sought, &mut list)?;
+        let pages = pages_above(self.full.as_slice(), read_query.after);
+        pick(pages, alloc, read_query, &mut list)?;
+        self.last.pick(alloc, read_query, &mut list)?;
         Ok(list)
     }
 }

@@ -30,14 +30,14 @@ pub enum Selection<'a> {
 /// What a read is to hand over: of the selected entries, the first `max` whose numbers are above
 /// `after`.
 #[derive(Clone, Copy)]
-pub struct Sought<'a> {
+pub struct ReadQuery<'a> {
     pub selection: Selection<'a>,
     pub after: u64,
     pub max: u64,
 }
 
 /// What a read hands over: a list of entries, or why there is none.
-pub type Lot = Result<StoredList, KeeperFault>;
+pub type ReadResult = Result<StoredList, KeeperFault>;
 
 // Whether an entry of this kind inserts, updates or deletes a row.
 pub(crate) fn is_version(kind: u8) -> bool
@@ -58,7 +58,7 @@ fn count_versions<L: Ledger>(entries: &[StoredEntry], steps: &mut Steps<L>)
 }
 
 /// What a read answers, with one step for each version in it.
-pub fn counted<L: Ledger>(answer: Lot, steps: &mut Steps<L>) -> Lot
+pub fn counted<L: Ledger>(answer: ReadResult, steps: &mut Steps<L>) -> ReadResult
     ensures same { result ≡ answer }
     ensures steps { steps.new ≡ steps.old + versions_read result }
 {

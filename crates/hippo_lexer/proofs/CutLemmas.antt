@@ -46,8 +46,8 @@ pub record IsCutOff (bytes : List ℕ) (n : ℕ) : Type 0 where
   pub begins : BeginsPlain text
   pub bound : IsCharBoundary bytes n
 
-cut_behind : (bytes text rest : List ℕ) → IsUtf8 bytes → bytes ≡ text ++ rest → BeginsPlain text → EndsPlain text → IsCharBoundary bytes (length text)
-cut_behind bytes text rest utf8 parts begins ends =
+cut_after : (bytes text rest : List ℕ) → IsUtf8 bytes → bytes ≡ text ++ rest → BeginsPlain text → EndsPlain text → IsCharBoundary bytes (length text)
+cut_after bytes text rest utf8 parts begins ends =
     let size : length bytes ≡ length text + length rest = simp length-append at (ap length parts) in
     let some : 0 < length text = rw begins.parts (omega arith) in
     boundary-ascii bytes (length text) utf8 (omega arith)
@@ -72,7 +72,7 @@ cut_token place (byte ∷ rest) kind n utf8 some filled first = elim (token_or_f
         size = size;
         some = rw (← size, begins.parts) (omega arith);
         begins = begins;
-        bound = rw (← size) (cut_behind (byte ∷ rest) found.0 found.1 utf8 found.3 begins (token_ends found.0 found.1 found.2 found.4));
+        bound = rw (← size) (cut_after (byte ∷ rest) found.0 found.1 utf8 found.3 begins (token_ends found.0 found.1 found.2 found.4));
       }
   | inr found ↦ absurd (ok_is_no_fault kind n found.0 (sym first ∙ fault-is place (byte ∷ rest) found.0 found.1))
 ]
@@ -96,14 +96,14 @@ pub cuts_token : (text rest : List ℕ) (found : List Token) (kind : TokenKind) 
 cuts_token text rest found kind n within cut first told =
     let start = length text - length rest in
     let dropped : drop n rest ≡ cut.rest = rw cut.parts (drop_at cut.text cut.rest n cut.size) in
-    let behind = drop (blanks_len cut.rest) cut.rest in
+    let remaining = drop (blanks_len cut.rest) cut.rest in
     let size : length rest ≡ length cut.text + length cut.rest = simp length-append at (ap length cut.parts) in
-    let place : start + n + blanks_len cut.rest ≡ length text - length behind =
+    let place : start + n + blanks_len cut.rest ≡ length text - length remaining =
     simp length-drop (omega (arith, cut.size, size, within, prefix_len-le-length is_blank cut.rest)) in
     rw dropped (sym (sym told
     ∙ ap (with_front_tokens found) (first_token start rest cut.text cut.rest kind n cut.begins cut.parts cut.size first)
     ∙ front_more found _ _
-    ∙ ap (with_front_tokens (found ++ record { kind = kind; start = start; end = start + n } ∷ [])) (tokens_from-blanks (start + n) cut.rest ∙ ap (λ p. tokens_from p 0 behind) place)))
+    ∙ ap (with_front_tokens (found ++ record { kind = kind; start = start; end = start + n } ∷ [])) (tokens_from-blanks (start + n) cut.rest ∙ ap (λ p. tokens_from p 0 remaining) place)))
 
 -- A fault was found.
 cuts_this : (place : ℕ) (rest text : List ℕ) (found : List Token) (fault : LexFault) → 0 < length rest → begins_with is_blank rest ≡ false → with_front_tokens found (tokens_from place 0 rest) ≡ outcome_of text → token_first place rest ≡ Err fault → outcome_of text ≡ Err fault

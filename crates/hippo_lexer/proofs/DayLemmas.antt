@@ -1,9 +1,9 @@
 -- Which day a text writes, found among all days.
 use Rattle.std.proofs.Common.{◌≡◌, List, ℕ, Option, Some, None, IfSome, IfNone, refl, sym, ap, ℤ}
 use Rattle.hippo_values.specs.Moments.{first_day, last_day, day_count}
-use Rattle.hippo_text_forms.specs.Dates.{day_text, IsDayText, written_among}
-use Rattle.hippo_text_forms.proofs.DateTextLemmas.{IsDayText-unique}
-use Rattle.hippo_text_forms.proofs.WrittenLemmas.{written-found, written-none}
+use Rattle.hippo_values_text.specs.Dates.{day_text, IsDayText, written_among}
+use Rattle.hippo_values_text.proofs.DateTextLemmas.{IsDayText-unique}
+use Rattle.hippo_values_text.proofs.WrittenLemmas.{written-found, written-none}
 use Rattle.hippo_lexer.specs.Cutting.{day_of}
 
 -- where none is found among all, the text is no day's

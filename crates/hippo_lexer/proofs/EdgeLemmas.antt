@@ -11,7 +11,7 @@ use Rattle.hippo_lexer.specs.declared.kinds.Symbol.{Symbol}
 use Rattle.hippo_lexer.specs.declared.kinds.TokenKind.{TokenKind}
 use Rattle.hippo_lexer.specs.declared.faults.LexFault.{LexFault}
 use Rattle.hippo_lexer.specs.Spelling.{is_blank, is_minus, doubled_quotes, sign_of}
-use Rattle.hippo_lexer.specs.Grammar.{IsToken, a_keyword, a_refused_word, a_name, a_number, a_quoted_text, a_day, a_sign, IsFault, long_word, letter_behind, large, lone_minus, unclosed, no_day, stray, AreDigits, IsNumber, plain, negative, quoted_text}
+use Rattle.hippo_lexer.specs.Grammar.{IsToken, a_keyword, a_refused_word, a_name, a_number, a_quoted_text, a_day, a_sign, IsFault, long_word, letter_after, large, lone_minus, unclosed, no_day, stray, AreDigits, IsNumber, plain, negative, quoted_text}
 use Rattle.hippo_lexer.proofs.FrontLemmas.{small_digit, small_word_byte}
 use Rattle.hippo_lexer.proofs.NumeralLemmas.{number_begins}
 use Rattle.hippo_lexer.proofs.SignLemmas.{sign-begins, sign-plain}
@@ -74,7 +74,7 @@ token_begins text rest kind (a_refused_word _ _ whole among) = word_begins text 
 token_begins text rest kind (a_name _ _ whole form) = word_begins text whole.form
 token_begins text rest kind (a_number _ _ number h fits ends) = number_plain text number h
 token_begins text rest kind (a_quoted_text _ said _ spelled ends) = record { first = 39; tail = doubled_quotes said ++ 39 ∷ []; parts = spelled; blank = refl; small = omega arith }
-token_begins text rest kind (a_day _ word behind blanks said _ day opens is_day spelled) = begins-more word (blanks ++ quoted_text said) text (word_begins word opens.whole.form) spelled
+token_begins text rest kind (a_day _ word remaining blanks said _ day opens is_day spelled) = begins-more word (blanks ++ quoted_text said) text (word_begins word opens.whole.form) spelled
 token_begins text rest kind (a_sign _ _ sign h longest) = sign_begins_plain text sign h
 
 -- a text that begins with a byte that is no blank
@@ -86,11 +86,11 @@ filled text rest bytes h parts = let more = begins-more text rest bytes h parts 
 
 pub fault_begins : (place : ℕ) (bytes : List ℕ) (fault : LexFault) → IsFault place bytes fault → BeginsFilled bytes
 fault_begins place bytes fault (long_word _ _ word rest whole long spelled) = filled word rest bytes (word_begins word whole.form) spelled
-fault_begins place bytes fault (letter_behind _ at _ text rest number h fits ends letter spelled there) = filled text rest bytes (number_plain text number h) spelled
+fault_begins place bytes fault (letter_after _ at _ text rest number h fits ends letter spelled there) = filled text rest bytes (number_plain text number h) spelled
 fault_begins place bytes fault (large _ _ text rest number h too_large ends spelled) = filled text rest bytes (number_plain text number h) spelled
 fault_begins place bytes fault (lone_minus _ _ rest none spelled) = (45, rest, spelled, refl)
 fault_begins place bytes fault (unclosed _ _ text spelled) = (39, doubled_quotes text, spelled, refl)
-fault_begins place bytes fault (no_day _ _ word behind blanks text rest opens none spelled) = filled word behind bytes (word_begins word opens.whole.form) spelled
+fault_begins place bytes fault (no_day _ _ word remaining blanks text rest opens none spelled) = filled word remaining bytes (word_begins word opens.whole.form) spelled
 fault_begins place bytes fault (stray _ byte _ rest h spelled) = (byte, rest, spelled, h.blank)
 
 -- How each token ends.
@@ -112,10 +112,10 @@ digits_small digits are i = all_plain is_ascii_digit small_digit digits are.1 i
 
 number_ends : (text : List ℕ) (number : ℤ) → IsNumber text number → EndsPlain text
 number_ends text number (plain _ _ are value) = digits_small text are _
-number_ends text number (negative _ digits _ are spelled value) = (let last : suc (length digits) - 1 ≡ length digits = omega arith in rw (spelled, last) (behind (length digits))) where
-  behind : (i : ℕ) → get_or (45 ∷ digits) i 0 < 128
-  behind zero = omega arith
-  behind (suc i) = digits_small digits are i
+number_ends text number (negative _ digits _ are spelled value) = (let last : suc (length digits) - 1 ≡ length digits = omega arith in rw (spelled, last) (remaining (length digits))) where
+  remaining : (i : ℕ) → get_or (45 ∷ digits) i 0 < 128
+  remaining zero = omega arith
+  remaining (suc i) = digits_small digits are i
 
 pub token_ends : (text rest : List ℕ) (kind : TokenKind) → IsToken text kind rest → EndsPlain text
 token_ends text rest kind (a_keyword _ _ keyword whole found alone) = word_ends text whole.form
@@ -123,6 +123,6 @@ token_ends text rest kind (a_refused_word _ _ whole among) = word_ends text whol
 token_ends text rest kind (a_name _ _ whole form) = word_ends text whole.form
 token_ends text rest kind (a_number _ _ number h fits ends) = number_ends text number h
 token_ends text rest kind (a_quoted_text _ said _ spelled ends) = at_end (39 ∷ doubled_quotes said) 39 text (omega arith) spelled
-token_ends text rest kind (a_day _ word behind blanks said _ day opens is_day spelled) =
+token_ends text rest kind (a_day _ word remaining blanks said _ day opens is_day spelled) =
     at_end (word ++ (blanks ++ 39 ∷ doubled_quotes said)) 39 text (omega arith) (spelled ∙ sym (append_assoc word (blanks ++ 39 ∷ doubled_quotes said) (39 ∷ []) ∙ ap (λ b. word ++ b) (append_assoc blanks (39 ∷ doubled_quotes said) (39 ∷ []))))
 token_ends text rest kind (a_sign _ _ sign h longest) = all_plain (λ byte. nat_lt byte 128) (λ byte. ltb-true byte 128) text (sign-plain text sign h) _

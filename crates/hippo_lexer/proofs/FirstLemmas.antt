@@ -4,14 +4,14 @@ use Rattle.std.specs.Char.{is_ascii_alphabetic, is_ascii_digit}
 use Rattle.std.proofs.lemmas.Bool.{cases_Bool, eqb-true, or_parts}
 use Rattle.std.proofs.lemmas.List.{take-append-drop}
 use Rattle.hippo_values.specs.Names.{is_word_byte, keyword_of}
-use Rattle.hippo_text_forms.specs.Dates.{IsDayText}
+use Rattle.hippo_values_text.specs.Dates.{IsDayText}
 use Rattle.hippo_values.specs.declared.keywords.Keyword.{Keyword}
 use Rattle.hippo_values.specs.declared.keywords.Keyword.TheVariants.{KDate}
 use Rattle.hippo_lexer.specs.declared.kinds.TokenKind.{TokenKind}
 use Rattle.hippo_lexer.specs.declared.faults.LexFault.{LexFault}
 use Rattle.hippo_lexer.specs.Spelling.{is_blank, is_quote, is_minus, begins_with}
 use Rattle.hippo_lexer.specs.Cutting.{word_len, blanks_len, day_of}
-use Rattle.hippo_lexer.specs.Grammar.{IsToken, a_keyword, a_refused_word, a_name, a_number, a_quoted_text, a_day, a_sign, IsFault, long_word, letter_behind, large, lone_minus, unclosed, no_day, stray, IsWholeWord, OpensDay, quoted_text}
+use Rattle.hippo_lexer.specs.Grammar.{IsToken, a_keyword, a_refused_word, a_name, a_number, a_quoted_text, a_day, a_sign, IsFault, long_word, letter_after, large, lone_minus, unclosed, no_day, stray, IsWholeWord, OpensDay, quoted_text}
 use Rattle.hippo_lexer.proofs.DayLemmas.{day_of-found, day_of-none}
 use Rattle.hippo_lexer.proofs.NumeralLemmas.{number_or_minus, in_range_or_not}
 use Rattle.hippo_lexer.proofs.QuotedLemmas.{quoted_or_open}
@@ -36,40 +36,40 @@ day_or_none text = by_answer (day_of text) (day_of-found text) (day_of-none text
 some_is_not_none : {X : Type 0} {x : X} → Some x ≡ None → ⊥
 some_is_not_none h = cc
 
-date_first_is : (place : ℕ) (bytes word behind : List ℕ) → bytes ≡ word ++ behind → IsWholeWord word behind → keyword_of word ≡ Some KDate → HasToken bytes ⊎ HasFault place bytes
-date_first_is place bytes word behind cut whole date = elim (quoted_or_none behind) [
+date_first_is : (place : ℕ) (bytes word remaining : List ℕ) → bytes ≡ word ++ remaining → IsWholeWord word remaining → keyword_of word ≡ Some KDate → HasToken bytes ⊎ HasFault place bytes
+date_first_is place bytes word remaining cut whole date = elim (quoted_or_none remaining) [
   | inl found ↦
-      let opens : OpensDay word behind (take (blanks_len behind) behind) found.0 found.1 = record { whole = whole; date = date; quotation = found.2 } in
+      let opens : OpensDay word remaining (take (blanks_len remaining) remaining) found.0 found.1 = record { whole = whole; date = date; quotation = found.2 } in
       elim (day_or_none found.0) [
         | inl day ↦ inl (
-          word ++ (take (blanks_len behind) behind ++ quoted_text found.0),
+          word ++ (take (blanks_len remaining) remaining ++ quoted_text found.0),
           found.1,
           _,
-          cut ∙ sym (regrouped word _ (quoted_text found.0) found.1 behind _ found.2.parts refl),
-          a_day _ word behind _ found.0 found.1 day.0 opens day.1 refl,
+          cut ∙ sym (regrouped word _ (quoted_text found.0) found.1 remaining _ found.2.parts refl),
+          a_day _ word remaining _ found.0 found.1 day.0 opens day.1 refl,
         )
-        | inr none ↦ inr (_, no_day place bytes word behind _ found.0 found.1 opens none cut)
+        | inr none ↦ inr (_, no_day place bytes word remaining _ found.0 found.1 opens none cut)
       ]
-  | inr alone ↦ inl (word, behind, _, cut, a_keyword word behind KDate whole date (λ same blanks text rest h. some_is_not_none (sym (quoted_there behind blanks text rest h) ∙ alone)))
+  | inr alone ↦ inl (word, remaining, _, cut, a_keyword word remaining KDate whole date (λ same blanks text rest h. some_is_not_none (sym (quoted_there remaining blanks text rest h) ∙ alone)))
 ]
 
-keyword_first : (place : ℕ) (bytes word behind : List ℕ) (keyword : Keyword) → bytes ≡ word ++ behind → IsWholeWord word behind → keyword_of word ≡ Some keyword → HasToken bytes ⊎ HasFault place bytes
-keyword_first place bytes word behind KDate cut whole found = date_first_is place bytes word behind cut whole found
-keyword_first place bytes word behind keyword cut whole found = inl (word, behind, _, cut, a_keyword word behind keyword whole found (λ same. absurd ((cc))))
+keyword_first : (place : ℕ) (bytes word remaining : List ℕ) (keyword : Keyword) → bytes ≡ word ++ remaining → IsWholeWord word remaining → keyword_of word ≡ Some keyword → HasToken bytes ⊎ HasFault place bytes
+keyword_first place bytes word remaining KDate cut whole found = date_first_is place bytes word remaining cut whole found
+keyword_first place bytes word remaining keyword cut whole found = inl (word, remaining, _, cut, a_keyword word remaining keyword whole found (λ same. absurd ((cc))))
 
-word_is : (place : ℕ) (bytes word behind : List ℕ) → bytes ≡ word ++ behind → IsWholeWord word behind → HasToken bytes ⊎ HasFault place bytes
-word_is place bytes word behind cut whole = elim (word_cases word whole.form) [
-  | inl keyword ↦ keyword_first place bytes word behind keyword.0 cut whole keyword.1
-  | inr (inl refused) ↦ inl (word, behind, _, cut, a_refused_word word behind whole refused)
-  | inr (inr (inl name)) ↦ inl (word, behind, _, cut, a_name word behind whole name)
-  | inr (inr (inr long)) ↦ inr (_, long_word place bytes word behind whole long cut)
+word_is : (place : ℕ) (bytes word remaining : List ℕ) → bytes ≡ word ++ remaining → IsWholeWord word remaining → HasToken bytes ⊎ HasFault place bytes
+word_is place bytes word remaining cut whole = elim (word_cases word whole.form) [
+  | inl keyword ↦ keyword_first place bytes word remaining keyword.0 cut whole keyword.1
+  | inr (inl refused) ↦ inl (word, remaining, _, cut, a_refused_word word remaining whole refused)
+  | inr (inr (inl name)) ↦ inl (word, remaining, _, cut, a_name word remaining whole name)
+  | inr (inr (inr long)) ↦ inr (_, long_word place bytes word remaining whole long cut)
 ]
 
 number_is : (place byte : ℕ) (rest : List ℕ) → (is_ascii_digit byte || is_minus byte) ≡ true → HasToken (byte ∷ rest) ⊎ HasFault place (byte ∷ rest)
 number_is place byte rest h = elim (number_or_minus byte rest h) [
   | inl found ↦ elim (in_range_or_not found.2) [
     | inl fits ↦ elim (cases_Bool (begins_with is_word_byte found.1)) [
-      | inl letter ↦ inr (_, letter_behind place _ _ found.0 found.1 found.2 found.4 fits found.5 letter found.3 refl)
+      | inl letter ↦ inr (_, letter_after place _ _ found.0 found.1 found.2 found.4 fits found.5 letter found.3 refl)
       | inr ends ↦ inl (found.0, found.1, _, found.3, a_number found.0 found.1 found.2 found.4 fits ends)
     ]
     | inr too_large ↦ inr (_, large place _ found.0 found.1 found.2 found.4 too_large found.5 found.3)

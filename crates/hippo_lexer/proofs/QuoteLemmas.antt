@@ -69,24 +69,24 @@ single [] h = refl
 single (byte ∷ rest) h = ne_eqb byte 39 (λ e. h rest (ap (λ b. b ∷ rest) e))
 
 -- The cut returns: a run and a single quote stand in what is left.
-pub closing-found : (text run after rest behind : List ℕ) → length rest ≤ length behind → onto text (length behind - length rest) (closing rest) ≡ closing behind → rest ≡ run ++ 39 ∷ after → ((i : ℕ) → i < length run → get_or run i 0 ≢ 39) → ((more : List ℕ) → after ≢ 39 ∷ more) → Some (text ++ run, length behind - length after) ≡ closing behind
-closing-found text run after rest behind within told split none last =
-    let count : length behind - length rest + length run + 1 ≡ length behind - length after = omega (arith, simp length-append at (ap length split)) in
+pub closing-found : (text run after rest remaining : List ℕ) → length rest ≤ length remaining → onto text (length remaining - length rest) (closing rest) ≡ closing remaining → rest ≡ run ++ 39 ∷ after → ((i : ℕ) → i < length run → get_or run i 0 ≢ 39) → ((more : List ℕ) → after ≢ 39 ∷ more) → Some (text ++ run, length remaining - length after) ≡ closing remaining
+closing-found text run after rest remaining within told split none last =
+    let count : length remaining - length rest + length run + 1 ≡ length remaining - length after = omega (arith, simp length-append at (ap length split)) in
     ap (λ n. Some (text ++ run, n)) (sym count)
-    ∙ (sym (closing-last text run after (length behind - length rest) none (single after last))
-    ∙ (ap (λ bytes. onto text (length behind - length rest) (closing bytes)) (sym split) ∙ told))
+    ∙ (sym (closing-last text run after (length remaining - length rest) none (single after last))
+    ∙ (ap (λ bytes. onto text (length remaining - length rest) (closing bytes)) (sym split) ∙ told))
 
 -- The cut goes on: a run and two quotes stand there.
-pub closing-more : (text run next rest behind : List ℕ) → length rest ≤ length behind → onto text (length behind - length rest) (closing rest) ≡ closing behind → rest ≡ run ++ 39 ∷ 39 ∷ next → ((i : ℕ) → i < length run → get_or run i 0 ≢ 39) → onto (text ++ run ++ 39 ∷ []) (length behind - length next) (closing next) ≡ closing behind
-closing-more text run next rest behind within told split none =
-    let count : length behind - length rest + length run + 2 ≡ length behind - length next = omega (arith, simp length-append at (ap length split)) in
+pub closing-more : (text run next rest remaining : List ℕ) → length rest ≤ length remaining → onto text (length remaining - length rest) (closing rest) ≡ closing remaining → rest ≡ run ++ 39 ∷ 39 ∷ next → ((i : ℕ) → i < length run → get_or run i 0 ≢ 39) → onto (text ++ run ++ 39 ∷ []) (length remaining - length next) (closing next) ≡ closing remaining
+closing-more text run next rest remaining within told split none =
+    let count : length remaining - length rest + length run + 2 ≡ length remaining - length next = omega (arith, simp length-append at (ap length split)) in
     ap (λ n. onto (text ++ run ++ 39 ∷ []) n (closing next)) (sym count)
-    ∙ (sym (closing-step text run next (length behind - length rest) none)
-    ∙ (ap (λ bytes. onto text (length behind - length rest) (closing bytes)) (sym split) ∙ told))
+    ∙ (sym (closing-step text run next (length remaining - length rest) none)
+    ∙ (ap (λ bytes. onto text (length remaining - length rest) (closing bytes)) (sym split) ∙ told))
 
 -- It ends: no quote is left.
-pub closing-ends : (text rest behind : List ℕ) (n : ℕ) → onto text n (closing rest) ≡ closing behind → ((i : ℕ) → i < length rest → get_or rest i 0 ≢ 39) → None ≡ closing behind
-closing-ends text rest behind n told none = sym (ap (onto text n) (closing-none rest none)) ∙ told
+pub closing-ends : (text rest remaining : List ℕ) (n : ℕ) → onto text n (closing rest) ≡ closing remaining → ((i : ℕ) → i < length rest → get_or rest i 0 ≢ 39) → None ≡ closing remaining
+closing-ends text rest remaining n told none = sym (ap (onto text n) (closing-none rest none)) ∙ told
 
 -- no quoted text stands where no quote does
 pub quoted_first-none : (bytes : List ℕ) → ((rest : List ℕ) → bytes ≢ 39 ∷ rest) → quoted_first bytes ≡ None

@@ -35,8 +35,8 @@ span_there text front said rest place kind utf8 parts size begins ends =
     }
 
 more_tokens : (text : List ℕ) (place : ℕ) (token : Token) (later outcome : Result (List Token) LexFault) → place ≤ token.start → IsSpan text token → IfOk later (InOrder text token.end) → outcome ≡ with_first_token token later → IfOk outcome (InOrder text place)
-more_tokens text place token (Ok tokens) outcome from span behind first = rw first (from, span, behind)
-more_tokens text place token (Err fault) outcome from span behind first = rw first tt
+more_tokens text place token (Ok tokens) outcome from span remaining first = rw first (from, span, remaining)
+more_tokens text place token (Err fault) outcome from span remaining first = rw first tt
 
 earlier : (text : List ℕ) (place : ℕ) (tokens : List Token) → InOrder text (place + 1) tokens → InOrder text place tokens
 earlier text place [] h = tt
@@ -53,8 +53,8 @@ in_order text front place bytes outcome utf8 parts size (at_blank _ byte rest _ 
 in_order text front place bytes outcome utf8 parts size (at_token _ _ said rest kind later _ h is_cut cut first) =
     let there = parts ∙ ap (λ b. front ++ b) cut in
     let span = span_there text front said rest place kind utf8 there size (token_begins said rest kind h) (token_ends said rest kind h) in
-    let behind = in_order text (front ++ said) (place + length said) rest later utf8 (there ∙ sym (append_assoc front said rest)) (simp length-append (omega arith)) is_cut in
-    more_tokens text place _ later outcome (omega arith) span behind first
+    let remaining = in_order text (front ++ said) (place + length said) rest later utf8 (there ∙ sym (append_assoc front said rest)) (simp length-append (omega arith)) is_cut in
+    more_tokens text place _ later outcome (omega arith) span remaining first
 in_order text front place bytes outcome utf8 parts size (at_fault _ _ fault h) = tt
 
 -- From this order: each token is a span, and each later one stands behind.
@@ -62,14 +62,14 @@ spans_by_recursion : (text : List ℕ) (place : ℕ) (tokens : List Token) → I
 spans_by_recursion text place [] h = tt
 spans_by_recursion text place (token ∷ tokens) h = (h.1, spans_by_recursion text token.end tokens h.2)
 
-starts_behind : (text : List ℕ) (low place : ℕ) (tokens : List Token) → low ≤ place → InOrder text place tokens → AllByRecursion (λ token. low ≤ token.start) tokens
-starts_behind text low place [] h order = tt
-starts_behind text low place (token ∷ tokens) h order = (omega (arith, order.0), starts_behind text low token.end tokens (omega (arith, order.0, order.1.some)) order.2)
+starts_after : (text : List ℕ) (low place : ℕ) (tokens : List Token) → low ≤ place → InOrder text place tokens → AllByRecursion (λ token. low ≤ token.start) tokens
+starts_after text low place [] h order = tt
+starts_after text low place (token ∷ tokens) h order = (omega (arith, order.0), starts_after text low token.end tokens (omega (arith, order.0, order.1.some)) order.2)
 
 pairs_in_order : (text : List ℕ) (place : ℕ) (tokens : List Token) → InOrder text place tokens → AllPairs (λ a b. a.end ≤ b.start) tokens
 pairs_in_order text place [] h = λ i j d before small. absurd (omega arith)
 pairs_in_order text place (token ∷ tokens) h =
-    AllPairs-cons (λ a b. a.end ≤ b.start) token tokens (All-from_recursion (λ b. token.end ≤ b.start) tokens (starts_behind text token.end token.end tokens (omega arith) h.2)) (pairs_in_order text token.end tokens h.2)
+    AllPairs-cons (λ a b. a.end ≤ b.start) token tokens (All-from_recursion (λ b. token.end ≤ b.start) tokens (starts_after text token.end token.end tokens (omega arith) h.2)) (pairs_in_order text token.end tokens h.2)
 
 pub spans-of : (text : List ℕ) (tokens : List Token) → IsUtf8 text → IsOutcome text (Ok tokens) → All (IsSpan text) tokens
 spans-of text tokens utf8 is_cut = All-from_recursion (IsSpan text) tokens (spans_by_recursion text 0 tokens (in_order text [] 0 text (Ok tokens) utf8 refl refl is_cut))

@@ -3,7 +3,7 @@ use Rattle.std.proofs.Common.{◌≡◌, ℕ, ◌+◌, true, false, not, ◌&&�
 use Rattle.std.specs.Char.{is_ascii_alphabetic, is_ascii_digit}
 use Rattle.std.proofs.lemmas.Bool.{and_parts, both_ways, not-true}
 use Rattle.std.proofs.lemmas.List.{append_assoc, length-append}
-use Rattle.hippo_text_forms.specs.Dates.{IsDayText}
+use Rattle.hippo_values_text.specs.Dates.{IsDayText}
 use Rattle.hippo_values.specs.declared.keywords.Keyword.{Keyword}
 use Rattle.hippo_values.specs.declared.keywords.Keyword.TheVariants.{KDate}
 use Rattle.hippo_values.specs.Results.{◌>>=◌}
@@ -14,7 +14,7 @@ use Rattle.hippo_lexer.specs.declared.faults.LexFault.{LexFault}
 use Rattle.hippo_lexer.specs.declared.faults.LexFault.TheVariants as faults
 use Rattle.hippo_lexer.specs.Spelling.{is_blank, is_quote, is_minus, begins_with, sign_of}
 use Rattle.hippo_lexer.specs.Cutting.{word_kind, is_date, day_first, date_first, word_first, number_first, quoted_first, sign_first, token_first}
-use Rattle.hippo_lexer.specs.Grammar.{IsToken, a_keyword, a_refused_word, a_name, a_number, a_quoted_text, a_day, a_sign, IsFault, long_word, letter_behind, large, lone_minus, unclosed, no_day, stray, IsNumber, IsWholeWord, IsQuotedBehind, OpensDay, quoted_text}
+use Rattle.hippo_lexer.specs.Grammar.{IsToken, a_keyword, a_refused_word, a_name, a_number, a_quoted_text, a_day, a_sign, IsFault, long_word, letter_after, large, lone_minus, unclosed, no_day, stray, IsNumber, IsWholeWord, IsQuotedAfter, OpensDay, quoted_text}
 use Rattle.hippo_lexer.proofs.DayLemmas.{day_of-day, day_of-no_day}
 use Rattle.hippo_lexer.proofs.NumeralLemmas.{number_begins, number-token, number-letter, number-large, lone-minus}
 use Rattle.hippo_lexer.proofs.QuotedLemmas.{quoted_first-is, quoted_first-unclosed}
@@ -45,16 +45,16 @@ number_cut place text rest number h =
     rw begins.2 (number_chosen place begins.0 (begins.1 ++ rest) begins.3 begins.4)
 
 -- The cut finds the token that the grammar has.
-keyword_end : (place n : ℕ) (rest : List ℕ) (keyword : Keyword) → (keyword ≡ KDate → (blanks text more : List ℕ) → ¬ (IsQuotedBehind rest blanks text more)) → (if is_date (kinds.Keyword keyword) then date_first place n rest else Ok (kinds.Keyword keyword, n)) ≡ Ok (kinds.Keyword keyword, n)
+keyword_end : (place n : ℕ) (rest : List ℕ) (keyword : Keyword) → (keyword ≡ KDate → (blanks text more : List ℕ) → ¬ (IsQuotedAfter rest blanks text more)) → (if is_date (kinds.Keyword keyword) then date_first place n rest else Ok (kinds.Keyword keyword, n)) ≡ Ok (kinds.Keyword keyword, n)
 keyword_end place n rest KDate alone = date-alone place n rest (alone refl)
 keyword_end place n rest _ alone = refl
 
 word_cut : (place : ℕ) (word rest : List ℕ) → IsWholeWord word rest → token_first place (word ++ rest) ≡ (ok_or (word_kind word) (faults.BadToken place) >>= λ kind. if is_date kind then date_first place (length word) rest else Ok (kind, length word))
 word_cut place word rest h = letter_first place (word ++ rest) (whole-begins word rest h) ∙ word_step place word rest h
 
-day_cut : (place : ℕ) (word behind blanks text rest : List ℕ) → OpensDay word behind blanks text rest → token_first place (word ++ behind) ≡ day_first place (length word + length blanks) (text, length (quoted_text text))
-day_cut place word behind blanks text rest h =
-    word_cut place word behind h.whole ∙ rw (kind-keyword word KDate h.date) (date-day place (length word) behind blanks text rest h.quotation)
+day_cut : (place : ℕ) (word remaining blanks text rest : List ℕ) → OpensDay word remaining blanks text rest → token_first place (word ++ remaining) ≡ day_first place (length word + length blanks) (text, length (quoted_text text))
+day_cut place word remaining blanks text rest h =
+    word_cut place word remaining h.whole ∙ rw (kind-keyword word KDate h.date) (date-day place (length word) remaining blanks text rest h.quotation)
 
 parts_of : (byte : ℕ) → (not (is_ascii_alphabetic byte) && not (is_ascii_digit byte) && not (is_minus byte) && not (is_quote byte) && not (is_blank byte)) ≡ true → (is_ascii_alphabetic byte ≡ false) × ((is_ascii_digit byte || is_minus byte) ≡ false) × (is_quote byte ≡ false) × (is_blank byte ≡ false)
 parts_of byte h =
@@ -74,8 +74,8 @@ quoted_cut : (place : ℕ) (text rest : List ℕ) → begins_with is_quote rest 
 quoted_cut place text rest ends = quote_chosen place _ ∙ rw (quoted_first-is text rest ends) refl
 
 -- a day's text, and what stands behind it, in two groupings
-pub regrouped : (word blanks said rest behind written : List ℕ) → behind ≡ blanks ++ (said ++ rest) → written ≡ word ++ (blanks ++ said) → written ++ rest ≡ word ++ behind
-regrouped word blanks said rest behind written parts spelled =
+pub regrouped : (word blanks said rest remaining written : List ℕ) → remaining ≡ blanks ++ (said ++ rest) → written ≡ word ++ (blanks ++ said) → written ++ rest ≡ word ++ remaining
+regrouped word blanks said rest remaining written parts spelled =
     ap (λ w. w ++ rest) spelled ∙ (append_assoc word (blanks ++ said) rest ∙ ap (λ b. word ++ b) (append_assoc blanks said rest ∙ sym parts))
 
 day_len : (word blanks said written : List ℕ) → written ≡ word ++ (blanks ++ said) → length word + length blanks + length said ≡ length written
@@ -91,10 +91,10 @@ token-is place text rest kind (a_refused_word _ _ whole among) = word_cut place 
 token-is place text rest kind (a_name _ _ whole form) = word_cut place text rest whole ∙ rw (kind-name text form) refl
 token-is place text rest kind (a_number _ _ number h fits ends) = number_cut place text rest number h ∙ number-token place text rest number h fits ends
 token-is place text rest kind (a_quoted_text _ said _ spelled ends) = rw spelled (quoted_cut place said rest ends)
-token-is place text rest kind (a_day _ word behind blanks said _ day opens is_day spelled) =
-    let whole = regrouped word blanks (quoted_text said) rest behind text opens.quotation.parts spelled in
+token-is place text rest kind (a_day _ word remaining blanks said _ day opens is_day spelled) =
+    let whole = regrouped word blanks (quoted_text said) rest remaining text opens.quotation.parts spelled in
     let len = day_len word blanks (quoted_text said) text spelled in
-    ap (token_first place) whole ∙ (day_cut place word behind blanks said rest opens ∙ (day_found place _ said _ day is_day ∙ ap (λ n. Ok (kinds.Day day, n)) len))
+    ap (token_first place) whole ∙ (day_cut place word remaining blanks said rest opens ∙ (day_found place _ said _ day is_day ∙ ap (λ n. Ok (kinds.Day day, n)) len))
 token-is place text rest kind (a_sign _ _ sign h longest) = sign_cut place text rest sign h ∙ rw (sign_first-is text rest sign h longest) refl
 
 day_missing : (place n : ℕ) (text : List ℕ) (m : ℕ) → ((day : ℤ) → ¬ (IsDayText text day)) → day_first place n (text, m) ≡ Err (faults.BadDate place)
@@ -104,13 +104,13 @@ day_missing place n text m none = rw (day_of-no_day text none) refl
 -- And the fault.
 pub fault-is : (place : ℕ) (bytes : List ℕ) (fault : LexFault) → IsFault place bytes fault → token_first place bytes ≡ Err fault
 fault-is place bytes fault (long_word _ _ word rest whole long spelled) = ap (token_first place) spelled ∙ (word_cut place word rest whole ∙ rw (kind-long word long) refl)
-fault-is place bytes fault (letter_behind _ at _ text rest number h fits ends letter spelled there) =
+fault-is place bytes fault (letter_after _ at _ text rest number h fits ends letter spelled there) =
     ap (token_first place) spelled ∙ (number_cut place text rest number h ∙ (number-letter place text rest number h fits ends letter ∙ ap (λ n. Err (faults.BadToken n)) (sym there)))
 fault-is place bytes fault (large _ _ text rest number h too_large ends spelled) =
     ap (token_first place) spelled ∙ (number_cut place text rest number h ∙ number-large place text rest number h too_large ends)
 fault-is place bytes fault (lone_minus _ _ rest none spelled) = ap (token_first place) spelled ∙ (number_chosen place 45 rest refl refl ∙ lone-minus place rest none)
 fault-is place bytes fault (unclosed _ _ text spelled) = ap (token_first place) spelled ∙ (quote_chosen place _ ∙ rw (quoted_first-unclosed text) refl)
-fault-is place bytes fault (no_day _ _ word behind blanks text rest opens none spelled) =
-    ap (token_first place) spelled ∙ (day_cut place word behind blanks text rest opens ∙ day_missing place _ text _ none)
+fault-is place bytes fault (no_day _ _ word remaining blanks text rest opens none spelled) =
+    ap (token_first place) spelled ∙ (day_cut place word remaining blanks text rest opens ∙ day_missing place _ text _ none)
 fault-is place bytes fault (stray _ byte _ rest h spelled) =
     ap (token_first place) spelled ∙ (sign_chosen place byte rest h.letter (rw h.digit h.minus) h.quote ∙ rw (no_sign byte rest h.sign h.longer) refl)

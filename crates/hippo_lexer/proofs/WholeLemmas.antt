@@ -11,7 +11,7 @@ use Rattle.hippo_lexer.specs.declared.kinds.TokenKind.TheVariants as kinds
 use Rattle.hippo_lexer.specs.declared.faults.LexFault.TheVariants as faults
 use Rattle.hippo_lexer.specs.Spelling.{is_blank, is_quote, begins_with}
 use Rattle.hippo_lexer.specs.Cutting.{word_len, blanks_len, word_kind, is_date, quoted_first, day_first, date_first, word_first}
-use Rattle.hippo_lexer.specs.Grammar.{IsWholeWord, IsQuotedBehind, quoted_text}
+use Rattle.hippo_lexer.specs.Grammar.{IsWholeWord, IsQuotedAfter, quoted_text}
 use Rattle.hippo_lexer.proofs.PrefixLemmas.{all-front, ends-front, len-front}
 use Rattle.hippo_lexer.proofs.QuotedLemmas.{quoted_first-is, quoted_first-unclosed, quoted_or_open}
 
@@ -43,12 +43,12 @@ unfolding word_first
 word_step place word rest h = rw (whole-len word rest h, take_at word rest (length word) refl, drop_at word rest (length word) refl) refl
 
 -- a quoted text behind blanks is found
-quoted_len : (behind blanks text rest : List ℕ) → IsQuotedBehind behind blanks text rest → blanks_len behind ≡ length blanks
-quoted_len behind blanks text rest h = rw h.parts (len-front is_blank blanks (quoted_text text ++ rest) h.gap refl)
+quoted_len : (remaining blanks text rest : List ℕ) → IsQuotedAfter remaining blanks text rest → blanks_len remaining ≡ length blanks
+quoted_len remaining blanks text rest h = rw h.parts (len-front is_blank blanks (quoted_text text ++ rest) h.gap refl)
 
-pub quoted_there : (behind blanks text rest : List ℕ) → IsQuotedBehind behind blanks text rest → quoted_first (drop (blanks_len behind) behind) ≡ Some (text, length (quoted_text text))
-quoted_there behind blanks text rest h =
-    rw (quoted_len behind blanks text rest h, h.parts, drop_at blanks (quoted_text text ++ rest) (length blanks) refl) (quoted_first-is text rest h.ends)
+pub quoted_there : (remaining blanks text rest : List ℕ) → IsQuotedAfter remaining blanks text rest → quoted_first (drop (blanks_len remaining) remaining) ≡ Some (text, length (quoted_text text))
+quoted_there remaining blanks text rest h =
+    rw (quoted_len remaining blanks text rest h, h.parts, drop_at blanks (quoted_text text ++ rest) (length blanks) refl) (quoted_first-is text rest h.ends)
 
 -- or none stands there
 quoted_at : (bytes : List ℕ) → ((text : List ℕ) × (rest : List ℕ) × (bytes ≡ quoted_text text ++ rest) × (begins_with is_quote rest ≡ false)) ⊎ (quoted_first bytes ≡ None)
@@ -64,14 +64,14 @@ quoted_at (byte ∷ rest) = elim (cases_Bool (is_quote byte)) [
   | inr other ↦ inr (rw other refl)
 ]
 
-pub quoted_or_none : (behind : List ℕ) → ((text : List ℕ) × (rest : List ℕ) × IsQuotedBehind behind (take (blanks_len behind) behind) text rest) ⊎ (quoted_first (drop (blanks_len behind) behind) ≡ None)
-quoted_or_none behind = elim (quoted_at (drop (blanks_len behind) behind)) [
+pub quoted_or_none : (remaining : List ℕ) → ((text : List ℕ) × (rest : List ℕ) × IsQuotedAfter remaining (take (blanks_len remaining) remaining) text rest) ⊎ (quoted_first (drop (blanks_len remaining) remaining) ≡ None)
+quoted_or_none remaining = elim (quoted_at (drop (blanks_len remaining) remaining)) [
   | inl found ↦ inl (
     found.0,
     found.1,
     record {
-      gap = all-front is_blank behind;
-      parts = sym (take-append-drop (blanks_len behind) behind) ∙ ap (λ b. take (blanks_len behind) behind ++ b) found.2;
+      gap = all-front is_blank remaining;
+      parts = sym (take-append-drop (blanks_len remaining) remaining) ∙ ap (λ b. take (blanks_len remaining) remaining ++ b) found.2;
       ends = found.3;
     },
   )
@@ -79,14 +79,14 @@ quoted_or_none behind = elim (quoted_at (drop (blanks_len behind) behind)) [
 ]
 
 -- The word DATE, before a quoted text and without one.
-pub date-day : (place n : ℕ) (behind blanks text rest : List ℕ) → IsQuotedBehind behind blanks text rest → date_first place n behind ≡ day_first place (n + length blanks) (text, length (quoted_text text))
+pub date-day : (place n : ℕ) (remaining blanks text rest : List ℕ) → IsQuotedAfter remaining blanks text rest → date_first place n remaining ≡ day_first place (n + length blanks) (text, length (quoted_text text))
 unfolding date_first
-date-day place n behind blanks text rest h =
-    rw (quoted_there behind blanks text rest h, quoted_len behind blanks text rest h) refl
+date-day place n remaining blanks text rest h =
+    rw (quoted_there remaining blanks text rest h, quoted_len remaining blanks text rest h) refl
 
-pub date-alone : (place n : ℕ) (behind : List ℕ) → ((blanks text rest : List ℕ) → ¬ (IsQuotedBehind behind blanks text rest)) → date_first place n behind ≡ Ok (kinds.Keyword KDate, n)
+pub date-alone : (place n : ℕ) (remaining : List ℕ) → ((blanks text rest : List ℕ) → ¬ (IsQuotedAfter remaining blanks text rest)) → date_first place n remaining ≡ Ok (kinds.Keyword KDate, n)
 unfolding date_first
-date-alone place n behind none = elim (quoted_or_none behind) [
+date-alone place n remaining none = elim (quoted_or_none remaining) [
   | inl found ↦ absurd (none _ found.0 found.1 found.2)
   | inr alone ↦ rw alone refl
 ]

@@ -10,7 +10,7 @@ use Rattle.hippo_values.specs.declared.words.Word.{Word}
 use Rattle.hippo_values.specs.declared.words.Word.TheVariants as words
 use Rattle.hippo_values.specs.Names.{is_word_byte}
 use Rattle.hippo_values.specs.Words.{word_of}
-use Rattle.hippo_text_forms.specs.Dates.{day_text, written_among}
+use Rattle.hippo_values_text.specs.Dates.{day_text, written_among}
 use Rattle.hippo_values.specs.Moments.{first_day, day_count, is_signed_number}
 use Rattle.hippo_values.specs.declared.keywords.Keyword.TheVariants.{KDate}
 use Rattle.hippo_values.specs.Results.{◌>>=◌}
@@ -125,9 +125,9 @@ day_first place n quoted = do
 
 -- the token of the word DATE of n bytes, with what stands behind it
 unfoldable pub date_first : ℕ → ℕ → List ℕ → First
-date_first place n behind =
-    option_map_or (day_first place (n + blanks_len behind))
-    (quoted_first (drop (blanks_len behind) behind))
+date_first place n remaining =
+    option_map_or (day_first place (n + blanks_len remaining))
+    (quoted_first (drop (blanks_len remaining) remaining))
     (Ok (kinds.Keyword KDate, n))
 
 -- the token of the word at the front

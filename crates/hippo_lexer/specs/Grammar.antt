@@ -5,7 +5,7 @@ use Rattle.std.specs.List.{list_all}
 use Rattle.std.specs.Char.{is_ascii_alphabetic, is_ascii_digit}
 use Rattle.std.specs.Str.Parse.{digits_value}
 use Rattle.hippo_values.specs.Names.{lower_case, unsupported_words, is_among, is_word_byte, is_word, is_name, keyword_of}
-use Rattle.hippo_text_forms.specs.Dates.{IsDayText}
+use Rattle.hippo_values_text.specs.Dates.{IsDayText}
 use Rattle.hippo_values.specs.Limits.{name_limit}
 use Rattle.hippo_values.specs.Moments.{IsSignedNumber}
 use Rattle.hippo_values.specs.declared.keywords.Keyword.{Keyword}
@@ -16,13 +16,13 @@ use Rattle.hippo_lexer.specs.declared.kinds.TokenKind.TheVariants as kinds
 use Rattle.hippo_lexer.specs.declared.kinds.Token.{Token}
 use Rattle.hippo_lexer.specs.declared.faults.LexFault.{LexFault}
 use Rattle.hippo_lexer.specs.declared.faults.LexFault.TheVariants as faults
-pub use Rattle.hippo_text_forms.specs.Quoting.{quoted_text}
+pub use Rattle.hippo_values_text.specs.Quoting.{quoted_text}
 use Rattle.hippo_lexer.specs.Spelling.{is_blank, is_quote, is_minus, begins_with, sign_of, doubled_quotes}
 
 -- a word, and what stands behind does not go on with it
-pub record IsWholeWord (word behind : List ℕ) : Type 0 where
+pub record IsWholeWord (word remaining : List ℕ) : Type 0 where
   pub form : is_word word ≡ true
-  pub ends : begins_with is_word_byte behind ≡ false
+  pub ends : begins_with is_word_byte remaining ≡ false
 
 -- digits, one or more
 abbrev pub AreDigits : List ℕ → Type 0
@@ -36,16 +36,16 @@ pub data IsNumber : List ℕ → ℤ → Type 0 where
       → number ≡ neg_ℤ (pos (digits_value 10 digits)) → IsNumber text number
 
 -- behind blanks or none a quoted text, and then what does not go on with it
-pub record IsQuotedBehind (behind blanks text rest : List ℕ) : Type 0 where
+pub record IsQuotedAfter (remaining blanks text rest : List ℕ) : Type 0 where
   pub gap : list_all is_blank blanks ≡ true
-  pub parts : behind ≡ blanks ++ (quoted_text text ++ rest)
+  pub parts : remaining ≡ blanks ++ (quoted_text text ++ rest)
   pub ends : begins_with is_quote rest ≡ false
 
 -- the word DATE, behind which a quoted text stands
-pub record OpensDay (word behind blanks text rest : List ℕ) : Type 0 where
-  pub whole : IsWholeWord word behind
+pub record OpensDay (word remaining blanks text rest : List ℕ) : Type 0 where
+  pub whole : IsWholeWord word remaining
   pub date : keyword_of word ≡ Some KDate
-  pub quotation : IsQuotedBehind behind blanks text rest
+  pub quotation : IsQuotedAfter remaining blanks text rest
 
 -- no byte more makes a longer sign of it
 abbrev pub IsLongestSign : List ℕ → List ℕ → Type 0
@@ -59,7 +59,7 @@ IsLongestSign text rest =
 pub data IsToken : List ℕ → TokenKind → List ℕ → Type 0 where
   a_keyword : (word rest : List ℕ) (keyword : Keyword) → IsWholeWord word rest
       → keyword_of word ≡ Some keyword
-      → (keyword ≡ KDate → (blanks text more : List ℕ) → ¬ (IsQuotedBehind rest blanks text more))
+      → (keyword ≡ KDate → (blanks text more : List ℕ) → ¬ (IsQuotedAfter rest blanks text more))
       → IsToken word (kinds.Keyword keyword) rest
   a_refused_word : (word rest : List ℕ) → IsWholeWord word rest
       → is_among unsupported_words word ≡ true
@@ -71,8 +71,8 @@ pub data IsToken : List ℕ → TokenKind → List ℕ → Type 0 where
   a_quoted_text : (written text rest : List ℕ) → written ≡ quoted_text text
       → begins_with is_quote rest ≡ false
       → IsToken written (kinds.Quoted text) rest
-  a_day : (written word behind blanks text rest : List ℕ) (day : ℤ)
-      → OpensDay word behind blanks text rest
+  a_day : (written word remaining blanks text rest : List ℕ) (day : ℤ)
+      → OpensDay word remaining blanks text rest
       → IsDayText text day → written ≡ word ++ (blanks ++ quoted_text text)
       → IsToken written (kinds.Day day) rest
   a_sign : (text rest : List ℕ) (sign : Symbol) → sign_of text ≡ Some sign → IsLongestSign text rest
@@ -96,7 +96,7 @@ pub data IsFault : ℕ → List ℕ → LexFault → Type 0 where
   long_word : (place : ℕ) (bytes word rest : List ℕ) → IsWholeWord word rest
       → name_limit < length word
       → bytes ≡ word ++ rest → IsFault place bytes (faults.BadToken place)
-  letter_behind : (place at : ℕ) (bytes text rest : List ℕ) (number : ℤ) → IsNumber text number
+  letter_after : (place at : ℕ) (bytes text rest : List ℕ) (number : ℤ) → IsNumber text number
       → IsSignedNumber number
       → begins_with is_ascii_digit rest ≡ false → begins_with is_word_byte rest ≡ true
       → bytes ≡ text ++ rest
@@ -110,9 +110,9 @@ pub data IsFault : ℕ → List ℕ → LexFault → Type 0 where
       → IsFault place bytes (faults.BadToken place)
   unclosed : (place : ℕ) (bytes text : List ℕ) → bytes ≡ 39 ∷ doubled_quotes text
       → IsFault place bytes (faults.BadToken place)
-  no_day : (place : ℕ) (bytes word behind blanks text rest : List ℕ)
-      → OpensDay word behind blanks text rest
-      → ((day : ℤ) → ¬ (IsDayText text day)) → bytes ≡ word ++ behind
+  no_day : (place : ℕ) (bytes word remaining blanks text rest : List ℕ)
+      → OpensDay word remaining blanks text rest
+      → ((day : ℤ) → ¬ (IsDayText text day)) → bytes ≡ word ++ remaining
       → IsFault place bytes (faults.BadDate place)
   stray : (place byte : ℕ) (bytes rest : List ℕ) → IsStray byte rest → bytes ≡ byte ∷ rest
       → IsFault place bytes (faults.BadToken place)

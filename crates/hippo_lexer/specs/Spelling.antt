@@ -1,7 +1,7 @@
 -- How signs, numbers and texts are spelled, by bytes.
 use Rattle.std.specs.Prelude.{ℕ, ◌==◌, Bool, false, ◌||◌, List, [], ◌∷◌, codes, bytes_eq, Option}
 use Rattle.std.specs.Map.{lookup}
-pub use Rattle.hippo_text_forms.specs.Quoting.{is_quote, doubled_quotes}
+pub use Rattle.hippo_values_text.specs.Quoting.{is_quote, doubled_quotes}
 use Rattle.hippo_lexer.specs.declared.kinds.Symbol.{Symbol}
 use Rattle.hippo_lexer.specs.declared.kinds.Symbol.TheVariants.{LeftParen, RightParen, Comma, Dot, Star, Equal, NotEqual, Less, LessEqual, Greater, GreaterEqual, Semicolon}
 

@@ -8,8 +8,8 @@ ghost use Rattle.hippo_lexer.specs.Cutting.{GivesOutcome, kind_of_word, word_kin
 use crate::faults::LexFault;
 use crate::kinds::TokenKind;
 use crate::signs::sign_first;
-use hippo_text_forms::read_day;
 use hippo_values::{CellText, DayNumber, Keyword, Memory, Txt, Word, read_word};
+use hippo_values_text::read_day;
 use std::alloc::Global;
 
 // Of each byte, 1 where it is a letter, a digit or `_`: a look-up takes half the time of the tests.
@@ -71,15 +71,15 @@ fn ended(alloc: Global, front: Txt, run: &str) -> Result<CellText, Memory>
 }
 
 // Behind an opening quote: the text up to the closing one, and the length with that one.
-fn closing(alloc: Global, behind: &str) -> Result<Option<(CellText, usize)>, Memory>
-    ensures found { IfOk result (λ found. found ≡ closing behind.now) }
-    ensures within { IfOk result (λ found. IfSome found (λ quoted. quoted.1 ≤ length behind.now)) }
+fn closing(alloc: Global, remaining: &str) -> Result<Option<(CellText, usize)>, Memory>
+    ensures found { IfOk result (λ found. found ≡ closing remaining.now) }
+    ensures within { IfOk result (λ found. IfSome found (λ quoted. quoted.1 ≤ length remaining.now)) }
 {
     let mut text = Txt::new(alloc);
-    let mut rest = behind;
+    let mut rest = remaining;
     while let Some((run, after)) = rest.split_once('\'') {
         match after.strip_prefix('\'') {
-            None => return Ok(Some((ended(alloc, text, run)?, behind.len() - after.len()))),
+            None => return Ok(Some((ended(alloc, text, run)?, remaining.len() - after.len()))),
             Some(next) => {
                 text.append(run)?;
                 text.append("'")?;
@@ -98,7 +98,7 @@ fn quoted_first(alloc: Global, text: &str) -> Result<Option<(CellText, usize)>, 
 {
     match text.strip_prefix('\'') {
         None => Ok(None),
-        Some(behind) => match closing(alloc, behind)? {
+        Some(remaining) => match closing(alloc, remaining)? {
             None => Ok(None),
             Some((quoted, len)) => Ok(Some((quoted, 1 + len))),
         },
@@ -159,9 +159,9 @@ fn number_first(place: usize, text: &str) -> Result<(TokenKind, usize), LexFault
     if len == sign_len(bytes) {
         return Err(LexFault::BadToken(place));
     }
-    let (digits, behind) = text.split_at(len);
+    let (digits, remaining) = text.split_at(len);
     let number = number_of(digits).ok_or(LexFault::NumberTooLarge(place))?;
-    if begins_with_word_byte(behind.as_bytes()) {
+    if begins_with_word_byte(remaining.as_bytes()) {
         return Err(LexFault::BadToken(place + len));
     }
     Ok((TokenKind::Number(number), len))
@@ -196,13 +196,13 @@ fn date_first(
     alloc: Global,
     place: usize,
     len: usize,
-    behind: &str,
+    remaining: &str,
 ) -> Result<(TokenKind, usize), LexFault>
-    requires { len + length behind.now < 2 ^ 64 }
-    ensures { GivesOutcome result (date_first place len behind.now) }
+    requires { len + length remaining.now < 2 ^ 64 }
+    ensures { GivesOutcome result (date_first place len remaining.now) }
 {
-    let blanks = blanks_len(behind.as_bytes());
-    match quoted_first(alloc, &behind[blanks..])? {
+    let blanks = blanks_len(remaining.as_bytes());
+    match quoted_first(alloc, &remaining[blanks..])? {
         None => Ok((TokenKind::Keyword(Keyword::KDate), len)),
         Some((quoted, quoted_len)) => day_first(place, len + blanks, quoted, quoted_len),
     }
@@ -213,16 +213,16 @@ fn said_first(
     alloc: Global,
     place: usize,
     len: usize,
-    behind: &str,
+    remaining: &str,
     word: Word,
 ) -> Result<(TokenKind, usize), LexFault>
-    requires { len + length behind.now < 2 ^ 64 }
+    requires { len + length remaining.now < 2 ^ 64 }
     ensures { GivesOutcome result (if is_date (kind_of_word word)
-        then date_first place len behind.now else Ok (kind_of_word word, len)) }
+        then date_first place len remaining.now else Ok (kind_of_word word, len)) }
 {
     match word {
         Word::Name(name) => Ok((TokenKind::Word(name), len)),
-        Word::Keyword(Keyword::KDate) => date_first(alloc, place, len, behind),
+        Word::Keyword(Keyword::KDate) => date_first(alloc, place, len, remaining),
         Word::Keyword(keyword) => Ok((TokenKind::Keyword(keyword), len)),
         Word::Unsupported(word) => Ok((TokenKind::Unsupported(word), len)),
     }
@@ -235,9 +235,9 @@ fn word_first(alloc: Global, place: usize, text: &str) -> Result<(TokenKind, usi
     ensures { GivesOutcome result (word_first place text.now) }
 {
     let len = word_len(text.as_bytes());
-    let (word, behind) = text.split_at(len);
+    let (word, remaining) = text.split_at(len);
     let said = read_word(alloc, word)?.ok_or(LexFault::BadToken(place))?;
-    said_first(alloc, place, len, behind, said)
+    said_first(alloc, place, len, remaining, said)
 }
 
 fn quoted_token(alloc: Global, place: usize, text: &str) -> Result<(TokenKind, usize), LexFault>

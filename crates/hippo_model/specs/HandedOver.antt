@@ -22,14 +22,14 @@ question_fits meaning history act = is_question act && is_acceptable meaning his
 
 -- whether an entry may be handed over where a table's versions above a number are asked for, after
 -- these versions
-abbrev pub is_sought_version : Schema → ℕ → History → Entry → Bool
-is_sought_version schema after earlier entry =
+abbrev pub is_wanted_version : Schema → ℕ → History → Entry → Bool
+is_wanted_version schema after earlier entry =
     nat_lt after entry.seq && version_fits schema earlier entry.act
 
 -- whether an entry may be handed over where the questions of a period above a number are asked for,
 -- after these entries
-abbrev pub is_sought_question : Meaning → Moment → Moment → ℕ → History → Entry → Bool
-is_sought_question meaning from to after history entry =
+abbrev pub is_wanted_question : Meaning → Moment → Moment → ℕ → History → Entry → Bool
+is_wanted_question meaning from to after history entry =
     nat_lt after entry.seq && int_le from entry.moment && int_le entry.moment to
     && question_fits meaning history entry.act
 

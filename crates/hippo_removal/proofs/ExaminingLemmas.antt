@@ -22,7 +22,7 @@ use Rattle.hippo_audit_job.specs.declared.past.Past.{Past}
 use Rattle.hippo_audit_job.specs.Examining.{IsPastOf, IsAuditOf, IsServing, FindsServing, IsNew, Examines}
 use Rattle.hippo_model.specs.Audits.{first_serving}
 use Rattle.hippo_combine.proofs.ExaminerLemmas.{Shared, only_memory, undamaged, no_entry}
-use Rattle.hippo_examining.proofs.PastLemmas.{front_valid, created_by_meaning}
+use Rattle.hippo_audit_needs.proofs.PastLemmas.{front_valid, created_by_meaning}
 use Rattle.hippo_removal.specs.declared.removal.Removal.{Removal}
 use Rattle.hippo_removal.specs.declared.snapshots.BothRows.{BothRows}
 use Rattle.hippo_removal.specs.Removals.{AreThen, AreBoth, ReadsBoth, removal_terms}

@@ -15,15 +15,15 @@ use Rattle.hippo_model.specs.Answers.{product}
 use Rattle.hippo_model.specs.Bags.{same_bag}
 use Rattle.hippo_model.specs.Forms.{rows_by_form}
 use Rattle.hippo_model.specs.Masking.{Choices, is_guarded, masked_passes, masked_items}
-use Rattle.hippo_keyed_rows.specs.RowSets.{KeyedRows}
+use Rattle.hippo_tables_keyed.specs.RowSets.{KeyedRows}
 use Rattle.hippo_model.specs.Terms.{Combination, ShownRow}
 use Rattle.hippo_eval.specs.Answering.{masked_rows}
 use Rattle.hippo_eval.specs.Walks.{rows_of}
 use Rattle.hippo_eval.proofs.FoundLemmas.{masked_rows-push, masked_rows-same}
-use Rattle.hippo_shared.specs.Needs.{needs_by}
-use Rattle.hippo_shared.specs.Sharing.{has_tuple_in, audit_has}
-use Rattle.hippo_shared.proofs.SideLemmas.{passes-unmasked_operand}
-use Rattle.hippo_examining.proofs.PlainTheorem.{plain-needs}
+use Rattle.hippo_audit_search.specs.Needs.{needs_by}
+use Rattle.hippo_audit_search.specs.Sharing.{has_tuple_in, audit_has}
+use Rattle.hippo_audit_search.proofs.SideLemmas.{passes-unmasked_operand}
+use Rattle.hippo_audit_needs.proofs.PlainTheorem.{plain-needs}
 use Rattle.hippo_removal.specs.Removing.{is_out, rows_left, answer_left, unmasked_query}
 
 module _ (choices : Choices) (query : Masked) (sets : List KeyedRows) (out : Option (List SharedRow)) where

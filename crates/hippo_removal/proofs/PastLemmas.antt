@@ -15,21 +15,21 @@ use Rattle.hippo_model.specs.Audits.{first_serving}
 use Rattle.hippo_model.specs.Histories.{schema_at}
 use Rattle.hippo_model.specs.Masking.{Choices}
 use Rattle.hippo_model.specs.Rules.{choice_at}
-use Rattle.hippo_keyed_rows.specs.RowSets.{KeyedRows, kept_at}
+use Rattle.hippo_tables_keyed.specs.RowSets.{KeyedRows, kept_at}
 use Rattle.hippo_model.specs.Terms.{History, ShownRow}
 use Rattle.hippo_model.specs.Validity.{is_valid}
 use Rattle.hippo_model.specs.Verdicts.{Context}
 use Rattle.hippo_model.specs.Views.{unmasked_at}
-use Rattle.hippo_catalog.specs.Catalogs.{KnownNames, known_at, table_of}
+use Rattle.hippo_typing_catalog.specs.Catalogs.{KnownNames, known_at, table_of}
 use Rattle.hippo_typing.specs.Meanings.{meaning}
 use Rattle.hippo_typing.proofs.CatalogTheorem.{valid_names}
 use Rattle.hippo_rewrite.specs.RewritingLaws.{rules_at}
 use Rattle.hippo_rewrite.proofs.FittingRows.{schema_named}
-use Rattle.hippo_shared.specs.HistoryLaws.{sets_at}
+use Rattle.hippo_audit_search.specs.HistoryLaws.{sets_at}
 use Rattle.hippo_audit_job.specs.declared.past.Past.{Past}
-use Rattle.hippo_examining.specs.Examining.{AreOfHistory}
+use Rattle.hippo_audit_needs.specs.Examining.{AreOfHistory}
 use Rattle.hippo_combine.proofs.ExaminerLemmas.{nothing_of_audit}
-use Rattle.hippo_examining.proofs.PastLemmas.{front_valid, lasting, no_rows_yet, are_common, no_length, flat_map_none}
+use Rattle.hippo_audit_needs.proofs.PastLemmas.{front_valid, lasting, no_rows_yet, are_common, no_length, flat_map_none}
 use Rattle.hippo_removal.specs.Removals.{have_rows, rows_then, AreThen}
 
 abbrev no_set : KeyedRows

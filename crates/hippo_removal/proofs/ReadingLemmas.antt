@@ -8,11 +8,11 @@ use Rattle.hippo_model.specs.declared.audit.Audit.{Audit}
 use Rattle.hippo_model.specs.declared.query.Query.{Query}
 use Rattle.hippo_model.specs.declared.schema.Schema.{Schema}
 use Rattle.hippo_model.specs.Histories.{schema_at}
-use Rattle.hippo_keyed_rows.specs.RowSets.{KeyedRows, kept_at}
+use Rattle.hippo_tables_keyed.specs.RowSets.{KeyedRows, kept_at}
 use Rattle.hippo_model.specs.Terms.{History, Place}
 use Rattle.hippo_keeper.specs.Answering.{has_failed}
 use Rattle.hippo_keeper.specs.Keeping.{KeeperState, IsReady}
-use Rattle.hippo_catalog.specs.Catalogs.{KnownNames, table_of}
+use Rattle.hippo_typing_catalog.specs.Catalogs.{KnownNames, table_of}
 use Rattle.hippo_typing.specs.Meanings.{meaning}
 use Rattle.hippo_typing.proofs.CatalogTheorem.{valid_names}
 use Rattle.hippo_rewrite.proofs.FittingRows.{schema_named}

@@ -14,16 +14,16 @@ use Rattle.hippo_model.specs.declared.query.Form.{Form}
 use Rattle.hippo_model.specs.declared.query.Masked.{Masked}
 use Rattle.hippo_model.specs.Answers.{product}
 use Rattle.hippo_model.specs.Masking.{Choices}
-use Rattle.hippo_keyed_rows.specs.RowSets.{KeyedRows, key_in}
+use Rattle.hippo_tables_keyed.specs.RowSets.{KeyedRows, key_in}
 use Rattle.hippo_model.specs.Terms.{Combination, Key}
 use Rattle.hippo_eval.specs.Walks.{rows_of}
 use Rattle.hippo_eval.proofs.WalkLemmas.{drop_at}
-use Rattle.hippo_sides.proofs.ProductLemmas.{map-map, map-flat_map}
-use Rattle.hippo_shared.specs.Needs.{needs_by, first_needed}
-use Rattle.hippo_commons.specs.Commons.{common_tables, place_in}
-use Rattle.hippo_shared.specs.Sharing.{rows_named, virtual_tuples_in, query_has}
-use Rattle.hippo_shared.proofs.CommonLemmas.{common-in-audit}
-use Rattle.hippo_shared.proofs.TupleLemmas.{AllStandIn, set_at}
+use Rattle.hippo_join_stages.proofs.ProductLemmas.{map-map, map-flat_map}
+use Rattle.hippo_audit_search.specs.Needs.{needs_by, first_needed}
+use Rattle.hippo_audit_common.specs.Commons.{common_tables, place_in}
+use Rattle.hippo_audit_search.specs.Sharing.{rows_named, virtual_tuples_in, query_has}
+use Rattle.hippo_audit_search.proofs.CommonLemmas.{common-in-audit}
+use Rattle.hippo_audit_search.proofs.TupleLemmas.{AllStandIn, set_at}
 use Rattle.hippo_removal.specs.Removing.{tuple_of, unmasked_query, is_shared, first_removed}
 use Rattle.hippo_removal.proofs.NeedingLemmas.{audit_needs_by}
 

@@ -7,7 +7,7 @@ use Rattle.hippo_model.specs.declared.audit.Audit.{Audit}
 use Rattle.hippo_model.specs.declared.query.Query.{Query}
 use Rattle.hippo_model.specs.Columns.{names_all}
 use Rattle.hippo_model.specs.Histories.{schema_at}
-use Rattle.hippo_keyed_rows.specs.RowSets.{KeyedRows, kept_at}
+use Rattle.hippo_tables_keyed.specs.RowSets.{KeyedRows, kept_at}
 use Rattle.hippo_model.specs.StoredForms.{stored}
 use Rattle.hippo_model.specs.Terms.{History}
 use Rattle.hippo_keeper.specs.Keeping.{KeeperState, IsAfterCall, KeepsSame}

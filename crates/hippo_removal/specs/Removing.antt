@@ -13,14 +13,14 @@ use Rattle.hippo_model.specs.Terms.{Combination, ShownRow}
 use Rattle.hippo_model.specs.Answers.{product}
 use Rattle.hippo_model.specs.Forms.{rows_by_form}
 use Rattle.hippo_model.specs.Masking.{Choices, is_guarded, masked_passes}
-use Rattle.hippo_keyed_rows.specs.RowSets.{KeyedRows, key_in}
-use Rattle.hippo_commons.specs.Commons.{common_tables, place_in}
+use Rattle.hippo_tables_keyed.specs.RowSets.{KeyedRows, key_in}
+use Rattle.hippo_audit_common.specs.Commons.{common_tables, place_in}
 use Rattle.hippo_eval.specs.Answering.{masked_rows}
 use Rattle.hippo_eval.specs.Unmasked.{unmasked_condition}
 use Rattle.hippo_eval.specs.Walks.{rows_of}
 use Rattle.hippo_join.specs.Existence.{are_shown}
-use Rattle.hippo_shared.specs.Needs.{needs_by}
-use Rattle.hippo_shared.specs.Sharing.{has_tuple_in, query_has}
+use Rattle.hippo_audit_search.specs.Needs.{needs_by}
+use Rattle.hippo_audit_search.specs.Sharing.{has_tuple_in, query_has}
 
 -- whether a combination is taken out: where it has the tuple, if there is one to be taken out
 abbrev pub is_out : List Name → List KeyedRows → Option (List SharedRow) → Combination → Bool

@@ -1,7 +1,7 @@
 //! Whether a query needs a virtual tuple: its answer, and its answer without the combinations that
 //! have the tuple.
 ghost use Rattle.std.specs.Prelude.{◌≡◌, option_copied, IfOk};
-ghost use Rattle.hippo_shared.specs.Needs.{needs_by};
+ghost use Rattle.hippo_audit_search.specs.Needs.{needs_by};
 ghost use Rattle.hippo_removal.specs.Removing.{is_out, answer_left};
 
 use crate::bags::same_bag;
@@ -9,7 +9,7 @@ use crate::forms::formed;
 use crate::tuples::has_tuple;
 use hippo_eval::{Onward, Visitor, passes, project, walk};
 use hippo_model::{Answer, ChoiceView, Combo, Form, Masked, Names, SharedTuple};
-use hippo_rows::Sets;
+use hippo_tables_rows::Sets;
 use hippo_values::{Memory, Sequence};
 use std::alloc::Global;
 

@@ -2,12 +2,12 @@
 ghost use Rattle.std.specs.Prelude.{◌≡◌, IfOk};
 ghost use Rattle.hippo_model.specs.Masking.{is_shown_cell, masked_cell};
 ghost use Rattle.hippo_join.specs.Existence.{are_shown};
-ghost use Rattle.hippo_shared.specs.Sharing.{query_has};
+ghost use Rattle.hippo_audit_search.specs.Sharing.{query_has};
 
 use crate::tuples::has_tuple;
 use hippo_eval::{Onward, Visitor, cell, passes, walk};
 use hippo_model::{ChoiceView, Combo, Expr, Exprs, Masked, SharedTuple};
-use hippo_rows::Sets;
+use hippo_tables_rows::Sets;
 use hippo_values::Memory;
 use std::alloc::Global;
 

@@ -2,24 +2,24 @@
 ghost use Rattle.std.specs.Prelude.{◌≡◌, map, IfOk, bytes_eq, filter_map, slice_get, option_copied, length};
 ghost use Rattle.std.specs.List.{list_any};
 ghost use Rattle.hippo_model.specs.declared.query.Expr.TheVariants.{Keep};
-ghost use Rattle.hippo_commons.specs.Commons.{common_tables, place_in};
-ghost use Rattle.hippo_examining.specs.Examining.{ServesFirst};
+ghost use Rattle.hippo_audit_common.specs.Commons.{common_tables, place_in};
+ghost use Rattle.hippo_audit_needs.specs.Examining.{ServesFirst};
 ghost use Rattle.hippo_removal.specs.Removing.{tuple_of, unmasked_query, first_removed};
 
 use crate::needing::needs;
 use crate::seeing::has_seen;
 use crate::snapshots::BothSets;
 use crate::tuples::key_of;
-use hippo_commons::place_in;
+use hippo_audit_common::place_in;
+use hippo_audit_needs::laws::needed_serves_first;
+use hippo_audit_needs::to_be_seen;
 use hippo_eval::{Onward, Visitor, unmasked_condition, walk};
-use hippo_examining::laws::needed_serves_first;
-use hippo_examining::to_be_seen;
 use hippo_model::{
     Audit, ChoiceView, Combo, Expr, Exprs, Form, Lent, Masked, Names, Query, RulesInForce,
     SharedRow, SharedTuple,
 };
 use hippo_rewrite::rewrite;
-use hippo_rows::{RowSet, Sets};
+use hippo_tables_rows::{RowSet, Sets};
 use hippo_values::{Duplicate, Memory, Name, Sequence};
 use std::alloc::Global;
 

@@ -1,15 +1,15 @@
 //! The rows of tables as they were, each by a snapshot.
 ghost use Rattle.std.specs.Prelude.{◌≡◌, ◌∷◌, [], true, filter_map, IfOk};
 ghost use Rattle.hippo_keeper.specs.Keeping.{IsReady};
-ghost use Rattle.hippo_catalog.specs.Catalogs.{table_of};
+ghost use Rattle.hippo_typing_catalog.specs.Catalogs.{table_of};
 ghost use Rattle.hippo_removal.specs.Removals.{IsPushed, ReadsRows, ReadsBoth};
 
 use hippo_audit_job::Past;
 use hippo_backlog::{ReadFault, snapshot};
-use hippo_catalog::Catalog;
 use hippo_keeper::{Keeper, Steps};
 use hippo_model::{Audit, Lent, LentSchemas, Query};
-use hippo_rows::{RowSet, Sets};
+use hippo_tables_rows::{RowSet, Sets};
+use hippo_typing_catalog::Catalog;
 use hippo_values::{Memory, Name, Sequence};
 use std::alloc::Global;
 use std::sync::ledger::Ledger;

@@ -2,14 +2,14 @@
 ghost use Rattle.std.specs.Prelude.{◌≡◌, [], slice_index_or, option_copied, IfOk};
 ghost use Rattle.hippo_values.specs.Order.{same_cells};
 ghost use Rattle.hippo_model.specs.Rows.{cell_at};
-ghost use Rattle.hippo_keyed_rows.specs.RowSets.{key_in};
+ghost use Rattle.hippo_tables_keyed.specs.RowSets.{key_in};
 ghost use Rattle.hippo_eval.specs.LentCells.{or_null};
-ghost use Rattle.hippo_lookups.specs.Places.{blank};
-ghost use Rattle.hippo_shared.specs.Sharing.{shared_key_in, has_tuple_in};
+ghost use Rattle.hippo_join_lookups.specs.Places.{blank};
+ghost use Rattle.hippo_audit_search.specs.Sharing.{shared_key_in, has_tuple_in};
 
-use hippo_commons::place_in;
+use hippo_audit_common::place_in;
 use hippo_model::{Cells, Combo, Names, SharedRow, SharedTuple};
-use hippo_rows::Sets;
+use hippo_tables_rows::Sets;
 use hippo_values::{Duplicate, Memory, Sequence, Value};
 use std::alloc::Global;
 

@@ -15,11 +15,11 @@ use Rattle.hippo_model.specs.declared.schema.Schema.{Schema}
 use Rattle.hippo_model.specs.Terms.{History, Key, Row}
 use Rattle.hippo_model.specs.Histories.{schema_at, item_at, last_word}
 use Rattle.hippo_model.specs.Rows.{key_of, row_at}
-use Rattle.hippo_keyed_rows.specs.RowSets.{KeyedRows, kept_at, find_row}
+use Rattle.hippo_tables_keyed.specs.RowSets.{KeyedRows, kept_at, find_row}
 use Rattle.hippo_model.specs.Versions.{row_fits, key_fits, is_live, version_fits}
 use Rattle.hippo_model.specs.Validity.{is_purpose, is_recipient, table_passes, create_fits, is_well_formed, is_table_version, keeps_order}
-use Rattle.hippo_keyed_rows.proofs.ChangesOfRows.{is_live-found}
-use Rattle.hippo_catalog.specs.Catalogs.{KnownNames, table_of, has_purpose, has_recipient, item_of}
+use Rattle.hippo_tables_keyed.proofs.ChangesOfRows.{is_live-found}
+use Rattle.hippo_typing_catalog.specs.Catalogs.{KnownNames, table_of, has_purpose, has_recipient, item_of}
 use Rattle.hippo_tables.specs.Finished.{live_row}
 use Rattle.hippo_tables.proofs.StandingLemmas.{schema_at-named}
 use Rattle.hippo_typing.specs.Meanings.{meaning}

@@ -7,7 +7,7 @@ use Rattle.hippo_model.specs.declared.entry.Entry.{Entry}
 use Rattle.hippo_model.specs.Terms.{History, Meaning}
 use Rattle.hippo_model.specs.StoredForms.{stored}
 use Rattle.hippo_model.specs.Validity.{is_valid}
-use Rattle.hippo_laws.proofs.ValidFronts.{holds_of_each_valid, next_number}
+use Rattle.hippo_model_laws.proofs.ValidFronts.{holds_of_each_valid, next_number}
 use Rattle.hippo_keeper.specs.Keeping.{Store, Survivors, RisesAbove, last_number, next_number as next_kept, KeeperState, HasFound, KeepsSame}
 use Rattle.hippo_keeper.specs.Selecting.{is_any, handed_over}
 use Rattle.hippo_keeper.proofs.RisingLemmas.{next_number-append}
@@ -47,20 +47,20 @@ last_above number (entry ∷ entries) rest rises =
     omega arith
 
 -- the entries above the last one of a front are those behind it
-pub entries_behind : (number last : ℕ) (front rest : Store) → last_number number front ≡ last → RisesAbove number (front ++ rest) → filter (λ e. nat_lt last e.seq) (front ++ rest) ≡ rest
-entries_behind number last [] rest is rises = all_above number last rest (omega (arith, is)) rises
-entries_behind number last (entry ∷ front) rest is rises =
+pub entries_after : (number last : ℕ) (front rest : Store) → last_number number front ≡ last → RisesAbove number (front ++ rest) → filter (λ e. nat_lt last e.seq) (front ++ rest) ≡ rest
+entries_after number last [] rest is rises = all_above number last rest (omega (arith, is)) rises
+entries_after number last (entry ∷ front) rest is rises =
     let below = last_above entry.seq front rest rises.1 in
     let fails = not_below last entry.seq (omega arith) in
-    rw fails (entries_behind entry.seq last front rest is rises.1)
+    rw fails (entries_after entry.seq last front rest is rises.1)
 
 any : (entries : Store) → filter is_any entries ≡ entries
 any [] = refl
 any (entry ∷ rest) = ap (λ later. entry ∷ later) (any rest)
 
 -- what is handed over behind a front is the front of the rest
-pub handed_over-behind : (max last : ℕ) (front rest : Store) → last_number 0 front ≡ last → RisesAbove 0 (front ++ rest) → handed_over is_any last max (front ++ rest) ≡ take max rest
-handed_over-behind max last front rest is rises = ap (take max) (any _ ∙ entries_behind 0 last front rest is rises)
+pub handed_over-remaining : (max last : ℕ) (front rest : Store) → last_number 0 front ≡ last → RisesAbove 0 (front ++ rest) → handed_over is_any last max (front ++ rest) ≡ take max rest
+handed_over-remaining max last front rest is rises = ap (take max) (any _ ∙ entries_after 0 last front rest is rises)
 
 -- where nothing is handed over, there is nothing
 pub nothing_taken : (max : ℕ) (rest : Store) → 0 < max → take max rest ≡ [] → rest ≡ []

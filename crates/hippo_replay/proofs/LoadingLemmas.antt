@@ -6,7 +6,7 @@ use Rattle.std.proofs.lemmas.Result.{IfOk-weaker, IfOk-at_ok}
 use Rattle.hippo_model.specs.Terms.{History}
 use Rattle.hippo_model.specs.StoredForms.{stored}
 use Rattle.hippo_model.specs.Stores.{IsStoreOf, IsDamagedAt}
-use Rattle.hippo_laws.proofs.OneStore.{one_history, of_none}
+use Rattle.hippo_model_laws.proofs.OneStore.{one_history, of_none}
 use Rattle.hippo_keeper.specs.declared.faults.KeeperFault.{KeeperFault}
 use Rattle.hippo_keeper.specs.declared.faults.KeeperFault.TheVariants as keeper_faults
 use Rattle.hippo_keeper.specs.Answering.{has_failed, wants_memory}

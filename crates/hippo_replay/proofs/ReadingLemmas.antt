@@ -20,7 +20,7 @@ use Rattle.hippo_replay.specs.TakingIn.{HasLoaded, TakesIn}
 use Rattle.hippo_replay.specs.Loading.{load_as_call}
 use Rattle.hippo_replay.specs.Reading.{load_fault, IsUpTo, ReadsPiece, IsReading, ReadsAllKept}
 use Rattle.hippo_replay.proofs.TakingInLemmas.{loaded_count}
-use Rattle.hippo_replay.proofs.KeeperLemmas.{next_kept-stored, handed_over-behind, nothing_taken}
+use Rattle.hippo_replay.proofs.KeeperLemmas.{next_kept-stored, handed_over-remaining, nothing_taken}
 use Rattle.hippo_keeper.proofs.CallLemmas.{KeepsSame-here, KeepsSame-then, KeepsSame-Stays, IsAfterCall-then, IsAfterCall-as, IsAfterCall-none}
 use Rattle.hippo_keeper.proofs.Results.{err_of, ok_of, well}
 
@@ -67,14 +67,14 @@ module _ (max : ℕ) (before after : KeeperState) (old new : State) (steps_old s
   read_told : after.tells → (store rest : Store) → IsUpTo old before store rest → piece ≡ take max rest
   read_told tells store rest upto =
       reads.ok.told tells ∙ ap (handed_over is_any old.count max) upto.whole
-      ∙ handed_over-behind max old.count store rest (last_loaded old store upto.loaded) (subst (λ (kept : Store). RisesAbove 0 kept) upto.whole upto.order)
+      ∙ handed_over-remaining max old.count store rest (last_loaded old store upto.loaded) (subst (λ (kept : Store). RisesAbove 0 kept) upto.whole upto.order)
 
-  read_behind : after.tells → (store rest : Store) → IsUpTo old before store rest → rest ≡ piece ++ drop max rest
-  read_behind tells store rest upto = sym (take-append-drop max rest) ∙ ap (λ (front : Store). front ++ drop max rest) (sym (read_told tells store rest upto))
+  read_after : after.tells → (store rest : Store) → IsUpTo old before store rest → rest ≡ piece ++ drop max rest
+  read_after tells store rest upto = sym (take-append-drop max rest) ∙ ap (λ (front : Store). front ++ drop max rest) (sym (read_told tells store rest upto))
 
   read_damage : (fault : LoadFault) → TakesIn piece (err_of (Unit {0}) fault) old new → (place : ℕ) → fault ≡ Damaged place → after.tells → (store rest : Store) → IsUpTo old before store rest → IsDamagedAt meaning before.kept place
   read_damage fault taken place is tells store rest upto =
-      let whole = upto.whole ∙ ap (λ (behind : Store). store ++ behind) (read_behind tells store rest upto) in
+      let whole = upto.whole ∙ ap (λ (remaining : Store). store ++ remaining) (read_after tells store rest upto) in
       subst (λ (kept : Store). IsDamagedAt meaning kept place) (sym whole) (taken.damaged place (ap Err is) store (drop max rest) upto.loaded)
 
   -- a piece was taken in
@@ -86,7 +86,7 @@ module _ (max : ℕ) (before after : KeeperState) (old new : State) (steps_old s
       stays = λ tells. KeepsSame-Stays before after (reads.stays tells);
       steps = steps;
     };
-    told = λ tells store rest upto. (drop max rest, read_behind tells store rest upto);
+    told = λ tells store rest upto. (drop max rest, read_after tells store rest upto);
     taken = taken.ok;
     ended = λ is tells store rest upto. nothing_taken max rest some (sym (read_told tells store rest upto) ∙ none (same_Ok any false is));
     nothing = λ is. none (same_Ok any false is);
@@ -106,7 +106,7 @@ module _ (max : ℕ) (before after : KeeperState) (old new : State) (steps_old s
       stays = λ tells. KeepsSame-Stays before after (reads.stays tells);
       steps = steps;
     };
-    told = λ tells store rest upto. (drop max rest, read_behind tells store rest upto);
+    told = λ tells store rest upto. (drop max rest, read_after tells store rest upto);
     taken = tt;
     ended = λ is. absurd cc;
     nothing = λ is. absurd cc;
@@ -173,8 +173,8 @@ IsReading-first keeper state steps ready stands = record {
 
 module _ (before now after : KeeperState) (old new : State) (steps_first steps_old steps_new : ℕ)
     (so_far : IsReading before now old steps_first steps_old) (order : before.tells → RisesAbove 0 before.kept) where
-  up_to : now.tells → (behind : Store) → before.kept ≡ so_far.read ++ behind → IsUpTo old now so_far.read behind
-  up_to tells behind whole = record {
+  up_to : now.tells → (remaining : Store) → before.kept ≡ so_far.read ++ remaining → IsUpTo old now so_far.read remaining
+  up_to tells remaining whole = record {
     loaded = so_far.loaded;
     order = subst (λ (kept : Store). RisesAbove 0 kept) (sym (so_far.hands.stays tells).same) (order (so_far.hands.call.told tells));
     whole = (so_far.hands.stays tells).same ∙ whole;
@@ -191,11 +191,11 @@ module _ (before now after : KeeperState) (old new : State) (steps_first steps_o
           omega (arith, here, there, versions-append so_far.read reads.piece);
     }
 
-    told_then : after.tells → ((behind : Store) × (before.kept ≡ (so_far.read ++ reads.piece) ++ behind))
+    told_then : after.tells → ((remaining : Store) × (before.kept ≡ (so_far.read ++ reads.piece) ++ remaining))
     told_then tells =
         let rest = so_far.told (reads.hands.call.told tells) in
         let more = reads.told tells so_far.read rest.0 (up_to (reads.hands.call.told tells) rest.0 rest.1) in
-        (more.0, rest.1 ∙ ap (λ (behind : Store). so_far.read ++ behind) more.1 ∙ sym (append_assoc so_far.read reads.piece more.0))
+        (more.0, rest.1 ∙ ap (λ (remaining : Store). so_far.read ++ remaining) more.1 ∙ sym (append_assoc so_far.read reads.piece more.0))
 
     -- there is more to read
     pub IsReading-on : result ≡ Ok true → IsSound new → IsReading before after new steps_first steps_new
@@ -219,7 +219,7 @@ module _ (before now after : KeeperState) (old new : State) (steps_first steps_o
           whole = λ tells.
               let rest = so_far.told (reads.hands.call.told tells) in
               let none = reads.ended is tells so_far.read rest.0 (up_to (reads.hands.call.told tells) rest.0 rest.1) in
-              rest.1 ∙ ap (λ (behind : Store). so_far.read ++ behind) (none ∙ sym (reads.nothing is));
+              rest.1 ∙ ap (λ (remaining : Store). so_far.read ++ remaining) (none ∙ sym (reads.nothing is));
           damaged = λ place e. absurd cc;
         }
 

@@ -12,7 +12,7 @@ use Rattle.hippo_model.specs.Terms.{History}
 use Rattle.hippo_model.specs.Keepable.{is_keepable}
 use Rattle.hippo_model.specs.StoredForms.{stored}
 use Rattle.hippo_model.specs.Validity.{keeps_order, is_acceptable, may_follow}
-use Rattle.hippo_laws.proofs.ValidFronts.{next_number}
+use Rattle.hippo_model_laws.proofs.ValidFronts.{next_number}
 use Rattle.hippo_tables.specs.Standing.{is_delete}
 use Rattle.hippo_keeper.specs.declared.faults.KeeperFault.{KeeperFault}
 use Rattle.hippo_keeper.specs.declared.faults.KeeperFault.TheVariants.{Failed, Memory}

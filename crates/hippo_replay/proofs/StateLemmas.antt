@@ -11,9 +11,9 @@ use Rattle.hippo_model.specs.Terms.{History}
 use Rattle.hippo_model.specs.Keepable.{is_keepable}
 use Rattle.hippo_model.specs.Validity.{keeps_order, is_acceptable, may_follow, is_valid}
 use Rattle.hippo_model.proofs.LastWords.{last_word-append}
-use Rattle.hippo_laws.proofs.ValidFronts.{is_valid-append, next_number}
-use Rattle.hippo_catalog.specs.Catalogs.{KnownNames, known_at, known_after, creates_anew}
-use Rattle.hippo_catalog.specs.NewestNames.{RemembersNames, creates_nothing}
+use Rattle.hippo_model_laws.proofs.ValidFronts.{is_valid-append, next_number}
+use Rattle.hippo_typing_catalog.specs.Catalogs.{KnownNames, known_at, known_after, creates_anew}
+use Rattle.hippo_typing_catalog.specs.NewestNames.{RemembersNames, creates_nothing}
 use Rattle.hippo_policy.specs.declared.book.PolicyBook.{PolicyBook}
 use Rattle.hippo_policy.specs.Books.{BookStandsFor, RemembersMatter, BookAdds, leaves_book}
 use Rattle.hippo_tables.specs.declared.tables.Tables.{Tables}

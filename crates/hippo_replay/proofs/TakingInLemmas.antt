@@ -12,8 +12,8 @@ use Rattle.hippo_model.specs.Keepable.{is_keepable}
 use Rattle.hippo_model.specs.StoredForms.{stored}
 use Rattle.hippo_model.specs.Stores.{IsStoreOf, IsDamagedAt}
 use Rattle.hippo_model.specs.Validity.{may_follow, is_valid}
-use Rattle.hippo_laws.proofs.OneStore.{one_history}
-use Rattle.hippo_laws.proofs.ValidFronts.{is_valid-append}
+use Rattle.hippo_model_laws.proofs.OneStore.{one_history}
+use Rattle.hippo_model_laws.proofs.ValidFronts.{is_valid-append}
 use Rattle.hippo_entry.specs.Forms.{HasForm, IsEntryOf}
 use Rattle.hippo_keeper.specs.Keeping.{Store, RisesAbove}
 use Rattle.hippo_typing.specs.Meanings.{meaning}

@@ -31,7 +31,7 @@ pub record ReadsPiece (result : Result Bool LoadFault) (before after : KeeperSta
   pub piece : Store
   pub hands : HandsOver (load_as_call result) piece before after steps_old steps_new
   pub told : after.tells → (store rest : Store) → IsUpTo old before store rest
-      → ((behind : Store) × (rest ≡ piece ++ behind))
+      → ((remaining : Store) × (rest ≡ piece ++ remaining))
   pub taken : OnOk result ((store : Store) → HasLoaded old store → HasLoaded new (store ++ piece))
   pub ended : result ≡ Ok false → after.tells → (store rest : Store) → IsUpTo old before store rest
       → rest ≡ []
@@ -47,7 +47,7 @@ pub record IsReading (before now : KeeperState) (state : State) (steps_old steps
   pub hands : HandsOver {A = Unit {0}} (Ok tt) read before now steps_old steps_now
   pub sound : IsSound state
   pub loaded : HasLoaded state read
-  pub told : now.tells → ((behind : Store) × (before.kept ≡ read ++ behind))
+  pub told : now.tells → ((remaining : Store) × (before.kept ≡ read ++ remaining))
 
 -- all that is kept is read and taken in, or a front of it
 pub record ReadsAllKept (result : Result (Unit {0}) LoadFault) (before after : KeeperState)
@@ -55,7 +55,7 @@ pub record ReadsAllKept (result : Result (Unit {0}) LoadFault) (before after : K
     (steps_old steps_new : ℕ) : Type 0 where
   pub read : Store
   pub hands : HandsOver (load_as_call result) read before after steps_old steps_new
-  pub told : after.tells → ((behind : Store) × (before.kept ≡ read ++ behind))
+  pub told : after.tells → ((remaining : Store) × (before.kept ≡ read ++ remaining))
   pub loaded : OnOk result (HasLoaded state read)
   pub whole : OnOk result (after.tells → before.kept ≡ read)
   pub damaged : (place : ℕ) → result ≡ Err (Damaged place) → after.tells

@@ -8,8 +8,8 @@ use Rattle.hippo_model.specs.declared.entry.Entry.{Entry}
 use Rattle.hippo_model.specs.Terms.{History}
 use Rattle.hippo_model.specs.Histories.{last_word}
 use Rattle.hippo_model.specs.Validity.{may_follow, is_valid}
-use Rattle.hippo_catalog.specs.Catalogs.{known_at, known_after}
-use Rattle.hippo_catalog.specs.NewestNames.{RemembersNames}
+use Rattle.hippo_typing_catalog.specs.Catalogs.{known_at, known_after}
+use Rattle.hippo_typing_catalog.specs.NewestNames.{RemembersNames}
 use Rattle.hippo_policy.specs.Books.{BookStandsFor, RemembersMatter, BookAdds}
 use Rattle.hippo_tables.specs.Standing.{TablesStandFor, RemembersTables as RemembersRows, TablesAdd}
 use Rattle.hippo_typing.specs.Meanings.{meaning}

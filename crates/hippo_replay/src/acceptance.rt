@@ -10,17 +10,17 @@ ghost use Rattle.hippo_model.specs.Rows.{key_of};
 ghost use Rattle.hippo_model.specs.Rules.{authorized_at};
 ghost use Rattle.hippo_model.specs.Versions.{is_live};
 ghost use Rattle.hippo_model.specs.Validity.{is_purpose, is_recipient, pair_exists, create_fits, has_columns, table_passes, has_subject, item_fits, is_table_version, is_authorized, is_acceptable, keeps_order, may_follow};
-ghost use Rattle.hippo_catalog.specs.Catalogs.{table_of};
+ghost use Rattle.hippo_typing_catalog.specs.Catalogs.{table_of};
 ghost use Rattle.hippo_typing.specs.Meanings.{meaning};
 ghost use Rattle.hippo_replay.specs.Standing.{StandsFor};
 ghost use Rattle.hippo_replay.specs.NamedPairs.{named_pair_exists};
 
 use crate::schemas::{days_fit, has_columns, is_well_formed};
 use crate::state::State;
-use hippo_catalog::Catalog;
 use hippo_model::{Act, Authorization, Cells, Entry, Places, Schema};
 use hippo_tables::{key_fits, row_fits};
 use hippo_typing::read_meaning;
+use hippo_typing_catalog::Catalog;
 use hippo_values::{Memory, Moment, Name, TABLE_LIMIT, Txt};
 use std::alloc::Global;
 

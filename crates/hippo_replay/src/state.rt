@@ -9,10 +9,10 @@ ghost use Rattle.hippo_tables.specs.Standing.{is_delete, TablesAdd, TablesAreAsB
 ghost use Rattle.hippo_typing.specs.Meanings.{meaning};
 ghost use Rattle.hippo_replay.specs.Standing.{StandsFor, IsNext, takes_no_memory, PartsAdd, Remembers};
 
-use hippo_catalog::Catalog;
 use hippo_model::{Entry, Query};
 use hippo_policy::PolicyBook;
 use hippo_tables::Tables;
+use hippo_typing_catalog::Catalog;
 use hippo_values::{Memory, Moment};
 use std::alloc::Global;
 

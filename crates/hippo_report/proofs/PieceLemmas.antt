@@ -3,7 +3,7 @@ use Rattle.std.proofs.Common.{◌≡◌, ◌∙◌, ◌+◌, ◌≤◌, ◌<◌,
 use Rattle.std.proofs.lemmas.List.{length-append, drop_more, take-append-drop}
 use Rattle.std.proofs.Math.ListN.{get_or}
 use Rattle.std.proofs.Math.Seq.{take-append_seam}
-use Rattle.hippo_text_forms.specs.Printing.{KeepsFront}
+use Rattle.hippo_values_text.specs.Printing.{KeepsFront}
 use Rattle.std.specs.List.{concat}
 
 -- where the whole fits into the room, so does a piece of it
@@ -30,7 +30,7 @@ begins_with : (old piece rest new : List ℕ) → new ≡ (old ++ piece) ++ rest
 begins_with old piece rest new e = rw (e, append_assoc old piece rest) (take-append_seam old (piece ++ rest))
 
 -- where a text was added to, what keeps the new one in front keeps the old one
-pub keeps_front_behind : (old piece mid new : List ℕ) → mid ≡ old ++ piece → KeepsFront mid new → KeepsFront old new
-keeps_front_behind old piece mid new e h =
+pub keeps_front_after : (old piece mid new : List ℕ) → mid ≡ old ++ piece → KeepsFront mid new → KeepsFront old new
+keeps_front_after old piece mid new e h =
     let front = ap (λ text. text ++ drop (length mid) new) (h ∙ e) in
     begins_with old piece (drop (length mid) new) new (rw (← front) (rw (take-append-drop (length mid) new) refl))

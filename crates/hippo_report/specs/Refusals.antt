@@ -2,7 +2,7 @@
 use Rattle.std.specs.Prelude.{◌++◌, Option, Some, None, codes, decimal}
 use Rattle.std.specs.Fmt.{signed_decimal}
 use Rattle.hippo_values.specs.Texts.{Txt}
-use Rattle.hippo_text_forms.specs.Dates.{moment_text}
+use Rattle.hippo_values_text.specs.Dates.{moment_text}
 use Rattle.hippo_model.specs.declared.name_fault.NameFault.{NameFault}
 use Rattle.hippo_model.specs.declared.name_fault.NameFault.TheVariants as faults
 use Rattle.hippo_report.specs.declared.refusal.Detail.{Detail}

@@ -2,7 +2,7 @@
 ghost use Rattle.std.specs.Prelude.{◌≡◌, ◌+◌, ◌≤◌, length, map, IsOk};
 ghost use Rattle.std.specs.Str.{IsAscii};
 ghost use Rattle.std.specs.List.{concat};
-ghost use Rattle.hippo_text_forms.specs.Printing.{AddsText};
+ghost use Rattle.hippo_values_text.specs.Printing.{AddsText};
 ghost use Rattle.hippo_report.specs.Adding.{AddsWithin};
 
 use hippo_values::{Memory, RoomyTxt};

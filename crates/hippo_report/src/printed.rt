@@ -1,12 +1,12 @@
 //! What a reply prints of values, cells and shared rows.
 ghost use Rattle.std.specs.Prelude.{◌++◌, flat_map, decimal, codes};
-ghost use Rattle.hippo_text_forms.specs.Printing.{value_text, AddsText};
+ghost use Rattle.hippo_values_text.specs.Printing.{value_text, AddsText};
 ghost use Rattle.hippo_report.specs.Adding.{AddsWhole};
 ghost use Rattle.hippo_report.specs.Cells.{separated_text, cell_text, keyed_text, shared_text};
 
 use hippo_model::{Cell, Cells, SharedRow};
-use hippo_text_forms::append_value;
 use hippo_values::{Memory, Name, RoomyTxt, Value};
+use hippo_values_text::append_value;
 use itoa::Buffer;
 
 /// A part of a reply.

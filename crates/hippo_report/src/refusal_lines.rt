@@ -7,8 +7,8 @@ use crate::pieces::{append_pieces, ascii_text};
 use crate::refusal::{Detail, Refusal};
 use crate::speaker::Speaker;
 use hippo_model::NameFault;
-use hippo_text_forms::moment_text;
 use hippo_values::{Memory, RoomyTxt};
+use hippo_values_text::moment_text;
 use itoa::Buffer;
 
 // The code and the name of a refusal of a statement that means nothing, and what it names.

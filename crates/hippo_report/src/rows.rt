@@ -1,6 +1,6 @@
 //! Rows of answers, and cells that were denied.
 ghost use Rattle.std.specs.Prelude.{flat_map};
-ghost use Rattle.hippo_text_forms.specs.Printing.{AddsText};
+ghost use Rattle.hippo_values_text.specs.Printing.{AddsText};
 ghost use Rattle.hippo_report.specs.Adding.{AddsWhole};
 ghost use Rattle.hippo_report.specs.Cells.{answer_line, denied_line};
 

@@ -22,15 +22,15 @@ use Rattle.hippo_model.specs.Terms.{History, Meaning, Row, Key, Place}
 use Rattle.hippo_model.specs.Values.{fits}
 use Rattle.hippo_model.specs.Histories.{schema_created, schema_at}
 use Rattle.hippo_model.specs.Rows.{key_of, born_at, table_rows}
-use Rattle.hippo_keyed_rows.specs.RowSets.{KeyedRows, key_in, put_row, take_row}
+use Rattle.hippo_tables_keyed.specs.RowSets.{KeyedRows, key_in, put_row, take_row}
 use Rattle.hippo_model.specs.StoredForms.{table_changed}
 use Rattle.hippo_model.specs.Versions.{is_version, row_fits, version_fits}
 use Rattle.hippo_model.specs.Keepable.{is_keepable}
 use Rattle.hippo_model.specs.Validity.{column_passes, key_column_fits, subject_column_fits, is_well_formed, create_fits, keeps_order, is_acceptable, may_follow, is_valid}
 use Rattle.hippo_model.proofs.LastWords.{last_word-append}
-use Rattle.hippo_keyed_rows.proofs.RowsAfter.{table_rows-Insert, table_rows-Update, table_rows-Delete}
-use Rattle.hippo_keyed_rows.proofs.ChangesOfRows.{kept_at-no_version, kept_at-other_table}
-use Rattle.hippo_laws.proofs.ValidFronts.{holds_of_each_valid}
+use Rattle.hippo_tables_keyed.proofs.RowsAfter.{table_rows-Insert, table_rows-Update, table_rows-Delete}
+use Rattle.hippo_tables_keyed.proofs.ChangesOfRows.{kept_at-no_version, kept_at-other_table}
+use Rattle.hippo_model_laws.proofs.ValidFronts.{holds_of_each_valid}
 
 -- a row has a value for each column, and a key's places lie among the columns
 abbrev pub is_wide : Schema → BornRow → Bool

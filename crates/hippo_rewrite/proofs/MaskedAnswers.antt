@@ -16,7 +16,7 @@ use Rattle.hippo_model.specs.Conditions.{truth, is_true}
 use Rattle.hippo_model.specs.Forms.{value_in}
 use Rattle.hippo_model.specs.Answers.{product, operand_value, passes, selected_cells, answer_of}
 use Rattle.hippo_model.specs.Masking.{Choices, masked_cell, is_guarded, masked_passes, masked_items, masked_answer}
-use Rattle.hippo_laws.proofs.TruthWithChange.{agrees}
+use Rattle.hippo_model_laws.proofs.TruthWithChange.{agrees}
 use Rattle.hippo_rewrite.specs.Rewriting.{masked_column, masked_operand, rewritten_query}
 use Rattle.hippo_rewrite.specs.MaskedRows.{row_by, rows_by, row_fits_gates, rows_fit}
 use Rattle.hippo_rewrite.proofs.Products.{kept_of, all_pass, all_changed, product-kept_of}

@@ -3,21 +3,21 @@ use Rattle.std.proofs.Common.{◌≡◌, ◌≢◌, ℕ, List, [], Option, Some,
 use Rattle.std.specs.Prelude.{option_map}
 use Rattle.std.specs.Option.{option_map_or}
 use Rattle.hippo_values.specs.Texts.{Txt}
-use Rattle.hippo_words.specs.CommandLine.{call_of}
+use Rattle.hippo_serve_args.specs.CommandLine.{call_of}
 use Rattle.hippo_io.specs.Told.{Appends, AppendsFront}
 use Rattle.hippo_keeper.specs.Keeping.{KeeperState}
-use Rattle.hippo_programs.specs.Saying.{Says}
-use Rattle.hippo_programs.specs.Starting.{IsIdle}
-use Rattle.hippo_words.specs.declared.calls.Call.{Call}
-use Rattle.hippo_words.specs.declared.calls.Job.{Job}
-use Rattle.hippo_words.specs.declared.calls.Job.TheVariants.{Drill}
-use Rattle.hippo_programs.specs.declared.endings.Ending.{Ending}
-use Rattle.hippo_programs.specs.declared.endings.Ending.TheVariants.{Served, Refused, KeeperFault, ReadFault, WriteFault, Damaged, NoMemory, TooMuch}
-use Rattle.hippo_running.specs.Drilling.{summary}
-use Rattle.hippo_programs.specs.Endings.{status_of}
+use Rattle.hippo_program_args.specs.Saying.{Says}
+use Rattle.hippo_program_args.specs.Starting.{IsIdle}
+use Rattle.hippo_serve_args.specs.declared.calls.Call.{Call}
+use Rattle.hippo_serve_args.specs.declared.calls.Job.{Job}
+use Rattle.hippo_serve_args.specs.declared.calls.Job.TheVariants.{Drill}
+use Rattle.hippo_program_args.specs.declared.endings.Ending.{Ending}
+use Rattle.hippo_program_args.specs.declared.endings.Ending.TheVariants.{Served, Refused, KeeperFault, ReadFault, WriteFault, Damaged, NoMemory, TooMuch}
+use Rattle.hippo_serve_jobs.specs.Drilling.{summary}
+use Rattle.hippo_program_args.specs.Endings.{status_of}
 use Rattle.hippo_serve.specs.Asking.{store_of, job_of, EndsAs}
-use Rattle.hippo_running.specs.Outcomes.{CheckEnds}
-use Rattle.hippo_running.specs.Outside.{Outside}
+use Rattle.hippo_serve_jobs.specs.Outcomes.{CheckEnds}
+use Rattle.hippo_serve_jobs.specs.Outside.{Outside}
 
 -- what holds of an ending holds by its status
 pub by_status : (ends : Ending → Type 0) (ending : Ending) → ends ending → EndsAs ends (status_of ending)

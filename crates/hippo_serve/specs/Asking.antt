@@ -2,12 +2,12 @@
 use Rattle.std.specs.Prelude.{◌≡◌, ℕ, List, [], Option, Some, None, option_map}
 use Rattle.std.specs.Option.{option_map_or}
 use Rattle.hippo_values.specs.Texts.{Txt}
-use Rattle.hippo_words.specs.CommandLine.{call_of}
-use Rattle.hippo_words.specs.declared.calls.Job.{Job}
-use Rattle.hippo_words.specs.declared.calls.Job.TheVariants.{Run, Load}
-use Rattle.hippo_words.specs.declared.calls.Setting.{Setting}
-use Rattle.hippo_programs.specs.declared.endings.Ending.{Ending}
-use Rattle.hippo_programs.specs.declared.endings.Ending.TheVariants.{Served, Refused, KeeperFault, ReadFault, WriteFault, Damaged, NoMemory, TooMuch}
+use Rattle.hippo_serve_args.specs.CommandLine.{call_of}
+use Rattle.hippo_serve_args.specs.declared.calls.Job.{Job}
+use Rattle.hippo_serve_args.specs.declared.calls.Job.TheVariants.{Run, Load}
+use Rattle.hippo_serve_args.specs.declared.calls.Setting.{Setting}
+use Rattle.hippo_program_args.specs.declared.endings.Ending.{Ending}
+use Rattle.hippo_program_args.specs.declared.endings.Ending.TheVariants.{Served, Refused, KeeperFault, ReadFault, WriteFault, Damaged, NoMemory, TooMuch}
 
 -- the job that words ask for
 abbrev pub job_of : List Txt → Option Job

@@ -2,7 +2,7 @@
 ghost use Rattle.std.specs.Prelude.{ℕ, List};
 ghost use Rattle.hippo_model.specs.Terms.{History};
 ghost use Rattle.hippo_keeper.specs.MemoryKeeping.{memory_keeper_state};
-ghost use Rattle.hippo_running.specs.Keeping.{KeepsHistory, KeepsEither, FindsWhatSurvives, FindsHistory, FindsEither};
+ghost use Rattle.hippo_serve_jobs.specs.Keeping.{KeepsHistory, KeepsEither, FindsWhatSurvives, FindsHistory, FindsEither};
 
 use hippo_keeper::{Keeper, MemoryKeeper};
 

@@ -2,7 +2,7 @@
 use Rattle.std.proofs.Common.{◌≡◌, ℕ, zero, suc, ◌<◌, ◌≤◌, List, ◌∷◌, length, Some, None, refl, sym, arith}
 use Rattle.std.proofs.lemmas.Option.{none-some, some_pair_parts}
 use Rattle.hippo_model.specs.declared.query.CondOf.{Not, Between, Among, Missing}
-use Rattle.hippo_statements.specs.declared.statement.RawOperand.{RawOperand}
+use Rattle.hippo_stmt_ast.specs.declared.statement.RawOperand.{RawOperand}
 use Rattle.hippo_values.specs.declared.keywords.Keyword as words
 use Rattle.hippo_values.specs.declared.keywords.Keyword.TheVariants.{KAnd, KBetween, KIn, KIs, KNot, KNull, KOr}
 use Rattle.hippo_lexer.specs.declared.kinds.Symbol.TheVariants.{Comma, Dot, LeftParen, RightParen}
@@ -38,8 +38,8 @@ range_found v tokens c rest e by_between by_among =
     let is_high : IsOperand highs high.0 rest = rw whole.1 at (operand_found highs high.0 high.1 high_found) in
     by_between low.0 high.0 lows highs is_between is_low is_high (sym whole.0)))))
     (λ _ e.
-    keyword_then KIn tokens _ _ e (λ behind is_in e.
-    symbol_then LeftParen behind _ _ e (λ others is_open e.
+    keyword_then KIn tokens _ _ e (λ remaining is_in e.
+    symbol_then LeftParen remaining _ _ e (λ others is_open e.
     found_then (leading_list leading_operand (after_symbol Comma) others) _ _ e (λ list list_found e.
     symbol_then RightParen list.1 _ _ e (λ left is_close e.
     let whole = some_pair_parts (Among v list.0) c left rest e in
@@ -51,7 +51,7 @@ null_found : (all tokens : List TokenKind) (v : RawOperand) (c : RawCond) (rest 
 unfolding leading_null
 null_found all tokens v c rest is_operand e =
     keyword_choice KNot tokens _ _ _ e
-    (λ behind is_not e. keyword_then KNull behind _ _ e (λ left is_null e.
+    (λ remaining is_not e. keyword_then KNull remaining _ _ e (λ left is_null e.
     let whole = some_pair_parts (Not (Missing v)) c left rest e in
     present (rw (is_not, is_null, whole.1) at is_operand) (sym whole.0)))
     (λ _ e. keyword_then KNull tokens _ _ e (λ left is_null e.
@@ -62,14 +62,14 @@ test_found : (all tokens : List TokenKind) (v : RawOperand) (c : RawCond) (rest 
 unfolding leading_test leading_comparison
 test_found all tokens v c rest is_operand e =
     keyword_choice KNot tokens _ _ _ e
-    (λ behind is_not e. found_then (leading_range v behind) _ _ e (λ part found e.
+    (λ remaining is_not e. found_then (leading_range v remaining) _ _ e (λ part found e.
     let whole = some_pair_parts (Not part.0) c part.1 rest e in
-    let range_is : leading_range v behind ≡ Some (part.0, rest) = rw whole.1 at found in
-    range_found v behind part.0 rest range_is
+    let range_is : leading_range v remaining ≡ Some (part.0, rest) = rw whole.1 at found in
+    range_found v remaining part.0 rest range_is
     (λ low high lows highs is_between is_low is_high is. not_between (rw (is_not, is_between) at is_operand) is_low is_high (rw (← is) (sym whole.0)))
     (λ list others is_in is_list is. not_among (rw (is_not, is_in) at is_operand) is_list (rw (← is) (sym whole.0)))))
     (λ _ e. keyword_choice KIs tokens _ _ _ e
-    (λ behind is_is e. null_found all behind v c rest (rw is_is at is_operand) e)
+    (λ remaining is_is e. null_found all remaining v c rest (rw is_is at is_operand) e)
     (λ _ e. choice (leading_operator tokens) _ _ _ e
     (λ op found e. operator_then tokens op.0 op.1 found (λ sign is_sign is_operator.
     found_then (leading_operand op.1) _ _ e (λ right right_found e.
@@ -111,8 +111,8 @@ negation_found : (n : ℕ) (tokens : List TokenKind) (c : RawCond) (rest : List 
 negation_found zero tokens c rest e = absurd (none-some _ e)
 negation_found (suc n) tokens c rest e =
     keyword_choice KNot tokens _ _ _ e
-    (λ behind is_not e. found_then (leading_negation n behind) _ _ e (λ part found e.
-    rw is_not (read_as IsNegation _ _ _ _ _ e (negated (negation_found n behind part.0 part.1 found) refl))))
+    (λ remaining is_not e. found_then (leading_negation n remaining) _ _ e (λ part found e.
+    rw is_not (read_as IsNegation _ _ _ _ _ e (negated (negation_found n remaining part.0 part.1 found) refl))))
     (λ _ e. plain (primary_found (leading_negation n) (negation_found n) tokens c rest e))
 
 -- what is found is a condition of the grammar

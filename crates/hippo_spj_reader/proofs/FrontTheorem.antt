@@ -25,29 +25,29 @@ choice (Some x) one other y e first second = first x refl e
 choice None one other y e first second = second refl e
 
 -- a first token of some kind that passes the test for what is wanted is that, and the rest stands behind it
-first_is : {A : Type 0} (kind : A → TokenKind) (test : Bool) (first wanted : A) (behind rest : List TokenKind) → (test ≡ true → first ≡ wanted) →
-    cond test (Some behind) None ≡ Some rest → kind first ∷ behind ≡ kind wanted ∷ rest
-first_is kind test first wanted behind rest same e =
-    let p = cond_some test behind rest e in
+first_is : {A : Type 0} (kind : A → TokenKind) (test : Bool) (first wanted : A) (remaining rest : List TokenKind) → (test ≡ true → first ≡ wanted) →
+    cond test (Some remaining) None ≡ Some rest → kind first ∷ remaining ≡ kind wanted ∷ rest
+first_is kind test first wanted remaining rest same e =
+    let p = cond_some test remaining rest e in
     rw (same p.0, p.1) refl
 
 pub after_keyword-some : (keyword : words.Keyword) (tokens rest : List TokenKind) → after_keyword keyword tokens ≡ Some rest → tokens ≡ Keyword keyword ∷ rest
-after_keyword-some keyword (Keyword first ∷ behind) rest e = first_is Keyword (same_keyword first keyword) first keyword behind rest (same_true keywords.the_type tt first keyword) e
+after_keyword-some keyword (Keyword first ∷ remaining) rest e = first_is Keyword (same_keyword first keyword) first keyword remaining rest (same_true keywords.the_type tt first keyword) e
 after_keyword-some keyword _ rest e = absurd (none-some rest e)
 
 pub after_symbol-some : (symbol : signs.Symbol) (tokens rest : List TokenKind) → after_symbol symbol tokens ≡ Some rest → tokens ≡ Symbol symbol ∷ rest
-after_symbol-some symbol (Symbol first ∷ behind) rest e = first_is Symbol (same_symbol first symbol) first symbol behind rest (same_true symbols.the_type tt first symbol) e
+after_symbol-some symbol (Symbol first ∷ remaining) rest e = first_is Symbol (same_symbol first symbol) first symbol remaining rest (same_true symbols.the_type tt first symbol) e
 after_symbol-some symbol _ rest e = absurd (none-some rest e)
 
 pub after_word-some : (word : List ℕ) (tokens rest : List TokenKind) → after_word word tokens ≡ Some rest → tokens ≡ Word word ∷ rest
-after_word-some word (Word first ∷ behind) rest e = first_is Word (bytes_eq first word) first word behind rest (bytes_eq-Decides first word).0 e
+after_word-some word (Word first ∷ remaining) rest e = first_is Word (bytes_eq first word) first word remaining rest (bytes_eq-Decides first word).0 e
 after_word-some word _ rest e = absurd (none-some rest e)
 
 pub after_word-same : (word : List ℕ) (rest : List TokenKind) → after_word word (Word word ∷ rest) ≡ Some rest
 after_word-same word rest = rw ((bytes_eq-Decides word word).1 refl) refl
 
 pub leading_name-some : (tokens rest : List TokenKind) (name : List ℕ) → leading_name tokens ≡ Some (name, rest) → tokens ≡ Word name ∷ rest
-leading_name-some (Word first ∷ behind) rest name e = let p = some_pair_parts first name behind rest e in rw (p.0, p.1) refl
+leading_name-some (Word first ∷ remaining) rest name e = let p = some_pair_parts first name remaining rest e in rw (p.0, p.1) refl
 leading_name-some _ rest name e = absurd (none-some _ e)
 
 -- the same, over a keyword, a symbol, a word or a name

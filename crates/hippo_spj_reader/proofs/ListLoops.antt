@@ -39,63 +39,63 @@ module _ {X : Type 0} (leading_part : List TokenKind → Option (X × List Token
     same = rw (pushed, none, found) (elim (further_parts leading_part after_part (length (kinds tokens)) (kinds rest)) as (λ m. with_front_parts (first ∷ []) m ≡ m >>= λ others. Some (first ∷ others.0, others.1)) [ None ↦ refl | Some others ↦ refl ]);
   }
 
-  found_then : (front : List X) (fuel : ℕ) (rest behind left : List TokenKind) (part : X) → after_part rest ≡ Some behind → leading_part behind ≡ Some (part, left) →
+  found_then : (front : List X) (fuel : ℕ) (rest remaining left : List TokenKind) (part : X) → after_part rest ≡ Some remaining → leading_part remaining ≡ Some (part, left) →
       with_front_parts front (further_parts leading_part after_part (suc fuel) rest) ≡ with_front_parts (front ++ part ∷ []) (further_parts leading_part after_part fuel left)
-  found_then front fuel rest behind left part next found = rw (next, found) (pushed front part (further_parts leading_part after_part fuel left))
+  found_then front fuel rest remaining left part next found = rw (next, found) (pushed front part (further_parts leading_part after_part fuel left))
 
-  goes_on_from : {whole : Option (List X × List TokenKind)} (front : List X) (fuel : ℕ) (rest left : List Token) (behind : List TokenKind) (part : X) →
+  goes_on_from : {whole : Option (List X × List TokenKind)} (front : List X) (fuel : ℕ) (rest left : List Token) (remaining : List TokenKind) (part : X) →
       length rest ≤ fuel → with_front_parts front (further_parts leading_part after_part fuel (kinds rest)) ≡ whole →
-      after_part (kinds rest) ≡ Some behind → leading_part behind ≡ Some (part, kinds left) → length left < length rest →
+      after_part (kinds rest) ≡ Some remaining → leading_part remaining ≡ Some (part, kinds left) → length left < length rest →
       Continues whole (front ++ part ∷ []) left
-  goes_on_from front zero rest left behind part enough same next found shorter = absurd (omega arith)
-  goes_on_from front (suc fuel) rest left behind part enough same next found shorter = record {
+  goes_on_from front zero rest left remaining part enough same next found shorter = absurd (omega arith)
+  goes_on_from front (suc fuel) rest left remaining part enough same next found shorter = record {
     fuel = fuel;
     enough = omega arith;
-    same = sym (found_then front fuel (kinds rest) behind (kinds left) part next found) ∙ same;
+    same = sym (found_then front fuel (kinds rest) remaining (kinds left) part next found) ∙ same;
   }
 
-  pub goes_on : {whole : Option (List X × List TokenKind)} (front longer : List X) (rest behind left : List Token) (part : X) →
+  pub goes_on : {whole : Option (List X × List TokenKind)} (front longer : List X) (rest remaining left : List Token) (part : X) →
       Continues whole front rest →
-      Some (kinds behind) ≡ after_part (kinds rest) → leading_part (kinds behind) ≡ Some (part, kinds left) →
-      length left ≤ length behind → length behind < length rest →
+      Some (kinds remaining) ≡ after_part (kinds rest) → leading_part (kinds remaining) ≡ Some (part, kinds left) →
+      length left ≤ length remaining → length remaining < length rest →
       longer ≡ front ++ part ∷ [] →
       Continues whole longer left
-  goes_on front longer rest behind left part so_far next found no_longer behind_shorter pushed =
-      rw pushed (goes_on_from front so_far.fuel rest left (kinds behind) part so_far.enough so_far.same (sym next) found (omega arith))
+  goes_on front longer rest remaining left part so_far next found no_longer after_shorter pushed =
+      rw pushed (goes_on_from front so_far.fuel rest left (kinds remaining) part so_far.enough so_far.same (sym next) found (omega arith))
 
-  added_from : {whole : Option (List X × List TokenKind)} (front longer : List X) (rest behind left : List Token) (found : Option (X × List TokenKind)) → leading_part (kinds behind) ≡ found →
-      Continues whole front rest → Some (kinds behind) ≡ after_part (kinds rest) →
+  added_from : {whole : Option (List X × List TokenKind)} (front longer : List X) (rest remaining left : List Token) (found : Option (X × List TokenKind)) → leading_part (kinds remaining) ≡ found →
+      Continues whole front rest → Some (kinds remaining) ≡ after_part (kinds rest) →
       with_last_part front found ≡ Some (longer, kinds left) →
-      length left ≤ length behind → length behind < length rest →
+      length left ≤ length remaining → length remaining < length rest →
       Continues whole longer left
-  added_from front longer rest behind left None is so_far next added no_longer shorter = absurd cc
-  added_from front longer rest behind left (Some part) is so_far next added no_longer shorter =
+  added_from front longer rest remaining left None is so_far next added no_longer shorter = absurd cc
+  added_from front longer rest remaining left (Some part) is so_far next added no_longer shorter =
       let same = same_value _ _ added in
-      goes_on front longer rest behind left part.0 so_far next (is ∙ ap (λ (parts : List X × List TokenKind). Some (part.0, parts.1)) same) no_longer shorter (sym (ap (λ (parts : List X × List TokenKind). parts.0) same))
+      goes_on front longer rest remaining left part.0 so_far next (is ∙ ap (λ (parts : List X × List TokenKind). Some (part.0, parts.1)) same) no_longer shorter (sym (ap (λ (parts : List X × List TokenKind). parts.0) same))
 
   -- where the next part is added to those so far
-  pub adds : {whole : Option (List X × List TokenKind)} (front longer : List X) (rest behind left : List Token) →
-      Continues whole front rest → Some (kinds behind) ≡ after_part (kinds rest) →
-      with_last_part front (leading_part (kinds behind)) ≡ Some (longer, kinds left) →
-      length left ≤ length behind → length behind < length rest →
+  pub adds : {whole : Option (List X × List TokenKind)} (front longer : List X) (rest remaining left : List Token) →
+      Continues whole front rest → Some (kinds remaining) ≡ after_part (kinds rest) →
+      with_last_part front (leading_part (kinds remaining)) ≡ Some (longer, kinds left) →
+      length left ≤ length remaining → length remaining < length rest →
       Continues whole longer left
-  adds front longer rest behind left so_far next added no_longer shorter =
-      added_from front longer rest behind left (leading_part (kinds behind)) refl so_far next added no_longer shorter
+  adds front longer rest remaining left so_far next added no_longer shorter =
+      added_from front longer rest remaining left (leading_part (kinds remaining)) refl so_far next added no_longer shorter
 
-  breaks_from : {whole : Option (List X × List TokenKind)} (front : List X) (fuel : ℕ) (rest behind : List Token) →
-      length rest ≤ fuel → length behind < length rest → with_front_parts front (further_parts leading_part after_part fuel (kinds rest)) ≡ whole →
-      after_part (kinds rest) ≡ Some (kinds behind) → leading_part (kinds behind) ≡ None → whole ≡ None
-  breaks_from front zero rest behind enough shorter same next found = absurd (omega arith)
-  breaks_from front (suc fuel) rest behind enough shorter same next found = sym same ∙ rw (next, found) refl
+  breaks_from : {whole : Option (List X × List TokenKind)} (front : List X) (fuel : ℕ) (rest remaining : List Token) →
+      length rest ≤ fuel → length remaining < length rest → with_front_parts front (further_parts leading_part after_part fuel (kinds rest)) ≡ whole →
+      after_part (kinds rest) ≡ Some (kinds remaining) → leading_part (kinds remaining) ≡ None → whole ≡ None
+  breaks_from front zero rest remaining enough shorter same next found = absurd (omega arith)
+  breaks_from front (suc fuel) rest remaining enough shorter same next found = sym same ∙ rw (next, found) refl
 
   -- where no part stands behind what leads to one, there is no list
-  pub breaks : {Y : Type 0} {whole : Option (List X × List TokenKind)} (made : List X × List TokenKind → Option Y) (e : SyntaxFault) (front : List X) (rest behind : List Token) →
-      Continues whole front rest → Some (kinds behind) ≡ after_part (kinds rest) → length behind < length rest → Fails e (leading_part (kinds behind)) → Fails e (whole >>= made)
-  breaks made fault.TooDeep front rest behind so_far next shorter found = found
-  breaks made (fault.Unsupported place) front rest behind so_far next shorter found = found
-  breaks made fault.BadSyntax front rest behind so_far next shorter found =
-      rw (breaks_from front so_far.fuel rest behind so_far.enough shorter so_far.same (sym next) found) refl
-  breaks made fault.Memory front rest behind so_far next shorter found = tt
+  pub breaks : {Y : Type 0} {whole : Option (List X × List TokenKind)} (made : List X × List TokenKind → Option Y) (e : SyntaxFault) (front : List X) (rest remaining : List Token) →
+      Continues whole front rest → Some (kinds remaining) ≡ after_part (kinds rest) → length remaining < length rest → Fails e (leading_part (kinds remaining)) → Fails e (whole >>= made)
+  breaks made fault.TooDeep front rest remaining so_far next shorter found = found
+  breaks made (fault.Unsupported place) front rest remaining so_far next shorter found = found
+  breaks made fault.BadSyntax front rest remaining so_far next shorter found =
+      rw (breaks_from front so_far.fuel rest remaining so_far.enough shorter so_far.same (sym next) found) refl
+  breaks made fault.Memory front rest remaining so_far next shorter found = tt
 
 -- what cannot be added was not found
 pub no_part : {X : Type 0} (e : SyntaxFault) (front : List X) (found : Option (X × List TokenKind)) →

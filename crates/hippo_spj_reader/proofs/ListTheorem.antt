@@ -12,20 +12,20 @@ module _ {X : Type 0} (leading_part : List TokenKind → Option (X × List Token
   -- what is found is a list: for any relation that has its two rules
   module _ (AreParts : List TokenKind → List X → List TokenKind → Type 0)
       (part_found : (tokens : List TokenKind) (part : X) (rest : List TokenKind) → leading_part tokens ≡ Some (part, rest) → IsPart tokens part rest)
-      (next_found : (tokens behind : List TokenKind) → after_part tokens ≡ Some behind → tokens ≡ separator ∷ behind)
+      (next_found : (tokens remaining : List TokenKind) → after_part tokens ≡ Some remaining → tokens ≡ separator ∷ remaining)
       (last : (tokens : List TokenKind) (part : X) (rest : List TokenKind) → IsPart tokens part rest → AreParts tokens (part ∷ []) rest)
       (more : (tokens others : List TokenKind) (part : X) (parts : List X) (rest : List TokenKind) → IsPart tokens part (separator ∷ others) → AreParts others parts rest → AreParts tokens (part ∷ parts) rest) where
     pub parts_found : (n : ℕ) (tokens : List TokenKind) (parts : List X) (rest : List TokenKind) → leading_parts leading_part after_part n tokens ≡ Some (parts, rest) → AreParts tokens parts rest
     parts_found zero tokens parts rest e = absurd (none-some _ e)
     parts_found (suc n) tokens parts rest e =
         found_then (leading_part tokens) _ _ e (λ first found e'.
-        found_then (either (after_part first.1) (λ behind. leading_parts leading_part after_part n behind) (Some ([], first.1))) _ _ e' (λ others rest_found e''.
+        found_then (either (after_part first.1) (λ remaining. leading_parts leading_part after_part n remaining) (Some ([], first.1))) _ _ e' (λ others rest_found e''.
         read_as AreParts tokens others.1 rest (first.0 ∷ others.0) parts e''
         (let is_part : IsPart tokens first.0 first.1 = part_found tokens first.0 first.1 found in
-        choice (after_part first.1) (λ behind. leading_parts leading_part after_part n behind) (Some ([], first.1)) _ rest_found
-        (λ behind next others_found.
-        let at_separator : IsPart tokens first.0 (separator ∷ behind) = rw (next_found first.1 behind next) at is_part in
-        more tokens behind first.0 others.0 others.1 at_separator (parts_found n behind others.0 others.1 others_found))
+        choice (after_part first.1) (λ remaining. leading_parts leading_part after_part n remaining) (Some ([], first.1)) _ rest_found
+        (λ remaining next others_found.
+        let at_separator : IsPart tokens first.0 (separator ∷ remaining) = rw (next_found first.1 remaining next) at is_part in
+        more tokens remaining first.0 others.0 others.1 at_separator (parts_found n remaining others.0 others.1 others_found))
         (λ none end.
         let ended = some_pair_parts [] others.0 first.1 others.1 end in
         rw (← ended.0, ← ended.1) (last tokens first.0 first.1 is_part)))))

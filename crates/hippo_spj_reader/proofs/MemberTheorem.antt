@@ -1,11 +1,11 @@
 -- The members of a select list that are found are those of the grammar, once the select's form is known.
 use Rattle.std.proofs.Common.{◌≡◌, suc, ◌<◌, List, [], ◌∷◌, length, map, Option, Some, None, refl, arith}
 use Rattle.std.proofs.lemmas.Option.{none-some, same_Some, some_pair_parts}
-use Rattle.hippo_statements.specs.declared.statement.RawColumn.{RawColumn}
-use Rattle.hippo_statements.specs.declared.statement.RawItem.{RawItem}
-use Rattle.hippo_statements.specs.declared.statement.RawItem.TheVariants as item
-use Rattle.hippo_statements.specs.declared.statement.RawOut.{RawOut}
-use Rattle.hippo_statements.specs.declared.statement.RawOut.TheVariants as out
+use Rattle.hippo_stmt_ast.specs.declared.statement.RawColumn.{RawColumn}
+use Rattle.hippo_stmt_ast.specs.declared.statement.RawItem.{RawItem}
+use Rattle.hippo_stmt_ast.specs.declared.statement.RawItem.TheVariants as item
+use Rattle.hippo_stmt_ast.specs.declared.statement.RawOut.{RawOut}
+use Rattle.hippo_stmt_ast.specs.declared.statement.RawOut.TheVariants as out
 use Rattle.hippo_values.specs.declared.keywords.Keyword as words
 use Rattle.hippo_values.specs.declared.keywords.Keyword.TheVariants.{KDistinct, KMax, KMin}
 use Rattle.hippo_lexer.specs.declared.kinds.Symbol.TheVariants.{Comma, Dot, LeftParen, RightParen, Star}
@@ -41,8 +41,8 @@ unfolding leading_item
 item_found tokens i rest e =
     choice (leading_whole_table tokens) _ _ _ e
     (λ table found e.
-    name_then tokens _ _ found (λ name behind is_name found.
-    symbol_then Dot behind _ _ found (λ after is_dot found.
+    name_then tokens _ _ found (λ name remaining is_name found.
+    symbol_then Dot remaining _ _ found (λ after is_dot found.
     symbol_then Star after _ _ found (λ left is_star found.
     let whole = some_pair_parts name table.0 left table.1 found in
     rw (is_name, is_dot, is_star, whole.0, whole.1) (read_as IsItem _ _ _ _ _ e all_of_table)))))
@@ -63,11 +63,11 @@ member_found : (tokens : List TokenKind) (m : Member) (rest : List TokenKind) �
 unfolding leading_member
 member_found tokens m rest e =
     keyword_choice KMin tokens _ _ _ e
-    (λ behind is_min e. found_then (leading_argument behind) _ _ e (λ c found e.
-    argument_found behind c.0 c.1 found (λ inside is_open is_column. rw (is_min, is_open) (read_as IsMember _ _ _ _ _ e (of_min is_column)))))
+    (λ remaining is_min e. found_then (leading_argument remaining) _ _ e (λ c found e.
+    argument_found remaining c.0 c.1 found (λ inside is_open is_column. rw (is_min, is_open) (read_as IsMember _ _ _ _ _ e (of_min is_column)))))
     (λ _ e. keyword_choice KMax tokens _ _ _ e
-    (λ behind is_max e. found_then (leading_argument behind) _ _ e (λ c found e.
-    argument_found behind c.0 c.1 found (λ inside is_open is_column. rw (is_max, is_open) (read_as IsMember _ _ _ _ _ e (of_max is_column)))))
+    (λ remaining is_max e. found_then (leading_argument remaining) _ _ e (λ c found e.
+    argument_found remaining c.0 c.1 found (λ inside is_open is_column. rw (is_max, is_open) (read_as IsMember _ _ _ _ _ e (of_max is_column)))))
     (λ _ e. found_then (leading_item tokens) _ _ e (λ i found e. read_as IsMember tokens _ _ _ _ e (of_item (item_found tokens i.0 i.1 found)))))
 
 pub members_found : (tokens : List TokenKind) (members : List Member) (rest : List TokenKind) → leading_members tokens ≡ Some (members, rest) → AreMembers tokens members rest

@@ -3,7 +3,7 @@ use Rattle.std.proofs.Common.{◌≡◌, ℕ, suc, ◌<◌, List, length, Some, 
 use Rattle.hippo_lexer.specs.declared.kinds.Symbol.TheVariants.{Comma, Dot}
 use Rattle.hippo_lexer.specs.declared.kinds.TokenKind.{TokenKind}
 use Rattle.hippo_lexer.specs.declared.kinds.TokenKind.TheVariants.{Symbol}
-use Rattle.hippo_statements.specs.declared.statement.RawColumn.{RawColumn}
+use Rattle.hippo_stmt_ast.specs.declared.statement.RawColumn.{RawColumn}
 use Rattle.hippo_spj_reader.specs.ConditionGrammar.{IsColumn}
 use Rattle.hippo_spj_reader.specs.ConditionFinder.{leading_column}
 use Rattle.hippo_spj_reader.specs.Front.{after_symbol, leading_name}

@@ -5,9 +5,9 @@ use denote.Enum.Bare.{same_true}
 use Rattle.hippo_values.specs.declared.values.Value.{Value}
 use Rattle.hippo_values.specs.declared.values.Value.TheVariants as value
 use Rattle.hippo_values.specs.declared.truths.CompareOp.{CompareOp}
-use Rattle.hippo_statements.specs.declared.statement.RawColumn.{RawColumn}
-use Rattle.hippo_statements.specs.declared.statement.RawOperand.{RawOperand}
-use Rattle.hippo_statements.specs.declared.statement.RawOperand.TheVariants.{Column, Literal}
+use Rattle.hippo_stmt_ast.specs.declared.statement.RawColumn.{RawColumn}
+use Rattle.hippo_stmt_ast.specs.declared.statement.RawOperand.{RawOperand}
+use Rattle.hippo_stmt_ast.specs.declared.statement.RawOperand.TheVariants.{Column, Literal}
 use Rattle.hippo_values.specs.contracts.keywords.Keyword as keywords
 use Rattle.hippo_values.specs.declared.keywords.Keyword.TheVariants.{KNull, KNot}
 use Rattle.hippo_values.specs.Options.{◌>>=◌}
@@ -22,17 +22,17 @@ use Rattle.hippo_spj_reader.proofs.FrontTheorem.{found_then, name_then, symbol_c
 
 pub column_found : (tokens : List TokenKind) (c : RawColumn) (rest : List TokenKind) → leading_column tokens ≡ Some (c, rest) → IsColumn tokens c rest
 column_found tokens c rest e =
-    name_then tokens _ _ e (λ first behind is_name e.
-    symbol_choice Dot behind _ _ _ e
+    name_then tokens _ _ e (λ first remaining is_name e.
+    symbol_choice Dot remaining _ _ _ e
     (λ after is_dot e. name_then after _ _ e (λ second left is_column e. rw (is_name, is_dot, is_column) (read_as IsColumn _ _ _ _ _ e qualified)))
     (λ none e. rw is_name (read_as IsColumn _ _ _ _ _ e bare)))
 
 pub literal_found : (tokens : List TokenKind) (v : Value) (rest : List TokenKind) → leading_literal tokens ≡ Some (v, rest) → IsLiteral tokens v rest
-literal_found (Number n ∷ behind) v rest e = read_as IsLiteral _ _ _ _ _ e number
-literal_found (Quoted text ∷ behind) v rest e = read_as IsLiteral _ _ _ _ _ e quoted_literal
-literal_found (Day d ∷ behind) v rest e = read_as IsLiteral _ _ _ _ _ e day
-literal_found (Keyword keyword ∷ behind) v rest e =
-    let p = cond_some (same_keyword keyword KNull) (value.Null, behind) (v, rest) e in
+literal_found (Number n ∷ remaining) v rest e = read_as IsLiteral _ _ _ _ _ e number
+literal_found (Quoted text ∷ remaining) v rest e = read_as IsLiteral _ _ _ _ _ e quoted_literal
+literal_found (Day d ∷ remaining) v rest e = read_as IsLiteral _ _ _ _ _ e day
+literal_found (Keyword keyword ∷ remaining) v rest e =
+    let p = cond_some (same_keyword keyword KNull) (value.Null, remaining) (v, rest) e in
     let same : keyword ≡ KNull = same_true keywords.the_type tt keyword KNull p.0 in
     rw same (read_as IsLiteral _ _ _ _ _ (ap Some p.1) null)
 literal_found _ v rest e = absurd (none-some _ e)
@@ -56,8 +56,8 @@ operator_of-found _ op e = absurd (none-some op e)
 
 pub operator_then : {P : Type 0} (tokens : List TokenKind) (op : CompareOp) (rest : List TokenKind) → leading_operator tokens ≡ Some (op, rest) →
     ((sign : signs.Symbol) → tokens ≡ Symbol sign ∷ rest → IsOperator sign op → P) → P
-operator_then (Symbol sign ∷ behind) op rest e next = found_then (operator_of sign) _ _ e (λ found is e.
-    let whole = some_pair_parts found op behind rest e in
+operator_then (Symbol sign ∷ remaining) op rest e next = found_then (operator_of sign) _ _ e (λ found is e.
+    let whole = some_pair_parts found op remaining rest e in
     next sign (ap (λ (left : List TokenKind). Symbol sign ∷ left) whole.1) (rw whole.0 at (operator_of-found sign found is)))
 operator_then _ op rest e next = absurd (none-some _ e)
 

@@ -1,8 +1,8 @@
 -- The select that is found is the one of the grammar.
 use Rattle.std.proofs.Common.{◌≡◌, ℕ, zero, suc, ◌<◌, Bool, true, false, List, [], ◌∷◌, ◌++◌, length, map, codes, option_to_list, Option, Some, None, refl, sym, ◌∙◌, arith}
 use Rattle.std.proofs.lemmas.Option.{none-some, same_Some, some_pair_parts}
-use Rattle.hippo_statements.specs.declared.statement.RawForm.TheVariants.{Plain, Distinct}
-use Rattle.hippo_statements.specs.declared.statement.RawSelect.{RawSelect}
+use Rattle.hippo_stmt_ast.specs.declared.statement.RawForm.TheVariants.{Plain, Distinct}
+use Rattle.hippo_stmt_ast.specs.declared.statement.RawSelect.{RawSelect}
 use Rattle.hippo_values.specs.declared.keywords.Keyword.TheVariants.{KDistinct, KFrom, KGroup, KInner, KJoin, KOn, KSelect, KWhere}
 use Rattle.hippo_lexer.specs.declared.kinds.Symbol.TheVariants.{Comma, Dot, Semicolon}
 use Rattle.hippo_lexer.specs.declared.kinds.TokenKind.{TokenKind}
@@ -26,21 +26,21 @@ use Rattle.hippo_spj_reader.proofs.ConditionTheorem as theorem
 use Rattle.hippo_spj_reader.proofs.ConditionTheorem.{Ends}
 
 on_found : {P : Type 0} (tokens : List TokenKind) (entry : JoinedTable) (left : List TokenKind) → leading_joined_on tokens ≡ Some (entry, left) →
-    ((behind : List TokenKind) (c : RawCond) (table : List ℕ) → tokens ≡ Word table ∷ Keyword KOn ∷ behind → IsCondition behind c left → entry ≡ joined_table table (Some c) → P) → P
+    ((remaining : List TokenKind) (c : RawCond) (table : List ℕ) → tokens ≡ Word table ∷ Keyword KOn ∷ remaining → IsCondition remaining c left → entry ≡ joined_table table (Some c) → P) → P
 on_found tokens entry left e next =
-    name_then tokens _ _ e (λ name behind is_name e.
-    keyword_then KOn behind _ _ e (λ conditions is_on e.
+    name_then tokens _ _ e (λ name remaining is_name e.
+    keyword_then KOn remaining _ _ e (λ conditions is_on e.
     found_then (leading_condition conditions) _ _ e (λ c found e.
     let whole = some_pair_parts (joined_table name (Some c.0)) entry c.1 left e in
     let is_condition : IsCondition conditions c.0 left = rw whole.1 at (theorem.found conditions c.0 c.1 found) in
     next conditions c.0 name (rw (is_name, is_on) refl) is_condition (sym whole.0))))
 
-after_join_found : {P : Type 0} (tokens behind : List TokenKind) → after_join tokens ≡ Some behind →
-    (tokens ≡ Keyword KJoin ∷ behind → P) → (tokens ≡ Keyword KInner ∷ Keyword KJoin ∷ behind → P) → P
-after_join_found tokens behind e alone inner =
+after_join_found : {P : Type 0} (tokens remaining : List TokenKind) → after_join tokens ≡ Some remaining →
+    (tokens ≡ Keyword KJoin ∷ remaining → P) → (tokens ≡ Keyword KInner ∷ Keyword KJoin ∷ remaining → P) → P
+after_join_found tokens remaining e alone inner =
     keyword_choice KInner tokens _ _ _ e
-    (λ after is_inner e. inner (rw (is_inner, after_keyword-some KJoin after behind e) refl))
-    (λ _ e. alone (after_keyword-some KJoin tokens behind e))
+    (λ after is_inner e. inner (rw (is_inner, after_keyword-some KJoin after remaining e) refl))
+    (λ _ e. alone (after_keyword-some KJoin tokens remaining e))
 
 none_found : {A : Type 0} (x : A) → ◌≡◌ {A = Option A} None (Some x) → ⊥
 none_found x e = none-some x e
@@ -55,14 +55,14 @@ joined_found : (tokens left : List TokenKind) (entry : JoinedTable) → leading_
 unfolding leading_joined
 joined_found tokens left entry e tables conditions rest others =
     symbol_choice Comma tokens _ _ _ e
-    (λ behind is_comma e. found_then (leading_joined_by_comma behind) _ _ e (λ one found e.
-    name_then behind _ _ found (λ name after is_name found.
+    (λ remaining is_comma e. found_then (leading_joined_by_comma remaining) _ _ e (λ one found e.
+    name_then remaining _ _ found (λ name after is_name found.
     let whole = some_pair_parts (joined_table name None) entry after left (found_is found (same_Some _ _ e)) in
     rw (is_comma, is_name, ← whole.0, whole.1) (comma_table others))))
     (λ _ e. choice (after_join tokens) _ _ _ e
-    (λ behind is_join e. found_then (leading_joined_on behind) _ _ e (λ one found e.
-    on_found behind entry left (found_is found (same_Some _ _ e)) (λ after c table is_on is_condition is.
-    after_join_found tokens behind is_join
+    (λ remaining is_join e. found_then (leading_joined_on remaining) _ _ e (λ one found e.
+    on_found remaining entry left (found_is found (same_Some _ _ e)) (λ after c table is_on is_condition is.
+    after_join_found tokens remaining is_join
     (λ is_join. rw (is_join, is_on, is) (join is_condition others))
     (λ is_join. rw (is_join, is_on, is) (inner_join is_condition others)))))
     (λ _ e. absurd (none_found _ (same_Some _ _ e))))
@@ -83,7 +83,7 @@ pub where_found : (tokens : List TokenKind) (last : Option RawCond) (rest : List
 unfolding leading_where
 where_found tokens last rest e =
     keyword_choice KWhere tokens _ _ _ e
-    (λ behind is_where e. found_then (leading_condition behind) _ _ e (λ c found e. rw is_where (read_as IsWhere _ _ _ _ _ e (condition (theorem.found behind c.0 c.1 found)))))
+    (λ remaining is_where e. found_then (leading_condition remaining) _ _ e (λ c found e. rw is_where (read_as IsWhere _ _ _ _ _ e (condition (theorem.found remaining c.0 c.1 found)))))
     (λ _ e. read_as IsWhere tokens _ _ _ _ e no_where)
 
 scope_found : (tokens : List TokenKind) (s : Scope) (rest : List TokenKind) → leading_scope tokens ≡ Some (s, rest) → IsScope tokens s rest
@@ -118,10 +118,10 @@ draft_of_found once tokens d rest e next =
 draft_found : (tokens : List TokenKind) (d : Draft) (rest : List TokenKind) → leading_draft tokens ≡ Some (d, rest) → IsDraft tokens d rest
 unfolding leading_draft
 draft_found tokens d rest e =
-    keyword_then KSelect tokens _ _ e (λ behind is_select e.
-    keyword_choice KDistinct behind _ _ _ e
+    keyword_then KSelect tokens _ _ e (λ remaining is_select e.
+    keyword_choice KDistinct remaining _ _ _ e
     (λ after is_distinct e. draft_of_found true after d rest e (λ members s from are_members is_scope is. rw (is_select, is_distinct, is) (without_repeats are_members is_scope)))
-    (λ _ e. draft_of_found false behind d rest e (λ members s from are_members is_scope is. rw (is_select, is) (each_row are_members is_scope))))
+    (λ _ e. draft_of_found false remaining d rest e (λ members s from are_members is_scope is. rw (is_select, is) (each_row are_members is_scope))))
 
 ungrouped_found : (tokens : List TokenKind) (d : Draft) (rest : List TokenKind) (s : RawSelect) → IsDraft tokens d rest → ungrouped_select d ≡ Some s → IsSelect tokens s rest
 unfolding ungrouped_select
@@ -132,16 +132,16 @@ ungrouped_found _ _ rest s (without_repeats {members = members} {s = in_scope} {
     found_then (each_of ungrouped_item members) _ _ e (λ items items_are e.
     rw (← same_Some (select_with items in_scope Distinct) s e) (distinct (as_items tokens members items from are_members items_are) is_scope))
 
-grouped_found : (tokens : List TokenKind) (d : Draft) (behind rest : List TokenKind) (s : RawSelect) → IsDraft tokens d (Keyword KGroup ∷ behind) → leading_grouped d behind ≡ Some (s, rest) → IsSelect tokens s rest
+grouped_found : (tokens : List TokenKind) (d : Draft) (remaining rest : List TokenKind) (s : RawSelect) → IsDraft tokens d (Keyword KGroup ∷ remaining) → leading_grouped d remaining ≡ Some (s, rest) → IsSelect tokens s rest
 unfolding leading_grouped
-grouped_found _ _ behind rest s (each_row {members = members} {s = in_scope} {tokens = tokens} {from = from} are_members is_scope) e =
-    word_then (codes "by") behind _ _ e (λ columns is_by e.
+grouped_found _ _ remaining rest s (each_row {members = members} {s = in_scope} {tokens = tokens} {from = from} are_members is_scope) e =
+    word_then (codes "by") remaining _ _ e (λ columns is_by e.
     found_then (leading_list leading_column (after_symbol Comma) columns) _ _ e (λ by by_is e.
     found_then (each_of out_of members) _ _ e (λ outs outs_are e.
     let in_group : IsScope from in_scope (Keyword KGroup ∷ Word (codes "by") ∷ columns) = rw is_by at is_scope in
     read_as IsSelect _ _ _ _ _ e (grouped_select (as_outs tokens members outs from are_members outs_are) in_group (columns_found columns by.0 by.1 by_is)))))
-grouped_found _ _ behind rest s (without_repeats are_members is_scope) e =
-    word_then (codes "by") behind _ _ e (λ columns is_by e.
+grouped_found _ _ remaining rest s (without_repeats are_members is_scope) e =
+    word_then (codes "by") remaining _ _ e (λ columns is_by e.
     found_then (leading_list leading_column (after_symbol Comma) columns) _ _ e (λ by by_is e. absurd (none-some _ e)))
 
 -- what is found is a select of the grammar
@@ -151,7 +151,7 @@ found tokens s rest e =
     found_then (leading_draft tokens) _ _ e (λ draft draft_is e.
     let is_draft : IsDraft tokens draft.0 draft.1 = draft_found tokens draft.0 draft.1 draft_is in
     keyword_choice KGroup draft.1 _ _ _ e
-    (λ behind is_group e. grouped_found tokens draft.0 behind rest s (rw is_group at is_draft) e)
+    (λ remaining is_group e. grouped_found tokens draft.0 remaining rest s (rw is_group at is_draft) e)
     (λ _ e. found_then (ungrouped_select draft.0) _ _ e (λ one one_is e. read_as IsSelect tokens _ _ _ _ e (ungrouped_found tokens draft.0 draft.1 one is_draft one_is))))
 
 -- what the tables of FROM and their conditions are not followed by
@@ -228,11 +228,11 @@ where_complete _ _ rest (condition {condition = c} {tokens = tokens} d) ends no_
 
 scope_complete : (tokens : List TokenKind) (s : Scope) (rest : List TokenKind) → IsScope tokens s rest → ScopeEnds rest → leading_scope tokens ≡ Some (s, rest)
 unfolding leading_scope leading_sources
-scope_complete _ _ rest (scope {tables = tables} {conditions = conditions} {last = last} {joined = joined} {behind = behind} are_joined is_where is_whole) ends =
-    let joins_end : JoinsEnd behind = where-ends behind last rest is_where ends.joins_end in
+scope_complete _ _ rest (scope {tables = tables} {conditions = conditions} {last = last} {joined = joined} {remaining = remaining} are_joined is_where is_whole) ends =
+    let joins_end : JoinsEnd remaining = where-ends remaining last rest is_where ends.joins_end in
     rw (
-      all_joined_complete (suc (length joined)) joined tables conditions behind are_joined joins_end (omega arith),
-      where_complete behind last rest is_where ends.joins_end.condition_ends ends.no_where,
+      all_joined_complete (suc (length joined)) joined tables conditions remaining are_joined joins_end (omega arith),
+      where_complete remaining last rest is_where ends.joins_end.condition_ends ends.no_where,
       is_whole,
     ) refl
 
@@ -268,10 +268,10 @@ complete _ _ rest (distinct {items = items} {in_scope = in_scope} {tokens = toke
       items_back items,
     ) refl
 complete _ _ rest (grouped_select {outs = outs} {by = by} {in_scope = in_scope} {tokens = tokens} {from = from} {columns = columns} are_outs is_scope are_columns) ends =
-    let behind : List TokenKind = Keyword KGroup ∷ Word (codes "by") ∷ columns in
+    let remaining : List TokenKind = Keyword KGroup ∷ Word (codes "by") ∷ columns in
     rw (
       members-no_distinct tokens (map member_of_out outs) from (from_outs tokens outs from are_outs),
-      draft_of_complete false tokens (map member_of_out outs) from in_scope behind (from_outs tokens outs from are_outs) is_scope (scope_ends-group (Word (codes "by") ∷ columns)),
+      draft_of_complete false tokens (map member_of_out outs) from in_scope remaining (from_outs tokens outs from are_outs) is_scope (scope_ends-group (Word (codes "by") ∷ columns)),
       columns_complete columns by rest are_columns ends.scope_ends.joins_end.condition_ends.no_dot ends.scope_ends.joins_end.no_comma,
       outs_back outs,
     ) refl

@@ -3,9 +3,9 @@ use Rattle.std.specs.Prelude.{ℕ, zero, suc, Bool, true, false, ◌∷◌, leng
 use Rattle.hippo_values.specs.declared.truths.CompareOp.{CompareOp}
 use Rattle.hippo_values.specs.declared.truths.CompareOp.TheVariants.{Eq, Ne, Lt, Le, Gt, Ge}
 use Rattle.hippo_model.specs.declared.query.CondOf.{Not, Compare, Between, Among, Missing}
-use Rattle.hippo_statements.specs.declared.statement.RawColumn.{RawColumn}
-use Rattle.hippo_statements.specs.declared.statement.RawOperand.{RawOperand}
-use Rattle.hippo_statements.specs.declared.statement.RawOperand.TheVariants.{Column, Literal}
+use Rattle.hippo_stmt_ast.specs.declared.statement.RawColumn.{RawColumn}
+use Rattle.hippo_stmt_ast.specs.declared.statement.RawOperand.{RawOperand}
+use Rattle.hippo_stmt_ast.specs.declared.statement.RawOperand.TheVariants.{Column, Literal}
 use Rattle.hippo_values.specs.declared.keywords.Keyword.TheVariants.{KAnd, KBetween, KIn, KIs, KNot, KNull, KOr}
 use Rattle.hippo_values.specs.Options.{◌>>=◌}
 use Rattle.hippo_lexer.specs.declared.kinds.Symbol as signs
@@ -19,8 +19,8 @@ use Rattle.hippo_spj_reader.specs.ConditionGrammar.{RawCond, any_of, all_of}
 abbrev pub leading_column : Finder RawColumn
 leading_column tokens = do
   first ← leading_name tokens
-  either (after_symbol Dot first.1) (λ behind. do
-    second ← leading_name behind
+  either (after_symbol Dot first.1) (λ remaining. do
+    second ← leading_name remaining
     Some (record { table = Some first.0; column = second.0 }, second.1))
       (Some (record { table = None; column = first.0 }, first.1))
 
@@ -57,8 +57,8 @@ leading_comparison left op tokens = do
 unfoldable pub leading_between : RawOperand → Finder RawCond
 leading_between v tokens = do
   low ← leading_operand tokens
-  behind ← after_keyword KAnd low.1
-  high ← leading_operand behind
+  remaining ← after_keyword KAnd low.1
+  high ← leading_operand remaining
   Some (Between v low.0 high.0, high.1)
 
 unfoldable pub leading_among : RawOperand → Finder RawCond
@@ -76,8 +76,8 @@ leading_range v tokens =
 
 unfoldable pub leading_null : RawOperand → Finder RawCond
 leading_null v tokens =
-    either (after_keyword KNot tokens) (λ behind. do
-      rest ← after_keyword KNull behind
+    either (after_keyword KNot tokens) (λ remaining. do
+      rest ← after_keyword KNull remaining
       Some (Not (Missing v), rest)) (do
         rest ← after_keyword KNull tokens
         Some (Missing v, rest))
@@ -87,7 +87,7 @@ negation found = found >>= λ part. Some (Not part.0, part.1)
 
 unfoldable pub leading_test : RawOperand → Finder RawCond
 leading_test v tokens =
-    either (after_keyword KNot tokens) (λ behind. negation (leading_range v behind))
+    either (after_keyword KNot tokens) (λ remaining. negation (leading_range v remaining))
     (either (after_keyword KIs tokens) (leading_null v)
     (either (leading_operator tokens) (λ op. leading_comparison v op.0 op.1)
     (leading_range v tokens)))
@@ -115,7 +115,7 @@ module _ (deeper : Finder RawCond) where
 abbrev pub leading_negation : ℕ → Finder RawCond
 leading_negation zero tokens = None
 leading_negation (suc n) tokens =
-    either (after_keyword KNot tokens) (λ behind. negation (leading_negation n behind))
+    either (after_keyword KNot tokens) (λ remaining. negation (leading_negation n remaining))
     (primary_with (leading_negation n) tokens)
 
 -- the longest condition that stands first

@@ -7,9 +7,9 @@ use Rattle.hippo_values.specs.declared.truths.CompareOp.TheVariants.{Eq, Ne, Lt,
 use Rattle.hippo_values.specs.declared.values.Value.{Value}
 use Rattle.hippo_values.specs.declared.values.Value.TheVariants as value
 use Rattle.hippo_model.specs.declared.query.CondOf.{CondOf, All, Any, Not, Compare, Between, Among, Missing}
-use Rattle.hippo_statements.specs.declared.statement.RawColumn.{RawColumn}
-use Rattle.hippo_statements.specs.declared.statement.RawOperand.{RawOperand}
-use Rattle.hippo_statements.specs.declared.statement.RawOperand.TheVariants.{Column, Literal}
+use Rattle.hippo_stmt_ast.specs.declared.statement.RawColumn.{RawColumn}
+use Rattle.hippo_stmt_ast.specs.declared.statement.RawOperand.{RawOperand}
+use Rattle.hippo_stmt_ast.specs.declared.statement.RawOperand.TheVariants.{Column, Literal}
 use Rattle.hippo_values.specs.declared.keywords.Keyword as words
 use Rattle.hippo_values.specs.declared.keywords.Keyword.TheVariants.{KAnd, KBetween, KIn, KIs, KNot, KNull, KOr}
 use Rattle.hippo_lexer.specs.declared.kinds.Symbol as signs

@@ -10,13 +10,13 @@ module _ {X : Type 0} (leading_part : Finder X) (after_part : Kinds → Option K
   leading_parts zero tokens = None
   leading_parts (suc n) tokens = do
     first ← leading_part tokens
-    others ← either (after_part first.1) (λ behind. leading_parts n behind) (Some ([], first.1))
+    others ← either (after_part first.1) (λ remaining. leading_parts n remaining) (Some ([], first.1))
     Some (first.0 ∷ others.0, others.1)
 
   -- what is left of a list behind one of its parts
   abbrev pub further_parts : ℕ → Finder (List X)
   further_parts n tokens = either (after_part tokens)
-      (λ behind. leading_parts n behind) (Some ([], tokens))
+      (λ remaining. leading_parts n remaining) (Some ([], tokens))
 
   -- the longest list that stands first
   abbrev pub leading_list : Finder (List X)

@@ -2,13 +2,13 @@
 use Rattle.std.specs.Prelude.{ℕ, zero, suc, Bool, true, false, if◌then◌else◌, codes, List, [], ◌∷◌, ◌++◌, length, option_to_list, Option, Some, None}
 use Rattle.std.specs.List.{flat_map}
 use Rattle.hippo_values.specs.declared.names.Name.{Name}
-use Rattle.hippo_statements.specs.declared.statement.RawColumn.{RawColumn}
-use Rattle.hippo_statements.specs.declared.statement.RawItem.{RawItem}
-use Rattle.hippo_statements.specs.declared.statement.RawItem.TheVariants as item
-use Rattle.hippo_statements.specs.declared.statement.RawForm.TheVariants.{Plain, Distinct, Grouped}
-use Rattle.hippo_statements.specs.declared.statement.RawOut.{RawOut}
-use Rattle.hippo_statements.specs.declared.statement.RawOut.TheVariants as out
-use Rattle.hippo_statements.specs.declared.statement.RawSelect.{RawSelect}
+use Rattle.hippo_stmt_ast.specs.declared.statement.RawColumn.{RawColumn}
+use Rattle.hippo_stmt_ast.specs.declared.statement.RawItem.{RawItem}
+use Rattle.hippo_stmt_ast.specs.declared.statement.RawItem.TheVariants as item
+use Rattle.hippo_stmt_ast.specs.declared.statement.RawForm.TheVariants.{Plain, Distinct, Grouped}
+use Rattle.hippo_stmt_ast.specs.declared.statement.RawOut.{RawOut}
+use Rattle.hippo_stmt_ast.specs.declared.statement.RawOut.TheVariants as out
+use Rattle.hippo_stmt_ast.specs.declared.statement.RawSelect.{RawSelect}
 use Rattle.hippo_values.specs.declared.keywords.Keyword.TheVariants.{KDistinct, KFrom, KGroup, KInner, KJoin, KMax, KMin, KOn, KSelect, KWhere}
 use Rattle.hippo_values.specs.Options.{◌>>=◌}
 use Rattle.hippo_model.specs.Conditions.{outer_parts}
@@ -30,8 +30,8 @@ use Rattle.hippo_spj_reader.specs.SelectGrammar.{select_with}
 abbrev pub leading_whole_table : Finder Name
 leading_whole_table tokens = do
   table ← leading_name tokens
-  behind ← after_symbol Dot table.1
-  rest ← after_symbol Star behind
+  remaining ← after_symbol Dot table.1
+  rest ← after_symbol Star remaining
   Some (table.0, rest)
 
 unfoldable pub leading_item : Finder RawItem
@@ -50,9 +50,9 @@ leading_argument tokens = do
 -- a member of a select list, before it is known whether the select is grouped
 unfoldable pub leading_member : Finder Member
 leading_member tokens =
-    either (after_keyword KMin tokens) (λ behind. leading_argument behind >>=
+    either (after_keyword KMin tokens) (λ remaining. leading_argument remaining >>=
     λ c. Some (member.Min c.0, c.1))
-    (either (after_keyword KMax tokens) (λ behind. leading_argument behind >>=
+    (either (after_keyword KMax tokens) (λ remaining. leading_argument remaining >>=
     λ c. Some (member.Max c.0, c.1))
     (leading_item tokens >>= λ i. Some (member.Item i.0, i.1)))
 
@@ -103,9 +103,9 @@ leading_joined_on tokens = do
 -- one table more, where something leads to one
 unfoldable pub leading_joined : Kinds → Option (Option (JoinedTable × Kinds))
 leading_joined tokens =
-    either (after_symbol Comma tokens) (λ behind. leading_joined_by_comma behind >>=
+    either (after_symbol Comma tokens) (λ remaining. leading_joined_by_comma remaining >>=
     λ found. Some (Some found))
-    (either (after_join tokens) (λ behind. leading_joined_on behind >>= λ found. Some (Some found))
+    (either (after_join tokens) (λ remaining. leading_joined_on remaining >>= λ found. Some (Some found))
     (Some None))
 
 abbrev pub no_sources : Sources
@@ -132,7 +132,7 @@ leading_sources tokens = do
 unfoldable pub leading_where : Finder (Option RawCond)
 leading_where tokens =
     either (after_keyword KWhere tokens)
-    (λ behind. leading_condition behind >>= λ c. Some (Some c.0, c.1))
+    (λ remaining. leading_condition remaining >>= λ c. Some (Some c.0, c.1))
     (Some (None, tokens))
 
 -- the tables, and the parts of the conditions of ON and of that of WHERE
@@ -164,8 +164,8 @@ leading_draft_of distinct tokens = do
 -- a select up to GROUP
 unfoldable pub leading_draft : Finder Draft
 leading_draft tokens = do
-  behind ← after_keyword KSelect tokens
-  either (after_keyword KDistinct behind) (leading_draft_of true) (leading_draft_of false behind)
+  remaining ← after_keyword KSelect tokens
+  either (after_keyword KDistinct remaining) (leading_draft_of true) (leading_draft_of false remaining)
 
 -- a select that ends there
 unfoldable pub ungrouped_select : Draft → Option RawSelect

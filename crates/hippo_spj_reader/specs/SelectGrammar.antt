@@ -4,14 +4,14 @@ use Rattle.std.specs.Prelude.{◌≡◌, List, [], ◌∷◌, ◌++◌, codes, o
 use Rattle.std.specs.List.{flat_map}
 use Rattle.hippo_values.specs.declared.names.Name.{Name}
 use Rattle.hippo_model.specs.declared.query.CondOf.{All}
-use Rattle.hippo_statements.specs.declared.statement.RawColumn.{RawColumn}
-use Rattle.hippo_statements.specs.declared.statement.RawItem.{RawItem}
-use Rattle.hippo_statements.specs.declared.statement.RawItem.TheVariants as item
-use Rattle.hippo_statements.specs.declared.statement.RawForm.{RawForm}
-use Rattle.hippo_statements.specs.declared.statement.RawForm.TheVariants.{Plain, Distinct, Grouped}
-use Rattle.hippo_statements.specs.declared.statement.RawOut.{RawOut}
-use Rattle.hippo_statements.specs.declared.statement.RawOut.TheVariants as out
-use Rattle.hippo_statements.specs.declared.statement.RawSelect.{RawSelect}
+use Rattle.hippo_stmt_ast.specs.declared.statement.RawColumn.{RawColumn}
+use Rattle.hippo_stmt_ast.specs.declared.statement.RawItem.{RawItem}
+use Rattle.hippo_stmt_ast.specs.declared.statement.RawItem.TheVariants as item
+use Rattle.hippo_stmt_ast.specs.declared.statement.RawForm.{RawForm}
+use Rattle.hippo_stmt_ast.specs.declared.statement.RawForm.TheVariants.{Plain, Distinct, Grouped}
+use Rattle.hippo_stmt_ast.specs.declared.statement.RawOut.{RawOut}
+use Rattle.hippo_stmt_ast.specs.declared.statement.RawOut.TheVariants as out
+use Rattle.hippo_stmt_ast.specs.declared.statement.RawSelect.{RawSelect}
 use Rattle.hippo_values.specs.declared.keywords.Keyword.TheVariants.{KDistinct, KFrom, KGroup, KInner, KJoin, KMax, KMin, KOn, KSelect, KWhere}
 use Rattle.hippo_lexer.specs.declared.kinds.Symbol.TheVariants.{Comma, Dot, LeftParen, RightParen, Star}
 use Rattle.hippo_lexer.specs.declared.kinds.TokenKind.TheVariants.{Word, Keyword, Symbol}
@@ -66,8 +66,8 @@ whole_condition conditions = All (flat_map outer_parts conditions)
 -- FROM t {"," t | [INNER] JOIN t ON cond} [WHERE cond]: the tables, and the parts of the condition
 pub data IsScope : Kinds → Scope → Kinds → Type 0 where
   scope : {table : Name} {tables : List Name} {parts conditions : List RawCond}
-      {last : Option RawCond} {joined behind rest : Kinds} →
-      AreJoined joined tables conditions behind → IsWhere behind last rest →
+      {last : Option RawCond} {joined remaining rest : Kinds} →
+      AreJoined joined tables conditions remaining → IsWhere remaining last rest →
       parts ≡ flat_map outer_parts (conditions ++ option_to_list last) →
       IsScope (Keyword KFrom ∷ Word table ∷ joined)
       (record { tables = table ∷ tables; parts = parts }) rest

@@ -13,7 +13,7 @@ use crate::lists::{Commas, Part, list, only, whole};
 use crate::pairs::beside;
 use hippo_lexer::{Keyword, Symbol, SyntaxFault, Token, TokenKind, Tokens};
 use hippo_model::CondOf;
-use hippo_statements::{RawColumn, RawCond, RawOperand};
+use hippo_stmt_ast::{RawColumn, RawCond, RawOperand};
 use hippo_values::{Boxed, CompareOp, Sequence};
 use std::alloc::Global;
 
@@ -22,7 +22,7 @@ pub fn column(alloc: Global, tokens: &[Token]) -> Result<(RawColumn, &[Token]), 
     ensures { Reads leading_column tokens.now result }
 {
     let (first, rest) = name(alloc, tokens)?;
-    let Some(behind) = after_symbol(rest, Symbol::Dot) else {
+    let Some(remaining) = after_symbol(rest, Symbol::Dot) else {
         let table = None;
         return Ok((
             RawColumn {
@@ -32,7 +32,7 @@ pub fn column(alloc: Global, tokens: &[Token]) -> Result<(RawColumn, &[Token]), 
             rest,
         ));
     };
-    let (column, rest) = name(alloc, behind)?;
+    let (column, rest) = name(alloc, remaining)?;
     let table = Some(first);
     Ok((RawColumn { table, column }, rest))
 }
@@ -171,11 +171,11 @@ fn range(
 ) -> Result<(RawCond, &[Token]), SyntaxFault>
     ensures { Reads (leading_range value) tokens.now result }
 {
-    if let Some(behind) = after_keyword(tokens, Keyword::KBetween) {
-        return between(alloc, value, behind);
+    if let Some(remaining) = after_keyword(tokens, Keyword::KBetween) {
+        return between(alloc, value, remaining);
     }
-    let behind = expect_keyword(tokens, Keyword::KIn)?;
-    among(alloc, value, behind)
+    let remaining = expect_keyword(tokens, Keyword::KIn)?;
+    among(alloc, value, remaining)
 }
 
 #[tactic(auto, unfolding(crate::specs::ConditionFinder::leading_null))]
@@ -186,8 +186,8 @@ fn null_test(
 ) -> Result<(RawCond, &[Token]), SyntaxFault>
     ensures { Reads (leading_null value) tokens.now result }
 {
-    if let Some(behind) = after_keyword(tokens, Keyword::KNot) {
-        let (value, rest) = beside(value, expect_keyword(behind, Keyword::KNull))?;
+    if let Some(remaining) = after_keyword(tokens, Keyword::KNot) {
+        let (value, rest) = beside(value, expect_keyword(remaining, Keyword::KNull))?;
         return Ok((negated(alloc, CondOf::Missing { value })?, rest));
     }
     let (value, rest) = beside(value, expect_keyword(tokens, Keyword::KNull))?;
@@ -202,15 +202,15 @@ fn test(
 ) -> Result<(RawCond, &[Token]), SyntaxFault>
     ensures { Reads (leading_test value) tokens.now result }
 {
-    if let Some(behind) = after_keyword(tokens, Keyword::KNot) {
-        let (part, rest) = range(alloc, value, behind)?;
+    if let Some(remaining) = after_keyword(tokens, Keyword::KNot) {
+        let (part, rest) = range(alloc, value, remaining)?;
         return Ok((negated(alloc, part)?, rest));
     }
-    if let Some(behind) = after_keyword(tokens, Keyword::KIs) {
-        return null_test(alloc, value, behind);
+    if let Some(remaining) = after_keyword(tokens, Keyword::KIs) {
+        return null_test(alloc, value, remaining);
     }
-    if let Some((op, behind)) = operator(tokens) {
-        return comparison(alloc, value, op, behind);
+    if let Some((op, remaining)) = operator(tokens) {
+        return comparison(alloc, value, op, remaining);
     }
     range(alloc, value, tokens)
 }
@@ -268,8 +268,8 @@ fn negation(alloc: Global, tokens: &[Token]) -> Result<(RawCond, &[Token]), Synt
         GivesPart result (leading_negation n (kinds tokens.now)) }
     ensures no_longer { LeavesNoMore tokens.now result }
 {
-    if let Some(behind) = after_keyword(tokens, Keyword::KNot) {
-        let (part, rest) = negation(alloc, behind)?;
+    if let Some(remaining) = after_keyword(tokens, Keyword::KNot) {
+        let (part, rest) = negation(alloc, remaining)?;
         return Ok((negated(alloc, part)?, rest));
     }
     primary(alloc, tokens)
@@ -302,8 +302,8 @@ fn conjunction(alloc: Global, tokens: &[Token]) -> Result<(RawCond, &[Token]), S
         return Ok((first, rest));
     }
     let mut parts = only(alloc, first)?;
-    while let Some(behind) = after_keyword(rest, Keyword::KAnd) {
-        rest = add_negation(alloc, &mut parts, behind)?;
+    while let Some(remaining) = after_keyword(rest, Keyword::KAnd) {
+        rest = add_negation(alloc, &mut parts, remaining)?;
     }
     Ok((all_of(parts), rest))
 }
@@ -334,8 +334,8 @@ fn disjunction(alloc: Global, tokens: &[Token]) -> Result<(RawCond, &[Token]), S
         return Ok((first, rest));
     }
     let mut parts = only(alloc, first)?;
-    while let Some(behind) = after_keyword(rest, Keyword::KOr) {
-        rest = add_conjunction(alloc, &mut parts, behind)?;
+    while let Some(remaining) = after_keyword(rest, Keyword::KOr) {
+        rest = add_conjunction(alloc, &mut parts, remaining)?;
     }
     Ok((any_of(parts), rest))
 }

@@ -55,8 +55,8 @@ pub fn list<P: Part, S: Separator>(
     let mut parts = Sequence::new(alloc);
     let (first, mut rest) = P::read(alloc, tokens)?;
     parts.push(first)?;
-    while let Some(behind) = S::pass(rest) {
-        let (part, left) = P::read(alloc, behind)?;
+    while let Some(remaining) = S::pass(rest) {
+        let (part, left) = P::read(alloc, remaining)?;
         parts.push(part)?;
         rest = left;
     }

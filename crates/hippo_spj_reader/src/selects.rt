@@ -2,8 +2,8 @@
 
 ghost use Rattle.std.specs.Prelude.{◌≡◌, [], ◌∷◌, ◌++◌, ◌<◌, ◌≤◌, length, IfOk, IfSome, OnOk, flat_map, option_map, option_to_list, true, false, Some, None, if◌then◌else◌};
 ghost use Rattle.hippo_values.specs.declared.keywords.Keyword.TheVariants.{KDistinct};
-ghost use Rattle.hippo_statements.specs.declared.statement.RawForm.TheVariants.{Plain, Distinct};
-ghost use Rattle.hippo_statements.specs.declared.statement.RawSelect.{RawSelect};
+ghost use Rattle.hippo_stmt_ast.specs.declared.statement.RawForm.TheVariants.{Plain, Distinct};
+ghost use Rattle.hippo_stmt_ast.specs.declared.statement.RawSelect.{RawSelect};
 ghost use Rattle.hippo_spj_reader.specs.Promises.{CanBeRead, either, Gives, GivesPart, LeavesNoMore, Reads, Passes, ReadsAll};
 ghost use Rattle.hippo_spj_reader.specs.Front.{kinds, kinds_between, after_keyword};
 ghost use Rattle.hippo_spj_reader.specs.SelectGrammar.{whole_condition, select_with, IsSelect};
@@ -18,7 +18,7 @@ use crate::lists::{Commas, Part, list, only, whole};
 use crate::pairs::beside;
 use hippo_lexer::{Keyword, Symbol, SyntaxFault, Token, TokenKind, Tokens};
 use hippo_model::{CondOf, Names};
-use hippo_statements::{
+use hippo_stmt_ast::{
     RawColumn, RawColumns, RawCond, RawForm, RawItem, RawItems, RawOut, RawOuts, RawSelect,
 };
 use hippo_values::{Memory, Name, Sequence};
@@ -73,12 +73,12 @@ fn argument(alloc: Global, tokens: &[Token]) -> Result<(RawColumn, &[Token]), Sy
 fn list_member(alloc: Global, tokens: &[Token]) -> Result<(Member, &[Token]), SyntaxFault>
     ensures { Reads leading_member tokens.now result }
 {
-    if let Some(behind) = after_keyword(tokens, Keyword::KMin) {
-        let (column, rest) = argument(alloc, behind)?;
+    if let Some(remaining) = after_keyword(tokens, Keyword::KMin) {
+        let (column, rest) = argument(alloc, remaining)?;
         return Ok((Member::Min(column), rest));
     }
-    if let Some(behind) = after_keyword(tokens, Keyword::KMax) {
-        let (column, rest) = argument(alloc, behind)?;
+    if let Some(remaining) = after_keyword(tokens, Keyword::KMax) {
+        let (column, rest) = argument(alloc, remaining)?;
         return Ok((Member::Max(column), rest));
     }
     let (item, rest) = item(alloc, tokens)?;
@@ -164,7 +164,7 @@ fn after_join(tokens: &[Token]) -> Option<&[Token]>
     ensures { Passes after_join tokens.now result }
 {
     match after_keyword(tokens, Keyword::KInner) {
-        Some(behind) => after_keyword(behind, Keyword::KJoin),
+        Some(remaining) => after_keyword(remaining, Keyword::KJoin),
         None => after_keyword(tokens, Keyword::KJoin),
     }
 }
@@ -201,12 +201,12 @@ fn joined(alloc: Global, tokens: &[Token]) -> Result<Option<(JoinedTable, &[Toke
         (leading_joined (kinds tokens.now)) }
     ensures shorter { IfOk result (λ r. IfSome r (λ x. length x.1.now < length tokens.now)) }
 {
-    if let Some(behind) = after_symbol(tokens, Symbol::Comma) {
-        let found = joined_by_comma(alloc, behind)?;
+    if let Some(remaining) = after_symbol(tokens, Symbol::Comma) {
+        let found = joined_by_comma(alloc, remaining)?;
         return Ok(Some(found));
     }
-    if let Some(behind) = after_join(tokens) {
-        let found = joined_on(alloc, behind)?;
+    if let Some(remaining) = after_join(tokens) {
+        let found = joined_on(alloc, remaining)?;
         return Ok(Some(found));
     }
     Ok(None)
@@ -330,10 +330,10 @@ pub fn after_where(
 ) -> Result<(Option<RawCond>, &[Token]), SyntaxFault>
     ensures { Reads leading_where tokens.now result }
 {
-    let Some(behind) = after_keyword(tokens, Keyword::KWhere) else {
+    let Some(remaining) = after_keyword(tokens, Keyword::KWhere) else {
         return Ok((None, tokens));
     };
-    let (found, rest) = condition(alloc, behind)?;
+    let (found, rest) = condition(alloc, remaining)?;
     Ok((Some(found), rest))
 }
 
@@ -403,7 +403,7 @@ fn after_distinct(tokens: &[Token]) -> (bool, &[Token])
     ensures no_longer { length result.1.now ≤ length tokens.now }
 {
     match after_keyword(tokens, Keyword::KDistinct) {
-        Some(behind) => (true, behind),
+        Some(remaining) => (true, remaining),
         None => (false, tokens),
     }
 }
@@ -502,8 +502,8 @@ pub fn select(alloc: Global, tokens: &[Token]) -> Result<(RawSelect, &[Token]), 
     ensures { Reads leading_select tokens.now result }
 {
     let (draft, rest) = select_draft(alloc, tokens)?;
-    if let Some(behind) = after_keyword(rest, Keyword::KGroup) {
-        return grouped(alloc, draft, behind);
+    if let Some(remaining) = after_keyword(rest, Keyword::KGroup) {
+        return grouped(alloc, draft, remaining);
     }
     Ok((ungrouped(alloc, draft)?, rest))
 }

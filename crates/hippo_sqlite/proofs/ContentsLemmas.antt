@@ -17,11 +17,11 @@ use Rattle.hippo_keeper.specs.Answering.{has_failed}
 use Rattle.hippo_keeper.specs.Keeping.{Store, RisesAbove, next_number}
 use Rattle.hippo_keeper.specs.declared.faults.KeeperFault.{KeeperFault}
 use Rattle.hippo_keeper.specs.declared.faults.KeeperFault.TheVariants.{Failed, Memory}
-use Rattle.hippo_history_table.specs.Tables.{values_of, row_of, stored_row, entries_in, history_schema}
+use Rattle.hippo_sqlite_table.specs.Tables.{values_of, row_of, stored_row, entries_in, history_schema}
 use Rattle.hippo_sqlite.specs.Contents.{entries_of, HasHistory, StartsWell, Rests, Contents, connection_contents, OnlyKept, IsSame, AppendsTo, LooksAtStore}
 use Rattle.hippo_sqlite.specs.Outcomes.{append_result, HasExecuted, HasLooked, IsLinked}
-use Rattle.hippo_history_table.specs.Queries.{create_sql, insert_sql}
-use Rattle.hippo_history_table.proofs.OrderLemmas.{entries_rise}
+use Rattle.hippo_sqlite_table.specs.Queries.{create_sql, insert_sql}
+use Rattle.hippo_sqlite_table.proofs.OrderLemmas.{entries_rise}
 use Rattle.hippo_sqlite.proofs.StateLemmas.{IsLeft, IsNext, left_open, executes_left, executes_open, shown_open, shown_same, query_left, left_rests, appends, may_commit, may_append, prepares, kept_is, same_entries}
 
 abbrev ExecutesSome : List ℕ → Row → State → State → Result (Unit {0}) KeeperFault → Type 0

@@ -25,12 +25,12 @@ use Rattle.sqlite.specs.State.{State, Runs, IsUnchanged, IsRolledBack, IsNotRun,
 use Rattle.sqlite.proofs.Callers.{IsPlain, command_of, statement_of, runs_as}
 use Rattle.hippo_model.specs.declared.stored.StoredEntry.{StoredEntry}
 use Rattle.hippo_keeper.specs.Keeping.{Store, next_number}
-use Rattle.hippo_history_table.specs.Tables.{values_of, stored_row, row_of, entries_in, history_schema, empty_schema}
+use Rattle.hippo_sqlite_table.specs.Tables.{values_of, stored_row, row_of, entries_in, history_schema, empty_schema}
 use Rattle.hippo_sqlite.specs.Contents.{entries_of, IsKeptIn, HasHistory, StartsWell, Rests}
-use Rattle.hippo_history_table.specs.Queries.{create_sql, insert_sql}
-use Rattle.hippo_history_table.proofs.TextLemmas.{given, create_is, made_is, insert_is, create_plain, made_plain, insert_plain, statement_is}
-use Rattle.hippo_history_table.proofs.EditLemmas.{inserts, creates}
-use Rattle.hippo_history_table.proofs.OrderLemmas.{next_above, in_order_more, entries_more}
+use Rattle.hippo_sqlite_table.specs.Queries.{create_sql, insert_sql}
+use Rattle.hippo_sqlite_table.proofs.TextLemmas.{given, create_is, made_is, insert_is, create_plain, made_plain, insert_plain, statement_is}
+use Rattle.hippo_sqlite_table.proofs.EditLemmas.{inserts, creates}
+use Rattle.hippo_sqlite_table.proofs.OrderLemmas.{next_above, in_order_more, entries_more}
 
 -- ---- what is open was open
 

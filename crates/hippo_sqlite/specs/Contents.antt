@@ -14,7 +14,7 @@ use Rattle.hippo_keeper.specs.Answering.{has_failed, wants_memory}
 use Rattle.hippo_keeper.specs.Keeping.{Store, Survivors, RisesAbove}
 use Rattle.hippo_keeper.specs.Selecting.{handed_over}
 use Rattle.hippo_keeper.specs.declared.faults.KeeperFault.{KeeperFault}
-use Rattle.hippo_history_table.specs.Tables.{HistoryRow, stored_row, entries_in, AreInOrder, history_schema, empty_schema}
+use Rattle.hippo_sqlite_table.specs.Tables.{HistoryRow, stored_row, entries_in, AreInOrder, history_schema, empty_schema}
 
 -- the entries in a database: those of its table `history`, or none where it has no such table
 abbrev pub entries_of : Schema → Trees → Store

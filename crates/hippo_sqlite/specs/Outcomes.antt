@@ -6,7 +6,7 @@ use Rattle.sqlite.specs.State.{State, HasCleanDisk, Survives, Executes, CommitsB
 use Rattle.hippo_keeper.specs.Keeping.{RisesAbove}
 use Rattle.hippo_keeper.specs.declared.faults.KeeperFault.{KeeperFault}
 use Rattle.hippo_sqlite.specs.Standings.{fault_named}
-use Rattle.hippo_history_table.specs.Tables.{empty_schema}
+use Rattle.hippo_sqlite_table.specs.Tables.{empty_schema}
 use Rattle.hippo_sqlite.specs.Contents.{Contents, IsKeptIn, OnlyKept}
 
 abbrev pub append_result : Result ℕ Error → Result (Unit {0}) KeeperFault

@@ -6,7 +6,7 @@ ghost use Rattle.hippo_sqlite.specs.Standings.{finds_by, sqlite_keeper_state, Is
 
 use crate::link::Link;
 use crate::opener::Opener;
-use hippo_keeper::{Keeper, KeeperFault, Lot, Sought, Standing, Steps};
+use hippo_keeper::{Keeper, KeeperFault, ReadQuery, ReadResult, Standing, Steps};
 use hippo_model::StoredEntry;
 use hippo_values::Moment;
 use std::alloc::Global;
@@ -82,12 +82,24 @@ impl<O: Opener> Keeper for SqliteKeeper<O> {
         self.standing.settle(answer)
     }
 
-    fn read<L: Ledger>(&mut self, alloc: Global, sought: &Sought<'_>, steps: &mut Steps<L>) -> Lot {
-        let answer = self.link.read(alloc, sought, steps);
+    fn read<L: Ledger>(
+        &mut self,
+        alloc: Global,
+        read_query: &ReadQuery<'_>,
+        steps: &mut Steps<L>,
+    ) -> ReadResult {
+        let answer = self.link.read(alloc, read_query, steps);
         self.standing.settle(answer)
     }
 
-    fn read_asked(&mut self, alloc: Global, from: Moment, to: Moment, after: u64, max: u64) -> Lot {
+    fn read_asked(
+        &mut self,
+        alloc: Global,
+        from: Moment,
+        to: Moment,
+        after: u64,
+        max: u64,
+    ) -> ReadResult {
         let answer = self.link.read_asked(alloc, from, to, after, max);
         self.standing.settle(answer)
     }

@@ -8,16 +8,17 @@ ghost use Rattle.hippo_keeper.specs.Selecting.{handed_over, was_asked_in, is_sel
 ghost use Rattle.hippo_sqlite.specs.Contents.{AppendsTo, HasRead};
 ghost use Rattle.hippo_sqlite.specs.Links.{linked_contents, link_contents};
 ghost use Rattle.hippo_sqlite.specs.Outcomes.{HasExecuted, HasLooked, IsLinked};
-ghost use Rattle.hippo_history_table.specs.Queries.{insert_sql, read_sql, params_of};
+ghost use Rattle.hippo_sqlite_table.specs.Queries.{insert_sql, read_sql, params_of};
 ghost use Rattle.hippo_sqlite.specs.Standings.{IsStarted};
-ghost use Rattle.hippo_history_table.specs.Tables.{HistoryRow, row_of, values_of, stored_row, entries_in, AreInOrder, history_schema, is_foreign};
+ghost use Rattle.hippo_sqlite_table.specs.Tables.{HistoryRow, row_of, values_of, stored_row, entries_in, AreInOrder, history_schema, is_foreign};
 
 use crate::faults::fault_of;
-use hippo_history_table::{create_history, entries_of, insert, select};
 use hippo_keeper::{
-    Keeper, KeeperFails, KeeperFault, Lot, MemoryKeeper, Selection, Sought, Steps, counted,
+    Keeper, KeeperFails, KeeperFault, MemoryKeeper, ReadQuery, ReadResult, Selection, Steps,
+    counted,
 };
 use hippo_model::{StoredEntry, StoredList};
+use hippo_sqlite_table::{create_history, entries_of, insert, select};
 use hippo_values::Moment;
 use sqlite::{Alter, Connection};
 use sqlite_schema::schema::Schema;
@@ -60,28 +61,32 @@ fn keep<S: Alter>(connection: &mut Connection<S>, entry: &StoredEntry) -> Result
 }
 
 // The kept entries that are sought.
-fn find<S: Alter>(connection: &mut Connection<S>, alloc: Global, sought: &Sought<'_>) -> Lot
-    requires above { sought.now.after < 2 ^ 63 }
-    requires limit { sought.now.max ≤ 1000 }
-    ensures few { IfOk result (λ list. length list ≤ sought.now.max) }
-    ensures order { IfOk result (RisesAbove sought.now.after) }
+fn find<S: Alter>(
+    connection: &mut Connection<S>,
+    alloc: Global,
+    read_query: &ReadQuery<'_>,
+) -> ReadResult
+    requires above { read_query.now.after < 2 ^ 63 }
+    requires limit { read_query.now.max ≤ 1000 }
+    ensures few { IfOk result (λ list. length list ≤ read_query.now.max) }
+    ensures order { IfOk result (RisesAbove read_query.now.after) }
     ensures looked { HasCleanDisk (state S.Store connection.new)
-        → HasLooked (read_sql sought.now.selection)
-        (params_of sought.now.selection sought.now.after sought.now.max)
+        → HasLooked (read_sql read_query.now.selection)
+        (params_of read_query.now.selection read_query.now.after read_query.now.max)
         (state S.Store connection.old) (state S.Store connection.new) }
     ensures survives { Survives (state S.Store connection.old) (state S.Store connection.new)
-        (CommitsShowing (read_sql sought.now.selection)
-        (params_of sought.now.selection sought.now.after sought.now.max)
+        (CommitsShowing (read_sql read_query.now.selection)
+        (params_of read_query.now.selection read_query.now.after read_query.now.max)
         (state S.Store connection.old)) }
     ensures told { IfOk result (λ list. HasCleanDisk (state S.Store connection.new)
         → (rows : List HistoryRow)
         → (state S.Store connection.old).now.schema ≡ history_schema
         → (state S.Store connection.old).now.trees 0 ≡ map stored_row rows → AreInOrder rows
-        → list ≡ handed_over (is_selected sought.now.selection) sought.now.after sought.now.max
+        → list ≡ handed_over (is_selected read_query.now.selection) read_query.now.after read_query.now.max
         (entries_in (map stored_row rows))) }
 {
-    match select(connection, sought) {
-        Ok(rows) => match entries_of(alloc, rows.as_slice(), sought.after, sought.max) {
+    match select(connection, read_query) {
+        Ok(rows) => match entries_of(alloc, rows.as_slice(), read_query.after, read_query.max) {
             Ok(list) => Ok(list),
             Err(fault) => Err(fault.fault()),
         },
@@ -152,16 +157,16 @@ impl<S: Alter + Drop> Linked<S> {
     }
 
     /// The kept entries that are sought.
-    fn read(&mut self, alloc: Global, sought: &Sought<'_>) -> Lot
-        requires limit { sought.now.max ≤ 1000 }
+    fn read(&mut self, alloc: Global, read_query: &ReadQuery<'_>) -> ReadResult
+        requires limit { read_query.now.max ≤ 1000 }
         requires rests { (linked_contents S.Store self.old).rests }
-        ensures { HasRead (is_selected sought.now.selection) sought.now.after sought.now.max result
+        ensures { HasRead (is_selected read_query.now.selection) read_query.now.after read_query.now.max result
             (linked_contents S.Store self.old) (linked_contents S.Store self.new) }
     {
-        if sought.after >= NUMBERS {
+        if read_query.after >= NUMBERS {
             return Ok(StoredList::new(alloc));
         }
-        let answer = find(&mut self.connection, alloc, sought);
+        let answer = find(&mut self.connection, alloc, read_query);
         self.note(&answer);
         answer
     }
@@ -221,19 +226,19 @@ impl<S: Alter + Drop> Link<S> {
     pub(crate) fn read<L: Ledger>(
         &mut self,
         alloc: Global,
-        sought: &Sought<'_>,
+        read_query: &ReadQuery<'_>,
         steps: &mut Steps<L>,
-    ) -> Lot
-        requires limit { sought.now.max ≤ 1000 }
+    ) -> ReadResult
+        requires limit { read_query.now.max ≤ 1000 }
         requires rests { (link_contents S.Store self.old).rests }
-        ensures reads { HasRead (is_selected sought.now.selection) sought.now.after sought.now.max
+        ensures reads { HasRead (is_selected read_query.now.selection) read_query.now.after read_query.now.max
             result (link_contents S.Store self.old) (link_contents S.Store self.new) }
         ensures steps { steps.new ≡ steps.old + versions_read result }
     {
         match self {
             Link::Absent => Err(KeeperFault::Failed),
-            Link::InMemory(keeper) => keeper.read(alloc, sought, steps),
-            Link::Opened(linked) => counted(linked.read(alloc, sought), steps),
+            Link::InMemory(keeper) => keeper.read(alloc, read_query, steps),
+            Link::Opened(linked) => counted(linked.read(alloc, read_query), steps),
         }
     }
 
@@ -245,13 +250,13 @@ impl<S: Alter + Drop> Link<S> {
         to: Moment,
         after: u64,
         max: u64,
-    ) -> Lot
+    ) -> ReadResult
         requires limit { max ≤ 1000 }
         requires rests { (link_contents S.Store self.old).rests }
         ensures reads { HasRead (was_asked_in from to) after max result
             (link_contents S.Store self.old) (link_contents S.Store self.new) }
     {
-        let sought = Sought {
+        let read_query = ReadQuery {
             selection: Selection::AskedIn(from, to),
             after,
             max,
@@ -259,7 +264,7 @@ impl<S: Alter + Drop> Link<S> {
         match self {
             Link::Absent => Err(KeeperFault::Failed),
             Link::InMemory(keeper) => keeper.read_asked(alloc, from, to, after, max),
-            Link::Opened(linked) => linked.read(alloc, &sought),
+            Link::Opened(linked) => linked.read(alloc, &read_query),
         }
     }
 }

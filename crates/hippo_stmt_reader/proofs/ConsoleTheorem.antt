@@ -2,8 +2,8 @@
 use Rattle.std.proofs.Common.{◌≡◌, codes, List, [], ◌∷◌, true, false, Option, Some, None, refl, sym}
 use Rattle.std.proofs.lemmas.Option.{none-some, same_Some, some_pair_parts}
 use Rattle.hippo_model.specs.declared.entry.ItemKind.TheVariants.{OptIn, OptOut}
-use Rattle.hippo_statements.specs.declared.statement.RawAudit.{RawAudit}
-use Rattle.hippo_statements.specs.declared.statement.Stmt.{Stmt}
+use Rattle.hippo_stmt_ast.specs.declared.statement.RawAudit.{RawAudit}
+use Rattle.hippo_stmt_ast.specs.declared.statement.Stmt.{Stmt}
 use Rattle.hippo_values.specs.declared.keywords.Keyword as words
 use Rattle.hippo_values.specs.declared.keywords.Keyword.TheVariants.{KAllow, KAnd, KAudit, KAuthorize, KBegin, KChoice, KCreate, KDeauthorize, KDelete, KDuring, KExplain, KFrom, KIn, KInsert, KInto, KIs, KItem, KKey, KNo, KOn, KOpen, KOpt, KOut, KPrimary, KPurpose, KRecipient, KRevoke, KSelect, KSet, KTable, KUpdate, KValues, KWhere, KWith, KYes}
 use Rattle.hippo_values.specs.Options.{◌>>=◌}
@@ -21,8 +21,8 @@ use Rattle.hippo_audit_reader.specs.AuditGrammar.{IsAudit}
 use Rattle.hippo_audit_reader.specs.AuditFinder.{leading_audit}
 use Rattle.hippo_audit_reader.proofs.AuditTheorem as auditing
 use Rattle.hippo_stmt_reader.specs.StatementGrammar.{IsColumnDef, IsSubject, AreSettings, IsConsole, create_table, create_purpose, create_recipient, create_opt_in, create_opt_out, authorize, deauthorize, allow, revoke, choice_yes, choice_no, insert, update, delete, console_explain, console_audit, console_begin_audit, console_watch, IsEnd, no_semicolon, semicolon}
-use Rattle.hippo_stmt_reader.specs.StatementFinder.{end_left, leading_column_def, after_column, leading_names, leading_subject, leading_with_item, leading_retention, leading_number, leading_grant, leading_disclosure, create_table_of, create_purpose_of, create_recipient_of, one_of, create_item_of, create_of, authorization_of, allow_of, revoke_of, choice_of, insert_of, update_of, delete_of, explain_of, audit_statement_of, begin_audit_of, watch_of, console_behind, console_by_keyword, console_of}
-use Rattle.hippo_stmt_reader.proofs.PartTheorem.{end_found, end_complete, number_found, column_defs_found, column_defs_complete, names_then, names_whole, subject_found, subject_complete, with_found, with_complete, retention_found, retention_complete, retention-no_with, settings_found, settings_complete, keys_found, keys_complete, literals_found, literals_complete, name_behind_then, assigned_then, grant_then, disclosure_then}
+use Rattle.hippo_stmt_reader.specs.StatementFinder.{end_left, leading_column_def, after_column, leading_names, leading_subject, leading_with_item, leading_retention, leading_number, leading_grant, leading_disclosure, create_table_of, create_purpose_of, create_recipient_of, one_of, create_item_of, create_of, authorization_of, allow_of, revoke_of, choice_of, insert_of, update_of, delete_of, explain_of, audit_statement_of, begin_audit_of, watch_of, console_after, console_by_keyword, console_of}
+use Rattle.hippo_stmt_reader.proofs.PartTheorem.{end_found, end_complete, number_found, column_defs_found, column_defs_complete, names_then, names_whole, subject_found, subject_complete, with_found, with_complete, retention_found, retention_complete, retention-no_with, settings_found, settings_complete, keys_found, keys_complete, literals_found, literals_complete, name_after_then, assigned_then, grant_then, disclosure_then}
 
 -- the tokens are a statement of the console up to the end
 abbrev pub IsRead : List TokenKind → Stmt → Type 0
@@ -70,14 +70,14 @@ create_item_found tokens s e =
 create_found : (tokens : List TokenKind) (s : Stmt) → create_of tokens ≡ Some s → IsRead (Keyword KCreate ∷ tokens) s
 unfolding create_of create_purpose_of create_recipient_of
 create_found tokens s e =
-    keyword_choice KTable tokens _ _ _ e (λ behind is_table e. rw is_table (create_table_found behind s e))
+    keyword_choice KTable tokens _ _ _ e (λ remaining is_table e. rw is_table (create_table_found remaining s e))
     (λ _ e. keyword_choice KPurpose tokens _ _ _ e
-    (λ behind is_purpose e. name_then behind _ _ e (λ purpose rest is_name e. found_then (end_left rest) _ _ e (λ end is_end e.
+    (λ remaining is_purpose e. name_then remaining _ _ e (λ purpose rest is_name e. found_then (end_left rest) _ _ e (λ end is_end e.
     rw (is_purpose, is_name, ← same_Some _ s e) (rest, create_purpose, end_found rest end is_end))))
     (λ _ e. keyword_choice KRecipient tokens _ _ _ e
-    (λ behind is_recipient e. name_then behind _ _ e (λ recipient rest is_name e. found_then (end_left rest) _ _ e (λ end is_end e.
+    (λ remaining is_recipient e. name_then remaining _ _ e (λ recipient rest is_name e. found_then (end_left rest) _ _ e (λ end is_end e.
     rw (is_recipient, is_name, ← same_Some _ s e) (rest, create_recipient, end_found rest end is_end))))
-    (λ _ e. keyword_then KItem tokens _ _ e (λ behind is_item e. rw is_item (create_item_found behind s e)))))
+    (λ _ e. keyword_then KItem tokens _ _ e (λ remaining is_item e. rw is_item (create_item_found remaining s e)))))
 
 authorize_found : (tokens : List TokenKind) (s : Stmt) → authorization_of true tokens ≡ Some s → IsRead (Keyword KAuthorize ∷ tokens) s
 unfolding authorization_of
@@ -146,7 +146,7 @@ update_found tokens s e =
 delete_found : (tokens : List TokenKind) (s : Stmt) → delete_of tokens ≡ Some s → IsRead (Keyword KDelete ∷ tokens) s
 unfolding delete_of
 delete_found tokens s e =
-    name_behind_then KFrom tokens _ _ e (λ table a is_table e.
+    name_after_then KFrom tokens _ _ e (λ table a is_table e.
     assigned_then KWhere (after_keyword KAnd) a _ _ e (λ b keys rest is_where keys_is e.
     found_then (end_left rest) _ _ e (λ end is_end e.
     rw (is_table, is_where) (rest, delete (keys_found b keys rest keys_is) (sym (same_Some _ s e)), end_found rest end is_end))))
@@ -160,10 +160,10 @@ explain_found tokens s e =
 begin_audit_found : (tokens : List TokenKind) (s : Stmt) → begin_audit_of tokens ≡ Some s → IsRead (Keyword KBegin ∷ tokens) s
 unfolding begin_audit_of
 begin_audit_found tokens s e =
-    keyword_then KAudit tokens _ _ e (λ behind is_audit e.
-    found_then (leading_audit behind) _ _ e (λ a a_is e.
+    keyword_then KAudit tokens _ _ e (λ remaining is_audit e.
+    found_then (leading_audit remaining) _ _ e (λ a a_is e.
     found_then (end_left a.1) _ _ e (λ end is_end e.
-    rw (is_audit, ← same_Some _ s e) (a.1, console_begin_audit (auditing.found behind a.0 a.1 a_is), end_found a.1 end is_end))))
+    rw (is_audit, ← same_Some _ s e) (a.1, console_begin_audit (auditing.found remaining a.0 a.1 a_is), end_found a.1 end is_end))))
 
 watch_found : (tokens : List TokenKind) (s : Stmt) → watch_of tokens ≡ Some s → IsRead (Word (codes "watch") ∷ tokens) s
 unfolding watch_of
@@ -171,23 +171,23 @@ watch_found tokens s e =
     found_then (leading_audit tokens) _ _ e (λ a a_is e. found_then (end_left a.1) _ _ e (λ end is_end e.
     rw (← same_Some _ s e) (a.1, console_watch (auditing.found tokens a.0 a.1 a_is), end_found a.1 end is_end)))
 
-console_behind_found : (word : words.Keyword) (tokens : List TokenKind) (s : Stmt) → console_behind word tokens ≡ Some s → IsRead (Keyword word ∷ tokens) s
-unfolding console_behind
-console_behind_found KCreate tokens s e = create_found tokens s e
-console_behind_found KAuthorize tokens s e = authorize_found tokens s e
-console_behind_found KDeauthorize tokens s e = deauthorize_found tokens s e
-console_behind_found KAllow tokens s e = allow_found tokens s e
-console_behind_found KRevoke tokens s e = revoke_found tokens s e
-console_behind_found KChoice tokens s e = choice_found tokens s e
-console_behind_found KInsert tokens s e = insert_found tokens s e
-console_behind_found KUpdate tokens s e = update_found tokens s e
-console_behind_found KDelete tokens s e = delete_found tokens s e
-console_behind_found KExplain tokens s e = explain_found tokens s e
-console_behind_found KBegin tokens s e = begin_audit_found tokens s e
-console_behind_found _ tokens s e = absurd (none-some s e)
+console_after_found : (word : words.Keyword) (tokens : List TokenKind) (s : Stmt) → console_after word tokens ≡ Some s → IsRead (Keyword word ∷ tokens) s
+unfolding console_after
+console_after_found KCreate tokens s e = create_found tokens s e
+console_after_found KAuthorize tokens s e = authorize_found tokens s e
+console_after_found KDeauthorize tokens s e = deauthorize_found tokens s e
+console_after_found KAllow tokens s e = allow_found tokens s e
+console_after_found KRevoke tokens s e = revoke_found tokens s e
+console_after_found KChoice tokens s e = choice_found tokens s e
+console_after_found KInsert tokens s e = insert_found tokens s e
+console_after_found KUpdate tokens s e = update_found tokens s e
+console_after_found KDelete tokens s e = delete_found tokens s e
+console_after_found KExplain tokens s e = explain_found tokens s e
+console_after_found KBegin tokens s e = begin_audit_found tokens s e
+console_after_found _ tokens s e = absurd (none-some s e)
 
 console_by_keyword_found : (tokens : List TokenKind) (s : Stmt) → console_by_keyword tokens ≡ Some s → IsRead tokens s
-console_by_keyword_found (Keyword word ∷ behind) s e = console_behind_found word behind s e
+console_by_keyword_found (Keyword word ∷ remaining) s e = console_after_found word remaining s e
 console_by_keyword_found _ s e = absurd (none-some s e)
 
 -- what is found is a statement of the console
@@ -198,7 +198,7 @@ console_found tokens s e =
     (λ _ _ e. found_then (leading_audit tokens) _ _ e (λ a a_is e. found_then (end_left a.1) _ _ e (λ end is_end e.
     rw (← same_Some _ s e) (a.1, console_audit (auditing.found tokens a.0 a.1 a_is), end_found a.1 end is_end))))
     (λ _ e. word_choice (codes "watch") tokens _ _ _ e
-    (λ behind is_watch e. rw is_watch (watch_found behind s e))
+    (λ remaining is_watch e. rw is_watch (watch_found remaining s e))
     (λ _ e. console_by_keyword_found tokens s e))
 
 -- what the end of a statement is not
@@ -212,29 +212,29 @@ pub end_follows : (rest : List TokenKind) → IsEnd rest → Follows rest
 end_follows rest no_semicolon = record { audit_ends = auditing.ends-nothing; no_and = refl; no_with = refl; no_retain = refl }
 end_follows rest semicolon = record { audit_ends = auditing.ends-semicolon []; no_and = refl; no_with = refl; no_retain = refl }
 
-audit_during : (tokens : List TokenKind) (a : RawAudit) (rest : List TokenKind) → IsAudit tokens a rest → (behind : List TokenKind) × (after_keyword KDuring tokens ≡ Some behind)
+audit_during : (tokens : List TokenKind) (a : RawAudit) (rest : List TokenKind) → IsAudit tokens a rest → (remaining : List TokenKind) × (after_keyword KDuring tokens ≡ Some remaining)
 audit_during _ a rest (audits.audit_expression e s cs ts w is) = (_, refl)
 
 -- each statement of the console is found
 pub console_complete : (tokens : List TokenKind) (s : Stmt) (rest : List TokenKind) → IsConsole tokens s rest → IsEnd rest → console_of tokens ≡ Some s
-unfolding console_of console_behind create_of create_table_of create_purpose_of create_recipient_of create_item_of authorization_of leading_grant allow_of revoke_of leading_disclosure choice_of insert_of update_of delete_of explain_of audit_statement_of begin_audit_of watch_of
-console_complete _ _ rest (create_table {columns = columns} {key = key} {subject = subject} {defs = defs} {keys = keys} {behind = behind} are_defs are_names is_subject) end =
-    rw (column_defs_complete defs columns _ are_defs refl refl, names_whole keys key behind are_names, subject_complete behind subject (Symbol RightParen ∷ rest) is_subject refl, end_complete rest end) refl
+unfolding console_of console_after create_of create_table_of create_purpose_of create_recipient_of create_item_of authorization_of leading_grant allow_of revoke_of leading_disclosure choice_of insert_of update_of delete_of explain_of audit_statement_of begin_audit_of watch_of
+console_complete _ _ rest (create_table {columns = columns} {key = key} {subject = subject} {defs = defs} {keys = keys} {remaining = remaining} are_defs are_names is_subject) end =
+    rw (column_defs_complete defs columns _ are_defs refl refl, names_whole keys key remaining are_names, subject_complete remaining subject (Symbol RightParen ∷ rest) is_subject refl, end_complete rest end) refl
 console_complete _ _ rest create_purpose end = rw (end_complete rest end) refl
 console_complete _ _ rest create_recipient end = rw (end_complete rest end) refl
 console_complete _ _ rest create_opt_in end = rw (end_complete rest end) refl
 console_complete _ _ rest create_opt_out end = rw (end_complete rest end) refl
 console_complete _ _ rest authorize end = rw (end_complete rest end) refl
 console_complete _ _ rest deauthorize end = rw (end_complete rest end) refl
-console_complete _ _ rest (allow {columns = columns} {item = item} {days = days} {named = named} {behind = behind} {kept = kept} are_names is_with is_retention) end =
+console_complete _ _ rest (allow {columns = columns} {item = item} {days = days} {named = named} {remaining = remaining} {kept = kept} are_names is_with is_retention) end =
     let follows = end_follows rest end in
-    rw (names_whole named columns behind are_names, with_complete behind item kept is_with (retention-no_with kept days rest is_retention follows.no_with), retention_complete kept days rest is_retention follows.no_retain, end_complete rest end) refl
+    rw (names_whole named columns remaining are_names, with_complete remaining item kept is_with (retention-no_with kept days rest is_retention follows.no_with), retention_complete kept days rest is_retention follows.no_retain, end_complete rest end) refl
 console_complete _ _ rest (revoke {columns = columns} {named = named} are_names) end = rw (names_whole named columns rest are_names, end_complete rest end) refl
 console_complete _ _ rest choice_yes end = rw (end_complete rest end) refl
 console_complete _ _ rest choice_no end = rw (end_complete rest end) refl
 console_complete _ _ rest (insert {values = values} {tokens = tokens} are_values) end = rw (literals_complete tokens values (Symbol RightParen ∷ rest) are_values refl, end_complete rest end) refl
-console_complete _ _ rest (update {settings = settings} {keys = keys} {tokens = tokens} {behind = behind} are_settings are_keys is) end =
-    rw (settings_complete tokens settings (Keyword KWhere ∷ behind) are_settings refl, keys_complete behind keys rest are_keys (end_follows rest end).no_and, end_complete rest end, is) refl
+console_complete _ _ rest (update {settings = settings} {keys = keys} {tokens = tokens} {remaining = remaining} are_settings are_keys is) end =
+    rw (settings_complete tokens settings (Keyword KWhere ∷ remaining) are_settings refl, keys_complete remaining keys rest are_keys (end_follows rest end).no_and, end_complete rest end, is) refl
 console_complete _ _ rest (delete {keys = keys} {tokens = tokens} are_keys is) end =
     rw (keys_complete tokens keys rest are_keys (end_follows rest end).no_and, end_complete rest end, is) refl
 console_complete _ _ rest console_explain end = rw (end_complete rest end) refl

@@ -1,4 +1,4 @@
 pub mod ConsoleTheorem
 pub mod PartTheorem
 pub mod StatementTheorem
-pub mod BehindLemmas
+pub mod AfterLemmas

@@ -25,12 +25,12 @@ use Rattle.hippo_stmt_reader.specs.declared.policies.Disclosure.{Disclosure}
 use Rattle.hippo_stmt_reader.specs.declared.changes.Assignments.{Assignments}
 use Rattle.hippo_stmt_reader.specs.declared.policies.Grantee.{Grantee}
 use Rattle.hippo_stmt_reader.specs.StatementGrammar.{IsColumnKind, integer, text, date, IsColumnDef, nullable, not_null, IsSubject, no_subject, subject, IsWith, no_item, with_item, IsRetention, no_retention, retain, IsAssignment, assignment, AreKeys, AreSettings, AreNames, IsEnd, no_semicolon, semicolon}
-use Rattle.hippo_stmt_reader.specs.StatementFinder.{nothing_left, end_left, column_kind_of, leading_column_kind, leading_column_def, after_column, leading_names, leading_subject, leading_with_item, leading_number, days_of, leading_retention, leading_name_behind, leading_assignment, leading_assigned, assignments_of, leading_grant, leading_disclosure}
+use Rattle.hippo_stmt_reader.specs.StatementFinder.{nothing_left, end_left, column_kind_of, leading_column_kind, leading_column_def, after_column, leading_names, leading_subject, leading_with_item, leading_number, days_of, leading_retention, leading_name_after, leading_assignment, leading_assigned, assignments_of, leading_grant, leading_disclosure}
 
 -- a list that is found is one of the grammar, where its parts are and what leads to the next is a separator
 list_found : {X : Type 0} (leading : List TokenKind → Option (X × List TokenKind)) (after : List TokenKind → Option (List TokenKind)) (IsPart : List TokenKind → X → List TokenKind → Type 0) (separator : TokenKind) →
     ((tokens : List TokenKind) (part : X) (rest : List TokenKind) → leading tokens ≡ Some (part, rest) → IsPart tokens part rest) →
-    ((tokens behind : List TokenKind) → after tokens ≡ Some behind → tokens ≡ separator ∷ behind) →
+    ((tokens remaining : List TokenKind) → after tokens ≡ Some remaining → tokens ≡ separator ∷ remaining) →
     (tokens : List TokenKind) (list : List X) (rest : List TokenKind) → leading_list leading after tokens ≡ Some (list, rest) → IsListOf IsPart separator tokens list rest
 list_found leading after IsPart separator part_found next_found tokens list rest e =
     parts_found leading after IsPart separator (IsListOf IsPart separator) part_found next_found
@@ -51,7 +51,7 @@ end_complete tokens no_semicolon = refl
 end_complete tokens semicolon = refl
 
 pub number_found : (tokens : List TokenKind) (n : ℤ) (rest : List TokenKind) → leading_number tokens ≡ Some (n, rest) → tokens ≡ Number n ∷ rest
-number_found (Number first ∷ behind) n rest e = let p = some_pair_parts first n behind rest e in rw (p.0, p.1) refl
+number_found (Number first ∷ remaining) n rest e = let p = some_pair_parts first n remaining rest e in rw (p.0, p.1) refl
 number_found _ n rest e = absurd (none-some _ e)
 
 column_kind_of-found : (word : words.Keyword) (k : ColumnKind) → column_kind_of word ≡ Some k → IsColumnKind word k
@@ -67,8 +67,8 @@ column_kind_of-complete word k date = refl
 
 column_kind_then : {P : Type 0} (tokens : List TokenKind) (k : ColumnKind) (rest : List TokenKind) → leading_column_kind tokens ≡ Some (k, rest) →
     ((word : words.Keyword) → tokens ≡ Keyword word ∷ rest → IsColumnKind word k → P) → P
-column_kind_then (Keyword word ∷ behind) k rest e next = found_then (column_kind_of word) _ _ e (λ found is e.
-    let whole = some_pair_parts found k behind rest e in
+column_kind_then (Keyword word ∷ remaining) k rest e next = found_then (column_kind_of word) _ _ e (λ found is e.
+    let whole = some_pair_parts found k remaining rest e in
     next word (ap (λ (left : List TokenKind). Keyword word ∷ left) whole.1) (rw whole.0 at (column_kind_of-found word found is)))
 column_kind_then _ k rest e next = absurd (none-some _ e)
 
@@ -79,7 +79,7 @@ column_def_found tokens c rest e =
     found_then (leading_column_kind typed) _ _ e (λ k k_is e.
     column_kind_then typed k.0 k.1 k_is (λ word is_word is_kind.
     keyword_choice KNot k.1 _ _ _ e
-    (λ behind is_not e. keyword_then KNull behind _ _ e (λ left is_null e.
+    (λ remaining is_not e. keyword_then KNull remaining _ _ e (λ left is_null e.
     rw (is_name, is_word, is_not, is_null) (read_as IsColumnDef _ _ _ _ _ e (not_null is_kind))))
     (λ _ e. rw (is_name, is_word) (read_as IsColumnDef _ _ _ _ _ e (nullable is_kind))))))
 
@@ -92,13 +92,13 @@ column_def_shorter : (tokens : List TokenKind) (c : Column) (rest : List TokenKi
 column_def_shorter tokens c rest (nullable is_kind) = omega arith
 column_def_shorter tokens c rest (not_null is_kind) = omega arith
 
-after_column_by : (begins : Bool) (behind rest : List TokenKind) → (if begins then Some behind else None) ≡ Some rest → behind ≡ rest
-after_column_by true behind rest e = same_Some behind rest e
-after_column_by false behind rest e = absurd (none-some rest e)
+after_column_by : (begins : Bool) (remaining rest : List TokenKind) → (if begins then Some remaining else None) ≡ Some rest → remaining ≡ rest
+after_column_by true remaining rest e = same_Some remaining rest e
+after_column_by false remaining rest e = absurd (none-some rest e)
 
-after_column_found : (tokens behind : List TokenKind) → after_column tokens ≡ Some behind → tokens ≡ Symbol Comma ∷ behind
-after_column_found tokens behind e =
-    symbol_then Comma tokens _ _ e (λ rest is_comma e. rw (is_comma, after_column_by (begins_with_name rest) rest behind e) refl)
+after_column_found : (tokens remaining : List TokenKind) → after_column tokens ≡ Some remaining → tokens ≡ Symbol Comma ∷ remaining
+after_column_found tokens remaining e =
+    symbol_then Comma tokens _ _ e (λ rest is_comma e. rw (is_comma, after_column_by (begins_with_name rest) rest remaining e) refl)
 
 after_column_complete : (tokens : List TokenKind) (c : Column) (rest : List TokenKind) → IsColumnDef tokens c rest → after_column (Symbol Comma ∷ tokens) ≡ Some tokens
 after_column_complete tokens c rest (nullable is_kind) = refl
@@ -131,7 +131,7 @@ pub subject_found : (tokens : List TokenKind) (s : Option (List ℕ)) (rest : Li
 unfolding leading_subject
 subject_found tokens s rest e =
     symbol_choice Comma tokens _ _ _ e
-    (λ behind is_comma e. keyword_then KSubject behind _ _ e (λ named is_subject e. name_then named _ _ e (λ c left is_name e.
+    (λ remaining is_comma e. keyword_then KSubject remaining _ _ e (λ named is_subject e. name_then named _ _ e (λ c left is_name e.
     rw (is_comma, is_subject, is_name) (read_as IsSubject _ _ _ _ _ e subject))))
     (λ _ e. read_as IsSubject tokens _ _ _ _ e no_subject)
 
@@ -144,7 +144,7 @@ pub with_found : (tokens : List TokenKind) (i : Option (List ℕ)) (rest : List 
 unfolding leading_with_item
 with_found tokens i rest e =
     keyword_choice KWith tokens _ _ _ e
-    (λ behind is_with e. name_then behind _ _ e (λ item left is_name e. rw (is_with, is_name) (read_as IsWith _ _ _ _ _ e with_item)))
+    (λ remaining is_with e. name_then remaining _ _ e (λ item left is_name e. rw (is_with, is_name) (read_as IsWith _ _ _ _ _ e with_item)))
     (λ _ e. read_as IsWith tokens _ _ _ _ e no_item)
 
 pub with_complete : (tokens : List TokenKind) (i : Option (List ℕ)) (rest : List TokenKind) → IsWith tokens i rest → after_keyword KWith rest ≡ None → leading_with_item tokens ≡ Some (i, rest)
@@ -166,11 +166,11 @@ pub retention_found : (tokens : List TokenKind) (days : Option ℕ) (rest : List
 unfolding leading_retention
 retention_found tokens days rest e =
     word_choice (codes "retain") tokens _ _ _ e
-    (λ behind is_retain e. found_then (leading_number behind) _ _ e (λ number number_is e.
+    (λ remaining is_retain e. found_then (leading_number remaining) _ _ e (λ number number_is e.
     found_then (days_of number.0) _ _ e (λ n n_is e.
     word_then (codes "days") number.1 _ _ e (λ left is_days e.
     let bounds = days_of-found number.0 n n_is in
-    rw (is_retain, number_found behind number.0 number.1 number_is, bounds.0, is_days) (read_as IsRetention _ _ _ _ _ e (retain bounds.1 bounds.2))))))
+    rw (is_retain, number_found remaining number.0 number.1 number_is, bounds.0, is_days) (read_as IsRetention _ _ _ _ _ e (retain bounds.1 bounds.2))))))
     (λ _ e. read_as IsRetention tokens _ _ _ _ e no_retention)
 
 pub retention_complete : (tokens : List TokenKind) (days : Option ℕ) (rest : List TokenKind) → IsRetention tokens days rest → after_word (codes "retain") rest ≡ None → leading_retention tokens ≡ Some (days, rest)
@@ -186,8 +186,8 @@ retention-no_with _ _ rest (retain some most) no_with = refl
 assignment_found : (tokens : List TokenKind) (a : List ℕ × Value) (rest : List TokenKind) → leading_assignment tokens ≡ Some (a, rest) → IsAssignment tokens a rest
 unfolding leading_assignment
 assignment_found tokens a rest e =
-    name_then tokens _ _ e (λ c behind is_name e.
-    symbol_then Equal behind _ _ e (λ after is_equal e.
+    name_then tokens _ _ e (λ c remaining is_name e.
+    symbol_then Equal remaining _ _ e (λ after is_equal e.
     found_then (leading_literal after) _ _ e (λ v v_is e.
     rw (is_name, is_equal) (read_as IsAssignment _ _ _ _ _ e (assignment (literal_found after v.0 v.1 v_is))))))
 
@@ -200,14 +200,14 @@ assignment_shorter _ _ rest (assignment {v = v} {tokens = tokens} l) = omega (ar
 
 -- assignments with a separator between them
 module _ (after : List TokenKind → Option (List TokenKind)) (separator : TokenKind) where
-  assignments_found : ((tokens behind : List TokenKind) → after tokens ≡ Some behind → tokens ≡ separator ∷ behind) →
+  assignments_found : ((tokens remaining : List TokenKind) → after tokens ≡ Some remaining → tokens ≡ separator ∷ remaining) →
       (tokens : List TokenKind) (list : List (List ℕ × Value)) (rest : List TokenKind) → leading_list leading_assignment after tokens ≡ Some (list, rest) → IsListOf IsAssignment separator tokens list rest
   assignments_found next_found tokens list rest e = list_found leading_assignment after IsAssignment separator assignment_found next_found tokens list rest e
 
-  assignments_complete : ((behind : List TokenKind) → after (separator ∷ behind) ≡ Some behind) →
+  assignments_complete : ((remaining : List TokenKind) → after (separator ∷ remaining) ≡ Some remaining) →
       (tokens : List TokenKind) (list : List (List ℕ × Value)) (rest : List TokenKind) → IsListOf IsAssignment separator tokens list rest → after rest ≡ None → leading_list leading_assignment after tokens ≡ Some (list, rest)
   assignments_complete passes tokens list rest ds no_more =
-      list_complete leading_assignment after IsAssignment separator (λ _. Unit {0}) assignment_complete (λ _. tt) (λ behind _ _ _. passes behind) assignment_shorter tokens list rest ds tt no_more
+      list_complete leading_assignment after IsAssignment separator (λ _. Unit {0}) assignment_complete (λ _. tt) (λ remaining _ _ _. passes remaining) assignment_shorter tokens list rest ds tt no_more
 
 pub settings_found : (tokens : List TokenKind) (list : List (List ℕ × Value)) (rest : List TokenKind) → leading_list leading_assignment (after_symbol Comma) tokens ≡ Some (list, rest) → AreSettings tokens list rest
 settings_found tokens list rest e = assignments_found (after_symbol Comma) (Symbol Comma) (after_symbol-some Comma) tokens list rest e
@@ -230,21 +230,21 @@ literals_complete tokens list rest ds no_comma =
     list_complete leading_literal (after_symbol Comma) IsLiteral (Symbol Comma) (λ _. Unit {0}) (λ tokens v rest l _. literal_complete tokens v rest l) (λ _. tt) (λ _ _ _ _. refl) literal_shorter tokens list rest ds tt no_comma
 
 -- what comes behind a keyword and a name
-pub name_behind_then : {B P : Type 0} (keyword : words.Keyword) (tokens : List TokenKind) (next : List ℕ × List TokenKind → Option B) (y : B) → (leading_name_behind keyword tokens >>= next) ≡ Some y →
+pub name_after_then : {B P : Type 0} (keyword : words.Keyword) (tokens : List TokenKind) (next : List ℕ × List TokenKind → Option B) (y : B) → (leading_name_after keyword tokens >>= next) ≡ Some y →
     ((name : List ℕ) (rest : List TokenKind) → tokens ≡ Keyword keyword ∷ Word name ∷ rest → next (name, rest) ≡ Some y → P) → P
-name_behind_then keyword tokens next y e follow =
-    found_then (leading_name_behind keyword tokens) next y e (λ named named_is e.
-    keyword_then keyword tokens leading_name named named_is (λ behind is_keyword is_name.
-    follow named.0 named.1 (rw (is_keyword, leading_name-some behind named.1 named.0 is_name) refl) e))
+name_after_then keyword tokens next y e follow =
+    found_then (leading_name_after keyword tokens) next y e (λ named named_is e.
+    keyword_then keyword tokens leading_name named named_is (λ remaining is_keyword is_name.
+    follow named.0 named.1 (rw (is_keyword, leading_name-some remaining named.1 named.0 is_name) refl) e))
 
 -- what comes behind a keyword and assignments
 pub assigned_then : {B P : Type 0} (keyword : words.Keyword) (after : List TokenKind → Option (List TokenKind)) (tokens : List TokenKind) (next : Assignments × List TokenKind → Option B) (y : B) → (leading_assigned keyword after tokens >>= next) ≡ Some y →
-    ((behind : List TokenKind) (list : List (List ℕ × Value)) (rest : List TokenKind) → tokens ≡ Keyword keyword ∷ behind → leading_list leading_assignment after behind ≡ Some (list, rest) → next (assignments_of list, rest) ≡ Some y → P) → P
+    ((remaining : List TokenKind) (list : List (List ℕ × Value)) (rest : List TokenKind) → tokens ≡ Keyword keyword ∷ remaining → leading_list leading_assignment after remaining ≡ Some (list, rest) → next (assignments_of list, rest) ≡ Some y → P) → P
 assigned_then keyword after tokens next y e follow =
     found_then (leading_assigned keyword after tokens) next y e (λ assigned assigned_is e.
-    keyword_then keyword tokens _ _ assigned_is (λ behind is_keyword assigned_is.
-    found_then (leading_list leading_assignment after behind) _ _ assigned_is (λ found found_is assigned_is.
-    follow behind found.0 found.1 is_keyword found_is (rw (same_Some _ assigned assigned_is) e))))
+    keyword_then keyword tokens _ _ assigned_is (λ remaining is_keyword assigned_is.
+    found_then (leading_list leading_assignment after remaining) _ _ assigned_is (λ found found_is assigned_is.
+    follow remaining found.0 found.1 is_keyword found_is (rw (same_Some _ assigned assigned_is) e))))
 
 -- u FOR p "," r
 pub grant_then : {P : Type 0} (tokens : List TokenKind) (g : Grantee) (rest : List TokenKind) → leading_grant tokens ≡ Some (g, rest) →
@@ -252,7 +252,7 @@ pub grant_then : {P : Type 0} (tokens : List TokenKind) (g : Grantee) (rest : Li
 unfolding leading_grant
 grant_then tokens g rest e next =
     name_then tokens _ _ e (λ user a is_user e.
-    name_behind_then KFor a _ _ e (λ purpose b is_purpose e.
+    name_after_then KFor a _ _ e (λ purpose b is_purpose e.
     symbol_then Comma b _ _ e (λ c is_comma e.
     name_then c _ _ e (λ recipient left is_recipient e.
     let whole = some_pair_parts (record { user = user; purpose = purpose; recipient = recipient }) g left rest e in
@@ -264,8 +264,8 @@ pub disclosure_then : {P : Type 0} (tokens : List TokenKind) (d : Disclosure) (r
 unfolding leading_disclosure
 disclosure_then tokens d rest e next =
     name_then tokens _ _ e (λ purpose a is_purpose e.
-    name_behind_then KTo a _ _ e (λ recipient b is_recipient e.
-    name_behind_then KOn b _ _ e (λ table listed is_table e.
+    name_after_then KTo a _ _ e (λ recipient b is_recipient e.
+    name_after_then KOn b _ _ e (λ table listed is_table e.
     found_then (leading_names listed) _ _ e (λ columns columns_is e.
     names_then listed columns.0 columns.1 columns_is (λ named is_open are_names.
     let whole = some_pair_parts (record { purpose = purpose; recipient = recipient; table = table; columns = columns.0 }) d columns.1 rest e in

@@ -5,9 +5,9 @@ use Rattle.std.proofs.lemmas.List.{length-map, drop-map, take-append-drop}
 use Rattle.std.proofs.lemmas.Option.{none-some, same_Some}
 use Rattle.std.specs.List.{slice_get}
 use Rattle.std.specs.Result.{IfOk, IfErr}
-use Rattle.hippo_statements.specs.declared.statement.RawSelect.{RawSelect}
-use Rattle.hippo_statements.specs.declared.statement.Stmt.{Stmt}
-use Rattle.hippo_statements.specs.declared.statement.Stmt.TheVariants as stmt
+use Rattle.hippo_stmt_ast.specs.declared.statement.RawSelect.{RawSelect}
+use Rattle.hippo_stmt_ast.specs.declared.statement.Stmt.{Stmt}
+use Rattle.hippo_stmt_ast.specs.declared.statement.Stmt.TheVariants as stmt
 use Rattle.hippo_lexer.specs.Words.{words_check, support_of}
 use Rattle.hippo_lexer.specs.declared.faults.SyntaxFault.{SyntaxFault}
 use Rattle.hippo_lexer.specs.declared.faults.SyntaxFault.TheVariants as fault
@@ -69,12 +69,12 @@ unfolding placed_select_of
 placed_select_complete tokens s _ _ (placed text rest is_whole is_select is_end first_is last_is) =
     rw (selecting.complete (kinds tokens) s (kinds rest) is_select (select_ends (kinds rest) is_end), text_of tokens text rest is_whole, first_is, last_is, end_complete (kinds rest) is_end) refl
 
-select_first : (tokens : List TokenKind) (s : RawSelect) (rest : List TokenKind) → IsSelect tokens s rest → (after_keyword KOpen tokens ≡ None) × ((behind : List TokenKind) × (after_keyword KSelect tokens ≡ Some behind))
+select_first : (tokens : List TokenKind) (s : RawSelect) (rest : List TokenKind) → IsSelect tokens s rest → (after_keyword KOpen tokens ≡ None) × ((remaining : List TokenKind) × (after_keyword KSelect tokens ≡ Some remaining))
 select_first _ s rest (selects.plain_select a b) = (refl, (_, refl))
 select_first _ s rest (selects.distinct a b) = (refl, (_, refl))
 select_first _ s rest (selects.grouped_select a b c) = (refl, (_, refl))
 
-placed_select_first : (tokens : List Token) (s : RawSelect) (start end : ℕ) → IsPlacedSelect tokens s start end → (after_keyword KOpen (kinds tokens) ≡ None) × ((behind : List TokenKind) × (after_keyword KSelect (kinds tokens) ≡ Some behind))
+placed_select_first : (tokens : List Token) (s : RawSelect) (start end : ℕ) → IsPlacedSelect tokens s start end → (after_keyword KOpen (kinds tokens) ≡ None) × ((remaining : List TokenKind) × (after_keyword KSelect (kinds tokens) ≡ Some remaining))
 placed_select_first tokens s _ _ (placed text rest is_whole is_select is_end first_is last_is) = select_first (kinds tokens) s (kinds rest) is_select
 
 -- what is found is a statement of the grammar
@@ -83,14 +83,14 @@ unfolding statement_of open_of select_of extract_of
 found [] s e = let read = console_found [] s e in console read.1 read.2
 found (first ∷ tokens) s e =
     keyword_choice KOpen (kinds (first ∷ tokens)) _ _ _ e
-    (λ behind is_open e. found_then (placed_select_of tokens) _ _ e (λ q q_is e.
+    (λ remaining is_open e. found_then (placed_select_of tokens) _ _ e (λ q q_is e.
     let is_kind : first.kind ≡ Keyword KOpen = cc in
     rw (← same_Some (stmt.Ask q.0 q.1 q.2) s e) (open_select is_kind (placed_select_found tokens q.0 q.1 q.2 q_is))))
     (λ _ e. keyword_choice KSelect (kinds (first ∷ tokens)) _ _ _ e
     (λ _ _ e. found_then (placed_select_of (first ∷ tokens)) _ _ e (λ q q_is e.
     rw (← same_Some (stmt.Select q.0 q.1 q.2) s e) (select (placed_select_found (first ∷ tokens) q.0 q.1 q.2 q_is))))
     (λ _ e. word_choice (codes "extract") (kinds (first ∷ tokens)) _ _ _ e
-    (λ behind is_extract e. found_then (placed_select_of tokens) _ _ e (λ q q_is e.
+    (λ remaining is_extract e. found_then (placed_select_of tokens) _ _ e (λ q q_is e.
     let is_kind : first.kind ≡ Word (codes "extract") = cc in
     rw (← same_Some (stmt.Extract q.0 q.1 q.2) s e) (extract_select is_kind (placed_select_found tokens q.0 q.1 q.2 q_is))))
     (λ _ e. let read = console_found (kinds (first ∷ tokens)) s e in console read.1 read.2)))

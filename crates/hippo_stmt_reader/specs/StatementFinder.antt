@@ -8,9 +8,9 @@ use Rattle.hippo_model.specs.declared.entry.ItemKind.TheVariants.{OptIn, OptOut}
 use Rattle.hippo_model.specs.declared.schema.Column.{Column}
 use Rattle.hippo_model.specs.declared.schema.ColumnKind.{ColumnKind}
 use Rattle.hippo_model.specs.declared.schema.ColumnKind.TheVariants as kind
-use Rattle.hippo_statements.specs.declared.statement.RawSelect.{RawSelect}
-use Rattle.hippo_statements.specs.declared.statement.Stmt.{Stmt}
-use Rattle.hippo_statements.specs.declared.statement.Stmt.TheVariants as stmt
+use Rattle.hippo_stmt_ast.specs.declared.statement.RawSelect.{RawSelect}
+use Rattle.hippo_stmt_ast.specs.declared.statement.Stmt.{Stmt}
+use Rattle.hippo_stmt_ast.specs.declared.statement.Stmt.TheVariants as stmt
 use Rattle.hippo_values.specs.declared.keywords.Keyword as words
 use Rattle.hippo_values.specs.declared.keywords.Keyword.TheVariants.{KAllow, KAnd, KAudit, KAuthorize, KBegin, KChoice, KCreate, KDate, KDeauthorize, KDelete, KDuring, KExplain, KFor, KFrom, KIn, KInsert, KInteger, KInto, KIs, KItem, KKey, KNo, KNot, KNull, KOn, KOpen, KOpt, KOut, KPrimary, KPurpose, KRecipient, KRevoke, KSelect, KSet, KSubject, KTable, KText, KTo, KUpdate, KValues, KWhere, KWith, KYes}
 use Rattle.hippo_values.specs.Options.{◌>>=◌}
@@ -64,19 +64,19 @@ unfoldable pub leading_column_def : Finder Column
 leading_column_def tokens = do
   name ← leading_name tokens
   k ← leading_column_kind name.1
-  either (after_keyword KNot k.1) (λ behind. do
-    rest ← after_keyword KNull behind
+  either (after_keyword KNot k.1) (λ remaining. do
+    rest ← after_keyword KNull remaining
     Some (record { name = name.0; kind = k.0; not_null = true }, rest))
       (Some (record { name = name.0; kind = k.0; not_null = false }, k.1))
 
 -- behind a comma that a further column follows
 abbrev pub after_column : Kinds → Option (Kinds)
 after_column tokens =
-    after_symbol Comma tokens >>= λ behind. if begins_with_name behind then Some behind else None
+    after_symbol Comma tokens >>= λ remaining. if begins_with_name remaining then Some remaining else None
 
 -- a name behind this keyword
-abbrev pub leading_name_behind : words.Keyword → Finder Name
-leading_name_behind keyword tokens = after_keyword keyword tokens >>= leading_name
+abbrev pub leading_name_after : words.Keyword → Finder Name
+leading_name_after keyword tokens = after_keyword keyword tokens >>= leading_name
 
 -- "(" c {"," c} ")"
 unfoldable pub leading_names : Finder (List Name)
@@ -88,14 +88,14 @@ leading_names tokens = do
 
 unfoldable pub leading_subject : Finder (Option Name)
 leading_subject tokens =
-    either (after_symbol Comma tokens) (λ behind. do
-      named ← after_keyword KSubject behind
+    either (after_symbol Comma tokens) (λ remaining. do
+      named ← after_keyword KSubject remaining
       c ← leading_name named
       Some (Some c.0, c.1)) (Some (None, tokens))
 
 unfoldable pub leading_with_item : Finder (Option Name)
 leading_with_item tokens =
-    either (after_keyword KWith tokens) (λ behind. leading_name behind >>=
+    either (after_keyword KWith tokens) (λ remaining. leading_name remaining >>=
     λ i. Some (Some i.0, i.1))
     (Some (None, tokens))
 
@@ -111,8 +111,8 @@ days_of number = None
 
 unfoldable pub leading_retention : Finder (Option ℕ)
 leading_retention tokens =
-    either (after_word (codes "retain") tokens) (λ behind. do
-      number ← leading_number behind
+    either (after_word (codes "retain") tokens) (λ remaining. do
+      number ← leading_number remaining
       days ← days_of number.0
       rest ← after_word (codes "days") number.1
       Some (Some days, rest)) (Some (None, tokens))
@@ -120,8 +120,8 @@ leading_retention tokens =
 unfoldable pub leading_assignment : Finder (Name × Value)
 leading_assignment tokens = do
   c ← leading_name tokens
-  behind ← after_symbol Equal c.1
-  v ← leading_literal behind
+  remaining ← after_symbol Equal c.1
+  v ← leading_literal remaining
   Some ((c.0, v.0), v.1)
 
 abbrev pub assignments_of : List (Name × Value) → Assignments
@@ -130,8 +130,8 @@ assignments_of list = record { columns = assigned_columns list; values = assigne
 -- behind this keyword, the assignments with such a thing between them
 abbrev pub leading_assigned : words.Keyword → (Kinds → Option Kinds) → Finder Assignments
 leading_assigned keyword after tokens = do
-  behind ← after_keyword keyword tokens
-  found ← leading_list leading_assignment after behind
+  remaining ← after_keyword keyword tokens
+  found ← leading_list leading_assignment after remaining
   Some (assignments_of found.0, found.1)
 
 -- behind CREATE TABLE
@@ -160,8 +160,8 @@ create_recipient_of tokens = of_part stmt.CreateRecipient (leading_name tokens)
 unfoldable pub create_item_of : Kinds → Option Stmt
 create_item_of tokens = do
   item ← leading_name tokens
-  behind ← after_keyword KOpt item.1
-  k ← one_of KIn OptIn KOut OptOut behind
+  remaining ← after_keyword KOpt item.1
+  k ← one_of KIn OptIn KOut OptOut remaining
   with_end (stmt.CreateItem item.0 k.0) k.1
 
 -- behind CREATE
@@ -176,9 +176,9 @@ create_of tokens =
 unfoldable pub leading_grant : Finder Grantee
 leading_grant tokens = do
   user ← leading_name tokens
-  purpose ← leading_name_behind KFor user.1
-  behind ← after_symbol Comma purpose.1
-  recipient ← leading_name behind
+  purpose ← leading_name_after KFor user.1
+  remaining ← after_symbol Comma purpose.1
+  recipient ← leading_name remaining
   Some (record { user = user.0; purpose = purpose.0; recipient = recipient.0 }, recipient.1)
 
 -- AUTHORIZE, where a grant is given, or DEAUTHORIZE
@@ -199,8 +199,8 @@ disclosure_of purpose recipient table columns =
 unfoldable pub leading_disclosure : Finder Disclosure
 leading_disclosure tokens = do
   purpose ← leading_name tokens
-  recipient ← leading_name_behind KTo purpose.1
-  table ← leading_name_behind KOn recipient.1
+  recipient ← leading_name_after KTo purpose.1
+  table ← leading_name_after KOn recipient.1
   columns ← leading_names table.1
   Some (disclosure_of purpose.0 recipient.0 table.0 columns.0, columns.1)
 
@@ -251,7 +251,7 @@ update_of tokens = do
 -- behind DELETE
 unfoldable pub delete_of : Kinds → Option Stmt
 delete_of tokens = do
-  table ← leading_name_behind KFrom tokens
+  table ← leading_name_after KFrom tokens
   keys ← leading_assigned KWhere (after_keyword KAnd) table.1
   with_end (stmt.Delete table.0 keys.0.columns keys.0.values) keys.1
 
@@ -265,29 +265,29 @@ audit_statement_of tokens = of_part stmt.Audit (leading_audit tokens)
 -- behind BEGIN
 unfoldable pub begin_audit_of : Kinds → Option Stmt
 begin_audit_of tokens =
-    after_keyword KAudit tokens >>= λ behind. of_part stmt.BeginAudit (leading_audit behind)
+    after_keyword KAudit tokens >>= λ remaining. of_part stmt.BeginAudit (leading_audit remaining)
 
 -- behind WATCH
 unfoldable pub watch_of : Kinds → Option Stmt
 watch_of tokens = of_part stmt.Watch (leading_audit tokens)
 
 -- a statement of the console that begins with this keyword, behind it
-unfoldable pub console_behind : words.Keyword → Kinds → Option Stmt
-console_behind KCreate tokens = create_of tokens
-console_behind KAuthorize tokens = authorization_of true tokens
-console_behind KDeauthorize tokens = authorization_of false tokens
-console_behind KAllow tokens = allow_of tokens
-console_behind KRevoke tokens = revoke_of tokens
-console_behind KChoice tokens = choice_of tokens
-console_behind KInsert tokens = insert_of tokens
-console_behind KUpdate tokens = update_of tokens
-console_behind KDelete tokens = delete_of tokens
-console_behind KExplain tokens = explain_of tokens
-console_behind KBegin tokens = begin_audit_of tokens
-console_behind keyword tokens = None
+unfoldable pub console_after : words.Keyword → Kinds → Option Stmt
+console_after KCreate tokens = create_of tokens
+console_after KAuthorize tokens = authorization_of true tokens
+console_after KDeauthorize tokens = authorization_of false tokens
+console_after KAllow tokens = allow_of tokens
+console_after KRevoke tokens = revoke_of tokens
+console_after KChoice tokens = choice_of tokens
+console_after KInsert tokens = insert_of tokens
+console_after KUpdate tokens = update_of tokens
+console_after KDelete tokens = delete_of tokens
+console_after KExplain tokens = explain_of tokens
+console_after KBegin tokens = begin_audit_of tokens
+console_after keyword tokens = None
 
 abbrev pub console_by_keyword : Kinds → Option Stmt
-console_by_keyword (Keyword keyword ∷ rest) = console_behind keyword rest
+console_by_keyword (Keyword keyword ∷ rest) = console_after keyword rest
 console_by_keyword tokens = None
 
 unfoldable pub console_of : Kinds → Option Stmt

@@ -8,10 +8,10 @@ use Rattle.hippo_model.specs.declared.entry.ItemKind.TheVariants.{OptIn, OptOut}
 use Rattle.hippo_model.specs.declared.schema.Column.{Column}
 use Rattle.hippo_model.specs.declared.schema.ColumnKind.{ColumnKind}
 use Rattle.hippo_model.specs.declared.schema.ColumnKind.TheVariants as kind
-use Rattle.hippo_statements.specs.declared.statement.RawAudit.{RawAudit}
-use Rattle.hippo_statements.specs.declared.statement.RawSelect.{RawSelect}
-use Rattle.hippo_statements.specs.declared.statement.Stmt.{Stmt}
-use Rattle.hippo_statements.specs.declared.statement.Stmt.TheVariants as stmt
+use Rattle.hippo_stmt_ast.specs.declared.statement.RawAudit.{RawAudit}
+use Rattle.hippo_stmt_ast.specs.declared.statement.RawSelect.{RawSelect}
+use Rattle.hippo_stmt_ast.specs.declared.statement.Stmt.{Stmt}
+use Rattle.hippo_stmt_ast.specs.declared.statement.Stmt.TheVariants as stmt
 use Rattle.hippo_lexer.specs.Words.{words_check}
 use Rattle.hippo_lexer.specs.declared.faults.SyntaxFault.{SyntaxFault}
 use Rattle.hippo_lexer.specs.declared.faults.SyntaxFault.TheVariants as fault
@@ -88,11 +88,11 @@ assigned_values assignments = map (λ (assignment : Name × Value). assignment.1
 pub data IsConsole : Kinds → Stmt → Kinds → Type 0 where
   -- CREATE TABLE t "(" coldef {"," coldef} "," PRIMARY KEY "(" c {"," c} ")" ["," SUBJECT c] ")"
   create_table : {table : Name} {columns : List Column} {key : List Name} {subject : Option Name}
-      {defs keys behind rest : Kinds} →
+      {defs keys remaining rest : Kinds} →
       IsListOf IsColumnDef (Symbol Comma) defs columns
       (Symbol Comma ∷ Keyword KPrimary ∷ Keyword KKey ∷ Symbol LeftParen ∷ keys) →
-      AreNames keys key (Symbol RightParen ∷ behind) →
-      IsSubject behind subject (Symbol RightParen ∷ rest) →
+      AreNames keys key (Symbol RightParen ∷ remaining) →
+      IsSubject remaining subject (Symbol RightParen ∷ rest) →
       IsConsole (Keyword KCreate ∷ Keyword KTable ∷ Word table ∷ Symbol LeftParen ∷ defs)
       (stmt.CreateTable table columns key subject) rest
   -- CREATE PURPOSE p | CREATE RECIPIENT r
@@ -121,9 +121,9 @@ pub data IsConsole : Kinds → Stmt → Kinds → Type 0 where
   -- ALLOW p TO r ON t "(" c {"," c} ")" [WITH i] [RETAIN n DAYS]
   allow : {purpose recipient table : Name} {columns : List Name} {item : Option Name}
       {days : Option ℕ}
-      {named behind kept rest : Kinds} →
-      AreNames named columns (Symbol RightParen ∷ behind) →
-      IsWith behind item kept →
+      {named remaining kept rest : Kinds} →
+      AreNames named columns (Symbol RightParen ∷ remaining) →
+      IsWith remaining item kept →
       IsRetention kept days rest →
       IsConsole (Keyword KAllow ∷ Word purpose ∷ Keyword KTo ∷ Word recipient
       ∷ Keyword KOn ∷ Word table ∷ Symbol LeftParen ∷ named)
@@ -151,9 +151,9 @@ pub data IsConsole : Kinds → Stmt → Kinds → Type 0 where
       (stmt.Insert table values) rest
   -- UPDATE t SET c "=" literal {"," c "=" literal} WHERE keys
   update : {s : Stmt} {table : Name} {settings keys : List (Name × Value)}
-      {tokens behind rest : Kinds} →
-      AreSettings tokens settings (Keyword KWhere ∷ behind) →
-      AreKeys behind keys rest →
+      {tokens remaining rest : Kinds} →
+      AreSettings tokens settings (Keyword KWhere ∷ remaining) →
+      AreKeys remaining keys rest →
       s ≡ stmt.Update table (assigned_columns settings) (assigned_values settings)
       (assigned_columns keys)
       (assigned_values keys) →

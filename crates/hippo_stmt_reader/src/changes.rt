@@ -5,13 +5,13 @@ ghost use Rattle.hippo_spj_reader.specs.Front.{kinds};
 ghost use Rattle.hippo_stmt_reader.specs.StatementGrammar.{assigned_columns, assigned_values};
 ghost use Rattle.hippo_stmt_reader.specs.StatementFinder.{leading_assignment, leading_assigned, insert_of, update_of, delete_of};
 
-use crate::parts::{name_behind, with_end};
+use crate::parts::{name_after, with_end};
 use hippo_lexer::{Keyword, Symbol, SyntaxFault, Token};
 use hippo_model::{Cells, Names};
 use hippo_spj_reader::{
     Commas, Part, Separator, after_keyword, expect_keyword, expect_symbol, list, literal, name,
 };
-use hippo_statements::Stmt;
+use hippo_stmt_ast::Stmt;
 use hippo_values::{Memory, Name, Sequence, Value};
 use std::alloc::Global;
 
@@ -147,7 +147,7 @@ pub fn update(alloc: Global, tokens: &[Token]) -> Result<Stmt, SyntaxFault>
 pub fn delete(alloc: Global, tokens: &[Token]) -> Result<Stmt, SyntaxFault>
     ensures { Gives (λ s. s) result (delete_of (kinds tokens.now)) }
 {
-    let (table, rest) = name_behind(alloc, Keyword::KFrom, tokens)?;
+    let (table, rest) = name_after(alloc, Keyword::KFrom, tokens)?;
     let (key, rest) = assigned::<Ands>(alloc, Keyword::KWhere, rest)?;
     with_end(
         Stmt::Delete {

@@ -2,7 +2,7 @@
 ghost use Rattle.std.specs.Prelude.{◌<◌};
 ghost use Rattle.hippo_spj_reader.specs.Promises.{Gives, Reads};
 ghost use Rattle.hippo_spj_reader.specs.Front.{kinds};
-ghost use Rattle.hippo_stmt_reader.specs.StatementFinder.{leading_name_behind, leading_names, leading_number, nothing_left, end_left, with_end};
+ghost use Rattle.hippo_stmt_reader.specs.StatementFinder.{leading_name_after, leading_names, leading_number, nothing_left, end_left, with_end};
 
 use hippo_lexer::{Keyword, Symbol, SyntaxFault, Token, TokenKind};
 use hippo_model::Names;
@@ -24,12 +24,12 @@ pub fn names(alloc: Global, tokens: &[Token]) -> Result<(Names, &[Token]), Synta
 }
 
 /// The name behind the keyword that has to stand first, and the tokens behind it.
-pub fn name_behind(
+pub fn name_after(
     alloc: Global,
     keyword: Keyword,
     tokens: &[Token],
 ) -> Result<(Name, &[Token]), SyntaxFault>
-    ensures { Reads (leading_name_behind keyword) tokens.now result }
+    ensures { Reads (leading_name_after keyword) tokens.now result }
 {
     let rest = expect_keyword(tokens, keyword)?;
     name(alloc, rest)

@@ -5,13 +5,13 @@ ghost use Rattle.hippo_spj_reader.specs.Promises.{Gives, Reads};
 ghost use Rattle.hippo_spj_reader.specs.Front.{kinds};
 ghost use Rattle.hippo_stmt_reader.specs.StatementFinder.{leading_grant, grant_statement, authorization_of, leading_disclosure, leading_with_item, days_of, leading_retention, allow_of, revoke_of, one_of, choice_of};
 
-use crate::parts::{name_behind, names, number, with_end};
+use crate::parts::{name_after, names, number, with_end};
 use hippo_lexer::{Keyword, Symbol, SyntaxFault, Token};
 use hippo_model::Names;
 use hippo_spj_reader::{
     after_keyword, after_word, expect_keyword, expect_symbol, expect_word, name,
 };
-use hippo_statements::Stmt;
+use hippo_stmt_ast::Stmt;
 use hippo_values::{Name, RETENTION_LIMIT};
 use std::alloc::Global;
 
@@ -28,7 +28,7 @@ fn authorization(alloc: Global, tokens: &[Token]) -> Result<(Grantee, &[Token]),
     ensures { Reads leading_grant tokens.now result }
 {
     let (user, rest) = name(alloc, tokens)?;
-    let (purpose, rest) = name_behind(alloc, Keyword::KFor, rest)?;
+    let (purpose, rest) = name_after(alloc, Keyword::KFor, rest)?;
     let rest = expect_symbol(rest, Symbol::Comma)?;
     let (recipient, rest) = name(alloc, rest)?;
     Ok((
@@ -84,13 +84,13 @@ struct Disclosure {
     columns: Names,
 }
 
-#[tactic(auto, unfolding(crate::specs::StatementFinder::leading_disclosure), using(crate::proofs::BehindLemmas::fails_first))]
+#[tactic(auto, unfolding(crate::specs::StatementFinder::leading_disclosure), using(crate::proofs::AfterLemmas::fails_first))]
 fn disclosed(alloc: Global, tokens: &[Token]) -> Result<(Disclosure, &[Token]), SyntaxFault>
     ensures { Reads leading_disclosure tokens.now result }
 {
     let (purpose, rest) = name(alloc, tokens)?;
-    let (recipient, rest) = name_behind(alloc, Keyword::KTo, rest)?;
-    let (table, rest) = name_behind(alloc, Keyword::KOn, rest)?;
+    let (recipient, rest) = name_after(alloc, Keyword::KTo, rest)?;
+    let (table, rest) = name_after(alloc, Keyword::KOn, rest)?;
     let (columns, rest) = names(alloc, rest)?;
     Ok((
         Disclosure {
@@ -107,10 +107,10 @@ fn disclosed(alloc: Global, tokens: &[Token]) -> Result<(Disclosure, &[Token]), 
 fn with_item(alloc: Global, tokens: &[Token]) -> Result<(Option<Name>, &[Token]), SyntaxFault>
     ensures { Reads leading_with_item tokens.now result }
 {
-    let Some(behind) = after_keyword(tokens, Keyword::KWith) else {
+    let Some(remaining) = after_keyword(tokens, Keyword::KWith) else {
         return Ok((None, tokens));
     };
-    let (item, rest) = name(alloc, behind)?;
+    let (item, rest) = name(alloc, remaining)?;
     Ok((Some(item), rest))
 }
 
@@ -127,10 +127,10 @@ fn days_of(number: &i64) -> Option<u32>
 fn retention(tokens: &[Token]) -> Result<(Option<u32>, &[Token]), SyntaxFault>
     ensures { Reads leading_retention tokens.now result }
 {
-    let Some(behind) = after_word(tokens, "retain") else {
+    let Some(remaining) = after_word(tokens, "retain") else {
         return Ok((None, tokens));
     };
-    let (number, rest) = number(behind)?;
+    let (number, rest) = number(remaining)?;
     let days = days_of(&number).ok_or(SyntaxFault::BadSyntax)?;
     let rest = expect_word(rest, "days")?;
     Ok((Some(days), rest))

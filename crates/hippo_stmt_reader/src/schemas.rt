@@ -12,7 +12,7 @@ use hippo_model::{Column, ColumnKind, ItemKind};
 use hippo_spj_reader::{
     Part, Separator, after_keyword, after_symbol, expect_keyword, expect_symbol, list, name, split,
 };
-use hippo_statements::Stmt;
+use hippo_stmt_ast::Stmt;
 use hippo_values::Name;
 use std::alloc::Global;
 
@@ -44,7 +44,7 @@ fn column_def(alloc: Global, tokens: &[Token]) -> Result<(Column, &[Token]), Syn
     let (name, rest) = name(alloc, tokens)?;
     let (kind, rest) = column_kind(rest)?;
     let (not_null, rest) = match after_keyword(rest, Keyword::KNot) {
-        Some(behind) => (true, expect_keyword(behind, Keyword::KNull)?),
+        Some(remaining) => (true, expect_keyword(remaining, Keyword::KNull)?),
         None => (false, rest),
     };
     let column = Column {
@@ -79,9 +79,9 @@ impl Separator for ColumnCommas {
     ghost after = { after_column };
 
     fn pass(tokens: &[Token]) -> Option<&[Token]> {
-        let behind = after_symbol(tokens, Symbol::Comma)?;
-        match split(behind) {
-            Some((TokenKind::Word(_), _)) => Some(behind),
+        let remaining = after_symbol(tokens, Symbol::Comma)?;
+        match split(remaining) {
+            Some((TokenKind::Word(_), _)) => Some(remaining),
             _ => None,
         }
     }
@@ -91,10 +91,10 @@ impl Separator for ColumnCommas {
 fn subject(alloc: Global, tokens: &[Token]) -> Result<(Option<Name>, &[Token]), SyntaxFault>
     ensures { Reads leading_subject tokens.now result }
 {
-    let Some(behind) = after_symbol(tokens, Symbol::Comma) else {
+    let Some(remaining) = after_symbol(tokens, Symbol::Comma) else {
         return Ok((None, tokens));
     };
-    let rest = expect_keyword(behind, Keyword::KSubject)?;
+    let rest = expect_keyword(remaining, Keyword::KSubject)?;
     let (column, rest) = name(alloc, rest)?;
     Ok((Some(column), rest))
 }
@@ -164,15 +164,15 @@ fn create_item(alloc: Global, tokens: &[Token]) -> Result<Stmt, SyntaxFault>
 pub fn create(alloc: Global, tokens: &[Token]) -> Result<Stmt, SyntaxFault>
     ensures { Gives (λ s. s) result (create_of (kinds tokens.now)) }
 {
-    if let Some(behind) = after_keyword(tokens, Keyword::KTable) {
-        return create_table(alloc, behind);
+    if let Some(remaining) = after_keyword(tokens, Keyword::KTable) {
+        return create_table(alloc, remaining);
     }
-    if let Some(behind) = after_keyword(tokens, Keyword::KPurpose) {
-        return create_purpose(alloc, behind);
+    if let Some(remaining) = after_keyword(tokens, Keyword::KPurpose) {
+        return create_purpose(alloc, remaining);
     }
-    if let Some(behind) = after_keyword(tokens, Keyword::KRecipient) {
-        return create_recipient(alloc, behind);
+    if let Some(remaining) = after_keyword(tokens, Keyword::KRecipient) {
+        return create_recipient(alloc, remaining);
     }
-    let behind = expect_keyword(tokens, Keyword::KItem)?;
-    create_item(alloc, behind)
+    let remaining = expect_keyword(tokens, Keyword::KItem)?;
+    create_item(alloc, remaining)
 }

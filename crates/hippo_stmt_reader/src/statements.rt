@@ -1,11 +1,11 @@
 //! Which statement the tokens are.
 ghost use Rattle.std.specs.Prelude.{◌≡◌, ◌<◌, length, is_some, IsTrue, IfOk, IfErr};
-ghost use Rattle.hippo_statements.specs.declared.statement.Stmt.{Stmt};
+ghost use Rattle.hippo_stmt_ast.specs.declared.statement.Stmt.{Stmt};
 ghost use Rattle.hippo_lexer.specs.Words.{words_check};
 ghost use Rattle.hippo_spj_reader.specs.Promises.{Gives};
 ghost use Rattle.hippo_spj_reader.specs.Front.{kinds, after_keyword, after_word};
 ghost use Rattle.hippo_stmt_reader.specs.StatementGrammar.{IsStatement, IsRefusal};
-ghost use Rattle.hippo_stmt_reader.specs.StatementFinder.{console_behind, console_by_keyword, console_of, audit_statement_of, begin_audit_of, watch_of, explain_of, placed_select_of, open_of, extract_of, select_of, statement_of};
+ghost use Rattle.hippo_stmt_reader.specs.StatementFinder.{console_after, console_by_keyword, console_of, audit_statement_of, begin_audit_of, watch_of, explain_of, placed_select_of, open_of, extract_of, select_of, statement_of};
 
 use crate::changes::{delete, insert, update};
 use crate::parts::{number, with_end};
@@ -14,7 +14,7 @@ use crate::schemas::create;
 use hippo_audit_reader::audit;
 use hippo_lexer::{Keyword, SyntaxFault, Token, TokenKind, Tokens, check_words};
 use hippo_spj_reader::{after_keyword, after_word, expect_keyword, select, split};
-use hippo_statements::{RawSelect, Stmt};
+use hippo_stmt_ast::{RawSelect, Stmt};
 use std::alloc::Global;
 
 #[tactic(auto, unfolding(crate::specs::StatementFinder::audit_statement_of))]
@@ -52,9 +52,9 @@ fn explain(tokens: &[Token]) -> Result<Stmt, SyntaxFault>
 
 // A statement of the console that begins with this keyword, from the tokens behind it.
 #[inline(never)]
-#[tactic(auto, unfolding(crate::specs::StatementFinder::console_behind))]
-fn console_behind(alloc: Global, keyword: Keyword, tokens: &[Token]) -> Result<Stmt, SyntaxFault>
-    ensures { Gives (λ s. s) result (console_behind keyword (kinds tokens.now)) }
+#[tactic(auto, unfolding(crate::specs::StatementFinder::console_after))]
+fn console_after(alloc: Global, keyword: Keyword, tokens: &[Token]) -> Result<Stmt, SyntaxFault>
+    ensures { Gives (λ s. s) result (console_after keyword (kinds tokens.now)) }
 {
     match keyword {
         Keyword::KCreate => create(alloc, tokens),
@@ -77,7 +77,7 @@ fn console_by_keyword(alloc: Global, tokens: &[Token]) -> Result<Stmt, SyntaxFau
     ensures { Gives (λ s. s) result (console_by_keyword (kinds tokens.now)) }
 {
     match split(tokens) {
-        Some((TokenKind::Keyword(keyword), rest)) => console_behind(alloc, *keyword, rest),
+        Some((TokenKind::Keyword(keyword), rest)) => console_after(alloc, *keyword, rest),
         _ => Err(SyntaxFault::BadSyntax),
     }
 }
@@ -90,8 +90,8 @@ fn console(alloc: Global, tokens: &[Token]) -> Result<Stmt, SyntaxFault>
     if begins_with(tokens, Keyword::KDuring) {
         return audit_statement(alloc, tokens);
     }
-    if let Some(behind) = after_word(tokens, "watch") {
-        return watch(alloc, behind);
+    if let Some(remaining) = after_word(tokens, "watch") {
+        return watch(alloc, remaining);
     }
     console_by_keyword(alloc, tokens)
 }

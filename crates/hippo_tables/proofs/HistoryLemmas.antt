@@ -10,11 +10,11 @@ use Rattle.hippo_model.specs.declared.schema.Schema.{Schema}
 use Rattle.hippo_model.specs.declared.entry.Entry.{Entry}
 use Rattle.hippo_model.specs.Terms.{History, Key}
 use Rattle.hippo_model.specs.Rows.{key_named, names_key, last_at, table_rows}
-use Rattle.hippo_keyed_rows.specs.RowSets.{kept_at, key_in, find_row, put_row, take_row}
+use Rattle.hippo_tables_keyed.specs.RowSets.{kept_at, key_in, find_row, put_row, take_row}
 use Rattle.hippo_model.specs.Versions.{is_live}
 use Rattle.hippo_model.proofs.LastWords.{last_word-append}
-use Rattle.hippo_keyed_rows.proofs.RowsAfter.{table_rows-other, IsAscending-table_rows}
-use Rattle.hippo_keyed_rows.proofs.ChangesOfRows.{is_live-found}
+use Rattle.hippo_tables_keyed.proofs.RowsAfter.{table_rows-other, IsAscending-table_rows}
+use Rattle.hippo_tables_keyed.proofs.ChangesOfRows.{is_live-found}
 use Rattle.hippo_tables.specs.KeptTables.{change_number, table_at, grown_table, after_insert, after_update, after_delete}
 use Rattle.hippo_tables.proofs.RowPlaces.{same_itself, same_turned, put_missing, put_found, map_taken}
 

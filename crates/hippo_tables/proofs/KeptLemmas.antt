@@ -7,7 +7,7 @@ use Rattle.std.proofs.lemmas.Bool.{false≢true}
 use Rattle.std.proofs.lemmas.List.{set-set, set-get_or}
 use Rattle.hippo_model.specs.declared.born_row.BornRow.{BornRow}
 use Rattle.hippo_model.specs.Terms.{Key}
-use Rattle.hippo_keyed_rows.specs.RowSets.{KeyedRows, key_in, IsAscending, put_row, with_row, without_row, find_row}
+use Rattle.hippo_tables_keyed.specs.RowSets.{KeyedRows, key_in, IsAscending, put_row, with_row, without_row, find_row}
 use Rattle.hippo_tables.specs.KeptTables.{KeptTable, place_of_key, grown_table, after_update, after_delete}
 use Rattle.hippo_tables.proofs.RowPlaces.{PutAt, PutOver, put_missing, put_found}
 

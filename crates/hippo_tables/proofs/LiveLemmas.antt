@@ -10,10 +10,10 @@ use Rattle.hippo_model.specs.declared.schema.Schema.{Schema}
 use Rattle.hippo_model.specs.Terms.{History, Row, Key}
 use Rattle.hippo_model.specs.Histories.{schema_at}
 use Rattle.hippo_model.specs.Rows.{row_at, last_at, born_at, table_rows}
-use Rattle.hippo_keyed_rows.specs.RowSets.{find_row}
-use Rattle.hippo_keyed_rows.proofs.RowsAfter.{row_with-table_rows, key_in-born_row_at}
-use Rattle.hippo_keyed_rows.proofs.KeptRows.{slice_get-find_row}
-use Rattle.hippo_keyed_rows.proofs.ChangesOfRows.{is_live-found}
+use Rattle.hippo_tables_keyed.specs.RowSets.{find_row}
+use Rattle.hippo_tables_keyed.proofs.RowsAfter.{row_with-table_rows, key_in-born_row_at}
+use Rattle.hippo_tables_keyed.proofs.KeptRows.{slice_get-find_row}
+use Rattle.hippo_tables_keyed.proofs.ChangesOfRows.{is_live-found}
 use Rattle.hippo_tables.specs.KeptTables.{KeptTable, change_number, table_at}
 use Rattle.hippo_tables.specs.Standing.{kept_table}
 use Rattle.hippo_tables.specs.Finished.{live_row, live_number}

@@ -10,9 +10,9 @@ use Rattle.std.proofs.lemmas.Bool.Decides.{nat_tests}
 use Rattle.hippo_values.specs.Order.{cells_cmp, same_cells}
 use Rattle.hippo_model.specs.declared.born_row.BornRow.{BornRow}
 use Rattle.hippo_model.specs.Terms.{Key, Place}
-use Rattle.hippo_keyed_rows.specs.RowSets.{key_in, IsBelowAll, IsAscending, put_row, take_row, find_row}
-use Rattle.hippo_keyed_rows.proofs.Orders.{cells_total, cells_exact, same_exact}
-use Rattle.hippo_keyed_rows.proofs.KeptRows.{flipped, IsBelowAll-from_below}
+use Rattle.hippo_tables_keyed.specs.RowSets.{key_in, IsBelowAll, IsAscending, put_row, take_row, find_row}
+use Rattle.hippo_tables_keyed.proofs.Orders.{cells_total, cells_exact, same_exact}
+use Rattle.hippo_tables_keyed.proofs.KeptRows.{flipped, IsBelowAll-from_below}
 
 pub same_itself : (key : Key) → same_cells key key ≡ true
 same_itself key = ap is_eq (tied_itself cells_total key)

@@ -15,15 +15,15 @@ use Rattle.hippo_model.specs.declared.entry.Act.TheVariants.{Create, Insert, Upd
 use Rattle.hippo_model.specs.Terms.{History, Row, Key}
 use Rattle.hippo_model.specs.Histories.{schema_created, schema_at}
 use Rattle.hippo_model.specs.Rows.{key_of, key_named, row_at, born_at, born_row_at, table_rows}
-use Rattle.hippo_keyed_rows.specs.RowSets.{find_row}
+use Rattle.hippo_tables_keyed.specs.RowSets.{find_row}
 use Rattle.hippo_model.specs.Versions.{row_fits, key_fits, is_live, version_fits}
 use Rattle.hippo_model.specs.Validity.{create_fits, creates_table, is_well_formed}
 use Rattle.hippo_values.specs.Limits.{table_limit}
 use Rattle.hippo_values.proofs.OptionLemmas.{none_there, some_there}
 use Rattle.hippo_model.proofs.LastWords.{last_word-append}
-use Rattle.hippo_keyed_rows.proofs.RowsAfter.{table_rows-Insert, table_rows-Update, table_rows-Delete, row_with-table_rows, IsAscending-table_rows, key_in-born_row_at}
-use Rattle.hippo_keyed_rows.proofs.ChangesOfRows.{is_live-found}
-use Rattle.hippo_keyed_rows.proofs.KeptRows.{slice_get-find_row}
+use Rattle.hippo_tables_keyed.proofs.RowsAfter.{table_rows-Insert, table_rows-Update, table_rows-Delete, row_with-table_rows, IsAscending-table_rows, key_in-born_row_at}
+use Rattle.hippo_tables_keyed.proofs.ChangesOfRows.{is_live-found}
+use Rattle.hippo_tables_keyed.proofs.KeptRows.{slice_get-find_row}
 use Rattle.hippo_tables.specs.declared.tables.Change.{Change}
 use Rattle.hippo_tables.specs.declared.tables.Change.TheVariants.{Inserted, Updated}
 use Rattle.hippo_tables.specs.declared.tables.Tables.{Tables}

@@ -4,7 +4,7 @@ use Rattle.std.specs.Option.{option_map_or}
 use Rattle.hippo_model.specs.declared.born_row.BornRow.{BornRow}
 use Rattle.hippo_model.specs.Terms.{Key, Row}
 use Rattle.hippo_model.specs.Rows.{key_of}
-use Rattle.hippo_keyed_rows.specs.RowSets.{find_row}
+use Rattle.hippo_tables_keyed.specs.RowSets.{find_row}
 use Rattle.hippo_tables.specs.declared.table.Before.{Before}
 use Rattle.hippo_tables.specs.KeptTables.{KeptTable, after_update}
 

@@ -6,7 +6,7 @@ use Rattle.hippo_model.specs.declared.born_row.BornRow.{BornRow}
 use Rattle.hippo_model.specs.declared.schema.Schema.{Schema}
 use Rattle.hippo_model.specs.Terms.{History, Key, Place}
 use Rattle.hippo_model.specs.Rows.{last_at, table_rows}
-use Rattle.hippo_keyed_rows.specs.RowSets.{KeyedRows, kept_at, key_in, with_row, without_row, find_row}
+use Rattle.hippo_tables_keyed.specs.RowSets.{KeyedRows, kept_at, key_in, with_row, without_row, find_row}
 
 -- the rows, and for each the number of the last entry that names its key
 pub record KeptTable : Type 0 where

@@ -11,7 +11,7 @@ use Rattle.hippo_model.specs.declared.schema.Schema.{Schema}
 use Rattle.hippo_model.specs.Terms.{History, Row, Key}
 use Rattle.hippo_model.specs.Histories.{schema_at}
 use Rattle.hippo_model.specs.Rows.{key_of, keys_named}
-use Rattle.hippo_keyed_rows.specs.RowSets.{key_in}
+use Rattle.hippo_tables_keyed.specs.RowSets.{key_in}
 use Rattle.hippo_model.specs.Validity.{create_fits, is_table_version}
 use Rattle.hippo_tables.specs.declared.tables.Change.{Change}
 use Rattle.hippo_tables.specs.declared.tables.Change.TheVariants.{Nothing, Made, Inserted, Updated}

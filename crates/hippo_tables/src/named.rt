@@ -2,12 +2,12 @@
 ghost use Rattle.std.specs.Prelude.{◌≡◌, ◌∷◌, [], IfOk, Some, length, map, option_map};
 ghost use Rattle.hippo_model.specs.Terms.{History};
 ghost use Rattle.hippo_model.specs.Histories.{schema_at};
-ghost use Rattle.hippo_keyed_rows.specs.RowSets.{kept_at};
+ghost use Rattle.hippo_tables_keyed.specs.RowSets.{kept_at};
 ghost use Rattle.hippo_tables.specs.Standing.{TablesStandFor, AreKeptTables, schemas_at};
 
 use crate::tables::Tables;
 use hippo_model::{Lent, LentSchemas, Names, Schema};
-use hippo_rows::{RowSet, Sets};
+use hippo_tables_rows::{RowSet, Sets};
 use hippo_values::{Memory, Name};
 use std::alloc::Global;
 

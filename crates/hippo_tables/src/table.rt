@@ -1,13 +1,13 @@
 //! One table: its schema and rows, and which entry named each row's key last.
 ghost use Rattle.std.specs.Prelude.{◌≡◌, option_copied, option_map, option_and_then, slice_get, slice_index_or, OnOk, OnErr, IfOk, None};
 ghost use Rattle.hippo_model.specs.Rows.{key_of};
-ghost use Rattle.hippo_keyed_rows.specs.RowSets.{find_row};
+ghost use Rattle.hippo_tables_keyed.specs.RowSets.{find_row};
 ghost use Rattle.hippo_tables.specs.Before.{before_of, renewed_table};
 ghost use Rattle.hippo_tables.specs.KeptTables.{KeptTable, empty_table, after_insert, after_update, after_delete};
 
-use hippo_keyed_rows::Pieces;
 use hippo_model::{Cells, Schema, copied_key};
-use hippo_rows::RowSet;
+use hippo_tables_keyed::Pieces;
+use hippo_tables_rows::RowSet;
 use hippo_values::{Duplicate, Memory, Moment};
 use std::alloc::Global;
 use std::marker::Model;

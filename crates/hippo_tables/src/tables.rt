@@ -6,7 +6,7 @@ ghost use Rattle.hippo_model.specs.Terms.{History};
 ghost use Rattle.hippo_model.specs.declared.entry.Entry.{Entry as HistoryEntry};
 ghost use Rattle.hippo_model.specs.Histories.{schema_at};
 ghost use Rattle.hippo_model.specs.Rows.{key_of};
-ghost use Rattle.hippo_keyed_rows.specs.RowSets.{kept_at};
+ghost use Rattle.hippo_tables_keyed.specs.RowSets.{kept_at};
 ghost use Rattle.hippo_tables.specs.KeptTables.{after_insert, after_update, after_delete};
 ghost use Rattle.hippo_tables.specs.Before.{before_of, renewed_table};
 ghost use Rattle.hippo_tables.specs.Finished.{live_row, live_number};
@@ -14,7 +14,7 @@ ghost use Rattle.hippo_tables.specs.Standing.{TablesStandFor, RemembersTables, T
 
 use crate::table::{Before, Table};
 use hippo_model::{Act, Cells, Entry, Schema};
-use hippo_rows::RowSet;
+use hippo_tables_rows::RowSet;
 use hippo_values::{Duplicate, Memory, Moment, Name};
 use std::alloc::Global;
 use std::collections::HashMap;

@@ -6,17 +6,17 @@ use Rattle.hippo_values.specs.Moments.{first_moment}
 use Rattle.hippo_model.specs.declared.audit.Audit.{Audit}
 use Rattle.hippo_model.specs.declared.name_fault.NameFault.{NameFault}
 use Rattle.hippo_model.specs.declared.schema.Schema.{Schema}
-use Rattle.hippo_statements.specs.declared.statement.RawAudit.{RawAudit}
-use Rattle.hippo_catalog.specs.declared.period.Period.{Period}
-use Rattle.hippo_catalog.specs.Catalogs.{KnownNames, schemas_of}
-use Rattle.hippo_catalog.specs.Refusals.{IsFirstOf}
-use Rattle.hippo_catalog.specs.WrittenColumns.{column_refused, column_of}
-use Rattle.hippo_catalog.specs.Comparisons.{operands_refused, condition_of, kinds_refused, texts_refused}
-use Rattle.hippo_catalog.specs.AuditExpressions.{audit_parts_refused, period_refused, audit_refused, audit_of}
+use Rattle.hippo_stmt_ast.specs.declared.statement.RawAudit.{RawAudit}
+use Rattle.hippo_typing_catalog.specs.declared.period.Period.{Period}
+use Rattle.hippo_typing_catalog.specs.Catalogs.{KnownNames, schemas_of}
+use Rattle.hippo_typing_catalog.specs.Refusals.{IsFirstOf}
+use Rattle.hippo_typing_catalog.specs.WrittenColumns.{column_refused, column_of}
+use Rattle.hippo_typing_catalog.specs.Comparisons.{operands_refused, condition_of, kinds_refused, texts_refused}
+use Rattle.hippo_typing_catalog.specs.AuditExpressions.{audit_parts_refused, period_refused, audit_refused, audit_of}
 use Rattle.hippo_typing.specs.declared.audits.FoundAudit.{FoundAudit}
 use Rattle.hippo_typing.specs.declared.audits.AuditHead.{AuditHead}
 use Rattle.hippo_typing.specs.FoundAudits.{tables_refused, audit_columns_refused, audit_found, judged_refused, head_of_audit}
-use Rattle.hippo_catalog.proofs.Refused.{with_four}
+use Rattle.hippo_typing_catalog.proofs.Refused.{with_four}
 
 module _ (known : KnownNames) (audit : RawAudit) (period : Period) (schemas : List Schema) (same : schemas ≡ schemas_of known audit.tables)
     (there : tables_refused known audit ≡ []) where
@@ -29,18 +29,18 @@ module _ (known : KnownNames) (audit : RawAudit) (period : Period) (schemas : Li
       let moved : IsFirstOf (audit_columns_refused known_schemas audit) fault = subst (λ (s : List Schema). IsFirstOf (audit_columns_refused s audit) fault) same first in
       with_four _ _ _ _ _ fault (subst (λ (l : List NameFault). IsFirstOf l fault) (sym (of_columns known_schemas)) moved)
 
-  all_behind : audit_columns_refused schemas audit ≡ [] → audit_refused known period audit ≡ judged_refused schemas audit (condition_of schemas audit.cond) period
-  all_behind none =
+  all_after : audit_columns_refused schemas audit ≡ [] → audit_refused known period audit ≡ judged_refused schemas audit (condition_of schemas audit.cond) period
+  all_after none =
       let s : List Schema = schemas_of known audit.tables in
       let none_there : audit_columns_refused s audit ≡ [] = subst (λ (x : List Schema). audit_columns_refused x audit ≡ []) same none in
       ap (λ (before : List NameFault). before ++ kinds_refused s (condition_of s audit.cond) ++ texts_refused (condition_of s audit.cond) ++ audit_parts_refused audit ++ period_refused period) (of_columns s ∙ none_there)
       ∙ ap (λ (x : List Schema). judged_refused x audit (condition_of x audit.cond) period) (sym same)
 
   pub first_of_judged : (fault : NameFault) → audit_columns_refused schemas audit ≡ [] → IsFirstOf (judged_refused schemas audit (condition_of schemas audit.cond) period) fault → IsFirstOf (audit_refused known period audit) fault
-  first_of_judged fault none first = subst (λ (l : List NameFault). IsFirstOf l fault) (sym (all_behind none)) first
+  first_of_judged fault none first = subst (λ (l : List NameFault). IsFirstOf l fault) (sym (all_after none)) first
 
   pub none_of_audit : audit_columns_refused schemas audit ≡ [] → judged_refused schemas audit (condition_of schemas audit.cond) period ≡ [] → audit_refused known period audit ≡ []
-  none_of_audit none none_behind = all_behind none ∙ none_behind
+  none_of_audit none none_after = all_after none ∙ none_after
 
   pub audit_of_found : (found : FoundAudit) (head : AuditHead) → found ≡ audit_found schemas audit → head ≡ head_of_audit audit period → (let made : Audit = record { from = head.from; to = head.to; exempt = head.exempt; shown = audit.shown; columns = found.columns; tables = head.tables; cond = found.cond } in made ≡ audit_of known period audit)
   audit_of_found found head is_found is_head =

@@ -23,8 +23,8 @@ use Rattle.hippo_model.specs.Keepable.{is_keepable}
 use Rattle.hippo_model.specs.Terms.{History, Meaning}
 use Rattle.hippo_model.specs.Validity.{creates_purpose, creates_recipient, is_purpose, is_recipient, creates_table, keeps_order, is_acceptable, is_well_formed, may_follow, is_valid}
 use Rattle.hippo_model.proofs.LastWords.{last_word-append}
-use Rattle.hippo_catalog.specs.Catalogs.{KnownNames, table_in, purpose_in, recipient_in, item_in, known_at, known_after, has_purpose, has_recipient, creates_anew}
-use Rattle.hippo_laws.proofs.ValidFronts.{holds_of_each_valid}
+use Rattle.hippo_typing_catalog.specs.Catalogs.{KnownNames, table_in, purpose_in, recipient_in, item_in, known_at, known_after, has_purpose, has_recipient, creates_anew}
+use Rattle.hippo_model_laws.proofs.ValidFronts.{holds_of_each_valid}
 use Rattle.hippo_typing.specs.ResolutionLaws.{NamesAreThoseOf}
 use Rattle.hippo_typing.proofs.LastingNames.{lookup-append}
 

@@ -14,22 +14,22 @@ use Rattle.hippo_model.specs.declared.query.CondOf.{CondOf}
 use Rattle.hippo_model.specs.declared.query.Operand.{Operand}
 use Rattle.hippo_model.specs.declared.query.Ref.{Ref}
 use Rattle.hippo_model.specs.declared.schema.Schema.{Schema}
-use Rattle.hippo_statements.specs.declared.statement.RawColumn.{RawColumn}
-use Rattle.hippo_statements.specs.declared.statement.RawForm.{RawForm}
-use Rattle.hippo_statements.specs.declared.statement.RawForm.TheVariants as forms
-use Rattle.hippo_statements.specs.declared.statement.RawItem.{RawItem}
-use Rattle.hippo_statements.specs.declared.statement.RawOut.{RawOut}
-use Rattle.hippo_statements.specs.declared.statement.RawOut.TheVariants.{Column, Min, Max}
-use Rattle.hippo_statements.specs.declared.statement.RawSelect.{RawSelect}
+use Rattle.hippo_stmt_ast.specs.declared.statement.RawColumn.{RawColumn}
+use Rattle.hippo_stmt_ast.specs.declared.statement.RawForm.{RawForm}
+use Rattle.hippo_stmt_ast.specs.declared.statement.RawForm.TheVariants as forms
+use Rattle.hippo_stmt_ast.specs.declared.statement.RawItem.{RawItem}
+use Rattle.hippo_stmt_ast.specs.declared.statement.RawOut.{RawOut}
+use Rattle.hippo_stmt_ast.specs.declared.statement.RawOut.TheVariants.{Column, Min, Max}
+use Rattle.hippo_stmt_ast.specs.declared.statement.RawSelect.{RawSelect}
 use Rattle.hippo_model.specs.Terms.{Place}
-use Rattle.hippo_catalog.specs.Comparisons.{condition_of, kinds_refused, texts_refused}
-use Rattle.hippo_catalog.specs.Catalogs.{KnownNames, schemas_of}
-use Rattle.hippo_catalog.specs.Refusals.{fault_if, unknown_table, repeated_names, IsFirstOf}
-use Rattle.hippo_catalog.proofs.Refused.{first_after, with_four}
+use Rattle.hippo_typing_catalog.specs.Comparisons.{condition_of, kinds_refused, texts_refused}
+use Rattle.hippo_typing_catalog.specs.Catalogs.{KnownNames, schemas_of}
+use Rattle.hippo_typing_catalog.specs.Refusals.{fault_if, unknown_table, repeated_names, IsFirstOf}
+use Rattle.hippo_typing_catalog.proofs.Refused.{first_after, with_four}
 use Rattle.hippo_values.specs.Limits.{from_limit, item_limit}
-use Rattle.hippo_catalog.specs.StatementLimits.{too_many}
-use Rattle.hippo_catalog.specs.WrittenColumns.{column_of}
-use Rattle.hippo_catalog.specs.Selects.{outs_of, by_of, plain_column, argument_in, same_reference, lone_column, groups_refused, shown_outs, form_of, listed_columns, columns_refused, select_parts_refused, select_refused, query_of}
+use Rattle.hippo_typing_catalog.specs.StatementLimits.{too_many}
+use Rattle.hippo_typing_catalog.specs.WrittenColumns.{column_of}
+use Rattle.hippo_typing_catalog.specs.Selects.{outs_of, by_of, plain_column, argument_in, same_reference, lone_column, groups_refused, shown_outs, form_of, listed_columns, columns_refused, select_parts_refused, select_refused, query_of}
 use Rattle.hippo_typing.specs.Found.{with_column, with_out, plain_found, argument_found, lone_found, groups_found_refused, shown_found}
 use Rattle.hippo_typing.specs.FoundSelects.{list_found, select_found, own_items, form_found, head_of, query_with, head_refused}
 use Rattle.hippo_typing.specs.declared.selects.FoundSelect.{FoundSelect}
@@ -154,18 +154,18 @@ module _ (known : KnownNames) (select : RawSelect) (schemas : List Schema) (same
   pub first_of_columns : (fault : NameFault) → IsFirstOf (columns_refused schemas select) fault → IsFirstOf (select_refused known select) fault
   first_of_columns fault first = with_four _ _ _ _ _ fault (first_of_columns_at (schemas_of known select.tables) same fault first)
 
-  all_behind : columns_refused schemas select ≡ [] → select_refused known select ≡ head_refused schemas select (select_found schemas select)
-  all_behind none =
+  all_after : columns_refused schemas select ≡ [] → select_refused known select ≡ head_refused schemas select (select_found schemas select)
+  all_after none =
       let none_there : columns_refused (schemas_of known select.tables) select ≡ [] = subst (λ (x : List Schema). columns_refused x select ≡ []) same none in
-      let behind : List NameFault → List NameFault = λ before. before ++ groups_refused (schemas_of known select.tables) (outs_of select.form) (by_of select.form) ++ kinds_refused (schemas_of known select.tables) (condition_of (schemas_of known select.tables) select.cond) ++ texts_refused (condition_of (schemas_of known select.tables) select.cond) ++ select_parts_refused select in
-      ap (λ (before : List NameFault). behind (before ++ columns_refused (schemas_of known select.tables) select)) there ∙ ap behind none_there
+      let remaining : List NameFault → List NameFault = λ before. before ++ groups_refused (schemas_of known select.tables) (outs_of select.form) (by_of select.form) ++ kinds_refused (schemas_of known select.tables) (condition_of (schemas_of known select.tables) select.cond) ++ texts_refused (condition_of (schemas_of known select.tables) select.cond) ++ select_parts_refused select in
+      ap (λ (before : List NameFault). remaining (before ++ columns_refused (schemas_of known select.tables) select)) there ∙ ap remaining none_there
       ∙ sym (head_refused_of_select (schemas_of known select.tables) select) ∙ ap (λ (s : List Schema). head_refused s select (select_found s select)) (sym same)
 
   pub first_of_head : (fault : NameFault) → columns_refused schemas select ≡ [] → IsFirstOf (head_refused schemas select (select_found schemas select)) fault → IsFirstOf (select_refused known select) fault
-  first_of_head fault none first = subst (λ (l : List NameFault). IsFirstOf l fault) (sym (all_behind none)) first
+  first_of_head fault none first = subst (λ (l : List NameFault). IsFirstOf l fault) (sym (all_after none)) first
 
   pub none_of_select : columns_refused schemas select ≡ [] → head_refused schemas select (select_found schemas select) ≡ [] → select_refused known select ≡ []
-  none_of_select none none_behind = all_behind none ∙ none_behind
+  none_of_select none none_after = all_after none ∙ none_after
 
   pub query_of_select : (found : FoundSelect) (head : QueryHead) → found ≡ select_found schemas select → head ≡ head_of select (select_found schemas select) → query_with head found ≡ query_of known select
   query_of_select found head is_found is_head =

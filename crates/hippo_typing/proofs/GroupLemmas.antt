@@ -2,8 +2,8 @@
 use Rattle.std.proofs.Common.{List, [], ◌∷◌, ◌≡◌}
 use Rattle.std.specs.List.{flat_map}
 use Rattle.hippo_model.specs.declared.name_fault.NameFault.{NameFault}
-use Rattle.hippo_catalog.specs.Refusals.{IsFirstOf}
-use Rattle.hippo_catalog.proofs.Refused.{first_with_more, first_after}
+use Rattle.hippo_typing_catalog.specs.Refusals.{IsFirstOf}
+use Rattle.hippo_typing_catalog.proofs.Refused.{first_with_more, first_after}
 
 module _ {A : Type 0} (refuse : A → List NameFault) (fault : NameFault) where
   pub at_first : (a : A) (rest : List A) → IsFirstOf (refuse a) fault → IsFirstOf (flat_map refuse (a ∷ rest)) fault

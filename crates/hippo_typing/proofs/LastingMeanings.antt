@@ -3,7 +3,7 @@ use Rattle.std.proofs.Common.{◌≡◌, ◌∙◌, sym, ◌++◌, Some}
 use Rattle.hippo_values.specs.Texts.{Txt}
 use Rattle.hippo_model.specs.declared.query.Query.{Query}
 use Rattle.hippo_model.specs.Terms.{History}
-use Rattle.hippo_catalog.specs.Catalogs.{known_at}
+use Rattle.hippo_typing_catalog.specs.Catalogs.{known_at}
 use Rattle.hippo_typing.specs.Meanings.{meaning}
 use Rattle.hippo_typing.proofs.LastingNames.{extends_later, select_lasts}
 use Rattle.hippo_typing.proofs.MeaningTheorem.{Means-found, found-Means}

@@ -11,16 +11,16 @@ use Rattle.hippo_model.specs.declared.entry.Entry.{Entry}
 use Rattle.hippo_model.specs.declared.name_fault.NameFault.{NameFault}
 use Rattle.hippo_model.specs.declared.name_fault.NameFault.TheVariants.{UnknownTable, UnknownPurpose, UnknownRecipient}
 use Rattle.hippo_model.specs.declared.schema.Schema.{Schema}
-use Rattle.hippo_statements.specs.declared.statement.RawAudit.{RawAudit}
-use Rattle.hippo_statements.specs.declared.statement.RawSelect.{RawSelect}
+use Rattle.hippo_stmt_ast.specs.declared.statement.RawAudit.{RawAudit}
+use Rattle.hippo_stmt_ast.specs.declared.statement.RawSelect.{RawSelect}
 use Rattle.hippo_model.specs.Terms.{History}
-use Rattle.hippo_catalog.specs.declared.period.Period.{Period}
-use Rattle.hippo_catalog.specs.AuditExpressions.{audit_parts_refused, period_refused, audit_refused, audit_of}
-use Rattle.hippo_catalog.specs.Catalogs.{KnownNames, table_in, purpose_in, recipient_in, known_at, table_of, has_purpose, has_recipient, schemas_of}
-use Rattle.hippo_catalog.specs.Comparisons.{operands_refused, condition_of, kinds_refused, texts_refused}
-use Rattle.hippo_catalog.specs.Refusals.{fault_if, unknown_table, unknown_purpose, unknown_recipient, unknown_pair, repeated_names}
-use Rattle.hippo_catalog.specs.Selects.{columns_refused, groups_refused, outs_of, by_of, select_parts_refused, select_refused, listed_columns, form_of, query_of}
-use Rattle.hippo_catalog.specs.WrittenColumns.{column_refused, column_of}
+use Rattle.hippo_typing_catalog.specs.declared.period.Period.{Period}
+use Rattle.hippo_typing_catalog.specs.AuditExpressions.{audit_parts_refused, period_refused, audit_refused, audit_of}
+use Rattle.hippo_typing_catalog.specs.Catalogs.{KnownNames, table_in, purpose_in, recipient_in, known_at, table_of, has_purpose, has_recipient, schemas_of}
+use Rattle.hippo_typing_catalog.specs.Comparisons.{operands_refused, condition_of, kinds_refused, texts_refused}
+use Rattle.hippo_typing_catalog.specs.Refusals.{fault_if, unknown_table, unknown_purpose, unknown_recipient, unknown_pair, repeated_names}
+use Rattle.hippo_typing_catalog.specs.Selects.{columns_refused, groups_refused, outs_of, by_of, select_parts_refused, select_refused, listed_columns, form_of, query_of}
+use Rattle.hippo_typing_catalog.specs.WrittenColumns.{column_refused, column_of}
 
 option_or-assoc : {A : Type 0} (test : Bool) (value : A) (first second : Option A) → cond test (Some value) (option_or first second) ≡ option_or (cond test (Some value) first) second
 option_or-assoc true value first second = refl
@@ -84,9 +84,9 @@ module _ (known more : KnownNames) (extends : Extends known more) where
   tables_last (table ∷ rest) none =
       let both = both_none (unknown_table known table) (flat_map (unknown_table known) rest) none in
       let first = table_lasts table both.0 in
-      let behind = tables_last rest both.1 in (
-        ap (λ l. l ++ flat_map (unknown_table more) rest) first.0 ∙ behind.0,
-        ap (λ o. cons_option o (schemas_of more rest)) first.1 ∙ ap (cons_option (table_of known table)) behind.1,
+      let remaining = tables_last rest both.1 in (
+        ap (λ l. l ++ flat_map (unknown_table more) rest) first.0 ∙ remaining.0,
+        ap (λ o. cons_option o (schemas_of more rest)) first.1 ∙ ap (cons_option (table_of known table)) remaining.1,
       )
 
   there : (test : Bool) (fault : NameFault) → fault_if (not test) fault ≡ [] → test ≡ true

@@ -16,14 +16,14 @@ use Rattle.hippo_lexer.specs.Cutting.{outcome_of}
 use Rattle.hippo_lexer.proofs.OutcomeLemmas.{outcome-one}
 use Rattle.hippo_model.specs.declared.name_fault.NameFault.{NameFault}
 use Rattle.hippo_model.specs.declared.query.Query.{Query}
-use Rattle.hippo_statements.specs.declared.statement.RawSelect.{RawSelect}
+use Rattle.hippo_stmt_ast.specs.declared.statement.RawSelect.{RawSelect}
 use Rattle.hippo_spj_reader.specs.Front.{Kinds, kinds, kinds_between}
 use Rattle.hippo_spj_reader.specs.Promises.{whole_of, part_at_end, ReadsAll, IsFaultOnlyWhere}
 use Rattle.hippo_spj_reader.specs.SelectFinder.{leading_select}
 use Rattle.hippo_spj_reader.specs.SelectGrammar.{IsSelect}
 use Rattle.hippo_spj_reader.proofs.SelectTheorem.{found, complete, ends-nothing}
-use Rattle.hippo_catalog.specs.Catalogs.{KnownNames, known_at}
-use Rattle.hippo_catalog.specs.Selects.{select_refused, query_of}
+use Rattle.hippo_typing_catalog.specs.Catalogs.{KnownNames, known_at}
+use Rattle.hippo_typing_catalog.specs.Selects.{select_refused, query_of}
 use Rattle.hippo_typing.specs.Meanings.{IsSelectText, Means, select_in, query_unless_refused, query_in, meaning_in, meaning}
 use Rattle.hippo_typing.specs.MeaningLaws.{SaysWhatTextsMean, AtMostOneMeaning}
 

@@ -2,7 +2,7 @@
 use Rattle.std.proofs.Common.{◌≡◌, List, [], Ok, Err, ap, subst, ◌∙◌}
 use Rattle.std.specs.Prelude.{Result}
 use Rattle.hippo_model.specs.declared.name_fault.NameFault.{NameFault}
-use Rattle.hippo_catalog.specs.Refusals.{Resolves, IsFirstOf}
+use Rattle.hippo_typing_catalog.specs.Refusals.{Resolves, IsFirstOf}
 use Rattle.hippo_typing.specs.Pairs.{paired}
 
 module _ {A B : Type 0} (first : A) (refusals : List NameFault) (form : B) where

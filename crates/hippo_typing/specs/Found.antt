@@ -7,13 +7,13 @@ use Rattle.hippo_model.specs.declared.query.Out.{Out}
 use Rattle.hippo_model.specs.declared.query.Out.TheVariants as shown
 use Rattle.hippo_model.specs.declared.query.Ref.{Ref}
 use Rattle.hippo_model.specs.declared.schema.Schema.{Schema}
-use Rattle.hippo_statements.specs.declared.statement.RawColumn.{RawColumn}
-use Rattle.hippo_statements.specs.declared.statement.RawOut.{RawOut}
-use Rattle.hippo_statements.specs.declared.statement.RawOut.TheVariants.{Column, Min, Max}
+use Rattle.hippo_stmt_ast.specs.declared.statement.RawColumn.{RawColumn}
+use Rattle.hippo_stmt_ast.specs.declared.statement.RawOut.{RawOut}
+use Rattle.hippo_stmt_ast.specs.declared.statement.RawOut.TheVariants.{Column, Min, Max}
 use Rattle.hippo_model.specs.Terms.{Place}
-use Rattle.hippo_catalog.specs.Refusals.{fault_if}
-use Rattle.hippo_catalog.specs.WrittenColumns.{column_of}
-use Rattle.hippo_catalog.specs.Selects.{column_in, same_reference}
+use Rattle.hippo_typing_catalog.specs.Refusals.{fault_if}
+use Rattle.hippo_typing_catalog.specs.WrittenColumns.{column_of}
+use Rattle.hippo_typing_catalog.specs.Selects.{column_in, same_reference}
 
 abbrev pub with_column : List Schema → RawColumn → RawColumn × Ref
 with_column schemas written = (written, column_of schemas written)

@@ -5,13 +5,13 @@ use Rattle.hippo_model.specs.declared.name_fault.NameFault.{NameFault}
 use Rattle.hippo_model.specs.declared.query.CondOf.{CondOf}
 use Rattle.hippo_model.specs.declared.query.Operand.{Operand}
 use Rattle.hippo_model.specs.declared.schema.Schema.{Schema}
-use Rattle.hippo_statements.specs.declared.statement.RawAudit.{RawAudit}
-use Rattle.hippo_catalog.specs.declared.period.Period.{Period}
-use Rattle.hippo_catalog.specs.Catalogs.{KnownNames}
-use Rattle.hippo_catalog.specs.Refusals.{unknown_table, unknown_pair, repeated_names}
-use Rattle.hippo_catalog.specs.WrittenColumns.{column_refused, column_of}
-use Rattle.hippo_catalog.specs.Comparisons.{operands_refused, condition_of, kinds_refused, texts_refused}
-use Rattle.hippo_catalog.specs.AuditExpressions.{audit_parts_refused, period_refused}
+use Rattle.hippo_stmt_ast.specs.declared.statement.RawAudit.{RawAudit}
+use Rattle.hippo_typing_catalog.specs.declared.period.Period.{Period}
+use Rattle.hippo_typing_catalog.specs.Catalogs.{KnownNames}
+use Rattle.hippo_typing_catalog.specs.Refusals.{unknown_table, unknown_pair, repeated_names}
+use Rattle.hippo_typing_catalog.specs.WrittenColumns.{column_refused, column_of}
+use Rattle.hippo_typing_catalog.specs.Comparisons.{operands_refused, condition_of, kinds_refused, texts_refused}
+use Rattle.hippo_typing_catalog.specs.AuditExpressions.{audit_parts_refused, period_refused}
 use Rattle.hippo_typing.specs.declared.audits.FoundAudit.{FoundAudit}
 use Rattle.hippo_typing.specs.declared.audits.AuditHead.{AuditHead}
 

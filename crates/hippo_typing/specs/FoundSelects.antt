@@ -6,12 +6,12 @@ use Rattle.hippo_model.specs.declared.query.Form.TheVariants.{Plain, Distinct, G
 use Rattle.hippo_model.specs.declared.query.Query.{Query}
 use Rattle.hippo_model.specs.declared.query.Ref.{Ref}
 use Rattle.hippo_model.specs.declared.schema.Schema.{Schema}
-use Rattle.hippo_statements.specs.declared.statement.RawForm.{RawForm}
-use Rattle.hippo_statements.specs.declared.statement.RawForm.TheVariants as forms
-use Rattle.hippo_statements.specs.declared.statement.RawItem.{RawItem}
-use Rattle.hippo_statements.specs.declared.statement.RawSelect.{RawSelect}
-use Rattle.hippo_catalog.specs.Comparisons.{condition_of, kinds_refused, texts_refused}
-use Rattle.hippo_catalog.specs.Selects.{by_of, item_columns, select_parts_refused}
+use Rattle.hippo_stmt_ast.specs.declared.statement.RawForm.{RawForm}
+use Rattle.hippo_stmt_ast.specs.declared.statement.RawForm.TheVariants as forms
+use Rattle.hippo_stmt_ast.specs.declared.statement.RawItem.{RawItem}
+use Rattle.hippo_stmt_ast.specs.declared.statement.RawSelect.{RawSelect}
+use Rattle.hippo_typing_catalog.specs.Comparisons.{condition_of, kinds_refused, texts_refused}
+use Rattle.hippo_typing_catalog.specs.Selects.{by_of, item_columns, select_parts_refused}
 use Rattle.hippo_typing.specs.declared.selects.FoundList.{FoundList}
 use Rattle.hippo_typing.specs.declared.selects.FoundSelect.{FoundSelect}
 use Rattle.hippo_typing.specs.declared.selects.QueryHead.{QueryHead}

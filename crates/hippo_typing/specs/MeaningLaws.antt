@@ -3,7 +3,7 @@ use Rattle.std.specs.Prelude.{◌≡◌, ◌↔◌, Some}
 use Rattle.hippo_values.specs.Texts.{Txt}
 use Rattle.hippo_model.specs.declared.query.Query.{Query}
 use Rattle.hippo_model.specs.Terms.{History, Meaning}
-use Rattle.hippo_catalog.specs.Catalogs.{KnownNames, known_at}
+use Rattle.hippo_typing_catalog.specs.Catalogs.{KnownNames, known_at}
 use Rattle.hippo_typing.specs.Meanings.{Means, meaning}
 
 -- a function gives each text the query that it means, and no other text any

@@ -9,14 +9,14 @@ use Rattle.hippo_lexer.specs.Words.{words_check}
 use Rattle.hippo_lexer.specs.Cutting.{outcome_of}
 use Rattle.hippo_model.specs.declared.name_fault.NameFault.{NameFault}
 use Rattle.hippo_model.specs.declared.query.Query.{Query}
-use Rattle.hippo_statements.specs.declared.statement.RawSelect.{RawSelect}
+use Rattle.hippo_stmt_ast.specs.declared.statement.RawSelect.{RawSelect}
 use Rattle.hippo_model.specs.Terms.{Meaning}
 use Rattle.hippo_spj_reader.specs.Front.{kinds}
 use Rattle.hippo_spj_reader.specs.Promises.{whole_of}
 use Rattle.hippo_spj_reader.specs.SelectFinder.{leading_select}
 use Rattle.hippo_spj_reader.specs.SelectGrammar.{IsSelect}
-use Rattle.hippo_catalog.specs.Catalogs.{KnownNames, known_at}
-use Rattle.hippo_catalog.specs.Selects.{select_refused, query_of}
+use Rattle.hippo_typing_catalog.specs.Catalogs.{KnownNames, known_at}
+use Rattle.hippo_typing_catalog.specs.Selects.{select_refused, query_of}
 
 -- a text is a select: it has tokens, which are neither too deep nor words that are refused, and by
 -- the grammar all of them together are this select

@@ -2,15 +2,15 @@
 use Rattle.std.specs.Prelude.{◌≡◌, true, [], ◌∷◌, ◌++◌, length, count_by}
 use Rattle.hippo_values.specs.declared.names.Name.{Name}
 use Rattle.hippo_model.specs.declared.entry.Entry.{Entry}
-use Rattle.hippo_statements.specs.declared.statement.RawAudit.{RawAudit}
-use Rattle.hippo_statements.specs.declared.statement.RawSelect.{RawSelect}
+use Rattle.hippo_stmt_ast.specs.declared.statement.RawAudit.{RawAudit}
+use Rattle.hippo_stmt_ast.specs.declared.statement.RawSelect.{RawSelect}
 use Rattle.hippo_model.specs.Histories.{schema_at, item_at}
 use Rattle.hippo_model.specs.Terms.{History, Meaning}
 use Rattle.hippo_model.specs.Validity.{is_purpose, is_recipient, creates_table, may_follow, is_valid}
-use Rattle.hippo_catalog.specs.declared.period.Period.{Period}
-use Rattle.hippo_catalog.specs.AuditExpressions.{audit_refused, audit_of}
-use Rattle.hippo_catalog.specs.Catalogs.{known_at, known_after, table_of, has_purpose, has_recipient, item_of, creates_anew}
-use Rattle.hippo_catalog.specs.Selects.{select_refused, query_of}
+use Rattle.hippo_typing_catalog.specs.declared.period.Period.{Period}
+use Rattle.hippo_typing_catalog.specs.AuditExpressions.{audit_refused, audit_of}
+use Rattle.hippo_typing_catalog.specs.Catalogs.{known_at, known_after, table_of, has_purpose, has_recipient, item_of, creates_anew}
+use Rattle.hippo_typing_catalog.specs.Selects.{select_refused, query_of}
 
 -- a select that is not refused after some entries means the same after more
 abbrev pub SelectsLast : Type 0

@@ -3,11 +3,11 @@ ghost use Rattle.std.specs.Prelude.{◌≡◌, flat_map, unwrap_or, Option};
 ghost use Rattle.hippo_values.specs.Moments.{first_moment};
 ghost use Rattle.hippo_values.specs.declared.moments.Moment.{Moment as Second};
 ghost use Rattle.hippo_model.specs.declared.name_fault.NameFault.TheVariants.{PeriodBack};
-ghost use Rattle.hippo_catalog.specs.declared.period.Period.{Period as PeriodEnds};
-ghost use Rattle.hippo_catalog.specs.Catalogs.{schemas_of};
-ghost use Rattle.hippo_catalog.specs.Refusals.{Resolves, fault_if, unknown_pair};
-ghost use Rattle.hippo_catalog.specs.AuditExpressions.{goes_back, IsMomentIn, IsPeriodOf};
-ghost use Rattle.hippo_catalog.specs.AuditExpressions.{audit_parts_refused, period_refused, audit_refused, audit_of};
+ghost use Rattle.hippo_typing_catalog.specs.declared.period.Period.{Period as PeriodEnds};
+ghost use Rattle.hippo_typing_catalog.specs.Catalogs.{schemas_of};
+ghost use Rattle.hippo_typing_catalog.specs.Refusals.{Resolves, fault_if, unknown_pair};
+ghost use Rattle.hippo_typing_catalog.specs.AuditExpressions.{goes_back, IsMomentIn, IsPeriodOf};
+ghost use Rattle.hippo_typing_catalog.specs.AuditExpressions.{audit_parts_refused, period_refused, audit_refused, audit_of};
 ghost use Rattle.hippo_typing.specs.FoundAudits.{tables_refused, audit_columns_refused, audit_found};
 ghost use Rattle.hippo_typing.specs.FoundAudits.{judged_refused, head_of_audit};
 
@@ -16,13 +16,13 @@ use crate::pairs::paired;
 use crate::parts::check_count;
 use crate::tables::tables_of;
 use crate::written::found_each;
-use hippo_catalog::{
+use hippo_model::{Audit, CondOf, NameFault, Names, Operand, Pairs, Refs};
+use hippo_stmt_ast::RawAudit;
+use hippo_typing_catalog::{
     Catalog, Period, StatementTables, check_kinds, check_pair, check_repeats, check_texts,
 };
-use hippo_model::{Audit, CondOf, NameFault, Names, Operand, Pairs, Refs};
-use hippo_statements::RawAudit;
-use hippo_text_forms::read_moment;
 use hippo_values::{Duplicate, FROM_LIMIT, ITEM_LIMIT, Moment, PAIR_LIMIT, Txt};
+use hippo_values_text::read_moment;
 use std::alloc::Global;
 
 /// An audit expression's columns, as they are found.

@@ -2,15 +2,15 @@
 ghost use Rattle.std.specs.Prelude.{◌≡◌, List, ◌++◌, map, flat_map};
 ghost use Rattle.std.specs.Prelude.{unwrap_or, option_copied, option_to_list, MatchResult};
 ghost use Rattle.hippo_model.specs.declared.query.Ref.{Ref as Reference};
-ghost use Rattle.hippo_catalog.specs.Refusals.{Resolves, IsFirstOf};
-ghost use Rattle.hippo_catalog.specs.WrittenColumns.{may_stand_in, home_in, homes_refused, column_refused, column_of};
+ghost use Rattle.hippo_typing_catalog.specs.Refusals.{Resolves, IsFirstOf};
+ghost use Rattle.hippo_typing_catalog.specs.WrittenColumns.{may_stand_in, home_in, homes_refused, column_refused, column_of};
 ghost use Rattle.hippo_typing.specs.Found.{with_column};
 
 use crate::found::{Found, FoundColumns};
 use crate::written::Written;
-use hippo_catalog::{IndexedTable, StatementTables, column_faults};
 use hippo_model::{NameFault, Ref};
-use hippo_statements::RawColumn;
+use hippo_stmt_ast::RawColumn;
+use hippo_typing_catalog::{IndexedTable, StatementTables, column_faults};
 use hippo_values::{Name, Sequence};
 use std::alloc::Global;
 

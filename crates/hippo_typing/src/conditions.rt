@@ -1,13 +1,13 @@
 //! A condition with its columns found.
 ghost use Rattle.std.specs.Prelude.{◌∷◌, [], flat_map, map, if◌then◌else◌};
 ghost use Rattle.hippo_model.specs.declared.query.CondOf.TheVariants.{All, Any, Not, Compare, Between, Among, Missing};
-ghost use Rattle.hippo_catalog.specs.Refusals.{Resolves};
-ghost use Rattle.hippo_catalog.specs.Comparisons.{operand_refused, operand_of, operands_refused, condition_of};
+ghost use Rattle.hippo_typing_catalog.specs.Refusals.{Resolves};
+ghost use Rattle.hippo_typing_catalog.specs.Comparisons.{operand_refused, operand_of, operands_refused, condition_of};
 
 use crate::written::{Written, found_each};
-use hippo_catalog::StatementTables;
 use hippo_model::{CondOf, NameFault, Operand, Operands};
-use hippo_statements::{RawCond, RawOperand};
+use hippo_stmt_ast::{RawCond, RawOperand};
+use hippo_typing_catalog::StatementTables;
 use hippo_values::{Boxed, CompareOp, Duplicate, Sequence};
 use std::alloc::Global;
 

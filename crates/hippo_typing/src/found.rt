@@ -1,6 +1,6 @@
 //! Parts of a select with the columns that they name.
 use hippo_model::Ref;
-use hippo_statements::{RawColumn, RawOut};
+use hippo_stmt_ast::{RawColumn, RawOut};
 use hippo_values::Sequence;
 use std::marker::Model;
 

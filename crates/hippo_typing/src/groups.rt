@@ -2,17 +2,17 @@
 ghost use Rattle.std.specs.Prelude.{◌≡◌, ◌+◌, ◌≤◌, ◌++◌, map, filter_map, flat_map};
 ghost use Rattle.std.specs.Prelude.{length, option_to_list, is_some, IfOk, OnOk};
 ghost use Rattle.std.specs.List.{list_any, position_or_len};
-ghost use Rattle.hippo_catalog.specs.Refusals.{Resolves};
-ghost use Rattle.hippo_catalog.specs.WrittenColumns.{column_refused};
-ghost use Rattle.hippo_catalog.specs.Selects.{column_in, same_reference};
+ghost use Rattle.hippo_typing_catalog.specs.Refusals.{Resolves};
+ghost use Rattle.hippo_typing_catalog.specs.WrittenColumns.{column_refused};
+ghost use Rattle.hippo_typing_catalog.specs.Selects.{column_in, same_reference};
 ghost use Rattle.hippo_typing.specs.Found.{with_out, plain_found, argument_found, lone_found};
 ghost use Rattle.hippo_typing.specs.Found.{groups_found_refused, out_found, shown_found};
 
 use crate::columns::found_column;
 use crate::found::{Found, FoundColumn, FoundColumns, FoundOut, FoundOuts};
-use hippo_catalog::{StatementTables, column_faults};
 use hippo_model::{NameFault, Out, Outs, Ref, Refs};
-use hippo_statements::{RawColumn, RawOut};
+use hippo_stmt_ast::{RawColumn, RawOut};
+use hippo_typing_catalog::{StatementTables, column_faults};
 use hippo_values::{Memory, Sequence};
 use std::alloc::Global;
 

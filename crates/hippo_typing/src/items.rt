@@ -2,14 +2,14 @@
 ghost use Rattle.std.specs.Prelude.{◌≡◌, [], ◌∷◌, ◌++◌, map, flat_map};
 ghost use Rattle.std.specs.Prelude.{bytes_eq, option_copied, if◌then◌else◌, OnOk, MatchResult};
 ghost use Rattle.std.specs.List.{list_any, range_with_len};
-ghost use Rattle.hippo_catalog.specs.Refusals.{Resolves, IsFirstOf};
-ghost use Rattle.hippo_catalog.specs.WrittenColumns.{column_refused, column_of, may_stand_in};
-ghost use Rattle.hippo_catalog.specs.Selects.{item_refused, item_columns, star_refused, star_columns, table_columns};
+ghost use Rattle.hippo_typing_catalog.specs.Refusals.{Resolves, IsFirstOf};
+ghost use Rattle.hippo_typing_catalog.specs.WrittenColumns.{column_refused, column_of, may_stand_in};
+ghost use Rattle.hippo_typing_catalog.specs.Selects.{item_refused, item_columns, star_refused, star_columns, table_columns};
 
 use crate::columns::{found_column, may_stand_in};
-use hippo_catalog::{IndexedTable, StatementTables, column_faults};
 use hippo_model::{NameFault, Ref, Refs};
-use hippo_statements::{RawColumn, RawItem};
+use hippo_stmt_ast::{RawColumn, RawItem};
+use hippo_typing_catalog::{IndexedTable, StatementTables, column_faults};
 use hippo_values::{Memory, Name, Sequence};
 use std::alloc::Global;
 

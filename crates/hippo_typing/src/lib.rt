@@ -17,6 +17,6 @@ mod texts;
 mod written;
 
 pub use audits::resolve_audit;
-pub use hippo_catalog::Catalog;
+pub use hippo_typing_catalog::Catalog;
 pub use selects::resolve_select;
 pub use texts::{at_most_one_meaning, meaning_is_that_of_texts, read_meaning};

@@ -1,6 +1,6 @@
 //! How many parts a statement may have.
-ghost use Rattle.hippo_catalog.specs.Refusals.{Resolves};
-ghost use Rattle.hippo_catalog.specs.StatementLimits.{too_many};
+ghost use Rattle.hippo_typing_catalog.specs.Refusals.{Resolves};
+ghost use Rattle.hippo_typing_catalog.specs.StatementLimits.{too_many};
 
 use hippo_model::NameFault;
 

@@ -1,11 +1,11 @@
 //! Selects.
 ghost use Rattle.std.specs.Prelude.{◌≡◌, ◌+◌, ◌≤◌, [], map, flat_map, length, IfOk};
 ghost use Rattle.hippo_model.specs.declared.query.Form.TheVariants.{Grouped};
-ghost use Rattle.hippo_catalog.specs.Refusals.{Resolves};
-ghost use Rattle.hippo_catalog.specs.WrittenColumns.{column_refused};
-ghost use Rattle.hippo_catalog.specs.Selects.{column_in, item_refused, item_columns, outs_of, by_of};
-ghost use Rattle.hippo_catalog.specs.Selects.{list_refused, columns_refused, select_parts_refused};
-ghost use Rattle.hippo_catalog.specs.Selects.{select_refused, query_of};
+ghost use Rattle.hippo_typing_catalog.specs.Refusals.{Resolves};
+ghost use Rattle.hippo_typing_catalog.specs.WrittenColumns.{column_refused};
+ghost use Rattle.hippo_typing_catalog.specs.Selects.{column_in, item_refused, item_columns, outs_of, by_of};
+ghost use Rattle.hippo_typing_catalog.specs.Selects.{list_refused, columns_refused, select_parts_refused};
+ghost use Rattle.hippo_typing_catalog.specs.Selects.{select_refused, query_of};
 ghost use Rattle.hippo_typing.specs.Found.{with_out, shown_found};
 ghost use Rattle.hippo_typing.specs.FoundSelects.{list_found, select_found, head_refused};
 ghost use Rattle.hippo_typing.specs.FoundSelects.{head_of, own_items, form_found, query_with};
@@ -18,9 +18,9 @@ use crate::items::found_items;
 use crate::pairs::paired;
 use crate::parts::check_count;
 use crate::tables::found_tables;
-use hippo_catalog::{Catalog, StatementTables, check_kinds, check_texts};
 use hippo_model::{CondOf, Form, NameFault, Names, Operand, Query, Refs, Shape};
-use hippo_statements::{RawColumn, RawForm, RawOut, RawOuts, RawSelect};
+use hippo_stmt_ast::{RawColumn, RawForm, RawOut, RawOuts, RawSelect};
+use hippo_typing_catalog::{Catalog, StatementTables, check_kinds, check_texts};
 use hippo_values::{Duplicate, FROM_LIMIT, ITEM_LIMIT, Memory, Sequence};
 use std::alloc::Global;
 

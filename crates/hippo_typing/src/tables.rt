@@ -1,10 +1,10 @@
 //! The tables of a statement.
 ghost use Rattle.std.specs.Prelude.{◌++◌, flat_map};
-ghost use Rattle.hippo_catalog.specs.Catalogs.{schemas_of};
-ghost use Rattle.hippo_catalog.specs.Refusals.{Resolves, unknown_table, repeated_names};
+ghost use Rattle.hippo_typing_catalog.specs.Catalogs.{schemas_of};
+ghost use Rattle.hippo_typing_catalog.specs.Refusals.{Resolves, unknown_table, repeated_names};
 
-use hippo_catalog::{Catalog, StatementTables, check_repeats, name_faults};
 use hippo_model::{Lent, NameFault, Names};
+use hippo_typing_catalog::{Catalog, StatementTables, check_repeats, name_faults};
 use hippo_values::Name;
 use std::alloc::Global;
 

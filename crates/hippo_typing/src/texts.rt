@@ -9,12 +9,12 @@ ghost use Rattle.hippo_typing.specs.Meanings.{Means, select_in, query_in, meanin
 ghost use Rattle.hippo_typing.specs.MeaningLaws.{MeaningIsThatOfTexts, AtMostOneMeaning};
 
 use crate::selects::resolve_select;
-use hippo_catalog::Catalog;
 use hippo_lexer::lexer::tokens;
 use hippo_lexer::{LexFault, SyntaxFault, Tokens, check_words};
 use hippo_model::{NameFault, Query};
 use hippo_spj_reader::read_select;
-use hippo_statements::RawSelect;
+use hippo_stmt_ast::RawSelect;
+use hippo_typing_catalog::Catalog;
 use hippo_values::Memory;
 use std::alloc::Global;
 

@@ -1,9 +1,9 @@
 //! What is written of a statement's tables, and what it is there.
 ghost use Rattle.std.specs.Prelude.{map, flat_map};
-ghost use Rattle.hippo_catalog.specs.Refusals.{Resolves};
+ghost use Rattle.hippo_typing_catalog.specs.Refusals.{Resolves};
 
-use hippo_catalog::StatementTables;
 use hippo_model::NameFault;
+use hippo_typing_catalog::StatementTables;
 use hippo_values::Sequence;
 use std::alloc::Global;
 
@@ -12,7 +12,7 @@ pub trait Written {
     ghost use Rattle.std.specs.Prelude.{List};
     ghost use Rattle.hippo_model.specs.declared.schema.Schema.{Schema};
     ghost use Rattle.hippo_model.specs.declared.name_fault.NameFault.{NameFault as Refused};
-    ghost use Rattle.hippo_catalog.specs.Refusals.{Resolves};
+    ghost use Rattle.hippo_typing_catalog.specs.Refusals.{Resolves};
 
     /// What it is.
     type Found: Drop;

@@ -72,9 +72,9 @@ name-ascii name bytes same named =
     IsAscii-same bytes name same (IsAscii-of_bytes name (word_bytes-ascii name word.1))
 
 -- Where the bytes in front of others are folded with some behind them, the front is the word in lower case.
-pub folded_front : (word copied zeros folded behind : List ℕ) (count : ℕ) → copied ≡ word → folded ≡ map to_ascii_lowercase (take count (copied ++ zeros)) → length word ≤ count → take (length word) (folded ++ behind) ≡ lower_case word
-folded_front [] copied zeros folded behind count same is within = refl
-folded_front (byte ∷ word) copied zeros folded behind zero same is within = absurd (omega (arith, within))
-folded_front (byte ∷ word) copied zeros folded behind (suc count) same is within =
+pub folded_front : (word copied zeros folded remaining : List ℕ) (count : ℕ) → copied ≡ word → folded ≡ map to_ascii_lowercase (take count (copied ++ zeros)) → length word ≤ count → take (length word) (folded ++ remaining) ≡ lower_case word
+folded_front [] copied zeros folded remaining count same is within = refl
+folded_front (byte ∷ word) copied zeros folded remaining zero same is within = absurd (omega (arith, within))
+folded_front (byte ∷ word) copied zeros folded remaining (suc count) same is within =
     let rest : length word ≤ count = omega (arith, within) in
-    rw (is, same) (λ i. to_ascii_lowercase byte ∷ folded_front word word zeros (map to_ascii_lowercase (take count (word ++ zeros))) behind count refl refl rest i)
+    rw (is, same) (λ i. to_ascii_lowercase byte ∷ folded_front word word zeros (map to_ascii_lowercase (take count (word ++ zeros))) remaining count refl refl rest i)

@@ -17,7 +17,7 @@ use Rattle.hippo_model.specs.Audits.{is_candidate, shared_by, shared_tuple, firs
 use Rattle.hippo_model.specs.Columns.{names_all}
 use Rattle.hippo_model.specs.Histories.{schema_at}
 use Rattle.hippo_model.specs.Masking.{Choices}
-use Rattle.hippo_keyed_rows.specs.RowSets.{KeyedRows, kept_at}
+use Rattle.hippo_tables_keyed.specs.RowSets.{KeyedRows, kept_at}
 use Rattle.hippo_model.specs.Rules.{choice_at}
 use Rattle.hippo_model.specs.Terms.{History}
 use Rattle.hippo_model.specs.Verdicts.{Context, context_of}
@@ -26,14 +26,14 @@ use Rattle.hippo_tables.specs.Standing.{TablesStandFor, AreKeptTables, are_creat
 use Rattle.hippo_typing.specs.Meanings.{meaning}
 use Rattle.hippo_rewrite.specs.RewritingLaws.{rules_at}
 use Rattle.hippo_tables.proofs.NamedLemmas.{are_created-AreKeptTables, schemas_are}
-use Rattle.hippo_shared.specs.Sharing.{HaveSameRows}
-use Rattle.hippo_shared.specs.HistoryLaws.{sets_at}
-use Rattle.hippo_examining.specs.Examining.{AreOfHistory}
-use Rattle.hippo_examining.specs.Seen.{AreCommonColumns}
-use Rattle.hippo_examining.proofs.RowLemmas.{same_rows}
+use Rattle.hippo_audit_search.specs.Sharing.{HaveSameRows}
+use Rattle.hippo_audit_search.specs.HistoryLaws.{sets_at}
+use Rattle.hippo_audit_needs.specs.Examining.{AreOfHistory}
+use Rattle.hippo_audit_needs.specs.Seen.{AreCommonColumns}
+use Rattle.hippo_audit_needs.proofs.RowLemmas.{same_rows}
 use Rattle.hippo_audit_job.specs.declared.past.Past.{Past}
 use Rattle.hippo_audit_job.specs.Examining.{IsAuditOf}
-use Rattle.hippo_examining.proofs.PastLemmas.{created_by_meaning, are_common}
+use Rattle.hippo_audit_needs.proofs.PastLemmas.{created_by_meaning, are_common}
 use Rattle.hippo_watch.specs.declared.alarms.AskedNow.{AskedNow}
 use Rattle.hippo_watch.specs.Alarms.{AreOfSome, IsPresentOf, asked_next, IsAskedNext, ServesNow, SharesNext}
 

@@ -11,14 +11,14 @@ use Rattle.hippo_model.specs.Histories.{schema_at}
 use Rattle.hippo_tables.specs.declared.tables.Tables.{Tables}
 use Rattle.hippo_tables.specs.Standing.{TablesStandFor}
 use Rattle.hippo_typing.specs.Meanings.{meaning}
-use Rattle.hippo_laws.specs.Hits.{HasNoHits}
-use Rattle.hippo_laws.proofs.HitsTheorem.{shares_none}
+use Rattle.hippo_model_laws.specs.Hits.{HasNoHits}
+use Rattle.hippo_model_laws.proofs.HitsTheorem.{shares_none}
 use Rattle.hippo_backlog.proofs.VersionsTheorem.{schemas_last}
 use Rattle.hippo_audit_job.specs.Examining.{IsAuditOf}
 use Rattle.hippo_audit_job.proofs.JobLemmas.{IsAuditOf-longer}
-use Rattle.hippo_hits.specs.declared.counts.AuditHits.{AuditHits}
-use Rattle.hippo_hits.specs.Counts.{AreHits, HasNone, taken_in, taken_back}
-use Rattle.hippo_hits.proofs.ChangedCounts.{AreHits-no_version, AreHits-taken_in, AreHits-taken_back, audit_stays}
+use Rattle.hippo_watch_counts.specs.declared.counts.AuditHits.{AuditHits}
+use Rattle.hippo_watch_counts.specs.Counts.{AreHits, HasNone, taken_in, taken_back}
+use Rattle.hippo_watch_counts.proofs.ChangedCounts.{AreHits-no_version, AreHits-taken_in, AreHits-taken_back, audit_stays}
 use Rattle.hippo_watch.specs.declared.alarms.AskedNow.{AskedNow}
 use Rattle.hippo_watch.specs.Alarms.{SharesNext}
 use Rattle.hippo_watch.specs.Watches.{IsWatchOf, WatchFollows, WatchGoesBack, SharesWatched}

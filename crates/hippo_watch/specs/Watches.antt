@@ -11,8 +11,8 @@ use Rattle.hippo_tables.specs.declared.tables.Tables.{Tables}
 use Rattle.hippo_tables.specs.Standing.{TablesStandFor}
 use Rattle.hippo_typing.specs.Meanings.{meaning}
 use Rattle.hippo_audit_job.specs.Examining.{IsAuditOf}
-use Rattle.hippo_hits.specs.declared.counts.AuditHits.{AuditHits}
-use Rattle.hippo_hits.specs.Counts.{AreHits}
+use Rattle.hippo_watch_counts.specs.declared.counts.AuditHits.{AuditHits}
+use Rattle.hippo_watch_counts.specs.Counts.{AreHits}
 use Rattle.hippo_watch.specs.declared.alarms.AskedNow.{AskedNow}
 use Rattle.hippo_watch.specs.Alarms.{IsAskedNext}
 

@@ -8,7 +8,7 @@ ghost use Rattle.hippo_watch.specs.Alarms.{AreOfSome, ServesNow, SharesNext};
 
 use crate::present::are_at_hand;
 use hippo_audit_job::{Past, in_period, is_exempt, names_all};
-use hippo_examining::shared_of;
+use hippo_audit_needs::shared_of;
 use hippo_model::{Audit, Pair, Query, SharedTuple};
 use hippo_tables::{Tables, schemas_of, sets_of};
 use hippo_values::{Memory, Moment};

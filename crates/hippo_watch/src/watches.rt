@@ -3,15 +3,15 @@ ghost use Rattle.std.specs.Prelude.{◌≡◌, true, slice_index_or, option_copi
 ghost use Rattle.std.specs.List.{IsDistinct};
 ghost use Rattle.hippo_model.specs.Terms.{History};
 ghost use Rattle.hippo_tables.specs.Standing.{TablesStandFor};
-ghost use Rattle.hippo_hits.specs.Counts.{AreHits, HasNone, changed_hits};
+ghost use Rattle.hippo_watch_counts.specs.Counts.{AreHits, HasNone, changed_hits};
 ghost use Rattle.hippo_watch.specs.Alarms.{AreOfSome};
 ghost use Rattle.hippo_watch.specs.Watches.{WatchFollows, WatchGoesBack, SharesWatched};
 
 use crate::alarms::{AskedNow, alarm};
-use hippo_hits::AuditHits;
 use hippo_model::{Act, Audit, Cells, SharedTuple};
 use hippo_tables::Tables;
 use hippo_values::{Memory, Name};
+use hippo_watch_counts::AuditHits;
 use std::alloc::Global;
 use std::marker::Model;
 
@@ -25,8 +25,8 @@ pub struct Watch {
 impl Model for Watch {
     ghost use Rattle.std.specs.Prelude.{bytes_eq};
     ghost use Rattle.std.specs.List.{IsDistinct};
-    ghost use Rattle.hippo_hits.specs.contracts.counts.AuditHits.{the_row};
-    ghost use Rattle.hippo_hits.specs.declared.counts.AuditHits as counted;
+    ghost use Rattle.hippo_watch_counts.specs.contracts.counts.AuditHits.{the_row};
+    ghost use Rattle.hippo_watch_counts.specs.declared.counts.AuditHits as counted;
 
     ghost Value = { counted.AuditHits };
 

@@ -7,7 +7,7 @@ use Rattle.hippo_model.specs.Terms.{History}
 use Rattle.hippo_model.specs.Verdicts.{Context}
 use Rattle.hippo_typing.specs.Meanings.{meaning}
 use Rattle.hippo_audit_job.specs.Examining.{IsServing}
-use Rattle.hippo_examining.specs.Examining.{ServesFirst}
+use Rattle.hippo_audit_needs.specs.Examining.{ServesFirst}
 use Rattle.hippo_combine.specs.Held.{are_held}
 use Rattle.hippo_combine.specs.Sharing.{HoldsBoth}
 use Rattle.hippo_combine.proofs.ExaminingLemmas.{query_many, audit_many, rows_same, those_of}

@@ -5,7 +5,7 @@ use Rattle.std.proofs.lemmas.List.{take_all}
 use Rattle.hippo_model.specs.declared.born_row.BornRow.{BornRow}
 use Rattle.hippo_model.specs.Terms.{Combination}
 use Rattle.hippo_model.specs.Answers.{product}
-use Rattle.hippo_eval.specs.Walks.{rows_of, combinations_behind}
+use Rattle.hippo_eval.specs.Walks.{rows_of, combinations_after}
 use Rattle.hippo_eval.proofs.WalkLemmas.{beginning, without_last}
 use Rattle.hippo_eval.proofs.KeptLemmas.{kept_more, kept_enough, born_row, product_at}
 use Rattle.hippo_eval.proofs.walks.+walk_from.Goals as goal
@@ -17,7 +17,7 @@ returns-in-Enough-clause-kept g t c before kept later =
     let e : slice_get c.get-set.result.now.rows c.loop-index.index ≡ Some row = born_row _ _ _ c.row.ensures c.born.ensures in
     let pushed : c.push.new.self ≡ c.args.combo.now ++ row ∷ [] = c.in_ok-push.ensures.ok ∙ ap (λ (rows : Combination). rows ++ row ∷ []) c.loop-index.invariant.same in
     let so_far = c.loop-index.invariant.kept before kept in
-    let visited = before ++ combinations_behind c.args.combo.now (flat_map (beginning rest) (take c.loop-index.index c.get-set.result.now.rows)) in
+    let visited = before ++ combinations_after c.args.combo.now (flat_map (beginning rest) (take c.loop-index.index c.get-set.result.now.rows)) in
     let after = rw (pushed, c.in-Enough.is) at (c.in_ok-onward.ensures.kept visited so_far) in
     rw (product_at c.args.sets.now c.args.place c.get-set.result.now c.get-set.ensures)
     (kept_enough (g.V.Visitor.Keeps c.args.visitor.now) c.args.combo.now rest c.get-set.result.now.rows c.loop-index.index row e before c.walk_from.new.state after later)
@@ -31,7 +31,7 @@ loop-index-preserved g t c =
     record {
       same = c.pop.ensures ∙ without_last c.walk_from.new.combo c.args.combo.now row (c.in_ok-onward.ensures.same ∙ pushed);
       kept = λ before kept.
-          let visited = before ++ combinations_behind c.args.combo.now (flat_map (beginning rest) (take c.loop-index.index c.get-set.result.now.rows)) in
+          let visited = before ++ combinations_after c.args.combo.now (flat_map (beginning rest) (take c.loop-index.index c.get-set.result.now.rows)) in
           let after = rw pushed at (c.in_ok-onward.ensures.kept visited (c.loop-index.invariant.kept before kept)) in
           kept_more (g.V.Visitor.Keeps c.args.visitor.now) c.args.combo.now rest c.get-set.result.now.rows c.loop-index.index row e before c.walk_from.new.state c.in_ok-onward.onward after;
     }

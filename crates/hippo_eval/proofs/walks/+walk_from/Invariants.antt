@@ -3,7 +3,7 @@ use Rattle.std.proofs.Common.{◌≡◌, ◌+◌, ◌-◌, List, ◌++◌, lengt
 use Rattle.std.specs.List.{flat_map}
 use Rattle.hippo_model.specs.Terms.{Combination}
 use Rattle.hippo_model.specs.Answers.{product}
-use Rattle.hippo_eval.specs.Walks.{rows_of, combinations_behind}
+use Rattle.hippo_eval.specs.Walks.{rows_of, combinations_after}
 use Rattle.hippo_eval.proofs.WalkLemmas.{beginning}
 use Rattle.hippo_eval.proofs.walks.+walk_from.Given as goal
 
@@ -14,5 +14,5 @@ abbrev pub invariant-loop-index : goal.invariant-loop-index
 invariant-loop-index g l = record {
   same : l.combo ≡ l.initial.combo;
   kept : (before : List Combination) → g.V.Visitor.Keeps l.visitor before l.initial.state
-      → g.V.Visitor.Keeps l.visitor (before ++ combinations_behind l.initial.combo (flat_map (beginning (product (rows_of (drop (l.place + 1) l.sets)))) (take l.index l.set.rows))) l.state;
+      → g.V.Visitor.Keeps l.visitor (before ++ combinations_after l.initial.combo (flat_map (beginning (product (rows_of (drop (l.place + 1) l.sets)))) (take l.index l.set.rows))) l.state;
 }

@@ -1,5 +1,5 @@
 -- The set has the new places, and each that it had.
-use Rattle.hippo_sides.proofs.FindingLemmas.{one-more}
+use Rattle.hippo_join_stages.proofs.FindingLemmas.{one-more}
 use Rattle.hippo_join.proofs.finding.insert.Goals as goal
 
 pub returns-clause-ok : goal.returns-clause-ok

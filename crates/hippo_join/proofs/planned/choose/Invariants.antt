@@ -1,6 +1,6 @@
 -- The first rows are those at the first places.
 use Rattle.std.proofs.Common.{◌≡◌, length, take}
-use Rattle.hippo_lookups.specs.Places.{chosen_rows}
+use Rattle.hippo_join_lookups.specs.Places.{chosen_rows}
 use Rattle.hippo_join.proofs.planned.choose.Given as goal
 
 abbrev pub invariant-loop-table : goal.invariant-loop-table

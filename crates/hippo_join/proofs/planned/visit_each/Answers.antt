@@ -1,7 +1,7 @@
 -- One combination more, with all that may follow it.
 use Rattle.std.proofs.Common.{length, map, Some, [], ap, ◌∙◌}
-use Rattle.hippo_lookups.specs.Places.{chosen_rows}
-use Rattle.hippo_lookups.proofs.SlotLemmas.{length-rows_at}
+use Rattle.hippo_join_lookups.specs.Places.{chosen_rows}
+use Rattle.hippo_join_lookups.proofs.SlotLemmas.{length-rows_at}
 use Rattle.hippo_join.proofs.PlannedLemmas.{told-none, told-more, told-all, told-enough}
 use Rattle.hippo_join.proofs.planned.visit_each.Goals as goal
 

@@ -1,6 +1,6 @@
 -- The first combinations were told.
 use Rattle.std.proofs.Common.{◌≡◌, length}
-use Rattle.hippo_lookups.specs.Places.{chosen_rows}
+use Rattle.hippo_join_lookups.specs.Places.{chosen_rows}
 use Rattle.hippo_join.proofs.PlannedLemmas.{HasTold}
 use Rattle.hippo_join.proofs.planned.visit_each.Given as goal
 

@@ -3,7 +3,7 @@ use Rattle.std.proofs.Common.{◌≡◌, List, ◌++◌, length, map, subst, ari
 use Rattle.hippo_model.specs.Terms.{Combination}
 use Rattle.hippo_eval.specs.declared.answers.TheConstants.{ANSWER_LIMIT}
 use Rattle.hippo_eval.proofs.KeptLemmas.{kept_whole}
-use Rattle.hippo_lookups.specs.Places.{chosen_rows}
+use Rattle.hippo_join_lookups.specs.Places.{chosen_rows}
 use Rattle.hippo_join.proofs.PlannedLemmas.{found-whole, found-many}
 use Rattle.hippo_join.proofs.planned.visit_found.Goals as goal
 

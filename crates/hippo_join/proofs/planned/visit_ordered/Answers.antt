@@ -2,8 +2,8 @@
 use Rattle.std.proofs.Common.{◌≡◌, true, []}
 use Rattle.std.proofs.lemmas.Bool.{false≢true}
 use Rattle.hippo_eval.specs.declared.answers.TheConstants.{ANSWER_LIMIT}
-use Rattle.hippo_lookups.specs.Places.{stands}
-use Rattle.hippo_sides.proofs.FindingLemmas.{found-are, found-none}
+use Rattle.hippo_join_lookups.specs.Places.{stands}
+use Rattle.hippo_join_stages.proofs.FindingLemmas.{found-are, found-none}
 use Rattle.hippo_join.proofs.planned.visit_ordered.Goals as goal
 
 pub walk_all-requires-clause-rises : goal.walk_all-requires-clause-rises

@@ -2,8 +2,8 @@
 use Rattle.std.proofs.Common.{ℕ, ◌<◌, List, length, subst, sym, ap, arith}
 use Rattle.std.specs.List.{All, Contains}
 use Rattle.hippo_model.specs.Terms.{Place}
-use Rattle.hippo_keyed_rows.specs.RowSets.{KeyedRows}
-use Rattle.hippo_sides.proofs.FindingLemmas.{below-order, whole-order}
+use Rattle.hippo_tables_keyed.specs.RowSets.{KeyedRows}
+use Rattle.hippo_join_stages.proofs.FindingLemmas.{below-order, whole-order}
 use Rattle.hippo_join.proofs.planned.visit_planned.Goals as goal
 
 pub visit_ordered-requires-clause-below : goal.visit_ordered-requires-clause-below

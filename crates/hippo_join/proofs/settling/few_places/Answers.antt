@@ -1,5 +1,5 @@
 -- What may follow the rows that are settled is all that can count.
-use Rattle.hippo_sides.specs.Walking.{following_places}
+use Rattle.hippo_join_stages.specs.Walking.{following_places}
 use Rattle.hippo_join.proofs.SettlingLemmas.{reaches-settled}
 use Rattle.hippo_join.proofs.settling.few_places.Goals as goal
 

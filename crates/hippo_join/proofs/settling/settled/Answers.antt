@@ -3,8 +3,8 @@ use Rattle.std.proofs.Common.{ℕ, List, Option, None, length, replicate, sym, a
 use Rattle.std.proofs.lemmas.List.{length-replicate, with_items_is}
 use Rattle.hippo_model.specs.Terms.{Place}
 use Rattle.hippo_join.specs.Settling.{Settles}
-use Rattle.hippo_lookups.proofs.PruneLemmas.{long-enough}
-use Rattle.hippo_lookups.proofs.SlotLemmas.{Fits-open}
+use Rattle.hippo_join_lookups.proofs.PruneLemmas.{long-enough}
+use Rattle.hippo_join_lookups.proofs.SlotLemmas.{Fits-open}
 use Rattle.hippo_join.proofs.SettlingLemmas.{Settles_refl, Settles-trans}
 use Rattle.hippo_join.proofs.settling.settled.Goals as goal
 

@@ -1,7 +1,7 @@
 -- One table more, and all.
 use Rattle.std.proofs.Common.{[], ◌∷◌, ◌++◌, Bool, if◌then◌else◌, get_or, ap, ◌∙◌, arith}
 use Rattle.std.specs.Prelude.{filter}
-use Rattle.hippo_lookups.specs.Known.{is_open}
+use Rattle.hippo_join_lookups.specs.Known.{is_open}
 use Rattle.hippo_join.proofs.SettlingLemmas.{kept-more, kept-all}
 use Rattle.hippo_join.proofs.settling.still_open.Goals as goal
 

@@ -1,7 +1,7 @@
 -- The tables so far, with those of the others that are open behind them, are all that are open.
 use Rattle.std.proofs.Common.{◌≡◌, ◌++◌, drop}
 use Rattle.std.specs.Prelude.{filter}
-use Rattle.hippo_lookups.specs.Known.{is_open}
+use Rattle.hippo_join_lookups.specs.Known.{is_open}
 use Rattle.hippo_join.proofs.settling.still_open.Given as goal
 
 abbrev pub invariant-loop-table : goal.invariant-loop-table

@@ -6,10 +6,10 @@ use Rattle.hippo_model.specs.Terms.{Combination, Place}
 use Rattle.hippo_eval.specs.declared.walks.Onward.TheVariants.{More}
 use Rattle.hippo_eval.specs.Walks.{rows_of}
 use Rattle.hippo_model.specs.Answers.{product}
-use Rattle.hippo_lookups.specs.Places.{chosen_rows, stands}
-use Rattle.hippo_sides.specs.Visiting.{counting, Visited}
-use Rattle.hippo_sides.proofs.FoundLemmas.{rows-in-order}
-use Rattle.hippo_lookups.proofs.PlaceSteps.{ok-then}
+use Rattle.hippo_join_lookups.specs.Places.{chosen_rows, stands}
+use Rattle.hippo_join_stages.specs.Visiting.{counting, Visited}
+use Rattle.hippo_join_stages.proofs.FoundLemmas.{rows-in-order}
+use Rattle.hippo_join_lookups.proofs.PlaceSteps.{ok-then}
 use Rattle.hippo_join.proofs.VisitingLemmas.{below-all, whole-all, rises-all}
 use Rattle.hippo_join.proofs.visiting.visit_all.Goals as goal
 

@@ -1,7 +1,7 @@
 -- One table's place more.
 use Rattle.std.proofs.Common.{◌+◌, ◌&&◌, ap, drop, refl, sym, ◌∙◌}
-use Rattle.hippo_lookups.specs.Places.{are_there}
-use Rattle.hippo_lookups.proofs.SlotLemmas.{there-more}
+use Rattle.hippo_join_lookups.specs.Places.{are_there}
+use Rattle.hippo_join_lookups.proofs.SlotLemmas.{there-more}
 use Rattle.hippo_join.proofs.walking.are_there.Goals as goal
 
 pub returns-then-not-is_there : goal.returns-then-not-is_there

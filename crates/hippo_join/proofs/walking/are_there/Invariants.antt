@@ -1,6 +1,6 @@
 -- The places that are left are there exactly where all are.
 use Rattle.std.proofs.Common.{◌≡◌, drop}
-use Rattle.hippo_lookups.specs.Places.{are_there}
+use Rattle.hippo_join_lookups.specs.Places.{are_there}
 use Rattle.hippo_join.proofs.walking.are_there.Given as goal
 
 abbrev pub invariant-loop-table : goal.invariant-loop-table

@@ -1,6 +1,6 @@
 -- Places that are sorted, and then each there once.
 use Rattle.std.proofs.Common.{List, ℕ, eqb, sym, subst}
-use Rattle.hippo_sides.specs.Walking.{following_places}
+use Rattle.hippo_join_stages.specs.Walking.{following_places}
 use Rattle.std.specs.List.{All, Contains}
 use Rattle.std.specs.List.Sorted.{IsStrictlyIncreasing}
 use Rattle.std.proofs.lemmas.List.Elements.{All-contains_itself}

@@ -1,10 +1,10 @@
 -- At the beginning no row is chosen.
 use Rattle.std.proofs.Common.{◌≡◌, true, length, replicate, None, ap, ◌∙◌, sym}
-use Rattle.hippo_lookups.specs.Places.{are_there, rows_at, stands}
-use Rattle.hippo_lookups.proofs.SlotLemmas.{there-none}
-use Rattle.hippo_sides.specs.Visiting.{Completes}
-use Rattle.hippo_sides.proofs.FindingLemmas.{walk-all}
-use Rattle.hippo_sides.proofs.ReachLemmas.{length-unchosen}
+use Rattle.hippo_join_lookups.specs.Places.{are_there, rows_at, stands}
+use Rattle.hippo_join_lookups.proofs.SlotLemmas.{there-none}
+use Rattle.hippo_join_stages.specs.Visiting.{Completes}
+use Rattle.hippo_join_stages.proofs.FindingLemmas.{walk-all}
+use Rattle.hippo_join_stages.proofs.ReachLemmas.{length-unchosen}
 use Rattle.hippo_join.proofs.VisitingLemmas.{visited-as, completes-open}
 use Rattle.hippo_join.proofs.walking.walk_all.Goals as goal
 

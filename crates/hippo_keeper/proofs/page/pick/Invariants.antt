@@ -6,5 +6,5 @@ use Rattle.hippo_keeper.proofs.page.pick.Given as goal
 abbrev pub invariant-loop-head : goal.invariant-loop-head
 invariant-loop-head l = record {
   within : AreWithin (length l.tables) (length l.bodies) l.start (drop l.head-index l.heads);
-  left : with_picked l.sought l.list (page_entries l.tables l.bodies l.start (drop l.head-index l.heads)) ≡ with_picked l.sought l.initial.list (page_entries l.tables l.bodies 0 l.heads);
+  left : with_picked l.read_query l.list (page_entries l.tables l.bodies l.start (drop l.head-index l.heads)) ≡ with_picked l.read_query l.initial.list (page_entries l.tables l.bodies 0 l.heads);
 }

@@ -1,6 +1,6 @@
 -- The name stands where it is found, and else at the end.
 use Rattle.std.proofs.Common.{◌≡◌, [], ◌∷◌, ◌++◌, length, position, bytes_eq, Some}
-use Rattle.hippo_keeper.proofs.PageLemmas.{stands_at, stands_behind}
+use Rattle.hippo_keeper.proofs.PageLemmas.{stands_at, stands_after}
 use Rattle.hippo_keeper.proofs.page.place_in.Goals as goal
 
 pub returns-in-Some-clause-place : goal.returns-in-Some-clause-place
@@ -12,4 +12,4 @@ pub returns-clause-place : goal.returns-clause-place
 returns-clause-place c =
     let longer : c.push.new.self ≡ c.args.tables.now ++ c.args.name.now ∷ [] = cc (c.in_ok-push.ensures.ok, c.in_ok-from_str.ensures) in
     let last : c.len-place.result ≡ length c.args.tables.now = c.len-place.ensures in
-    rw (longer, last) (stands_behind c.args.tables.now c.args.name.now)
+    rw (longer, last) (stands_after c.args.tables.now c.args.name.now)

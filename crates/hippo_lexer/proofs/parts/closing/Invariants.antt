@@ -8,8 +8,8 @@ use Rattle.hippo_lexer.proofs.parts.closing.Given as goal
 abbrev pub invariant-loop-run : goal.invariant-loop-run
 invariant-loop-run l = record {
   utf8 : shadow (Utf8 l.rest);
-  within : length l.rest ≤ length l.behind;
-  told : onto l.text (length l.behind - length l.rest) (closing l.rest) ≡ closing l.behind;
+  within : length l.rest ≤ length l.remaining;
+  told : onto l.text (length l.remaining - length l.rest) (closing l.rest) ≡ closing l.remaining;
 }
 
 abbrev pub decreases-loop-run : goal.decreases-loop-run

@@ -3,4 +3,4 @@ use Rattle.hippo_lexer.proofs.parts.date_first.Goals as goal
 
 pub range_from-requires : goal.range_from-requires
 range_from-requires c = λ some.
-    rw (c.blanks_len-blanks.ensures, c.as_bytes.ensures.value) (boundary-blanks c.args.behind.now c.utf8.behind)
+    rw (c.blanks_len-blanks.ensures, c.as_bytes.ensures.value) (boundary-blanks c.args.remaining.now c.utf8.remaining)

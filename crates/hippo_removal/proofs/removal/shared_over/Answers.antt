@@ -7,7 +7,7 @@ use Rattle.hippo_model.specs.Terms.{History}
 use Rattle.hippo_model.specs.Verdicts.{Context}
 use Rattle.hippo_typing.specs.Meanings.{meaning}
 use Rattle.hippo_audit_job.specs.Examining.{IsServing}
-use Rattle.hippo_examining.specs.Examining.{ServesFirst}
+use Rattle.hippo_audit_needs.specs.Examining.{ServesFirst}
 use Rattle.hippo_removal.specs.Removals.{have_rows, AreThen}
 use Rattle.hippo_removal.proofs.PastLemmas.{nothing_serves, those_of}
 use Rattle.hippo_removal.proofs.removal.shared_over.Goals as goal

@@ -2,7 +2,7 @@
 use Rattle.std.proofs.Common.{◌≡◌, List, Option, subst}
 use Rattle.std.specs.Prelude.{IfOk}
 use Rattle.hippo_model.specs.declared.audit.SharedRow.{SharedRow}
-use Rattle.hippo_examining.proofs.ExaminingLemmas.{needed-serves-first}
+use Rattle.hippo_audit_needs.proofs.ExaminingLemmas.{needed-serves-first}
 use Rattle.hippo_removal.proofs.TupleLemmas.{removed-needed}
 use Rattle.hippo_removal.proofs.sharing.first_serving.Goals as goal
 

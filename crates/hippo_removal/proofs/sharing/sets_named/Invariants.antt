@@ -1,7 +1,7 @@
 -- The rows so far.
 use Rattle.std.proofs.Common.{◌≡◌, ◌++◌, drop}
 use Rattle.std.specs.Prelude.{filter_map, slice_get}
-use Rattle.hippo_commons.specs.Commons.{place_in}
+use Rattle.hippo_audit_common.specs.Commons.{place_in}
 use Rattle.hippo_removal.proofs.sharing.sets_named.Given as goal
 
 abbrev pub invariant-loop-name : goal.invariant-loop-name

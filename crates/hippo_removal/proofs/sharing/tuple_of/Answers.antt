@@ -2,7 +2,7 @@
 use Rattle.std.proofs.Common.{rules, refl, length, inl, inr}
 use Rattle.std.specs.Prelude.{slice_index_or}
 use Rattle.std.proofs.lemmas.Option.{slice_get_read, slice_get-get_or}
-use Rattle.hippo_lookups.specs.Places.{blank}
+use Rattle.hippo_join_lookups.specs.Places.{blank}
 use Rattle.hippo_removal.proofs.TupleLemmas.{tuple_row, tuple_end}
 use Rattle.hippo_removal.proofs.sharing.tuple_of.Goals as goal
 use Rattle.hippo_removal.proofs.sharing.tuple_of.Goals.{then-place-len-via-then-place-len, then-place-len-via-else-place-len+then-place-len-2}

@@ -1,6 +1,6 @@
 -- A table that is not known has no rows; of another a snapshot is taken.
 use Rattle.std.proofs.Common.{sym, ap, subst, ◌∙◌}
-use Rattle.hippo_keyed_rows.specs.RowSets.{KeyedRows}
+use Rattle.hippo_tables_keyed.specs.RowSets.{KeyedRows}
 use Rattle.hippo_removal.specs.Removals.{IsPushed}
 use Rattle.hippo_removal.proofs.ReadingLemmas.{read_none, read_some, read_fault, keyed}
 use Rattle.hippo_removal.proofs.snapshots.read_named.Goals as goal

@@ -1,6 +1,6 @@
 -- The schemas so far.
 use Rattle.std.proofs.Common.{◌≡◌, ◌++◌, drop, filter_map}
-use Rattle.hippo_catalog.specs.Catalogs.{table_of}
+use Rattle.hippo_typing_catalog.specs.Catalogs.{table_of}
 use Rattle.hippo_removal.proofs.snapshots.schemas_of.Given as goal
 
 abbrev pub invariant-loop-name : goal.invariant-loop-name

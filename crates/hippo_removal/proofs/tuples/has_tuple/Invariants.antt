@@ -1,6 +1,6 @@
 -- The rows so far are had, so those behind decide.
 use Rattle.std.proofs.Common.{◌≡◌, drop}
-use Rattle.hippo_shared.specs.Sharing.{has_tuple_in}
+use Rattle.hippo_audit_search.specs.Sharing.{has_tuple_in}
 use Rattle.hippo_removal.proofs.tuples.has_tuple.Given as goal
 
 abbrev pub invariant-loop-row : goal.invariant-loop-row

@@ -2,8 +2,8 @@
 use Rattle.std.proofs.Common.{◌≡◌, ◌++◌, map, drop}
 use Rattle.std.specs.Prelude.{slice_index_or}
 use Rattle.hippo_model.specs.Rows.{cell_at}
-use Rattle.hippo_keyed_rows.specs.RowSets.{key_in}
-use Rattle.hippo_lookups.specs.Places.{blank}
+use Rattle.hippo_tables_keyed.specs.RowSets.{key_in}
+use Rattle.hippo_join_lookups.specs.Places.{blank}
 use Rattle.hippo_removal.proofs.tuples.key_of.Given as goal
 
 abbrev pub invariant-loop-column : goal.invariant-loop-column

@@ -1,7 +1,7 @@
 -- The text so far and then the pieces that are left are all, and the old text stands in front.
 use Rattle.std.proofs.Common.{◌≡◌, ◌++◌, map, drop}
 use Rattle.std.specs.List.{concat}
-use Rattle.hippo_text_forms.specs.Printing.{KeepsFront}
+use Rattle.hippo_values_text.specs.Printing.{KeepsFront}
 use Rattle.hippo_report.proofs.pieces.append_each.Given as goal
 
 abbrev pub invariant-loop-piece : goal.invariant-loop-piece

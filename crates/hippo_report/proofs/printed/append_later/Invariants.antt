@@ -1,6 +1,6 @@
 -- The text so far and then the members that are left are all, and the old text stands in front.
 use Rattle.std.proofs.Common.{◌≡◌, ◌++◌, flat_map, drop}
-use Rattle.hippo_text_forms.specs.Printing.{KeepsFront}
+use Rattle.hippo_values_text.specs.Printing.{KeepsFront}
 use Rattle.hippo_report.proofs.printed.append_later.Given as goal
 
 abbrev pub invariant-loop-member : goal.invariant-loop-member

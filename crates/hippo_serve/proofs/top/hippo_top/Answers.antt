@@ -2,9 +2,9 @@
 use Rattle.std.proofs.Common.{rules, refl, sym, subst, ◌∙◌}
 use Rattle.hippo_values.specs.Texts.{Txt}
 use Rattle.hippo_io.specs.Told.{Appends, AppendsFront}
-use Rattle.hippo_running.specs.Outside.{outside}
+use Rattle.hippo_serve_jobs.specs.Outside.{outside}
 use Rattle.hippo_serve.proofs.AskingLemmas.{check_as_asked, idle_as_asked, summary_as_asked, said_whole, said_front}
-use Rattle.hippo_running.proofs.StatusLemmas.{status-listed, status-7}
+use Rattle.hippo_serve_jobs.proofs.StatusLemmas.{status-listed, status-7}
 use Rattle.hippo_serve.proofs.top.hippo_top.Goals as goal
 
 pub returns-in_default-asked-clause-status : goal.returns-in_default-asked-clause-status

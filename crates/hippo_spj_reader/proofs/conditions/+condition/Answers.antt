@@ -11,43 +11,43 @@ use Rattle.hippo_spj_reader.specs.ConditionFinder.{conjunction_with, primary_wit
 use Rattle.hippo_spj_reader.proofs.ListLoops.{begins, adds, breaks, no_part}
 use Rattle.hippo_spj_reader.proofs.conditions.+condition.Goals as goal
 
-pub conjunction-loop-behind-init : goal.conjunction-loop-behind-init
-conjunction-loop-behind-init t c = record {
+pub conjunction-loop-remaining-init : goal.conjunction-loop-remaining-init
+conjunction-loop-remaining-init t c = record {
   no_longer = c.in_ok-first.ensures.no_longer;
   so_far = λ n enough. begins (leading_negation n) (after_keyword KAnd) c.args.tokens.now c.in_ok-first.rest.now c.in_ok-first.first [] _ (c.in_ok-first.ensures.found n enough) c.in_ok-first.ensures.no_longer refl c.in_ok-parts.ensures;
 }
 
-pub conjunction-loop-behind-preserved : goal.conjunction-loop-behind-preserved
-conjunction-loop-behind-preserved t c = record {
+pub conjunction-loop-remaining-preserved : goal.conjunction-loop-remaining-preserved
+conjunction-loop-remaining-preserved t c = record {
   no_longer = omega (arith, c.in_ok-rest.ensures.no_longer, c.in-Some.ensures.shorter);
-  so_far = λ n enough. adds (leading_negation n) (after_keyword KAnd) c.loop-behind.parts _ c.loop-behind.rest.now c.in-Some.behind.now c.in_ok-rest.rest.now
-      (c.loop-behind.invariant.so_far n enough) c.in-Some.ensures.rest (c.in_ok-rest.ensures.found n (omega (arith, c.in-Some.ensures.shorter))) c.in_ok-rest.ensures.no_longer c.in-Some.ensures.shorter;
+  so_far = λ n enough. adds (leading_negation n) (after_keyword KAnd) c.loop-remaining.parts _ c.loop-remaining.rest.now c.in-Some.remaining.now c.in_ok-rest.rest.now
+      (c.loop-remaining.invariant.so_far n enough) c.in-Some.ensures.rest (c.in_ok-rest.ensures.found n (omega (arith, c.in-Some.ensures.shorter))) c.in_ok-rest.ensures.no_longer c.in-Some.ensures.shorter;
 }
 
 pub conjunction-returns-in_err-rest-clause-found : goal.conjunction-returns-in_err-rest-clause-found
 conjunction-returns-in_err-rest-clause-found t c n enough =
     let p = err_from_is_err_and c.from_residual-in_err-rest.result c.from_residual-in_err-rest.ensures.1 in
-    rw (p.1, p.2) (breaks (leading_negation n) (after_keyword KAnd) (λ parts. Some (all_of parts.0, parts.1)) _ c.loop-behind.parts c.loop-behind.rest.now c.in-Some.behind.now
-    (c.loop-behind.invariant.so_far n enough) c.in-Some.ensures.rest c.in-Some.ensures.shorter (no_part _ c.loop-behind.parts _ (c.in_err-rest.ensures.found n (omega (arith, c.in-Some.ensures.shorter)))))
+    rw (p.1, p.2) (breaks (leading_negation n) (after_keyword KAnd) (λ parts. Some (all_of parts.0, parts.1)) _ c.loop-remaining.parts c.loop-remaining.rest.now c.in-Some.remaining.now
+    (c.loop-remaining.invariant.so_far n enough) c.in-Some.ensures.rest c.in-Some.ensures.shorter (no_part _ c.loop-remaining.parts _ (c.in_err-rest.ensures.found n (omega (arith, c.in-Some.ensures.shorter)))))
 
-pub disjunction-loop-behind-init : goal.disjunction-loop-behind-init
-disjunction-loop-behind-init t c = record {
+pub disjunction-loop-remaining-init : goal.disjunction-loop-remaining-init
+disjunction-loop-remaining-init t c = record {
   no_longer = c.in_ok-first.ensures.no_longer;
   so_far = λ n enough. begins (conjunction_with (leading_negation n)) (after_keyword KOr) c.args.tokens.now c.in_ok-first.rest.now c.in_ok-first.first [] _ (c.in_ok-first.ensures.found n enough) c.in_ok-first.ensures.no_longer refl c.in_ok-parts.ensures;
 }
 
-pub disjunction-loop-behind-preserved : goal.disjunction-loop-behind-preserved
-disjunction-loop-behind-preserved t c = record {
+pub disjunction-loop-remaining-preserved : goal.disjunction-loop-remaining-preserved
+disjunction-loop-remaining-preserved t c = record {
   no_longer = omega (arith, c.in_ok-rest.ensures.no_longer, c.in-Some.ensures.shorter);
-  so_far = λ n enough. adds (conjunction_with (leading_negation n)) (after_keyword KOr) c.loop-behind.parts _ c.loop-behind.rest.now c.in-Some.behind.now c.in_ok-rest.rest.now
-      (c.loop-behind.invariant.so_far n enough) c.in-Some.ensures.rest (c.in_ok-rest.ensures.found n (omega (arith, c.in-Some.ensures.shorter))) c.in_ok-rest.ensures.no_longer c.in-Some.ensures.shorter;
+  so_far = λ n enough. adds (conjunction_with (leading_negation n)) (after_keyword KOr) c.loop-remaining.parts _ c.loop-remaining.rest.now c.in-Some.remaining.now c.in_ok-rest.rest.now
+      (c.loop-remaining.invariant.so_far n enough) c.in-Some.ensures.rest (c.in_ok-rest.ensures.found n (omega (arith, c.in-Some.ensures.shorter))) c.in_ok-rest.ensures.no_longer c.in-Some.ensures.shorter;
 }
 
 pub disjunction-returns-in_err-rest-clause-found : goal.disjunction-returns-in_err-rest-clause-found
 disjunction-returns-in_err-rest-clause-found t c n enough =
     let p = err_from_is_err_and c.from_residual-in_err-rest.result c.from_residual-in_err-rest.ensures.1 in
-    rw (p.1, p.2) (breaks (conjunction_with (leading_negation n)) (after_keyword KOr) (λ parts. Some (any_of parts.0, parts.1)) _ c.loop-behind.parts c.loop-behind.rest.now c.in-Some.behind.now
-    (c.loop-behind.invariant.so_far n enough) c.in-Some.ensures.rest c.in-Some.ensures.shorter (no_part _ c.loop-behind.parts _ (c.in_err-rest.ensures.found n (omega (arith, c.in-Some.ensures.shorter)))))
+    rw (p.1, p.2) (breaks (conjunction_with (leading_negation n)) (after_keyword KOr) (λ parts. Some (any_of parts.0, parts.1)) _ c.loop-remaining.parts c.loop-remaining.rest.now c.in-Some.remaining.now
+    (c.loop-remaining.invariant.so_far n enough) c.in-Some.ensures.rest c.in-Some.ensures.shorter (no_part _ c.loop-remaining.parts _ (c.in_err-rest.ensures.found n (omega (arith, c.in-Some.ensures.shorter)))))
 
 -- where no NOT stands first, a negation is a primary
 plain : (result : Result (RawCond × Bor (List Token)) SyntaxFault) (tokens : List Token) (n : ℕ) → length tokens < n → None ≡ after_keyword KNot (kinds tokens) →

@@ -26,20 +26,20 @@ decreases-negation l = 4 * length l.tokens.now + 1
 abbrev pub decreases-primary : goal.decreases-primary
 decreases-primary l = 4 * length l.tokens.now
 
-abbrev pub invariant-conjunction-loop-behind : goal.invariant-conjunction-loop-behind
-invariant-conjunction-loop-behind l = record {
+abbrev pub invariant-conjunction-loop-remaining : goal.invariant-conjunction-loop-remaining
+invariant-conjunction-loop-remaining l = record {
   no_longer : length l.rest ≤ length l.fn.tokens;
   so_far : ((n : ℕ) → length l.fn.tokens < n → Continues (leading_negation n) (after_keyword KAnd) (leading_list (leading_negation n) (after_keyword KAnd) (kinds l.fn.tokens)) l.parts l.rest);
 }
 
-abbrev pub decreases-conjunction-loop-behind : goal.decreases-conjunction-loop-behind
-decreases-conjunction-loop-behind l = length l.rest
+abbrev pub decreases-conjunction-loop-remaining : goal.decreases-conjunction-loop-remaining
+decreases-conjunction-loop-remaining l = length l.rest
 
-abbrev pub invariant-disjunction-loop-behind : goal.invariant-disjunction-loop-behind
-invariant-disjunction-loop-behind l = record {
+abbrev pub invariant-disjunction-loop-remaining : goal.invariant-disjunction-loop-remaining
+invariant-disjunction-loop-remaining l = record {
   no_longer : length l.rest ≤ length l.fn.tokens;
   so_far : ((n : ℕ) → length l.fn.tokens < n → Continues (conjunction_with (leading_negation n)) (after_keyword KOr) (leading_list (conjunction_with (leading_negation n)) (after_keyword KOr) (kinds l.fn.tokens)) l.parts l.rest);
 }
 
-abbrev pub decreases-disjunction-loop-behind : goal.decreases-disjunction-loop-behind
-decreases-disjunction-loop-behind l = length l.rest
+abbrev pub decreases-disjunction-loop-remaining : goal.decreases-disjunction-loop-remaining
+decreases-disjunction-loop-remaining l = length l.rest

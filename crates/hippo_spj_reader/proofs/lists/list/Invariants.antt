@@ -5,11 +5,11 @@ use Rattle.hippo_spj_reader.specs.ListFinder.{leading_list}
 use Rattle.hippo_spj_reader.proofs.ListLoops.{Continues}
 use Rattle.hippo_spj_reader.proofs.lists.list.Given as goal
 
-abbrev pub invariant-loop-behind : goal.invariant-loop-behind
-invariant-loop-behind g l = record {
+abbrev pub invariant-loop-remaining : goal.invariant-loop-remaining
+invariant-loop-remaining g l = record {
   no_longer : length l.rest ≤ length l.fn.tokens;
   so_far : (let leading = g.P.Part.leading in let after = g.S.Separator.after in Continues leading after (leading_list leading after (kinds l.fn.tokens)) l.parts l.rest);
 }
 
-abbrev pub decreases-loop-behind : goal.decreases-loop-behind
-decreases-loop-behind g l = length l.rest
+abbrev pub decreases-loop-remaining : goal.decreases-loop-remaining
+decreases-loop-remaining g l = length l.rest

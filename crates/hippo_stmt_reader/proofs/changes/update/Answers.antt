@@ -4,7 +4,7 @@ use Rattle.hippo_values.specs.declared.keywords.Keyword.TheVariants.{KAnd, KSet,
 use Rattle.hippo_lexer.specs.declared.kinds.Symbol.TheVariants.{Comma}
 use Rattle.hippo_spj_reader.specs.Front.{kinds, after_keyword, after_symbol}
 use Rattle.hippo_stmt_reader.specs.StatementFinder.{leading_assigned, update_of}
-use Rattle.hippo_stmt_reader.proofs.BehindLemmas.{fails_first}
+use Rattle.hippo_stmt_reader.proofs.AfterLemmas.{fails_first}
 use Rattle.hippo_stmt_reader.proofs.changes.update.Goals as goal
 
 pub returns-in_err-set : goal.returns-in_err-set

@@ -2,7 +2,7 @@ use Rattle.std.proofs.Common.{sym}
 use Rattle.hippo_values.specs.declared.keywords.Keyword.TheVariants.{KDuring}
 use Rattle.hippo_spj_reader.specs.Front.{kinds, after_keyword}
 use Rattle.hippo_stmt_reader.specs.StatementFinder.{console_of}
-use Rattle.hippo_stmt_reader.proofs.BehindLemmas.{absent}
+use Rattle.hippo_stmt_reader.proofs.AfterLemmas.{absent}
 use Rattle.hippo_stmt_reader.proofs.statements.console.Goals as goal
 
 pub returns : goal.returns

@@ -1,7 +1,7 @@
 -- The rows so far, and those of the tables that are left.
 use Rattle.std.proofs.Common.{◌≡◌, ◌++◌, drop, length, map}
 use Rattle.hippo_model.specs.Terms.{History}
-use Rattle.hippo_keyed_rows.specs.RowSets.{kept_at}
+use Rattle.hippo_tables_keyed.specs.RowSets.{kept_at}
 use Rattle.hippo_tables.specs.Standing.{TablesStandFor, schemas_at}
 use Rattle.hippo_tables.proofs.named.sets_of.Given as goal
 

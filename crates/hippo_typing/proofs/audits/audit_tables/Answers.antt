@@ -1,9 +1,9 @@
 use Rattle.std.proofs.Common.{◌≡◌, List, [], rules, subst}
 use Rattle.std.specs.List.{flat_map}
 use Rattle.hippo_values.specs.declared.names.Name.{Name}
-use Rattle.hippo_catalog.specs.Refusals.{IsFirstOf, unknown_table, repeated_names}
+use Rattle.hippo_typing_catalog.specs.Refusals.{IsFirstOf, unknown_table, repeated_names}
 use Rattle.hippo_typing.specs.FoundAudits.{tables_refused}
-use Rattle.hippo_catalog.proofs.Refused.{first_of_three, second_of_three, third_of_three}
+use Rattle.hippo_typing_catalog.proofs.Refused.{first_of_three, second_of_three, third_of_three}
 use Rattle.hippo_typing.proofs.audits.audit_tables.Goals as goal
 
 pub returns-in_err-tables : goal.returns-in_err-tables

@@ -2,8 +2,8 @@ use Rattle.std.proofs.Common.{List, arith, rules}
 use Rattle.std.specs.List.{flat_map}
 use Rattle.hippo_model.specs.declared.audit.Pair.{Pair}
 use Rattle.hippo_model.specs.declared.name_fault.NameFault.{NameFault}
-use Rattle.hippo_catalog.specs.Refusals.{IsFirstOf, unknown_pair}
-use Rattle.hippo_catalog.proofs.Refused.{first_at_item}
+use Rattle.hippo_typing_catalog.specs.Refusals.{IsFirstOf, unknown_pair}
+use Rattle.hippo_typing_catalog.proofs.Refused.{first_at_item}
 use Rattle.hippo_typing.proofs.audits.check_pairs.Goals as goal
 
 pub returns-in_err-check_pair : goal.returns-in_err-check_pair

@@ -1,6 +1,6 @@
 use Rattle.std.proofs.Common.{◌≡◌, drop}
 use Rattle.std.specs.List.{flat_map}
-use Rattle.hippo_catalog.specs.Refusals.{unknown_pair}
+use Rattle.hippo_typing_catalog.specs.Refusals.{unknown_pair}
 use Rattle.hippo_typing.proofs.audits.check_pairs.Given as goal
 
 abbrev pub invariant-loop-pair : goal.invariant-loop-pair

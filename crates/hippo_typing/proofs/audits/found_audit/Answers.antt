@@ -1,9 +1,9 @@
 use Rattle.std.proofs.Common.{◌≡◌, List, [], rules, subst}
 use Rattle.std.specs.List.{flat_map}
-use Rattle.hippo_statements.specs.declared.statement.RawColumn.{RawColumn}
-use Rattle.hippo_catalog.specs.Refusals.{IsFirstOf}
-use Rattle.hippo_catalog.specs.WrittenColumns.{column_refused}
-use Rattle.hippo_catalog.proofs.Refused.{first_after, first_with_more}
+use Rattle.hippo_stmt_ast.specs.declared.statement.RawColumn.{RawColumn}
+use Rattle.hippo_typing_catalog.specs.Refusals.{IsFirstOf}
+use Rattle.hippo_typing_catalog.specs.WrittenColumns.{column_refused}
+use Rattle.hippo_typing_catalog.proofs.Refused.{first_after, first_with_more}
 use Rattle.hippo_typing.specs.FoundAudits.{audit_columns_refused}
 use Rattle.hippo_typing.proofs.audits.found_audit.Goals as goal
 

@@ -1,11 +1,11 @@
 use Rattle.std.proofs.Common.{◌≡◌, [], subst, ◌∙◌, rules}
-use Rattle.hippo_catalog.specs.Refusals.{IsFirstOf}
-use Rattle.hippo_catalog.specs.AuditExpressions.{audit_refused}
+use Rattle.hippo_typing_catalog.specs.Refusals.{IsFirstOf}
+use Rattle.hippo_typing_catalog.specs.AuditExpressions.{audit_refused}
 use Rattle.hippo_typing.specs.declared.audits.FoundAudit.{FoundAudit}
 use Rattle.hippo_typing.specs.FoundAudits.{judged_refused, head_of_audit}
 use Rattle.hippo_typing.proofs.AuditTheorem.{first_of_audit_columns, first_of_judged, none_of_audit, audit_of_found}
 use Rattle.hippo_typing.proofs.PairLemmas.{paired_fault, paired_form}
-use Rattle.hippo_catalog.proofs.Refused.{first_with_more, with_four}
+use Rattle.hippo_typing_catalog.proofs.Refused.{first_with_more, with_four}
 use Rattle.hippo_typing.proofs.audits.resolve_over.Goals as goal
 
 pub returns-in_err-tables : goal.returns-in_err-tables

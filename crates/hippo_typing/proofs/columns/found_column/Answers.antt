@@ -3,10 +3,10 @@ use Rattle.std.specs.Prelude.{option_to_list}
 use Rattle.std.specs.List.{enumerate_from}
 use Rattle.hippo_model.specs.declared.query.Ref.{Ref}
 use Rattle.hippo_model.specs.declared.schema.Schema.{Schema}
-use Rattle.hippo_statements.specs.declared.statement.RawColumn.{RawColumn}
-use Rattle.hippo_catalog.specs.Refusals.{IsFirstOf}
-use Rattle.hippo_catalog.specs.WrittenColumns.{home_in, homes, homes_refused, column_refused}
-use Rattle.hippo_catalog.proofs.ListLemmas.{filter_map_at_item}
+use Rattle.hippo_stmt_ast.specs.declared.statement.RawColumn.{RawColumn}
+use Rattle.hippo_typing_catalog.specs.Refusals.{IsFirstOf}
+use Rattle.hippo_typing_catalog.specs.WrittenColumns.{home_in, homes, homes_refused, column_refused}
+use Rattle.hippo_typing_catalog.proofs.ListLemmas.{filter_map_at_item}
 use Rattle.hippo_typing.proofs.columns.found_column.Goals as goal
 
 -- what a column may be in the tables from a place on

@@ -1,7 +1,7 @@
 use Rattle.std.proofs.Common.{◌≡◌, ◌++◌, drop, filter_map}
 use Rattle.std.specs.Prelude.{option_to_list}
 use Rattle.std.specs.List.{enumerate_from}
-use Rattle.hippo_catalog.specs.WrittenColumns.{home_in, homes}
+use Rattle.hippo_typing_catalog.specs.WrittenColumns.{home_in, homes}
 use Rattle.hippo_typing.proofs.columns.found_column.Given as goal
 
 abbrev pub invariant-loop-place : goal.invariant-loop-place

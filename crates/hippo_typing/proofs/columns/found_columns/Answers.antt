@@ -1,8 +1,8 @@
 use Rattle.std.proofs.Common.{arith, rules, refl}
 use Rattle.std.specs.List.{flat_map}
-use Rattle.hippo_catalog.specs.Refusals.{IsFirstOf}
-use Rattle.hippo_catalog.specs.WrittenColumns.{column_refused}
-use Rattle.hippo_catalog.proofs.Refused.{first_at_item}
+use Rattle.hippo_typing_catalog.specs.Refusals.{IsFirstOf}
+use Rattle.hippo_typing_catalog.specs.WrittenColumns.{column_refused}
+use Rattle.hippo_typing_catalog.proofs.Refused.{first_at_item}
 use Rattle.hippo_typing.proofs.columns.found_columns.Goals as goal
 
 pub returns-in_err-column : goal.returns-in_err-column

@@ -1,6 +1,6 @@
 use Rattle.std.proofs.Common.{◌≡◌, ◌++◌, map, drop}
 use Rattle.std.specs.List.{flat_map}
-use Rattle.hippo_catalog.specs.WrittenColumns.{column_refused}
+use Rattle.hippo_typing_catalog.specs.WrittenColumns.{column_refused}
 use Rattle.hippo_typing.specs.Found.{with_column}
 use Rattle.hippo_typing.proofs.columns.found_columns.Given as goal
 

@@ -3,10 +3,10 @@ use Rattle.std.specs.List.{flat_map}
 use Rattle.std.proofs.lemmas.List.{append-nil}
 use Rattle.hippo_model.proofs.FoldedConditions.{folded-All, folded-Any, folded-Not, folded-Compare, folded-Between, folded-Among, folded-Missing}
 use Rattle.hippo_model.specs.Conditions.{changed_layer}
-use Rattle.hippo_catalog.specs.Comparisons.{comparisons_layer, operand_refused, operands_refused, operand_of}
-use Rattle.hippo_catalog.specs.Refusals.{IsFirstOf}
-use Rattle.hippo_catalog.proofs.ComparedOperands.{gathered_parts}
-use Rattle.hippo_catalog.proofs.Refused.{first_at_item}
+use Rattle.hippo_typing_catalog.specs.Comparisons.{comparisons_layer, operand_refused, operands_refused, operand_of}
+use Rattle.hippo_typing_catalog.specs.Refusals.{IsFirstOf}
+use Rattle.hippo_typing_catalog.proofs.ComparedOperands.{gathered_parts}
+use Rattle.hippo_typing_catalog.proofs.Refused.{first_at_item}
 use Rattle.hippo_typing.proofs.conditions.+found_condition.Goals as goal
 
 pub found_condition-returns-in-All : goal.found_condition-returns-in-All

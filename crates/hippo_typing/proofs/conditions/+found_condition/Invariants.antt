@@ -1,6 +1,6 @@
 use Rattle.std.proofs.Common.{◌≡◌, ◌++◌, map, drop}
 use Rattle.std.specs.List.{flat_map}
-use Rattle.hippo_catalog.specs.Comparisons.{operands_refused, condition_of}
+use Rattle.hippo_typing_catalog.specs.Comparisons.{operands_refused, condition_of}
 use Rattle.hippo_typing.proofs.conditions.+found_condition.Given as goal
 
 abbrev pub invariant-found_parts-loop-part : goal.invariant-found_parts-loop-part

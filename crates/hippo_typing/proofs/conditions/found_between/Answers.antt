@@ -1,7 +1,7 @@
 use Rattle.std.proofs.Common.{[], ◌∷◌, rules}
 use Rattle.std.specs.List.{flat_map}
-use Rattle.hippo_catalog.specs.Comparisons.{operand_refused}
-use Rattle.hippo_catalog.specs.Refusals.{IsFirstOf}
+use Rattle.hippo_typing_catalog.specs.Comparisons.{operand_refused}
+use Rattle.hippo_typing_catalog.specs.Refusals.{IsFirstOf}
 use Rattle.hippo_typing.proofs.GroupLemmas.{at_first, at_second, at_third}
 use Rattle.hippo_typing.proofs.conditions.found_between.Goals as goal
 

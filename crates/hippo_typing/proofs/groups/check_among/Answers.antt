@@ -1,8 +1,8 @@
 use Rattle.std.proofs.Common.{arith, rules}
 use Rattle.std.specs.List.{flat_map}
-use Rattle.hippo_catalog.specs.Refusals.{IsFirstOf}
+use Rattle.hippo_typing_catalog.specs.Refusals.{IsFirstOf}
 use Rattle.hippo_typing.specs.Found.{lone_found}
-use Rattle.hippo_catalog.proofs.Refused.{first_at_item}
+use Rattle.hippo_typing_catalog.proofs.Refused.{first_at_item}
 use Rattle.hippo_typing.proofs.groups.check_among.Goals as goal
 
 pub returns-in_err-check_column : goal.returns-in_err-check_column

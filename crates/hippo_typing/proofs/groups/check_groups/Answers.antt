@@ -1,9 +1,9 @@
 use Rattle.std.proofs.Common.{List, rules, subst}
 use Rattle.std.specs.List.{flat_map}
 use Rattle.hippo_model.specs.declared.query.Ref.{Ref}
-use Rattle.hippo_statements.specs.declared.statement.RawColumn.{RawColumn}
-use Rattle.hippo_catalog.specs.Refusals.{IsFirstOf}
-use Rattle.hippo_catalog.proofs.Refused.{first_with_more}
+use Rattle.hippo_stmt_ast.specs.declared.statement.RawColumn.{RawColumn}
+use Rattle.hippo_typing_catalog.specs.Refusals.{IsFirstOf}
+use Rattle.hippo_typing_catalog.proofs.Refused.{first_with_more}
 use Rattle.hippo_typing.specs.Found.{lone_found, groups_found_refused}
 use Rattle.hippo_typing.proofs.groups.check_groups.Goals as goal
 

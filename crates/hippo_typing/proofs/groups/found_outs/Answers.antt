@@ -1,12 +1,12 @@
 use Rattle.std.proofs.Common.{List, arith, rules, refl, subst}
 use Rattle.std.specs.List.{flat_map}
 use Rattle.hippo_model.specs.declared.name_fault.NameFault.{NameFault}
-use Rattle.hippo_statements.specs.declared.statement.RawColumn.{RawColumn}
-use Rattle.hippo_statements.specs.declared.statement.RawOut.{RawOut}
-use Rattle.hippo_catalog.specs.Refusals.{IsFirstOf}
-use Rattle.hippo_catalog.specs.Selects.{column_in}
-use Rattle.hippo_catalog.specs.WrittenColumns.{column_refused}
-use Rattle.hippo_catalog.proofs.Refused.{first_at_item}
+use Rattle.hippo_stmt_ast.specs.declared.statement.RawColumn.{RawColumn}
+use Rattle.hippo_stmt_ast.specs.declared.statement.RawOut.{RawOut}
+use Rattle.hippo_typing_catalog.specs.Refusals.{IsFirstOf}
+use Rattle.hippo_typing_catalog.specs.Selects.{column_in}
+use Rattle.hippo_typing_catalog.specs.WrittenColumns.{column_refused}
+use Rattle.hippo_typing_catalog.proofs.Refused.{first_at_item}
 use Rattle.hippo_typing.proofs.groups.found_outs.Goals as goal
 
 pub returns-in_err-column : goal.returns-in_err-column

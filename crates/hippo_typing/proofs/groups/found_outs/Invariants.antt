@@ -1,7 +1,7 @@
 use Rattle.std.proofs.Common.{◌≡◌, ◌++◌, map, drop}
 use Rattle.std.specs.List.{flat_map}
-use Rattle.hippo_catalog.specs.WrittenColumns.{column_refused}
-use Rattle.hippo_catalog.specs.Selects.{column_in}
+use Rattle.hippo_typing_catalog.specs.WrittenColumns.{column_refused}
+use Rattle.hippo_typing_catalog.specs.Selects.{column_in}
 use Rattle.hippo_typing.specs.Found.{with_out}
 use Rattle.hippo_typing.proofs.groups.found_outs.Given as goal
 

@@ -1,6 +1,6 @@
 use Rattle.std.proofs.Common.{◌≡◌, ◌+◌, drop}
 use Rattle.std.specs.List.{position_or_len}
-use Rattle.hippo_catalog.specs.Selects.{same_reference}
+use Rattle.hippo_typing_catalog.specs.Selects.{same_reference}
 use Rattle.hippo_typing.proofs.groups.place_among.Given as goal
 
 abbrev pub invariant-loop-other : goal.invariant-loop-other

@@ -1,8 +1,8 @@
 use Rattle.std.proofs.Common.{arith, rules, refl}
 use Rattle.std.specs.List.{flat_map}
-use Rattle.hippo_catalog.specs.Refusals.{IsFirstOf}
-use Rattle.hippo_catalog.specs.Selects.{item_refused}
-use Rattle.hippo_catalog.proofs.Refused.{first_at_item}
+use Rattle.hippo_typing_catalog.specs.Refusals.{IsFirstOf}
+use Rattle.hippo_typing_catalog.specs.Selects.{item_refused}
+use Rattle.hippo_typing_catalog.proofs.Refused.{first_at_item}
 use Rattle.hippo_typing.proofs.items.found_items.Goals as goal
 
 pub returns-in_err-push_item : goal.returns-in_err-push_item

@@ -1,6 +1,6 @@
 use Rattle.std.proofs.Common.{◌≡◌, ◌++◌, drop}
 use Rattle.std.specs.List.{flat_map}
-use Rattle.hippo_catalog.specs.Selects.{item_refused, item_columns}
+use Rattle.hippo_typing_catalog.specs.Selects.{item_refused, item_columns}
 use Rattle.hippo_typing.proofs.items.found_items.Given as goal
 
 abbrev pub invariant-loop-item : goal.invariant-loop-item

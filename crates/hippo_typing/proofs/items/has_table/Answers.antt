@@ -2,7 +2,7 @@ use Rattle.std.proofs.Common.{◌∙◌, ap, sym, ◌≡◌, Bool, true, false, 
 use Rattle.std.specs.Prelude.{bytes_eq, ◌||◌}
 use Rattle.std.specs.List.{list_any}
 use Rattle.hippo_model.specs.declared.schema.Schema.{Schema}
-use Rattle.hippo_catalog.proofs.ListLemmas.{any_at_item}
+use Rattle.hippo_typing_catalog.proofs.ListLemmas.{any_at_item}
 use Rattle.hippo_typing.proofs.items.has_table.Goals as goal
 
 pub returns-then-eq : goal.returns-then-eq

@@ -3,9 +3,9 @@ use Rattle.std.specs.Prelude.{if◌then◌else◌}
 use Rattle.std.specs.List.{flat_map, enumerate_from}
 use Rattle.hippo_model.specs.declared.query.Ref.{Ref}
 use Rattle.hippo_model.specs.declared.schema.Schema.{Schema}
-use Rattle.hippo_catalog.specs.WrittenColumns.{may_stand_in}
-use Rattle.hippo_catalog.specs.Selects.{table_columns, star_columns}
-use Rattle.hippo_catalog.proofs.ListLemmas.{flat_map_at_item, one_more}
+use Rattle.hippo_typing_catalog.specs.WrittenColumns.{may_stand_in}
+use Rattle.hippo_typing_catalog.specs.Selects.{table_columns, star_columns}
+use Rattle.hippo_typing_catalog.proofs.ListLemmas.{flat_map_at_item, one_more}
 use Rattle.hippo_typing.proofs.items.push_star.Goals as goal
 
 pub loop-place-preserved : goal.loop-place-preserved

@@ -1,8 +1,8 @@
 use Rattle.std.proofs.Common.{◌≡◌, [], ◌++◌, drop, option_copied}
 use Rattle.std.specs.Prelude.{if◌then◌else◌}
 use Rattle.std.specs.List.{flat_map, enumerate_from}
-use Rattle.hippo_catalog.specs.WrittenColumns.{may_stand_in}
-use Rattle.hippo_catalog.specs.Selects.{table_columns, star_columns}
+use Rattle.hippo_typing_catalog.specs.WrittenColumns.{may_stand_in}
+use Rattle.hippo_typing_catalog.specs.Selects.{table_columns, star_columns}
 use Rattle.hippo_typing.proofs.items.push_star.Given as goal
 
 abbrev pub invariant-loop-place : goal.invariant-loop-place

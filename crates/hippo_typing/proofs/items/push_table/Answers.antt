@@ -1,7 +1,7 @@
 use Rattle.std.proofs.Common.{◌≡◌, ℕ, ◌+◌, ◌-◌, List, [], ◌∷◌, ◌++◌, map, ap, sym, ◌∙◌, arith}
 use Rattle.std.specs.List.{range_with_len}
 use Rattle.hippo_model.specs.declared.query.Ref.{Ref}
-use Rattle.hippo_catalog.proofs.ListLemmas.{range_at, one_more}
+use Rattle.hippo_typing_catalog.proofs.ListLemmas.{range_at, one_more}
 use Rattle.hippo_typing.proofs.items.push_table.Goals as goal
 
 pub loop-column-preserved : goal.loop-column-preserved

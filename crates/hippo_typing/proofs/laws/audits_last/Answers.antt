@@ -1,5 +1,5 @@
 use Rattle.std.proofs.Common.{◌++◌}
-use Rattle.hippo_catalog.specs.Catalogs.{known_at}
+use Rattle.hippo_typing_catalog.specs.Catalogs.{known_at}
 use Rattle.hippo_typing.proofs.LastingNames.{extends_later, audit_lasts}
 use Rattle.hippo_typing.proofs.laws.audits_last.Goals as goal
 

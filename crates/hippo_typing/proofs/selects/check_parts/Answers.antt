@@ -1,10 +1,10 @@
 use Rattle.std.proofs.Common.{◌≡◌, ℕ, List, [], length, rules, subst}
-use Rattle.hippo_statements.specs.declared.statement.RawOut.{RawOut}
+use Rattle.hippo_stmt_ast.specs.declared.statement.RawOut.{RawOut}
 use Rattle.hippo_values.specs.Limits.{from_limit, item_limit}
-use Rattle.hippo_catalog.specs.Refusals.{IsFirstOf}
-use Rattle.hippo_catalog.specs.Selects.{select_parts_refused}
-use Rattle.hippo_catalog.specs.StatementLimits.{too_many}
-use Rattle.hippo_catalog.proofs.Refused.{first_of_four, second_of_four, third_of_four}
+use Rattle.hippo_typing_catalog.specs.Refusals.{IsFirstOf}
+use Rattle.hippo_typing_catalog.specs.Selects.{select_parts_refused}
+use Rattle.hippo_typing_catalog.specs.StatementLimits.{too_many}
+use Rattle.hippo_typing_catalog.proofs.Refused.{first_of_four, second_of_four, third_of_four}
 use Rattle.hippo_typing.proofs.selects.check_parts.Goals as goal
 
 pub returns-in_err-check_count : goal.returns-in_err-check_count

@@ -1,7 +1,7 @@
 use Rattle.std.proofs.Common.{rules}
 use Rattle.hippo_typing.specs.FoundSelects.{head_refused}
-use Rattle.hippo_catalog.specs.Refusals.{IsFirstOf}
-use Rattle.hippo_catalog.proofs.Refused.{first_of_four, second_of_four, third_of_four}
+use Rattle.hippo_typing_catalog.specs.Refusals.{IsFirstOf}
+use Rattle.hippo_typing_catalog.proofs.Refused.{first_of_four, second_of_four, third_of_four}
 use Rattle.hippo_typing.proofs.selects.check_select.Goals as goal
 
 pub returns-in_err-check_groups : goal.returns-in_err-check_groups

@@ -1,11 +1,11 @@
 use Rattle.std.proofs.Common.{List, ◌++◌, rules}
 use Rattle.std.specs.List.{flat_map}
 use Rattle.hippo_model.specs.declared.name_fault.NameFault.{NameFault}
-use Rattle.hippo_catalog.specs.Comparisons.{operands_refused}
-use Rattle.hippo_catalog.specs.Refusals.{IsFirstOf}
-use Rattle.hippo_catalog.specs.Selects.{by_of, list_refused, columns_refused}
-use Rattle.hippo_catalog.specs.WrittenColumns.{column_refused}
-use Rattle.hippo_catalog.proofs.Refused.{first_with_more, first_after, first_of_three}
+use Rattle.hippo_typing_catalog.specs.Comparisons.{operands_refused}
+use Rattle.hippo_typing_catalog.specs.Refusals.{IsFirstOf}
+use Rattle.hippo_typing_catalog.specs.Selects.{by_of, list_refused, columns_refused}
+use Rattle.hippo_typing_catalog.specs.WrittenColumns.{column_refused}
+use Rattle.hippo_typing_catalog.proofs.Refused.{first_with_more, first_after, first_of_three}
 use Rattle.hippo_typing.proofs.selects.found_select.Goals as goal
 
 pub returns-in_err-list : goal.returns-in_err-list

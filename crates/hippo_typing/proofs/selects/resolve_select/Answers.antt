@@ -1,11 +1,11 @@
 use Rattle.std.proofs.Common.{◌≡◌, [], ap, subst, ◌∙◌, rules}
 use Rattle.hippo_typing.specs.declared.selects.FoundSelect.{FoundSelect}
-use Rattle.hippo_catalog.specs.Refusals.{IsFirstOf}
-use Rattle.hippo_catalog.specs.Selects.{select_refused}
+use Rattle.hippo_typing_catalog.specs.Refusals.{IsFirstOf}
+use Rattle.hippo_typing_catalog.specs.Selects.{select_refused}
 use Rattle.hippo_typing.specs.FoundSelects.{head_refused, head_of}
 use Rattle.hippo_typing.proofs.FoundTheorem.{first_of_columns, first_of_head, none_of_select, query_of_select}
 use Rattle.hippo_typing.proofs.PairLemmas.{paired_fault, paired_form}
-use Rattle.hippo_catalog.proofs.Refused.{first_with_more, with_four}
+use Rattle.hippo_typing_catalog.proofs.Refused.{first_with_more, with_four}
 use Rattle.hippo_typing.proofs.selects.resolve_select.Goals as goal
 
 pub returns-in_err-tables : goal.returns-in_err-tables

@@ -1,6 +1,6 @@
 use Rattle.std.proofs.Common.{◌≡◌, ◌++◌, drop, flat_map}
-use Rattle.hippo_catalog.specs.Catalogs.{schemas_of}
-use Rattle.hippo_catalog.specs.Refusals.{unknown_table}
+use Rattle.hippo_typing_catalog.specs.Catalogs.{schemas_of}
+use Rattle.hippo_typing_catalog.specs.Refusals.{unknown_table}
 use Rattle.hippo_typing.proofs.tables.tables_of.Given as goal
 
 abbrev pub invariant-loop-name : goal.invariant-loop-name

@@ -2,7 +2,7 @@ use Rattle.std.proofs.Common.{◌≡◌, ◌≢◌, Option, None, sym, ◌∙◌
 use Rattle.std.proofs.lemmas.Result.{IfOk-weaker}
 use Rattle.hippo_model.specs.declared.name_fault.NameFault.TheVariants as faults
 use Rattle.hippo_model.specs.declared.query.Query.{Query}
-use Rattle.hippo_catalog.specs.Selects.{select_refused, query_of}
+use Rattle.hippo_typing_catalog.specs.Selects.{select_refused, query_of}
 use Rattle.hippo_typing.specs.Meanings.{query_in}
 use Rattle.hippo_typing.proofs.MeaningTheorem.{query_unless_refused-first}
 use Rattle.hippo_typing.proofs.texts.query_in.Goals as goal

@@ -1,7 +1,7 @@
 use Rattle.std.proofs.Common.{arith, rules, refl}
 use Rattle.std.specs.List.{flat_map}
-use Rattle.hippo_catalog.specs.Refusals.{IsFirstOf}
-use Rattle.hippo_catalog.proofs.Refused.{first_at_item}
+use Rattle.hippo_typing_catalog.specs.Refusals.{IsFirstOf}
+use Rattle.hippo_typing_catalog.proofs.Refused.{first_at_item}
 use Rattle.hippo_typing.proofs.written.found_each.Goals as goal
 
 pub returns-in_err-find : goal.returns-in_err-find

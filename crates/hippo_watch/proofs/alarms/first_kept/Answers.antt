@@ -4,7 +4,7 @@ use Rattle.std.proofs.lemmas.Result.{IfOk-weaker}
 use Rattle.hippo_model.specs.declared.audit.SharedRow.{SharedRow}
 use Rattle.hippo_typing.specs.Meanings.{meaning}
 use Rattle.hippo_model.specs.Verdicts.{context_of}
-use Rattle.hippo_examining.specs.Examining.{ServesFirst}
+use Rattle.hippo_audit_needs.specs.Examining.{ServesFirst}
 use Rattle.hippo_watch.specs.Alarms.{ServesNow}
 use Rattle.hippo_watch.proofs.AlarmLemmas.{rows_same, those_of}
 use Rattle.hippo_watch.proofs.alarms.first_kept.Goals as goal

@@ -1,8 +1,8 @@
 -- The session is open, or memory was short.
 use Rattle.std.proofs.Common.{refl}
-use Rattle.hippo_judging.specs.Deeds as deeds
+use Rattle.hippo_engine_checks.specs.Deeds as deeds
 use Rattle.hippo_engine.specs.declared.engine.Engine.{Engine}
-use Rattle.hippo_effects.specs.Effects.{only_reply}
+use Rattle.hippo_engine_rules.specs.Effects.{only_reply}
 use Rattle.hippo_report.specs.declared.speaker.Speaker.TheVariants.{Session}
 use Rattle.hippo_engine.proofs.QuietLemmas.{quiet_done, quiet_short}
 use Rattle.hippo_engine.proofs.engine.Engine.log_in.Goals as goal

@@ -1,9 +1,9 @@
 -- The clock is set.
 use Rattle.std.proofs.Common.{refl}
-use Rattle.hippo_world.specs.Holding.{world_of}
-use Rattle.hippo_judging.specs.Deeds as deeds
+use Rattle.hippo_engine_world.specs.Holding.{world_of}
+use Rattle.hippo_engine_checks.specs.Deeds as deeds
 use Rattle.hippo_engine.specs.declared.engine.Engine.{Engine}
-use Rattle.hippo_effects.specs.Effects.{only_reply}
+use Rattle.hippo_engine_rules.specs.Effects.{only_reply}
 use Rattle.hippo_engine.proofs.QuietLemmas.{quiet_done}
 use Rattle.hippo_engine.proofs.engine.Engine.set_clock.Goals as goal
 

@@ -4,9 +4,9 @@ use Rattle.std.specs.List.{list_any}
 use Rattle.std.proofs.lemmas.Bool.{false≢true}
 use Rattle.hippo_model.specs.Terms.{Place}
 use Rattle.hippo_join.specs.Existence.{are_shown}
-use Rattle.hippo_lookups.specs.Places.{chosen_rows}
-use Rattle.hippo_lookups.proofs.PruneLemmas.{in-range}
-use Rattle.hippo_lookups.proofs.SlotLemmas.{there-fits}
+use Rattle.hippo_join_lookups.specs.Places.{chosen_rows}
+use Rattle.hippo_join_lookups.proofs.PruneLemmas.{in-range}
+use Rattle.hippo_join_lookups.proofs.SlotLemmas.{there-fits}
 use Rattle.hippo_join.proofs.ExistenceLemmas.{one-found}
 use Rattle.hippo_join.proofs.VisitingLemmas.{kept-whole}
 use Rattle.hippo_join.proofs.existence.Seeker.has_along.Goals as goal

@@ -1,7 +1,7 @@
 -- It shows what is to be seen, or not.
 use Rattle.std.proofs.Common.{List, sym, ap, ◌∙◌}
 use Rattle.hippo_model.specs.Terms.{Place}
-use Rattle.hippo_lookups.specs.Places.{chosen_rows}
+use Rattle.hippo_join_lookups.specs.Places.{chosen_rows}
 use Rattle.hippo_join.specs.Existence.{are_shown}
 use Rattle.hippo_join.proofs.ExistenceLemmas.{any-there, any-not}
 use Rattle.hippo_join.proofs.existence.SeekerPlaceVisitor.visit.Goals as goal

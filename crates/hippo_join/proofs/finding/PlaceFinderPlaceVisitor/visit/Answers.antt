@@ -1,8 +1,8 @@
 -- One combination more, or enough of them.
 use Rattle.std.proofs.Common.{◌≡◌, ◌<◌, ◌≤◌, true, length, List, ◌++◌, [], ◌∷◌, map, unwrap_or, Option, subst, ap, ◌∙◌, arith}
 use Rattle.hippo_model.specs.Terms.{Place}
-use Rattle.hippo_sides.specs.Finding.{AreFound, has_places}
-use Rattle.hippo_sides.proofs.FindingLemmas.{found-enough, found-more, places-back}
+use Rattle.hippo_join_stages.specs.Finding.{AreFound, has_places}
+use Rattle.hippo_join_stages.proofs.FindingLemmas.{found-enough, found-more, places-back}
 use Rattle.hippo_join.proofs.finding.PlaceFinderPlaceVisitor.visit.Goals as goal
 
 pub returns-then-len-self : goal.returns-then-len-self

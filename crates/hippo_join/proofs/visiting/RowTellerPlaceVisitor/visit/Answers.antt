@@ -1,6 +1,6 @@
 -- The rows are those at the places.
 use Rattle.std.proofs.Common.{◌++◌, map}
-use Rattle.hippo_lookups.specs.Places.{chosen_rows}
+use Rattle.hippo_join_lookups.specs.Places.{chosen_rows}
 use Rattle.hippo_join.proofs.VisitingLemmas.{rows-kept}
 use Rattle.hippo_join.proofs.visiting.RowTellerPlaceVisitor.visit.Goals as goal
 

@@ -4,11 +4,11 @@ use Rattle.std.specs.Prelude.{slice_set}
 use Rattle.std.proofs.lemmas.Bool.{false≢true}
 use Rattle.std.proofs.lemmas.List.{set-set}
 use Rattle.hippo_model.specs.Terms.{Place}
-use Rattle.hippo_lookups.specs.Places.{are_there, stays}
-use Rattle.hippo_lookups.proofs.SlotLemmas.{length-rows_at}
-use Rattle.hippo_sides.specs.Visiting.{Completes}
-use Rattle.hippo_sides.specs.Walking.{following_places, IsWalkable}
-use Rattle.hippo_sides.proofs.FindingLemmas.{all-first, open-within, still-open, within-set}
+use Rattle.hippo_join_lookups.specs.Places.{are_there, stays}
+use Rattle.hippo_join_lookups.proofs.SlotLemmas.{length-rows_at}
+use Rattle.hippo_join_stages.specs.Visiting.{Completes}
+use Rattle.hippo_join_stages.specs.Walking.{following_places, IsWalkable}
+use Rattle.hippo_join_stages.proofs.FindingLemmas.{all-first, open-within, still-open, within-set}
 use Rattle.hippo_join.specs.Walked.{join_of}
 use Rattle.hippo_join.proofs.VisitingLemmas.{Tried, counts-again, has-at, none-counted, none-left, none-there, next-on, on-again, on-closed, on-same, on-with, visited-none, visited-more, visited-all, visited-enough}
 use Rattle.hippo_join.proofs.walking.Walk.+walk.Goals as goal

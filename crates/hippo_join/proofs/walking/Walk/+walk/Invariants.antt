@@ -3,8 +3,8 @@ use Rattle.std.proofs.Common.{◌≡◌, ◌+◌, ◌*◌, List, None, length}
 use Rattle.std.specs.Prelude.{slice_set}
 use Rattle.hippo_model.specs.Terms.{Combination, Place}
 use Rattle.hippo_eval.specs.declared.walks.Onward.TheVariants.{More}
-use Rattle.hippo_sides.specs.Visiting.{Visited}
-use Rattle.hippo_sides.specs.Walking.{following_places}
+use Rattle.hippo_join_stages.specs.Visiting.{Visited}
+use Rattle.hippo_join_stages.specs.Walking.{following_places}
 use Rattle.hippo_join.specs.Walked.{StandAt}
 use Rattle.hippo_join.proofs.VisitingLemmas.{Tried}
 use Rattle.hippo_join.proofs.walking.Walk.+walk.Given as goal

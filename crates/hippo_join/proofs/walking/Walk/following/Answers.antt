@@ -1,7 +1,7 @@
 -- The same places count, once they are sorted.
 use Rattle.std.specs.List.{Contains}
 use Rattle.std.proofs.lemmas.List.Elements.{All-contains}
-use Rattle.hippo_sides.specs.Walking.{following_places}
+use Rattle.hippo_join_stages.specs.Walking.{following_places}
 use Rattle.hippo_join.proofs.walking.Walk.following.Goals as goal
 
 pub returns : goal.returns

@@ -1,7 +1,7 @@
 -- The rows of the other tables stay.
 use Rattle.std.proofs.Common.{length, ap, ◌∙◌, arith}
 use Rattle.std.specs.Prelude.{slice_set}
-use Rattle.hippo_lookups.proofs.SlotLemmas.{length-rows_at}
+use Rattle.hippo_join_lookups.proofs.SlotLemmas.{length-rows_at}
 use Rattle.hippo_join.proofs.VisitingLemmas.{rows-left}
 use Rattle.hippo_join.proofs.walking.Walk.leave.Goals as goal
 

@@ -1,7 +1,7 @@
 -- The combination that is there counts.
 use Rattle.std.proofs.Common.{[], ◌∷◌, refl, sym}
-use Rattle.hippo_sides.specs.Visiting.{KeptOn, Visited, Completes}
-use Rattle.hippo_lookups.proofs.PlaceSteps.{ok-then}
+use Rattle.hippo_join_stages.specs.Visiting.{KeptOn, Visited, Completes}
+use Rattle.hippo_join_lookups.proofs.PlaceSteps.{ok-then}
 use Rattle.hippo_join.specs.Walked.{join_of}
 use Rattle.hippo_join.proofs.VisitingLemmas.{is-counted, on-ok, visited-one}
 use Rattle.hippo_join.proofs.walking.Walk.visit_counted.Goals as goal

@@ -1,6 +1,6 @@
 -- The combination that is there counts, or not.
 use Rattle.std.proofs.Common.{refl, sym, ◌∙◌}
-use Rattle.hippo_sides.specs.Visiting.{Completes}
+use Rattle.hippo_join_stages.specs.Visiting.{Completes}
 use Rattle.hippo_join.specs.Walked.{join_of}
 use Rattle.hippo_join.proofs.VisitingLemmas.{counted-by, is-whole, not-one, visited-none}
 use Rattle.hippo_join.proofs.walking.Walk.visit_whole.Goals as goal

@@ -13,7 +13,7 @@ pages_above-pages-requires-clause-order c =
 
 pub returns : goal.returns
 returns c =
-    let sought = c.args.sought.now in
-    let first = c.in_ok-pick.ensures ∙ ap (λ list. with_picked sought list (paged c.pages_above-pages.result.now)) c.new-list.ensures in
-    let is = picked_of_all sought _ (paged c.self.inside.full) c.self.inside.last _ _ first c.in_ok-pick-2.ensures (rw c.as_slice.ensures at c.pages_above-pages.ensures) ∙ ap (handed_over (is_selected sought.selection) sought.after sought.max) c.self.view_is in
-    IsHandedOver-of (is_selected sought.selection) sought.after sought.max c.args.self.now _ is c.requires
+    let read_query = c.args.read_query.now in
+    let first = c.in_ok-pick.ensures ∙ ap (λ list. with_picked read_query list (paged c.pages_above-pages.result.now)) c.new-list.ensures in
+    let is = picked_of_all read_query _ (paged c.self.inside.full) c.self.inside.last _ _ first c.in_ok-pick-2.ensures (rw c.as_slice.ensures at c.pages_above-pages.ensures) ∙ ap (handed_over (is_selected read_query.selection) read_query.after read_query.max) c.self.view_is in
+    IsHandedOver-of (is_selected read_query.selection) read_query.after read_query.max c.args.self.now _ is c.requires

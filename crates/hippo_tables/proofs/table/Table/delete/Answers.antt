@@ -1,7 +1,7 @@
 -- A row and its number go together.
 use Rattle.std.proofs.Common.{length, sym, ap, arith}
 use Rattle.std.proofs.lemmas.List.Edits.{length-remove}
-use Rattle.hippo_keyed_rows.specs.RowSets.{KeyedRows}
+use Rattle.hippo_tables_keyed.specs.RowSets.{KeyedRows}
 use Rattle.hippo_tables.proofs.RowPlaces.{length-taken}
 use Rattle.hippo_tables.proofs.table.Table.delete.Goals as goal
 

@@ -4,7 +4,7 @@ use Rattle.std.proofs.lemmas.List.Edits.{length-insert}
 use Rattle.hippo_model.specs.declared.born_row.BornRow.{BornRow}
 use Rattle.hippo_model.specs.Terms.{Key}
 use Rattle.hippo_model.specs.Rows.{key_of}
-use Rattle.hippo_keyed_rows.specs.RowSets.{KeyedRows, with_row, without_row, find_row}
+use Rattle.hippo_tables_keyed.specs.RowSets.{KeyedRows, with_row, without_row, find_row}
 use Rattle.hippo_tables.specs.KeptTables.{KeptTable, place_of_key}
 use Rattle.hippo_tables.proofs.KeptLemmas.{place_within, rows_longer, rows_back}
 use Rattle.hippo_tables.proofs.table.Table.insert.Goals as goal

@@ -3,7 +3,7 @@ use Rattle.std.proofs.Common.{◌≡◌, length, Some, subst, sym, ap, arith}
 use Rattle.std.proofs.lemmas.List.{length-set}
 use Rattle.hippo_model.specs.declared.born_row.BornRow.{BornRow}
 use Rattle.hippo_model.specs.Rows.{key_of}
-use Rattle.hippo_keyed_rows.specs.RowSets.{KeyedRows, find_row}
+use Rattle.hippo_tables_keyed.specs.RowSets.{KeyedRows, find_row}
 use Rattle.hippo_tables.specs.KeptTables.{KeptTable}
 use Rattle.hippo_tables.proofs.KeptLemmas.{rows_as_long}
 use Rattle.hippo_tables.proofs.table.Table.renew.Goals as goal

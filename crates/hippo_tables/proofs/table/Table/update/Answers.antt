@@ -4,7 +4,7 @@ use Rattle.std.specs.Option.{IsSome}
 use Rattle.std.proofs.lemmas.List.{length-set}
 use Rattle.hippo_model.specs.declared.born_row.BornRow.{BornRow}
 use Rattle.hippo_model.specs.Rows.{key_of}
-use Rattle.hippo_keyed_rows.specs.RowSets.{KeyedRows, with_row, find_row}
+use Rattle.hippo_tables_keyed.specs.RowSets.{KeyedRows, with_row, find_row}
 use Rattle.hippo_tables.specs.KeptTables.{KeptTable}
 use Rattle.hippo_tables.proofs.KeptLemmas.{ok_from, rows_as_long}
 use Rattle.hippo_tables.proofs.table.Table.update.Goals as goal

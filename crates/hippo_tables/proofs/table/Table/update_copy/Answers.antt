@@ -2,7 +2,7 @@
 use Rattle.std.proofs.Common.{◌≡◌, Some, subst, sym, ap, ◌∙◌}
 use Rattle.hippo_model.specs.Terms.{Row}
 use Rattle.hippo_model.specs.Rows.{key_of}
-use Rattle.hippo_keyed_rows.specs.RowSets.{find_row}
+use Rattle.hippo_tables_keyed.specs.RowSets.{find_row}
 use Rattle.hippo_tables.specs.Before.{before_of, renewed_table}
 use Rattle.hippo_tables.specs.KeptTables.{KeptTable}
 use Rattle.hippo_tables.proofs.table.Table.update_copy.Goals as goal

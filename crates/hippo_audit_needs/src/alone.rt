@@ -1,0 +1,139 @@
+//! The first virtual tuple that a DISTINCT query needs and an audit has, found by marks in one
+//! walk.
+ghost use Rattle.std.specs.Prelude.{◌≡◌, [], ◌∷◌, ◌++◌, List, IfOk, OnOk, cond};
+ghost use Rattle.std.specs.BTreeMap.{IsOrdered};
+ghost use Rattle.std.specs.List.{list_any};
+ghost use Rattle.std.specs.Ordering.{is_eq};
+ghost use Rattle.hippo_model.specs.declared.query.Form.TheVariants.{Distinct};
+ghost use Rattle.hippo_model.specs.Answers.{product};
+ghost use Rattle.hippo_model.specs.Terms.{Place, ShownRow};
+ghost use Rattle.hippo_eval.specs.Walks.{rows_of};
+ghost use Rattle.hippo_join_stages.specs.Finding.{has_places};
+ghost use Rattle.hippo_audit_search.specs.Comparing.{HaveRows, needed_between};
+ghost use Rattle.hippo_audit_search.specs.Marks.{mark_of, is_one};
+ghost use Rattle.hippo_audit_needs.specs.AloneRows.{AreMarked, mark_at};
+
+use hippo_audit_common::common_places;
+use hippo_audit_search::{Compared, Mark, audit_has_any, first_of, know_order, row_places};
+use hippo_eval::{Onward, Visitor, passes, project};
+use hippo_join::walk_joined;
+use hippo_model::{Cell, CellRow, ChoiceView, Combo, Masked, Places, SharedTuple};
+use hippo_tables_rows::Sets;
+use hippo_values::{Memory, Sequence};
+use std::alloc::Global;
+use std::collections::{BTreeMap, BTreeSet};
+
+// Marks one combination more, which makes this row and has the tuple of these places.
+fn mark(marks: &mut BTreeMap<CellRow, Mark>, row: CellRow, places: Places) -> Result<(), Memory>
+    ensures { (tuples : List (List Place))
+        → mark_at ⟦<Sequence<Cell> as Ord>⟧.cmp marks.old row ≡ mark_of tuples
+        → OnOk result ((other : ShownRow)
+        → mark_at ⟦<Sequence<Cell> as Ord>⟧.cmp marks.new other
+        ≡ cond (is_eq (⟦<Sequence<Cell> as Ord>⟧.cmp row other))
+        (mark_of (tuples ++ places ∷ []))
+        (mark_at ⟦<Sequence<Cell> as Ord>⟧.cmp marks.old other)) }
+{
+    let mark = marks.get(&row).unwrap_or(&Mark::Unmarked).with(places);
+    marks.insert(row, mark)?;
+    Ok(())
+}
+
+// Marks the rows of a query's answer, by the places of the combinations' rows of some tables.
+#[derive(Drop)]
+struct Marker<'a, C> {
+    query: &'a Masked,
+    sets: &'a Sets<'a>,
+    tables: &'a [usize],
+    choices: &'a C,
+}
+
+impl<'a, C: ChoiceView> Visitor for Marker<'a, C> {
+    ghost use Rattle.hippo_audit_needs.specs.AloneRows.{AreMarked};
+
+    type State = BTreeMap<CellRow, Mark>;
+
+    ghost Keeps = { λ marker combinations marks. AreMarked ⟦<Sequence<Cell> as Ord>⟧.cmp
+        (C.choices marker.choices.now) marker.query.now marker.sets.now marker.tables.now
+        combinations marks };
+
+    fn visit(
+        &self,
+        alloc: Global,
+        state: &mut BTreeMap<CellRow, Mark>,
+        combo: &Combo<'_>,
+    ) -> Result<Onward, Memory> {
+        if passes(self.query, combo, self.choices) {
+            let row = project(alloc, self.query, combo, self.choices)?;
+            let places = row_places(alloc, self.sets, self.tables, combo)?;
+            mark(state, row, places)?;
+        }
+        Ok(Onward::More)
+    }
+}
+
+fn row_marks<C: ChoiceView>(
+    alloc: Global,
+    query: &Masked,
+    sets: &Sets<'_>,
+    tables: &[usize],
+    choices: &C,
+) -> Result<BTreeMap<CellRow, Mark>, Memory>
+    ensures { IfOk result (λ marks. AreMarked ⟦<Sequence<Cell> as Ord>⟧.cmp
+        (C.choices choices.now) query.now
+        sets.now tables.now (product (rows_of sets.now)) marks) }
+{
+    let marker = Marker {
+        query: &*query,
+        sets: &*sets,
+        tables: &*tables,
+        choices: &*choices,
+    };
+    let mut marks = BTreeMap::new(alloc);
+    walk_joined(alloc, query, sets, choices, &marker, &mut marks)?;
+    Ok(marks)
+}
+
+// The places of the tuples that stand alone behind some row.
+fn alone(alloc: Global, marks: BTreeMap<CellRow, Mark>) -> Result<BTreeSet<Places>, Memory>
+    ensures order { IsOrdered ⟦<Sequence<Cell> as Ord>⟧.cmp marks }
+    ensures places { IfOk result (λ candidates. (places : List Place)
+        → has_places places candidates.keys
+        ≡ list_any (λ entry. is_one places entry.1) marks.entries) }
+{
+    let mut candidates = BTreeSet::new(alloc);
+    for (_, mark) in marks {
+        mark.add_to(&mut candidates)?;
+    }
+    Ok(candidates)
+}
+
+/// The first virtual tuple (a row of each table in both FROM lists, by its key; in the audit's
+/// order) that a DISTINCT query needs, that some row of its answer has with each expression of
+/// `seen` a shown cell, and that some combination of the audit's rows has of which its condition is
+/// true; none exactly where there is none. A tuple is needed where some row of the answer comes
+/// from combinations with the tuple alone. Wants what `first_shared` wants. Takes the time of
+/// `walk_joined` over the query's rows, unless no combination of the audit's rows counts; and
+/// memory for the different rows.
+pub(crate) fn first_alone<C: ChoiceView>(
+    alloc: Global,
+    compared: &Compared<'_, C>,
+) -> Result<Option<SharedTuple>, Memory>
+    requires { HaveRows compared.now }
+    ensures { IfOk result (λ shared. shared ≡ needed_between C.choices Distinct compared.now) }
+{
+    if !audit_has_any(alloc, compared.audited)? {
+        return Ok(None);
+    }
+    know_order(compared.audited.audit_sets);
+    let tables = compared.audited.audit.tables.as_slice();
+    let common = common_places(alloc, compared.query.tables.as_slice(), tables)?;
+    let marks = row_marks(
+        alloc,
+        compared.query,
+        compared.audited.query_sets,
+        &common.query,
+        compared.audited.choices,
+    )?;
+    let candidates = alone(alloc, marks)?;
+    first_of(alloc, candidates, compared)
+}

@@ -1,0 +1,46 @@
+//! The first virtual tuple that a grouped query needs and an audit has.
+ghost use Rattle.std.specs.Prelude.{◌≡◌, IfOk};
+ghost use Rattle.hippo_model.specs.declared.query.Form.TheVariants.{Grouped};
+ghost use Rattle.hippo_audit_search.specs.Comparing.{HaveRows, needed_between};
+
+use crate::marking::marked_groups;
+use hippo_audit_common::common_places;
+use hippo_audit_search::{Compared, audit_has_any, first_of, know_order};
+use hippo_model::{ChoiceView, Shape, SharedTuple};
+use hippo_values::Memory;
+use std::alloc::Global;
+
+/// The first virtual tuple (a row of each table in both FROM lists, by its key; in the audit's
+/// order) without whose combinations a query's groups (SQL's GROUP BY) have other rows, that some
+/// combination of the query's rows has which counts and in which each expression of `seen` is a
+/// shown cell, and that some combination of the audit's rows has of which its condition is true;
+/// none exactly where there is none. Wants the rows of each side's tables, in the order of FROM,
+/// the same ones of a table that both have; and an audit that names no table twice. Takes memory
+/// for the groups, and the time of `walk_joined` over the query's rows, unless no combination of
+/// the audit's rows counts.
+pub(crate) fn first_changing<C: ChoiceView>(
+    alloc: Global,
+    shape: &Shape,
+    compared: &Compared<'_, C>,
+) -> Result<Option<SharedTuple>, Memory>
+    requires { HaveRows compared.now }
+    ensures { IfOk result (λ shared. shared
+        ≡ needed_between C.choices (Grouped shape.now) compared.now) }
+{
+    if !audit_has_any(alloc, compared.audited)? {
+        return Ok(None);
+    }
+    know_order(compared.audited.audit_sets);
+    let tables = compared.audited.audit.tables.as_slice();
+    let common = common_places(alloc, compared.query.tables.as_slice(), tables)?;
+    let groups = marked_groups(
+        alloc,
+        compared.query,
+        shape,
+        compared.audited.query_sets,
+        &common.query,
+        compared.audited.choices,
+    )?;
+    let candidates = groups.candidates(alloc)?;
+    first_of(alloc, candidates, compared)
+}

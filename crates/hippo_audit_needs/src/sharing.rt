@@ -1,0 +1,121 @@
+//! The first virtual tuple that serves, over rows at hand.
+ghost use Rattle.std.specs.Prelude.{◌≡◌, IfOk, map};
+ghost use Rattle.hippo_audit_search.specs.Audited.{HasRowsFor};
+ghost use Rattle.hippo_audit_search.specs.Comparing.{HaveRows, needed_between};
+ghost use Rattle.hippo_audit_needs.specs.Seen.{column_in_query, to_be_seen};
+ghost use Rattle.hippo_audit_needs.specs.Examining.{ServesFirst};
+
+use crate::alone::first_alone;
+use crate::changing::first_changing;
+use crate::laws::needed_serves_first;
+use hippo_audit_common::place_in;
+use hippo_audit_search::{Audited, Compared, first_shared};
+use hippo_model::{Audit, ChoiceView, Exprs, Form, Query, Ref, Refs, RulesInForce, SharedTuple};
+use hippo_rewrite::{mask_columns, rewrite};
+use hippo_tables_rows::Sets;
+use hippo_values::{Memory, Name, Sequence};
+use std::alloc::Global;
+
+// An audited column, by its table's place in the query.
+fn column_in(query: &[Name], audit: &[Name], column: Ref) -> Ref
+    ensures { result ≡ column_in_query query.now audit.now column }
+{
+    let table = match audit.get(column.table) {
+        Some(table) => place_in(query, table),
+        None => query.len(),
+    };
+    Ref {
+        table,
+        column: column.column,
+    }
+}
+
+fn columns_in(alloc: Global, query: &[Name], audit: &Audit) -> Result<Refs, Memory>
+    ensures { IfOk result (λ columns. columns
+        ≡ map (column_in_query query.now audit.now.tables) audit.now.columns) }
+{
+    let tables = audit.tables.as_slice();
+    let mut columns = Sequence::new(alloc);
+    for column in audit.columns.as_slice() {
+        columns.push(column_in(query, tables, *column))?;
+    }
+    Ok(columns)
+}
+
+/// What is to be seen of the query's rows, where the audit asks for cells that were shown: what
+/// stands for each audited column, by the rules in force.
+pub fn to_be_seen(
+    alloc: Global,
+    query: &Query,
+    audit: &Audit,
+    rules: &RulesInForce,
+) -> Result<Exprs, Memory>
+    ensures { IfOk result (λ seen. seen ≡ to_be_seen rules.now query.now audit.now) }
+{
+    if !audit.shown {
+        return Ok(Sequence::new(alloc));
+    }
+    let columns = columns_in(alloc, query.tables.as_slice(), audit)?;
+    mask_columns(alloc, &columns, rules)
+}
+
+// The first tuple that a query of this form needs and the audit has.
+fn first_needed<C: ChoiceView>(
+    alloc: Global,
+    form: &Form,
+    compared: &Compared<'_, C>,
+) -> Result<Option<SharedTuple>, Memory>
+    requires { HaveRows compared.now }
+    ensures { IfOk result (λ shared. shared ≡ needed_between C.choices form.now compared.now) }
+{
+    match form {
+        Form::Plain => first_shared(alloc, compared),
+        Form::Distinct => first_alone(alloc, compared),
+        Form::Grouped(shape) => first_changing(alloc, shape, compared),
+    }
+}
+
+/// The first virtual tuple (a row of each table in both FROM lists, by its key; in the audit's
+/// order) that serves: that the query needs, as it was seen with the rules in force, and the audit
+/// needs, and, where the audit asks for cells that were shown, whose audited cells were; none
+/// exactly where none serves. Whether the query is a candidate is left to the caller. Wants the
+/// rules in force of the query's tables, the rows of each side's tables, in the order of FROM, the
+/// same ones of a table that both have, and an audit that names no table twice.
+pub fn shared_of<C: ChoiceView>(
+    alloc: Global,
+    query: &Query,
+    audit: &Audit,
+    rules: &RulesInForce,
+    query_sets: &Sets<'_>,
+    audit_sets: &Sets<'_>,
+    choices: &C,
+) -> Result<Option<SharedTuple>, Memory>
+    requires { HasRowsFor query.now.tables
+        (record {
+          audit = audit;
+          query_sets = query_sets;
+          audit_sets = audit_sets;
+          choices = choices;
+        }) }
+    ensures { IfOk result (λ shared. let choices = C.choices choices.now in
+        ServesFirst query.now audit.now rules.now query_sets.now audit_sets.now choices shared) }
+{
+    needed_serves_first();
+    let audited = Audited {
+        audit: &*audit,
+        query_sets: &*query_sets,
+        audit_sets: &*audit_sets,
+        choices: &*choices,
+    };
+    let seen = to_be_seen(alloc, query, audit, rules)?;
+    let masked = rewrite(alloc, query, rules)?;
+    let compared = Compared {
+        query: &masked,
+        seen: &seen,
+        audited: &audited,
+    };
+    let shared = first_needed(alloc, &query.form, &compared);
+    drop(masked);
+    drop(seen);
+    shared
+}

@@ -1,0 +1,5 @@
+-- The places in order are those that were handed in.
+use Rattle.hippo_audit_search.proofs.candidates.first_of.Goals as goal
+
+pub returns : goal.returns
+returns g c = rw (c.deref.ensures.value, c.in_ok-listed.ensures.keys) at c.first_of_listed.ensures

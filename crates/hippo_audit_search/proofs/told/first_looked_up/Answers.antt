@@ -1,0 +1,23 @@
+-- The first of those that are left, and none.
+use Rattle.std.proofs.Common.{Some, None, arith}
+use Rattle.hippo_audit_search.specs.Searching.{SharedBy}
+use Rattle.hippo_audit_search.proofs.AmongLemmas.{found-at, passed-at, found-none}
+use Rattle.hippo_audit_search.proofs.told.first_looked_up.Goals as goal
+
+pub returns-then-branch : goal.returns-then-branch
+returns-then-branch g c =
+    c.loop-places.invariant (Some c.places-item.result)
+    (found-at (SharedBy g.C.ChoiceView.choices c.args.sides.now)
+    c.args.candidates.now c.loop-places.places-index c.places-item.result c.as_slice.result.now c.loop-places-test.true c.places-item.is c.as_slice.ensures c.in_ok-share_at.field-0 c.if-branch.true c.in_ok-share_at.ensures)
+
+pub loop-places-preserved : goal.loop-places-preserved
+loop-places-preserved g c = λ found later.
+    c.loop-places.invariant found
+    (passed-at (SharedBy g.C.ChoiceView.choices c.args.sides.now)
+    c.args.candidates.now c.loop-places.places-index c.places-item.result c.as_slice.result.now c.loop-places-test.true c.places-item.is c.as_slice.ensures c.in_ok-share_at.field-0 c.if-branch.false c.in_ok-share_at.ensures found later)
+
+pub returns : goal.returns
+returns g c =
+    c.loop-places.invariant None
+    (found-none (SharedBy g.C.ChoiceView.choices c.args.sides.now)
+    c.args.candidates.now c.loop-places.places-index (omega (arith, c.loop-places-test.false)))

@@ -1,0 +1,20 @@
+-- What look-ups on a side tell of the common tables: the only places, or few of the only table.
+use Rattle.std.specs.Prelude.{List}
+use Rattle.hippo_model.specs.Terms.{Place}
+use Rattle.hippo_model.specs.Masking.{Choices}
+use Rattle.hippo_join_stages.specs.declared.sides.Side.{Side}
+use Rattle.hippo_audit_search.specs.declared.sides.Sides.{Sides}
+use Rattle.hippo_audit_search.specs.declared.told.HowMany.{HowMany}
+use Rattle.hippo_audit_search.specs.declared.told.HowMany.TheVariants.{Only, Few}
+use Rattle.hippo_audit_search.specs.Searching.{AreTold, AreFewOf, IsOnlyShared, AreFewShared}
+
+-- what is told of some tables of a side
+abbrev pub AreToldOf : {C : Type 0} → HowMany → (C → Choices) → Side C → List Place → List Place
+    → Type 0
+AreToldOf Only choices side tables told = AreTold choices side tables told
+AreToldOf Few choices side tables told = AreFewOf choices side tables told
+
+-- what it says of the places that are shared
+abbrev pub AreToldShared : {C : Type 0} → HowMany → (C → Choices) → Sides C → List Place → Type 0
+AreToldShared Only choices sides told = IsOnlyShared choices sides told
+AreToldShared Few choices sides told = AreFewShared choices sides told

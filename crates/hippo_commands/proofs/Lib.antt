@@ -1,3 +1,0 @@
-pub mod MomentLemmas
-pub mod StatementLemmas
-pub mod CommandExamples

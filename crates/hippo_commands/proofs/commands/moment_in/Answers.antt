@@ -1,5 +1,0 @@
-use Rattle.hippo_commands.proofs.MomentLemmas.{moment_in-is}
-use Rattle.hippo_commands.proofs.commands.moment_in.Goals as goal
-
-pub returns : goal.returns
-returns c = moment_in-is c.args.text.now c.read_moment.result c.read_moment.ensures.some c.read_moment.ensures.inverse

@@ -1,5 +1,0 @@
-use Rattle.hippo_commands.proofs.MomentLemmas.{moments_are_read}
-use Rattle.hippo_commands.proofs.laws.moments_are_read.Goals as goal
-
-pub returns : goal.returns
-returns c = moments_are_read

@@ -1,4 +1,0 @@
-pub mod Moments
-pub mod Commands
-pub mod Lent
-pub mod CommandLaws

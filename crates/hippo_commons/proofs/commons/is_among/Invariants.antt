@@ -1,7 +1,0 @@
--- The place is among those that are left exactly where it is among all.
-use Rattle.std.proofs.Common.{◌≡◌, drop, nat_eq}
-use Rattle.std.specs.List.{list_any}
-use Rattle.hippo_commons.proofs.commons.is_among.Given as goal
-
-abbrev pub invariant-loop-other : goal.invariant-loop-other
-invariant-loop-other l = list_any (nat_eq l.place) (drop l.other-index l.places) ≡ list_any (nat_eq l.place) l.places

@@ -1,6 +1,0 @@
--- So many words are written so far, at most 255.
-use Rattle.std.proofs.Common.{◌≡◌, min}
-use Rattle.hippo_echo.proofs.say_words.Given as goal
-
-abbrev pub invariant-loop-word : goal.invariant-loop-word
-invariant-loop-word g l = l.count ≡ min 255 l.word-index

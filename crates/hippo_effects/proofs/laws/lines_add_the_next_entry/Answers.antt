@@ -1,5 +1,0 @@
-use Rattle.hippo_effects.proofs.EffectTheorem.{lines_add_the_next_entry}
-use Rattle.hippo_effects.proofs.laws.lines_add_the_next_entry.Goals as goal
-
-pub returns : goal.returns
-returns c = lines_add_the_next_entry

@@ -1,5 +1,0 @@
-use Rattle.std.proofs.Common.{arith}
-use Rattle.hippo_effects.proofs.replies.session_fits.Goals as goal
-
-pub returns : goal.returns
-returns c = omega (arith, c.ranges.number.fits)

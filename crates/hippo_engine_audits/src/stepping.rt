@@ -1,0 +1,72 @@
+//! What a step of an audit job found, as a reply.
+ghost use Rattle.std.specs.Prelude.{◌≡◌, ◌++◌, OnOk};
+ghost use Rattle.hippo_report.specs.declared.speaker.Speaker.TheVariants.{Console};
+ghost use Rattle.hippo_engine_audits.specs.Auditing.{reading_end};
+ghost use Rattle.hippo_engine_audits.specs.Stepping.{progress_line, step_text, SaysStep, TellsStep};
+
+use crate::auditing::{append_flags, say_unread};
+use crate::fetching::{append_end, append_part};
+use hippo_backlog::ReadFault;
+use hippo_engine_rules::{EngineFault, Reply, refuse_for_memory};
+use hippo_engine_world::AuditJob;
+use hippo_keeper::Keeper;
+use hippo_report::{Format, Speaker};
+use hippo_values::Memory;
+use std::alloc::Global;
+
+// How far a job is, while numbers are left; else how many flags it found.
+fn append_progress(job: &AuditJob, reply: &mut Reply) -> Result<(), Memory>
+    ensures { OnOk result (reply.new ≡ reply.old ++ progress_line job.now) }
+{
+    if job.at_end() {
+        append_end(0, job.flag_count(), reply)
+    } else {
+        append_part(0, job.place(), reply)
+    }
+}
+
+// Makes the reply to a step: the flags that wait, and how far the job is.
+fn print_step(
+    alloc: Global,
+    format: Format,
+    job: &AuditJob,
+    reply: &mut Reply,
+) -> Result<(), Memory>
+    ensures { OnOk result (reply.new ≡ step_text format job.now) }
+{
+    reply.clear();
+    append_flags(alloc, format, job.waiting().as_slice(), reply)?;
+    append_progress(job, reply)
+}
+
+// Says what a job found, so that no flag waits any more; or that memory was short, and they wait.
+fn say_step(alloc: Global, format: Format, job: &mut AuditJob, reply: &mut Reply)
+    ensures { SaysStep format job.old job.new reply.new }
+{
+    match print_step(alloc, format, job, reply) {
+        Ok(()) => job.written(),
+        Err(Memory) => refuse_for_memory(Speaker::Console, reply),
+    }
+}
+
+/// Tells how a step of an audit job ended: the flags that wait, which do so no more, and how far
+/// the job is; or that memory was short, and they wait. Answers `Keeper` and `Damaged` where the
+/// step did.
+pub fn tell_step(
+    alloc: Global,
+    format: Format,
+    looked: Result<(), ReadFault>,
+    job: &mut AuditJob,
+    reply: &mut Reply,
+) -> Result<(), EngineFault>
+    ensures ended { result ≡ reading_end looked }
+    ensures told { TellsStep looked format job.old job.new reply.new }
+{
+    match looked {
+        Ok(()) => {
+            say_step(alloc, format, job, reply);
+            Ok(())
+        }
+        Err(fault) => say_unread(fault, reply),
+    }
+}

@@ -1,0 +1,7 @@
+-- A watch that stands there ends, or it is refused.
+use Rattle.std.proofs.Common.{rules}
+use Rattle.hippo_engine_checks.proofs.FindingLemmas.{refused_unwatch}
+use Rattle.hippo_engine_checks.proofs.requests.judge_unwatch.Goals as goal
+
+pub returns : goal.returns
+returns g c = λ state. search (rules, refused_unwatch)

@@ -1,0 +1,56 @@
+-- What is to be done for a line that is not refused, with what the checks found.
+use Rattle.std.specs.Prelude.{ℕ, ◌+◌, length}
+use Rattle.hippo_values.specs.declared.moments.Moment.{Moment}
+use Rattle.hippo_values.specs.declared.names.Name.{Name}
+use Rattle.hippo_model.specs.declared.audit.Audit.{Audit}
+use Rattle.hippo_model.specs.declared.audit.Pair.{Pair}
+use Rattle.hippo_model.specs.declared.entry.Act.{Act}
+use Rattle.hippo_model.specs.declared.entry.Act.TheVariants.{Asked}
+use Rattle.hippo_model.specs.declared.entry.Entry.{Entry}
+use Rattle.hippo_model.specs.declared.query.Query.{Query}
+use Rattle.hippo_model.specs.Terms.{History}
+use Rattle.hippo_values.specs.Texts.{Txt}
+use Rattle.hippo_engine_sessions.specs.declared.cursors.Cursor.{Cursor}
+use Rattle.hippo_engine_sessions.specs.declared.sessions.Session.{Session}
+use Rattle.hippo_engine_sessions.specs.Worlds.{World}
+use Rattle.hippo_audit_job.specs.Jobs.{OpenAudit}
+
+-- a question of a session: its text, and what that means
+pub record Question : Type 0 where
+  pub session : ℕ
+  pub user : Name
+  pub pair : Pair
+  pub text : Txt
+  pub query : Query
+
+-- the act by which a question is logged
+abbrev pub question_act : Question → Act
+question_act question =
+    Asked question.user question.pair.purpose question.pair.recipient question.text
+
+-- an act as the next entry
+abbrev pub next_entry : History → World → Act → Entry
+next_entry history world act = record { seq = length history + 1; moment = world.clock; act = act }
+
+pub data Deed : Type 0 where
+  do_nothing : Deed
+  set_clock : Moment → Deed
+  log_in : ℕ → Name → Pair → Deed
+  log_out : ℕ → Deed
+  -- of a session with its number, the cursor at a number: so many rows more
+  hand_out : ℕ → Session → ℕ → Cursor → ℕ → Deed
+  close_cursor : ℕ → Session → ℕ → Deed
+  -- of the job at a number, so many entry numbers more
+  step_job : ℕ → OpenAudit → ℕ → Deed
+  drop_job : ℕ → Deed
+  end_watch : ℕ → Deed
+  change : Act → Deed
+  answer_question : Question → Deed
+  -- with the number that its cursor gets, in its session
+  open_cursor : Session → ℕ → Question → Deed
+  extract : Question → Deed
+  explain : Entry → Deed
+  audit : Audit → Deed
+  -- with the number that the job or the watch gets
+  begin_audit : ℕ → Audit → Deed
+  watch : ℕ → Audit → Deed

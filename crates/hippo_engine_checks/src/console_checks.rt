@@ -1,0 +1,33 @@
+//! What is checked of jobs and watches, for the console.
+ghost use Rattle.std.specs.Prelude.{◌≡◌, ◌≤◌, length, MatchResult, IfErr, Err as Bad};
+ghost use Rattle.hippo_report.specs.Refusals.{refusal_line};
+ghost use Rattle.hippo_report.specs.declared.speaker.Speaker.TheVariants.{Console};
+ghost use Rattle.hippo_engine_checks.specs.Checks.{held_watch, job_at, StandsJob, reply_room};
+
+use hippo_engine_sessions::WorldView;
+use hippo_report::Refusal;
+
+/// Whether a watch stands at a number; one at which none stands is refused, which is short.
+pub(crate) fn held_watch<W: WorldView>(world: &W, number: u8) -> Result<(), Refusal>
+    ensures found { result ≡ held_watch (W.seen world.now) number }
+    ensures fits { IfErr result (λ refusal. length (refusal_line Console refusal) ≤ reply_room) }
+{
+    if world.has_watch(number) {
+        Ok(())
+    } else {
+        Err(Refusal::NoWatch(u64::from(number)))
+    }
+}
+
+/// Whether a job stands at a number; one at which none stands is refused, which is short.
+pub(crate) fn check_job<W: WorldView>(world: &W, number: u8) -> Result<(), Refusal>
+    ensures found { MatchResult result (λ passed. StandsJob (W.seen world.now) number)
+        (λ refusal. job_at (W.seen world.now) number ≡ Bad refusal) }
+    ensures fits { IfErr result (λ refusal. length (refusal_line Console refusal) ≤ reply_room) }
+{
+    if world.has_job(number) {
+        Ok(())
+    } else {
+        Err(Refusal::NoJob(u64::from(number)))
+    }
+}

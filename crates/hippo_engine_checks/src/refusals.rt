@@ -1,0 +1,43 @@
+//! Refusals that several statements share.
+ghost use Rattle.std.specs.Prelude.{◌≡◌, ◌≢◌, ◌⊎◌, ◌+◌, ◌<◌, ◌^◌, nat_le, OnOk, MatchResult};
+ghost use Rattle.hippo_model.specs.declared.name_fault.NameFault.TheVariants as faults;
+ghost use Rattle.hippo_report.specs.declared.refusal.Refusal.TheVariants as refusals;
+ghost use Rattle.hippo_engine_checks.specs.Checks.{refused_if};
+
+use hippo_model::NameFault;
+use hippo_report::Refusal;
+use hippo_values::{Boxed, Memory};
+use std::alloc::Global;
+
+/// The refusal of a statement that means nothing, or of one for which memory was short.
+pub(crate) fn name_refusal(fault: NameFault) -> Refusal
+    ensures { (fault ≢ faults.Memory × result ≡ refusals.Meaningless fault)
+        ⊎ (result ≡ refusals.Memory) }
+{
+    match fault {
+        NameFault::Memory => Refusal::Memory,
+        fault => Refusal::Meaningless(fault),
+    }
+}
+
+/// What was found in a box of its own, or want of memory for that.
+pub(crate) fn boxed<T: Drop>(alloc: Global, found: T) -> Result<Boxed<T>, Refusal>
+    ensures { MatchResult result (λ boxed. boxed ≡ found) (λ refusal. refusal ≡ refusals.Memory) }
+{
+    match Boxed::new(alloc, found) {
+        Ok(boxed) => Ok(boxed),
+        Err(Memory) => Err(Refusal::Memory),
+    }
+}
+
+/// Whether a history with so many entries may have one more.
+pub(crate) fn check_room(count: u64, limit: u32) -> Result<(), Refusal>
+    ensures is { result ≡ refused_if (nat_le limit count) refusals.HistoryFull }
+    ensures below { OnOk result (count + 1 < 2 ^ 63) }
+{
+    if u64::from(limit) <= count {
+        Err(Refusal::HistoryFull)
+    } else {
+        Ok(())
+    }
+}

@@ -1,0 +1,118 @@
+//! What stands at numbers from 1 on.
+ghost use Rattle.std.specs.Prelude.{◌≡◌, ◌<◌, None, length, slice_get, slice_set, position, is_none, option_copied, IfOk, IfSome};
+ghost use Rattle.std.specs.Option.{option_flatten};
+ghost use Rattle.hippo_engine_sessions.specs.Worlds.{at_number, with_at, free_number, none_held};
+
+use hippo_values::Memory;
+use std::alloc::Global;
+use std::marker::Model;
+use std::mem;
+
+/// Numbers from 1 on, so many as there were when it was made, each of which holds something or
+/// nothing.
+#[derive(Drop)]
+pub struct Numbered<T> {
+    pub places: Vec<Option<T>>,
+}
+
+impl<T> Model for Numbered<T> {
+    ghost use Rattle.std.specs.Prelude.{List, Option};
+    ghost use Rattle.std.specs.Coded.{coded_list, coded_option};
+
+    ghost Value = { List (Option T) };
+
+    ghost coded = { coded_list (coded_option T.code) };
+
+    ghost view = { λ numbered. numbered.places.items };
+}
+
+fn held_at<T>(places: &[Option<T>], place: usize) -> Option<&T>
+    ensures { option_copied result ≡ option_flatten (slice_get places.now place) }
+{
+    places.get(place)?.as_ref()
+}
+
+fn put_at<T: Drop>(places: &mut [Option<T>], place: usize, held: Option<T>)
+    ensures { places.new ≡ slice_set places.old place held }
+{
+    if place < places.len() {
+        places[place] = held;
+    }
+}
+
+fn take_at<T>(places: &mut [Option<T>], place: usize) -> Option<T>
+    ensures taken { result ≡ option_flatten (slice_get places.old place) }
+    ensures left { places.new ≡ slice_set places.old place None }
+{
+    if place < places.len() {
+        mem::replace(&mut places[place], None)
+    } else {
+        None
+    }
+}
+
+fn first_free<T>(places: &[Option<T>]) -> Option<usize>
+    ensures free { result ≡ position is_none places.now }
+    ensures within { IfSome result (λ place. place < length places.now) }
+{
+    places.iter().position(|held| held.is_none())
+}
+
+impl<T: Drop> Numbered<T> {
+    /// So many numbers, none of which holds anything, or want of memory.
+    pub fn none(alloc: Global, count: usize) -> Result<Numbered<T>, Memory>
+        ensures { IfOk result (λ made. made ≡ none_held count) }
+    {
+        let mut places = Vec::with_capacity(alloc, count)?;
+        for _ in 0..count {
+            places.push(None)?;
+        }
+        Ok(Numbered { places })
+    }
+
+    /// What a number holds; nothing where there is no such number.
+    pub fn at(&self, number: usize) -> Option<&T>
+        ensures { option_copied result ≡ at_number self.now number }
+    {
+        if number == 0 {
+            None
+        } else {
+            held_at(&self.places, number - 1)
+        }
+    }
+
+    /// Lets a number hold this, or nothing; where there is no such number, it falls.
+    pub fn put(&mut self, number: usize, held: Option<T>)
+        ensures { self.new ≡ with_at self.old number held }
+    {
+        if number != 0 {
+            put_at(&mut self.places, number - 1, held);
+        }
+    }
+
+    /// Takes out what a number holds.
+    pub fn take(&mut self, number: usize) -> Option<T>
+        ensures taken { result ≡ at_number self.old number }
+        ensures left { self.new ≡ with_at self.old number None }
+    {
+        if number == 0 {
+            None
+        } else {
+            take_at(&mut self.places, number - 1)
+        }
+    }
+
+    /// What each number holds, in their order.
+    pub fn as_slice(&self) -> &[Option<T>]
+        ensures { result.now ≡ self.now }
+    {
+        self.places.as_slice()
+    }
+
+    /// The lowest number that holds nothing.
+    pub fn free(&self) -> Option<usize>
+        ensures { result ≡ free_number self.now }
+    {
+        Some(first_free(&self.places)? + 1)
+    }
+}

@@ -1,5 +1,0 @@
-use Rattle.hippo_entry_forms.proofs.TextLemmas.{is_text-of}
-use Rattle.hippo_entry_forms.proofs.keeping.is_text.Goals as goal
-
-pub returns : goal.returns
-returns c = is_text-of _ _ c.utf8.text

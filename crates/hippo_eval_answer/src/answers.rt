@@ -1,0 +1,230 @@
+//! The answer of a query over the state of a history.
+ghost use Rattle.std.specs.Prelude.{◌≡◌, List, length, IfOk};
+ghost use Rattle.hippo_model.specs.Terms.{History, Meaning, ShownRow};
+ghost use Rattle.hippo_model.specs.Forms.{rows_by_form};
+ghost use Rattle.hippo_model.specs.Masking.{masked_answer};
+ghost use Rattle.hippo_policy.specs.Books.{BookStandsFor};
+ghost use Rattle.hippo_tables.specs.Standing.{TablesStandFor, AreKeptTables};
+ghost use Rattle.hippo_eval.specs.Walks.{rows_of};
+ghost use Rattle.hippo_eval.specs.Answering.{IsAnswered};
+ghost use Rattle.hippo_eval_answer.specs.States.{AreStateOf, IsMasked, answer_from, rules_from};
+ghost use Rattle.hippo_eval_answer.specs.Lines.{IsSaid};
+
+use crate::inquiry::Inquiry;
+use crate::lines::{Lines, lines_of, printed_lines};
+use crate::sizes::sizes_of;
+use crate::standpoint::Standpoint;
+use hippo_distinct::distinct;
+use hippo_eval::{ANSWER_LIMIT, EvalFault};
+use hippo_groups::grouped;
+use hippo_join::{plan, run};
+use hippo_model::{Answer, ChoiceView, Form, Masked, Names, Query, RulesInForce};
+use hippo_policy::ChoicesAt;
+use hippo_rewrite::rewrite;
+use hippo_tables::{schemas_of, sets_of};
+use hippo_values::Memory;
+use std::alloc::Global;
+
+// The rules of a query's tables from a standpoint.
+fn rules_of(
+    alloc: Global,
+    standpoint: &Standpoint<'_>,
+    names: &Names,
+) -> Result<RulesInForce, Memory>
+    requires { AreKeptTables standpoint.now.tables.now names.now }
+    ensures { IfOk result (λ rules. (history : History)
+        → BookStandsFor standpoint.now.book.now history
+        → TablesStandFor standpoint.now.tables.now history
+        → rules ≡ rules_from standpoint.now history names.now) }
+{
+    let schemas = schemas_of(alloc, standpoint.tables, names)?;
+    let pair = standpoint.pair;
+    standpoint.book.rules_in_force(
+        alloc,
+        standpoint.count,
+        standpoint.moment,
+        &pair.purpose,
+        &pair.recipient,
+        &schemas,
+    )
+}
+
+// The query with these rules written into it.
+fn masked_query(alloc: Global, standpoint: &Standpoint<'_>, query: &Query) -> Result<Masked, Memory>
+    requires { AreKeptTables standpoint.now.tables.now query.now.tables }
+    ensures { IfOk result (IsMasked standpoint.now query.now) }
+{
+    let rules = rules_of(alloc, standpoint, &query.tables)?;
+    rewrite(alloc, query, &rules)
+}
+
+// What a query from a standpoint asks, by the query into which the rules are written.
+fn inquiry_of<'s>(
+    alloc: Global,
+    standpoint: &'s Standpoint<'_>,
+    query: &Query,
+    masked: &'s Masked,
+) -> Result<Inquiry<'s>, Memory>
+    requires { IsMasked standpoint.now query.now masked.now }
+    ensures tables { IfOk result (λ inquiry.
+        length inquiry.sets ≡ length inquiry.query.now.tables) }
+    ensures answers { IfOk result (λ inquiry. (meaning : Meaning) (history : History)
+        → AreStateOf meaning standpoint.now history
+        → rows_by_form query.now.form (masked_answer
+        (⟦<ChoicesAt<'static> as ChoiceView>⟧.choices inquiry.choices) inquiry.query.now
+        (rows_of inquiry.sets)) ≡ answer_from standpoint.now history query.now) }
+{
+    let sets = sets_of(alloc, standpoint.tables, &query.tables)?;
+    let choices = standpoint.book.choices_at(standpoint.count);
+    Ok(Inquiry {
+        query: masked,
+        sets,
+        choices,
+    })
+}
+
+// The rows of an answer, by its form.
+fn formed(alloc: Global, form: &Form, inquiry: &Inquiry<'_>) -> Result<Answer, EvalFault>
+    requires { length inquiry.now.sets ≡ length inquiry.now.query.now.tables }
+    ensures { IsAnswered ANSWER_LIMIT (rows_by_form form.now (masked_answer
+        (⟦<ChoicesAt<'static> as ChoiceView>⟧.choices inquiry.now.choices) inquiry.now.query.now
+        (rows_of inquiry.now.sets))) result }
+{
+    match form {
+        Form::Plain => {
+            let sizes = sizes_of(alloc, &inquiry.sets)?;
+            let plan = plan(alloc, inquiry.query, &sizes)?;
+            run(alloc, &plan, inquiry.query, &inquiry.sets, &inquiry.choices)
+        }
+        Form::Distinct => distinct(alloc, inquiry.query, &inquiry.sets, &inquiry.choices),
+        Form::Grouped(shape) => {
+            grouped(alloc, inquiry.query, &inquiry.sets, &inquiry.choices, shape)
+        }
+    }
+}
+
+// The lines that say an answer.
+fn said(alloc: Global, session: u8, answer: Result<Answer, EvalFault>) -> Result<Lines, EvalFault>
+    ensures { (rows : List ShownRow) → IsAnswered ANSWER_LIMIT rows answer
+        → IsSaid ANSWER_LIMIT session rows result }
+{
+    let rows = answer?;
+    Ok(lines_of(alloc, session, rows.as_slice())?)
+}
+
+// The lines of the rows of an answer, by its form.
+fn lines(alloc: Global, session: u8, form: &Form, inquiry: &Inquiry<'_>) -> Result<Lines, EvalFault>
+    requires { length inquiry.now.sets ≡ length inquiry.now.query.now.tables }
+    ensures { IsSaid ANSWER_LIMIT session (rows_by_form form.now (masked_answer
+        (⟦<ChoicesAt<'static> as ChoiceView>⟧.choices inquiry.now.choices) inquiry.now.query.now
+        (rows_of inquiry.now.sets))) result }
+{
+    match form {
+        Form::Plain => printed_lines(alloc, session, inquiry),
+        _ => said(alloc, session, formed(alloc, form, inquiry)),
+    }
+}
+
+// The answer of a query from a standpoint, by the query into which the rules are written.
+fn answer_masked(
+    alloc: Global,
+    standpoint: &Standpoint<'_>,
+    query: &Query,
+    masked: &Masked,
+) -> Result<Answer, EvalFault>
+    requires { IsMasked standpoint.now query.now masked.now }
+    ensures { (meaning : Meaning) (history : History) → AreStateOf meaning standpoint.now history
+        → IsAnswered ANSWER_LIMIT (answer_from standpoint.now history query.now) result }
+{
+    let inquiry = inquiry_of(alloc, standpoint, query, masked)?;
+    let answer = formed(alloc, &query.form, &inquiry);
+    drop(inquiry);
+    answer
+}
+
+// The lines of the answer of a query from a standpoint, by the query into which the rules are
+// written.
+fn lines_masked(
+    alloc: Global,
+    standpoint: &Standpoint<'_>,
+    query: &Query,
+    masked: &Masked,
+    session: u8,
+) -> Result<Lines, EvalFault>
+    requires { IsMasked standpoint.now query.now masked.now }
+    ensures { (meaning : Meaning) (history : History) → AreStateOf meaning standpoint.now history
+        → IsSaid ANSWER_LIMIT session (answer_from standpoint.now history query.now) result }
+{
+    let inquiry = inquiry_of(alloc, standpoint, query, masked)?;
+    let lines = lines(alloc, session, &query.form, &inquiry);
+    drop(inquiry);
+    lines
+}
+
+// The same, unless memory was short for that query. It is lent, since moving it costs more than
+// looking at it.
+fn lines_if_masked(
+    alloc: Global,
+    standpoint: &Standpoint<'_>,
+    query: &Query,
+    masked: &Result<Masked, Memory>,
+    session: u8,
+) -> Result<Lines, EvalFault>
+    requires { IfOk masked.now (IsMasked standpoint.now query.now) }
+    ensures { (meaning : Meaning) (history : History) → AreStateOf meaning standpoint.now history
+        → IsSaid ANSWER_LIMIT session (answer_from standpoint.now history query.now) result }
+{
+    match masked {
+        Ok(made) => lines_masked(alloc, standpoint, query, made, session),
+        Err(Memory) => Err(EvalFault::Memory),
+    }
+}
+
+/// The answer of a query from a standpoint, for its purpose and recipient at its moment: what it
+/// answers over the views of its tables, after the entries that the book and the tables stand for.
+/// The rules in force are written into the query (LeFevre and others, Limiting Disclosure in
+/// Hippocratic Databases, VLDB 2004), and it is answered over the rows as they are. Wants a query
+/// whose tables are created.
+/// TooManyRows exactly where the answer has more than 100,000 rows.
+///
+/// Over `patient (pid, name, phone)` with the row `1, 'Ada', '555-1'`, where `pid` and `name` are
+/// allowed and no rule names `phone`:
+///
+/// ```text
+/// SELECT name, phone FROM patient                   'Ada', DENIED(0)
+/// SELECT name FROM patient WHERE phone = '555-1'    no row: a denied cell is null
+/// SELECT name FROM patient WHERE phone IS NULL      'Ada'
+/// ```
+pub fn answer(
+    alloc: Global,
+    standpoint: &Standpoint<'_>,
+    query: &Query,
+) -> Result<Answer, EvalFault>
+    requires { AreKeptTables standpoint.now.tables.now query.now.tables }
+    ensures { (meaning : Meaning) (history : History) → AreStateOf meaning standpoint.now history
+        → IsAnswered ANSWER_LIMIT (answer_from standpoint.now history query.now) result }
+{
+    let masked = masked_query(alloc, standpoint, query)?;
+    let answer = answer_masked(alloc, standpoint, query, &masked);
+    drop(masked);
+    answer
+}
+
+/// The answer of a query as the lines that say its rows to a session, as `answer_line` prints each.
+/// Where neither DISTINCT nor groups are asked for, each is printed from the rows as they stand, and
+/// no cell is copied. Wants and answers what `answer` does.
+pub fn answer_as_lines(
+    alloc: Global,
+    standpoint: &Standpoint<'_>,
+    query: &Query,
+    session: u8,
+) -> Result<Lines, EvalFault>
+    requires { AreKeptTables standpoint.now.tables.now query.now.tables }
+    ensures { (meaning : Meaning) (history : History) → AreStateOf meaning standpoint.now history
+        → IsSaid ANSWER_LIMIT session (answer_from standpoint.now history query.now) result }
+{
+    let masked = masked_query(alloc, standpoint, query);
+    let lines = lines_if_masked(alloc, standpoint, query, &masked, session);
+    drop(masked);
+    lines
+}

@@ -1,0 +1,38 @@
+//! A visit of what a query makes its rows of.
+ghost use Rattle.std.specs.Prelude.{◌≡◌, ◌++◌, List, length};
+ghost use Rattle.hippo_model.specs.Terms.{Combination};
+ghost use Rattle.hippo_model.specs.Answers.{product};
+ghost use Rattle.hippo_eval.specs.Walks.{rows_of};
+ghost use Rattle.hippo_join_stages.specs.Visiting.{counting};
+ghost use Rattle.hippo_join.specs.Plans.{KeptWithin};
+
+use crate::sizes::sizes_of;
+use hippo_eval::{ANSWER_LIMIT, EvalFault, Visitor};
+use hippo_join::{plan, visit_planned, walk_joined};
+use hippo_model::{ChoiceView, Masked};
+use hippo_tables_rows::Sets;
+use std::alloc::Global;
+
+/// Visits the combinations that count, in the order of the product, by joins in an order that is
+/// planned; over one table there is nothing to plan.
+pub(crate) fn visit_rows<C: ChoiceView, V: Visitor>(
+    alloc: Global,
+    visitor: &V,
+    state: &mut V::State,
+    query: &Masked,
+    sets: &Sets<'_>,
+    choices: &C,
+) -> Result<(), EvalFault>
+    requires { length sets.now ≡ length query.now.tables }
+    ensures { (before : List Combination) → V.Keeps visitor.now before state.old
+        → KeptWithin ANSWER_LIMIT (V.Keeps visitor.now) result before
+        (counting (C.choices choices.now) query.now (product (rows_of sets.now))) state.new }
+{
+    if sets.len() < 2 {
+        walk_joined(alloc, query, sets, choices, visitor, state)?;
+        return Ok(());
+    }
+    let sizes = sizes_of(alloc, sets)?;
+    let plan = plan(alloc, query, &sizes)?;
+    visit_planned(alloc, &plan, query, sets, choices, visitor, state)
+}

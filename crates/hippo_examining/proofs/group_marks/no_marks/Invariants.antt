@@ -1,7 +1,0 @@
--- The best values so far are those of no member.
-use Rattle.std.proofs.Common.{◌≡◌, [], map, take}
-use Rattle.hippo_examining.specs.GroupMarks.{best_of}
-use Rattle.hippo_examining.proofs.group_marks.no_marks.Given as goal
-
-abbrev pub invariant-loop : goal.invariant-loop
-invariant-loop l = l.bests.items ≡ map (best_of []) (take l.index l.outs)

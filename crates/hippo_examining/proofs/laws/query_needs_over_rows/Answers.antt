@@ -1,6 +1,0 @@
--- What the rewritten query makes of the combinations that are left.
-use Rattle.hippo_examining.proofs.QueryTheorem.{query-needs-over-rows}
-use Rattle.hippo_examining.proofs.laws.query_needs_over_rows.Goals as goal
-
-pub returns : goal.returns
-returns c = query-needs-over-rows c.rewriting_answers.ensures

@@ -1,7 +1,0 @@
--- What a plain query shares first it needs first.
-use Rattle.hippo_examining.proofs.ExaminingLemmas.{shared-needed}
-use Rattle.hippo_examining.proofs.sharing.first_needed.Goals as goal
-
-pub returns-in-Plain : goal.returns-in-Plain
-returns-in-Plain g c =
-    rw c.in-Plain.is (shared-needed (g.C.ChoiceView.choices c.args.compared.now.audited.now.choices.now) c.args.compared.now.query.now c.args.compared.now.audited.now.audit.now c.args.compared.now.seen.now c.args.compared.now.audited.now.query_sets.now c.args.compared.now.audited.now.audit_sets.now c.first_shared.result c.first_shared.ensures)

@@ -1,8 +1,0 @@
--- What is left to print gives the whole.
-use Rattle.std.proofs.Common.{◌≡◌, ◌++◌, drop}
-use Rattle.std.specs.List.{flat_map}
-use Rattle.hippo_effects.specs.Effects.{denial_line}
-use Rattle.hippo_findings.proofs.explaining.append_cells.Given as goal
-
-abbrev pub invariant-loop-cell : goal.invariant-loop-cell
-invariant-loop-cell l = l.reply ++ flat_map denial_line (drop l.cell-index l.cells) ≡ l.initial.reply ++ flat_map denial_line l.cells

@@ -1,7 +1,0 @@
--- The values made so far and those that are left are all.
-use Rattle.std.proofs.Common.{◌≡◌, ◌++◌, map, drop}
-use Rattle.serde_json.specs.View.{view}
-use Rattle.hippo_flags.proofs.json_flags.items_data.Given as goal
-
-abbrev pub invariant-loop-member : goal.invariant-loop-member
-invariant-loop-member g l = map view l.items.items ++ map g.T.JsonForm.form (drop l.member-index l.members) ≡ map g.T.JsonForm.form l.members

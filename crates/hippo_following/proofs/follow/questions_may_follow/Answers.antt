@@ -1,5 +1,0 @@
-use Rattle.hippo_following.proofs.AskedTheorem as following
-use Rattle.hippo_following.proofs.follow.questions_may_follow.Goals as goal
-
-pub returns : goal.returns
-returns c = following.questions_may_follow

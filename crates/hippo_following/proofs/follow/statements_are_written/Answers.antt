@@ -1,5 +1,0 @@
-use Rattle.hippo_following.proofs.WrittenTheorem as following
-use Rattle.hippo_following.proofs.follow.statements_are_written.Goals as goal
-
-pub returns : goal.returns
-returns c = following.statements_are_written

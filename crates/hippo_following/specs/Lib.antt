@@ -1,5 +1,0 @@
-pub mod Written
-pub mod FollowingLaws
-pub mod WrittenLaws
-pub mod QuestionLaws
-pub mod CommandLaws

@@ -1,8 +1,0 @@
-//! Laws on what may follow a history: each is the contract of a function that does nothing. And
-//! what types say of values.
-#![tactic(auto)]
-
-pub mod follow;
-mod typed;
-
-pub use typed::{moment_fits, name_fits};

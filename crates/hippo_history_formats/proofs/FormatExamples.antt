@@ -1,0 +1,73 @@
+-- Entries and rules in each format, computed. Each example is named by what it shows.
+use Rattle.std.proofs.Common.{◌≡◌, true, false, [], ◌∷◌, Some, None, refl, codes}
+use Rattle.std.specs.Fmt.{digits}
+use Rattle.csv.specs.Writing.{escaped, fields_text, is_blank}
+use Rattle.serde_json.proofs.OnLiterals.{serde_json_on_literals}
+use Rattle.hippo_values.specs.Texts.{Txt}
+use Rattle.hippo_model.specs.declared.entry.Act.{Act}
+use Rattle.hippo_model.specs.declared.entry.Act.TheVariants.{Purpose, Revoke, Asked}
+use Rattle.hippo_model.specs.declared.schema.Column.{Column}
+use Rattle.hippo_model.specs.declared.schema.ColumnKind.TheVariants.{Text as TextColumn}
+use Rattle.hippo_model.specs.declared.schema.Schema.{Schema}
+use Rattle.hippo_model.specs.Rules.{allowed, revoked}
+use Rattle.hippo_history_formats.specs.Formats.{json_line, csv_line, entry_data, entry_fields, rule_data, rule_fields}
+
+abbrev column : Txt → Column
+column name = record { name = name; kind = TextColumn; not_null = false }
+
+abbrev patients : Schema
+patients = record {
+  name = codes "patient";
+  columns = column (codes "pid") ∷ column (codes "name") ∷ column (codes "phone") ∷ [];
+  key = 0 ∷ [];
+  subject = None;
+}
+
+abbrev morning : Txt
+morning = codes "2024-03-04T07:00:00Z"
+
+abbrev question : Act
+question = Asked (codes "ann") (codes "treatment") (codes "nurse") (codes "SELECT name, pid FROM patient WHERE phone = '\"\\'")
+
+abbrev revoking : Act
+revoking = Revoke (codes "treatment") (codes "nurse") (codes "patient") (2 ∷ 0 ∷ [])
+
+a_statement_as_an_object : json_line (entry_data (Some patients) 18 morning revoking)
+    ≡ codes "{\"entry\":18,\"moment\":\"2024-03-04T07:00:00Z\",\"statement\":\"REVOKE treatment TO nurse ON patient (phone, pid)\"}\n"
+unfolding digits serde_json_on_literals
+a_statement_as_an_object = refl
+
+a_question_has_its_asker : json_line (entry_data None 11 morning question)
+    ≡ codes "{\"entry\":11,\"moment\":\"2024-03-04T07:00:00Z\",\"purpose\":\"treatment\",\"recipient\":\"nurse\",\"statement\":\"SELECT name, pid FROM patient WHERE phone = '\\\"\\\\'\",\"user\":\"ann\"}\n"
+unfolding digits serde_json_on_literals
+a_question_has_its_asker = refl
+
+nobody_asks_a_statement : csv_line (entry_fields None 2 morning (Purpose (codes "treatment")))
+    ≡ codes "2,2024-03-04T07:00:00Z,,,,CREATE PURPOSE treatment\n"
+unfolding digits escaped fields_text is_blank
+nobody_asks_a_statement = refl
+
+a_question_as_a_record : csv_line (entry_fields None 11 morning question)
+    ≡ codes "11,2024-03-04T07:00:00Z,ann,treatment,nurse,\"SELECT name, pid FROM patient WHERE phone = '\"\"\\'\"\n"
+unfolding digits escaped fields_text is_blank
+a_question_as_a_record = refl
+
+a_rule_with_item_and_days : json_line (rule_data (codes "treatment") (codes "nurse") (codes "patient") (codes "phone") (Some (allowed 7 (Some (codes "contact")) (Some 365))) (Some true))
+    ≡ codes "{\"column\":\"phone\",\"days\":365,\"item\":\"contact\",\"opt\":\"in\",\"purpose\":\"treatment\",\"recipient\":\"nurse\",\"rule\":7,\"ruling\":\"allowed\",\"table\":\"patient\"}\n"
+unfolding digits serde_json_on_literals
+a_rule_with_item_and_days = refl
+
+a_column_that_no_rule_names : json_line (rule_data (codes "treatment") (codes "nurse") (codes "patient") (codes "name") None None)
+    ≡ codes "{\"column\":\"name\",\"days\":null,\"item\":null,\"opt\":null,\"purpose\":\"treatment\",\"recipient\":\"nurse\",\"rule\":0,\"ruling\":\"unnamed\",\"table\":\"patient\"}\n"
+unfolding digits serde_json_on_literals
+a_column_that_no_rule_names = refl
+
+silence_is_no_refusal : csv_line (rule_fields (codes "billing") (codes "clerk") (codes "patient") (codes "phone") (Some (allowed 11 (Some (codes "contact")) None)) (Some false))
+    ≡ codes "11,allowed,billing,clerk,patient,phone,contact,out,\n"
+unfolding digits escaped fields_text is_blank
+silence_is_no_refusal = refl
+
+a_column_that_is_revoked : csv_line (rule_fields (codes "treatment") (codes "nurse") (codes "patient") (codes "phone") (Some (revoked 12)) None)
+    ≡ codes "12,revoked,treatment,nurse,patient,phone,,,\n"
+unfolding digits escaped fields_text is_blank
+a_column_that_is_revoked = refl

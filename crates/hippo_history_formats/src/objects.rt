@@ -1,0 +1,169 @@
+//! Objects of JSON (RFC 8259).
+ghost use Rattle.std.specs.Prelude.{◌≡◌, option_map, IfOk, OnOk, string_bytes, codes};
+ghost use Rattle.serde_json.specs.Data.{put, string, number, unsigned};
+ghost use Rattle.serde_json.specs.View.{view, members_view};
+ghost use Rattle.serde_json.specs.Written.{compact_text};
+ghost use Rattle.hippo_policy.specs.Rulings.{ruling_of, opt_in_of};
+ghost use Rattle.hippo_history_statements.specs.Telling.{name_at};
+ghost use Rattle.hippo_history_formats.specs.Formats.{statement_data, question_data, rule_number, ruling_word, rule_item, rule_days, opt_word, number_data, text_data};
+ghost use Rattle.hippo_history_formats.specs.Shown.{shown_data, column_data};
+
+use crate::members::{put_days, put_number, put_text, put_text_or_null};
+use crate::questions::Question;
+use crate::rulings::{ColumnRule, column_name, days_of, item_of, number_of, opt_of, ruling_word};
+use crate::told::{Shown, Told};
+use hippo_model::RuleAt;
+use serde_json::{Map, Value};
+use std::alloc::{AllocError, Global};
+
+// Adds an entry's number, its moment and its statement.
+fn put_statement(
+    alloc: Global,
+    members: &mut Map<String, Value>,
+    entry: u64,
+    moment: &str,
+    statement: &str,
+) -> Result<(), AllocError>
+    ensures { OnOk result (members_view members.new.entries
+        ≡ put (codes "statement") (string statement.now)
+        (put (codes "moment") (string moment.now)
+        (put (codes "entry") (number (unsigned entry)) (members_view members.old.entries)))) }
+{
+    put_number(alloc, members, "entry", entry)?;
+    put_text(alloc, members, "moment", moment)?;
+    put_text(alloc, members, "statement", statement)
+}
+
+// Adds who asks a question.
+fn put_asker(
+    alloc: Global,
+    members: &mut Map<String, Value>,
+    question: &Question<'_>,
+) -> Result<(), AllocError>
+    ensures { OnOk result (members_view members.new.entries
+        ≡ put (codes "user") (string question.now.user.now)
+        (put (codes "recipient") (string question.now.recipient.now)
+        (put (codes "purpose") (string question.now.purpose.now)
+        (members_view members.old.entries)))) }
+{
+    put_text(alloc, members, "purpose", question.purpose.as_str())?;
+    put_text(alloc, members, "recipient", question.recipient.as_str())?;
+    put_text(alloc, members, "user", question.user.as_str())
+}
+
+fn statement_data(
+    alloc: Global,
+    entry: u64,
+    moment: &str,
+    statement: &str,
+) -> Result<Value, AllocError>
+    ensures { IfOk result (λ made. view made ≡ statement_data entry moment.now statement.now) }
+{
+    let mut members = Map::new(alloc);
+    put_statement(alloc, &mut members, entry, moment, statement)?;
+    Ok(Value::Object(members))
+}
+
+fn question_data(
+    alloc: Global,
+    entry: u64,
+    moment: &str,
+    question: &Question<'_>,
+) -> Result<Value, AllocError>
+    ensures { IfOk result (λ made. view made ≡ question_data entry moment.now question.now.user.now
+        question.now.purpose.now question.now.recipient.now question.now.text.now) }
+{
+    let mut members = Map::new(alloc);
+    put_statement(alloc, &mut members, entry, moment, question.text.as_str())?;
+    put_asker(alloc, &mut members, question)?;
+    Ok(Value::Object(members))
+}
+
+fn told_data(alloc: Global, shown: &Shown<'_>) -> Result<Value, AllocError>
+    ensures { IfOk result (λ made. view made ≡ shown_data shown.now) }
+{
+    let moment = shown.moment.as_str();
+    match &shown.told {
+        Told::Asked(question) => question_data(alloc, shown.entry, moment, question),
+        Told::Made(statement) => statement_data(alloc, shown.entry, moment, statement.as_str()),
+    }
+}
+
+/// An entry as an object, without spaces.
+#[tactic(auto, using(crate::proofs::JsonLemmas::told_has_no_float))]
+pub(crate) fn entry_json(alloc: Global, shown: &Shown<'_>) -> Result<String, AllocError>
+    ensures { IfOk result (λ text. string_bytes text ≡ compact_text (shown_data shown.now)) }
+{
+    let object = told_data(alloc, shown)?;
+    object.to_string(alloc)
+}
+
+// Adds the words of a column's rule.
+fn put_names(
+    alloc: Global,
+    members: &mut Map<String, Value>,
+    rule: &ColumnRule<'_>,
+) -> Result<(), AllocError>
+    ensures { OnOk result (members_view members.new.entries
+        ≡ put (codes "table") (string rule.now.schema.now.name)
+        (put (codes "recipient") (string rule.now.recipient.now)
+        (put (codes "purpose") (string rule.now.purpose.now)
+        (put (codes "column") (string (name_at rule.now.schema.now.columns rule.now.place))
+        (members_view members.old.entries))))) }
+{
+    put_text(alloc, members, "column", column_name(rule))?;
+    put_text(alloc, members, "purpose", rule.purpose.as_str())?;
+    put_text(alloc, members, "recipient", rule.recipient.as_str())?;
+    put_text(alloc, members, "table", rule.schema.name.as_str())
+}
+
+// Adds the number of a rule's entry, and the word for what it says.
+fn put_number_and_word(
+    alloc: Global,
+    members: &mut Map<String, Value>,
+    ruling: &RuleAt<'_>,
+) -> Result<(), AllocError>
+    ensures { OnOk result (members_view members.new.entries
+        ≡ put (codes "ruling") (string (ruling_word (ruling_of ruling.now)))
+        (put (codes "rule") (number (unsigned (rule_number (ruling_of ruling.now))))
+        (members_view members.old.entries))) }
+{
+    put_number(alloc, members, "rule", number_of(ruling))?;
+    put_text(alloc, members, "ruling", ruling_word(ruling))
+}
+
+// Adds for how long a rule allows, with which item, and how that reads silence.
+fn put_conditions(
+    alloc: Global,
+    members: &mut Map<String, Value>,
+    ruling: &RuleAt<'_>,
+) -> Result<(), AllocError>
+    ensures { OnOk result (members_view members.new.entries
+        ≡ put (codes "opt") (text_data (option_map opt_word (opt_in_of ruling.now)))
+        (put (codes "item") (text_data (rule_item (ruling_of ruling.now)))
+        (put (codes "days") (number_data (rule_days (ruling_of ruling.now)))
+        (members_view members.old.entries)))) }
+{
+    put_days(alloc, members, "days", days_of(ruling))?;
+    put_text_or_null(alloc, members, "item", item_of(ruling))?;
+    put_text_or_null(alloc, members, "opt", opt_of(ruling))
+}
+
+fn rule_data(alloc: Global, rule: &ColumnRule<'_>) -> Result<Value, AllocError>
+    ensures { IfOk result (λ made. view made ≡ column_data rule.now) }
+{
+    let mut members = Map::new(alloc);
+    put_names(alloc, &mut members, rule)?;
+    put_number_and_word(alloc, &mut members, &rule.ruling)?;
+    put_conditions(alloc, &mut members, &rule.ruling)?;
+    Ok(Value::Object(members))
+}
+
+/// The rule of a column as an object, without spaces.
+#[tactic(auto, using(crate::proofs::JsonLemmas::rule_has_no_float))]
+pub(crate) fn rule_json(alloc: Global, rule: &ColumnRule<'_>) -> Result<String, AllocError>
+    ensures { IfOk result (λ text. string_bytes text ≡ compact_text (column_data rule.now)) }
+{
+    let object = rule_data(alloc, rule)?;
+    object.to_string(alloc)
+}

@@ -1,0 +1,176 @@
+//! Records of CSV (RFC 4180).
+ghost use Rattle.std.specs.Prelude.{◌≡◌, ◌∷◌, ◌++◌, [], unwrap_or, decimal, option_copied, option_map, IfOk, OnOk};
+ghost use Rattle.std.specs.Option.{option_map_or};
+ghost use Rattle.csv.specs.Records.{fields_of};
+ghost use Rattle.hippo_policy.specs.Rulings.{ruling_of, opt_in_of};
+ghost use Rattle.hippo_history_statements.specs.Telling.{name_at};
+ghost use Rattle.hippo_history_formats.specs.Formats.{csv_line, rule_number, ruling_word, rule_item, rule_days, opt_word};
+ghost use Rattle.hippo_history_formats.specs.Shown.{told_fields, shown_fields, column_fields};
+
+use crate::questions::Question;
+use crate::rulings::{ColumnRule, column_name, days_of, item_of, number_of, opt_of, ruling_word};
+use crate::told::{Shown, Told};
+use csv::{Error, StringRecord, WriterBuilder};
+use hippo_model::RuleAt;
+use hippo_values::{Memory, Txt};
+use itoa::Buffer;
+use std::alloc::{AllocError, Global};
+
+fn record_bytes(alloc: Global, fields: &StringRecord) -> Result<Vec<u8>, Error>
+    ensures { IfOk result (λ text. text.items ≡ csv_line (fields_of fields.now)) }
+{
+    let mut writer = WriterBuilder::new().from_writer(Vec::new(alloc));
+    writer.write_byte_record(fields.as_byte_record())?;
+    match writer.into_inner() {
+        Ok(text) => Ok(text),
+        Err(refused) => Err(refused.into_error()),
+    }
+}
+
+/// Adds a record as a line. Every fault of the writer is want of memory, since it writes into
+/// memory; a record that is no text cannot come.
+pub(crate) fn append_record(
+    alloc: Global,
+    fields: &StringRecord,
+    out: &mut Txt,
+) -> Result<(), Memory>
+    ensures { OnOk result (out.new ≡ out.old ++ csv_line (fields_of fields.now)) }
+{
+    let bytes = record_bytes(alloc, fields).map_err(|_| Memory)?;
+    match str::from_utf8(bytes.as_slice()) {
+        Ok(text) => out.append(text),
+        Err(_) => Err(Memory),
+    }
+}
+
+// Adds three fields.
+fn push_three(
+    fields: &mut StringRecord,
+    first: &str,
+    second: &str,
+    third: &str,
+) -> Result<(), AllocError>
+    ensures { OnOk result (fields_of fields.new
+        ≡ fields_of fields.old ++ (first.now ∷ second.now ∷ third.now ∷ [])) }
+{
+    fields.push_field(first)?;
+    fields.push_field(second)?;
+    fields.push_field(third)
+}
+
+// Adds an entry's number and its moment.
+fn push_entry(fields: &mut StringRecord, entry: u64, moment: &str) -> Result<(), AllocError>
+    ensures { OnOk result (fields_of fields.new
+        ≡ fields_of fields.old ++ (decimal entry ∷ moment.now ∷ [])) }
+{
+    fields.push_field(Buffer::new().format(entry))?;
+    fields.push_field(moment)
+}
+
+// Adds a question behind who asks it.
+fn push_asker(fields: &mut StringRecord, question: &Question<'_>) -> Result<(), AllocError>
+    ensures { OnOk result (fields_of fields.new ≡ fields_of fields.old ++ (question.now.user.now
+        ∷ question.now.purpose.now ∷ question.now.recipient.now ∷ question.now.text.now ∷ [])) }
+{
+    fields.push_field(question.user.as_str())?;
+    fields.push_field(question.purpose.as_str())?;
+    fields.push_field(question.recipient.as_str())?;
+    fields.push_field(question.text.as_str())
+}
+
+// Adds a statement, behind empty fields since nobody asks it.
+fn push_statement(fields: &mut StringRecord, statement: &str) -> Result<(), AllocError>
+    ensures { OnOk result (fields_of fields.new
+        ≡ fields_of fields.old ++ ([] ∷ [] ∷ [] ∷ statement.now ∷ [])) }
+{
+    push_three(fields, "", "", "")?;
+    fields.push_field(statement)
+}
+
+fn push_told(fields: &mut StringRecord, told: &Told<'_>) -> Result<(), AllocError>
+    ensures { OnOk result (fields_of fields.new ≡ fields_of fields.old ++ told_fields told.now) }
+{
+    match told {
+        Told::Asked(question) => push_asker(fields, question),
+        Told::Made(statement) => push_statement(fields, statement.as_str()),
+    }
+}
+
+/// An entry; who asks is empty where nobody does.
+pub(crate) fn entry_record(alloc: Global, shown: &Shown<'_>) -> Result<StringRecord, AllocError>
+    ensures { IfOk result (λ made. fields_of made ≡ shown_fields shown.now) }
+{
+    let mut fields = StringRecord::new(alloc);
+    push_entry(&mut fields, shown.entry, shown.moment.as_str())?;
+    push_told(&mut fields, &shown.told)?;
+    Ok(fields)
+}
+
+fn push_days(fields: &mut StringRecord, days: Option<u32>) -> Result<(), AllocError>
+    ensures { OnOk result (fields_of fields.new
+        ≡ fields_of fields.old ++ option_map_or decimal days [] ∷ []) }
+{
+    match days {
+        None => fields.push_field(""),
+        Some(days) => fields.push_field(Buffer::new().format(days)),
+    }
+}
+
+// A text, or nothing.
+fn text_field<'a>(text: Option<&'a str>) -> &'a str
+    ensures { result.now ≡ unwrap_or (option_copied text.entry) [] }
+{
+    match text {
+        None => "",
+        Some(text) => text,
+    }
+}
+
+// Adds the number of a rule's entry, and the word for what it says.
+fn push_ruling(fields: &mut StringRecord, ruling: &RuleAt<'_>) -> Result<(), AllocError>
+    ensures { OnOk result (fields_of fields.new ≡ fields_of fields.old
+        ++ (decimal (rule_number (ruling_of ruling.now)) ∷ ruling_word (ruling_of ruling.now)
+        ∷ [])) }
+{
+    fields.push_field(Buffer::new().format(number_of(ruling)))?;
+    fields.push_field(ruling_word(ruling))
+}
+
+// Adds the words of a column's rule.
+fn push_names(fields: &mut StringRecord, rule: &ColumnRule<'_>) -> Result<(), AllocError>
+    ensures { OnOk result (fields_of fields.new ≡ fields_of fields.old ++ (rule.now.purpose.now
+        ∷ rule.now.recipient.now ∷ rule.now.schema.now.name
+        ∷ name_at rule.now.schema.now.columns rule.now.place ∷ [])) }
+{
+    let table = rule.schema.name.as_str();
+    push_three(
+        fields,
+        rule.purpose.as_str(),
+        rule.recipient.as_str(),
+        table,
+    )?;
+    fields.push_field(column_name(rule))
+}
+
+// Adds with which item a rule allows, how that reads silence, and for how long.
+fn push_conditions(fields: &mut StringRecord, ruling: &RuleAt<'_>) -> Result<(), AllocError>
+    ensures { OnOk result (fields_of fields.new ≡ fields_of fields.old
+        ++ (unwrap_or (rule_item (ruling_of ruling.now)) []
+        ∷ unwrap_or (option_map opt_word (opt_in_of ruling.now)) []
+        ∷ option_map_or decimal (rule_days (ruling_of ruling.now)) [] ∷ [])) }
+{
+    fields.push_field(text_field(item_of(ruling)))?;
+    fields.push_field(text_field(opt_of(ruling)))?;
+    push_days(fields, days_of(ruling))
+}
+
+/// The rule of a column.
+pub(crate) fn rule_record(alloc: Global, rule: &ColumnRule<'_>) -> Result<StringRecord, AllocError>
+    ensures { IfOk result (λ made. fields_of made ≡ column_fields rule.now) }
+{
+    let mut fields = StringRecord::new(alloc);
+    push_ruling(&mut fields, &rule.ruling)?;
+    push_names(&mut fields, rule)?;
+    push_conditions(&mut fields, &rule.ruling)?;
+    Ok(fields)
+}

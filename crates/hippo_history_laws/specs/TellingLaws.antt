@@ -1,0 +1,156 @@
+-- What is told of an act reads back.
+use Rattle.std.specs.Prelude.{◌≡◌, ℕ, ◌<◌, Bool, true, false, ◌&&◌, List, [], ◌∷◌, ◌++◌, map, length, nat_eq, nat_lt, bytes_eq, Option, Some, None, Ok}
+use Rattle.std.specs.List.{list_all}
+use Rattle.hippo_values.specs.Texts.{Txt}
+use Rattle.hippo_values.specs.declared.names.Name.{Name}
+use Rattle.hippo_lexer.specs.Cutting.{outcome_of}
+use Rattle.hippo_lexer.specs.Words.{words_check}
+use Rattle.hippo_lexer.specs.declared.kinds.Token.{Token}
+use Rattle.hippo_model.specs.declared.entry.Act.{Act}
+use Rattle.hippo_model.specs.declared.entry.Act.TheVariants.{Create, Insert, Update, Delete, Purpose, Recipient, Item, Authorize, Deauthorize, Allow, Revoke, Choice, Asked}
+use Rattle.hippo_model.specs.declared.entry.Entry.{Entry}
+use Rattle.hippo_model.specs.declared.schema.Column.{Column}
+use Rattle.hippo_model.specs.declared.schema.Schema.{Schema}
+use Rattle.hippo_stmt_ast.specs.declared.statement.Stmt.{Stmt}
+use Rattle.hippo_model.specs.declared.wanted.Wanted.{Wanted}
+use Rattle.hippo_model.specs.Keepable.{is_folded_name, item_is_keepable, value_is_keepable, schema_is_keepable, act_is_keepable}
+use Rattle.hippo_model.specs.Rows.{key_of}
+use Rattle.hippo_model.specs.Terms.{History, Key, Meaning, Place, Row}
+use Rattle.hippo_model.specs.Validity.{all_differ, days_fit, is_valid, is_well_formed}
+use Rattle.hippo_stmt_reader.specs.StatementFinder.{statement_of}
+use Rattle.hippo_typing_catalog.specs.Catalogs.{known_at, table_of}
+use Rattle.hippo_typing_catalog.specs.ChangesRefused.{change_refused}
+use Rattle.hippo_typing_catalog.specs.ChangesWanted.{wanted_by}
+use Rattle.hippo_tables.specs.Finished.{finished_act, live_row, live_number}
+use Rattle.hippo_history_statements.specs.Telling.{told_act, set_places, columns_of, key_places, schema_before}
+
+-- a text is read as this statement: it has tokens, whose words pass, and they are found to be the
+-- statement
+pub record ReadsAs (text : Txt) (statement : Stmt) : Type 0 where
+  pub tokens : List Token
+  pub cut : outcome_of text ≡ Ok tokens
+  pub words : words_check tokens ≡ Ok tt
+  pub found : statement_of tokens ≡ Some statement
+
+-- what is told of an act reads as a statement which after the history comes to just this act
+pub record ReadsBack (history : History) (schema : Option Schema) (act : Act) : Type 0 where
+  pub statement : Stmt
+  pub reads : ReadsAs (told_act schema act) statement
+  pub wanted : Wanted
+  pub wants : wanted_by (known_at history) statement ≡ Some wanted
+  pub comes : finished_act history wanted ≡ Ok act
+
+-- acts that name no table
+abbrev pub names_no_table : Act → Bool
+names_no_table (Purpose purpose) = true
+names_no_table (Recipient recipient) = true
+names_no_table (Item item kind) = true
+names_no_table (Authorize user purpose recipient) = true
+names_no_table (Deauthorize user purpose recipient) = true
+names_no_table (Choice subject item agreed) = true
+names_no_table act = false
+
+-- such an act, where it can be kept, reads back after any history
+abbrev pub NamesReadBack : Type 0
+NamesReadBack =
+    (history : History) (schema : Option Schema) (act : Act) → names_no_table act ≡ true
+    → act_is_keepable act ≡ true
+    → ReadsBack history schema act
+
+-- a table whose schema can be kept and is well formed: what is told of its CREATE TABLE reads back
+-- after any history
+abbrev pub CreatesReadBack : Type 0
+CreatesReadBack =
+    (history : History) (known : Option Schema) (schema : Schema) → schema_is_keepable schema ≡ true
+    → is_well_formed schema ≡ true → ReadsBack history known (Create schema)
+
+-- a row of at least one value, for a table that is there, whose key is not: what is told of its
+-- INSERT reads back
+abbrev pub InsertsReadBack : Type 0
+InsertsReadBack =
+    (history : History) (schema : Schema) (table : Name) (row : Row)
+    → table_of (known_at history) table ≡ Some schema
+    → live_number history table (key_of schema.key row) ≡ None → is_folded_name table ≡ true
+    → 0 < length row
+    → list_all value_is_keepable row ≡ true → ReadsBack history (Some schema) (Insert table row)
+
+-- a table is there after the history, with columns whose names differ and are names in lower case,
+-- and these places are those of at least one of them
+pub record NamesColumns (history : History) (schema : Schema) (table : Name) (places : List Place)
+    : Type 0 where
+  pub known : table_of (known_at history) table ≡ Some schema
+  pub differ : all_differ bytes_eq (map (λ (column : Column). column.name) schema.columns) ≡ true
+  pub columns_named : list_all (λ (column : Column). is_folded_name column.name) schema.columns
+      ≡ true
+  pub some : 0 < length places
+  pub within : list_all (λ (place : Place). nat_lt place (length schema.columns)) places ≡ true
+
+-- what is told of a REVOKE reads back
+abbrev pub RevokesReadBack : Type 0
+RevokesReadBack =
+    (history : History) (schema : Schema) (purpose recipient table : Name) (places : List Place)
+    → NamesColumns history schema table places
+    → (is_folded_name purpose && is_folded_name recipient && is_folded_name table) ≡ true
+    → ReadsBack history (Some schema) (Revoke purpose recipient table places)
+
+-- and so does what is told of an ALLOW
+abbrev pub AllowsReadBack : Type 0
+AllowsReadBack =
+    (history : History) (schema : Schema) (purpose recipient table : Name) (places : List Place)
+    (item : Option Name)
+    (days : Option ℕ) → NamesColumns history schema table places
+    → (is_folded_name purpose && is_folded_name recipient && is_folded_name table) ≡ true
+    → item_is_keepable item ≡ true → days_fit days ≡ true
+    → ReadsBack history (Some schema) (Allow purpose recipient table places item days)
+
+-- a row is there with the key of a row, and both have a value for each column
+pub record Replaces (history : History) (schema : Schema) (table : Name) (row old : Row)
+    : Type 0 where
+  pub live : live_row history table (key_of schema.key row) ≡ Some old
+  pub same : key_of schema.key old ≡ key_of schema.key row
+  pub size : length row ≡ length schema.columns
+  pub old_size : length old ≡ length schema.columns
+
+-- a row that takes the place of the one with its key, for a table with a column that is none of its
+-- key's: what is told of its UPDATE reads back
+abbrev pub UpdatesReadBack : Type 0
+UpdatesReadBack =
+    (history : History) (schema : Schema) (table : Name) (row old : Row)
+    → NamesColumns history schema table schema.key → all_differ nat_eq schema.key ≡ true
+    → 0 < length (set_places schema.columns schema.key) → is_folded_name table ≡ true
+    → list_all value_is_keepable row ≡ true → Replaces history schema table row old
+    → ReadsBack history (Some schema) (Update table row)
+
+-- a key of a row that is there, for a table whose key's columns differ: what is told of its DELETE
+-- reads back
+abbrev pub DeletesReadBack : Type 0
+DeletesReadBack =
+    (history : History) (schema : Schema) (table : Name) (key : Key) (row : Row)
+    → NamesColumns history schema table schema.key → all_differ nat_eq schema.key ≡ true
+    → is_folded_name table ≡ true
+    → length schema.key ≡ length key → list_all value_is_keepable key ≡ true
+    → live_row history table key ≡ Some row
+    → ReadsBack history (Some schema) (Delete table key)
+
+-- whether what is told of an act is a statement: a question is told with who asked it, and no
+-- UPDATE sets no column
+abbrev pub is_stated : Option Schema → Act → Bool
+is_stated schema (Asked user purpose recipient text) = false
+is_stated schema (Update table row) =
+    nat_lt 0 (length (set_places (columns_of schema) (key_places schema)))
+is_stated schema act = true
+
+-- what is told reads back, and nothing is refused of the statement: after the history it makes just
+-- this act
+pub record MakesAgain (history : History) (schema : Option Schema) (act : Act) : Type 0 where
+  pub back : ReadsBack history schema act
+  pub unrefused : change_refused (known_at history) back.statement ≡ []
+
+-- each entry of a valid history that is told as a statement is made again by it, after the entries
+-- before it
+abbrev pub EntriesAreMadeAgain : Type 0
+EntriesAreMadeAgain =
+    (meaning : Meaning) (before later : History) (entry : Entry)
+    → is_valid meaning (before ++ entry ∷ later) ≡ true
+    → is_stated (schema_before (before ++ entry ∷ later) entry) entry.act ≡ true
+    → MakesAgain before (schema_before (before ++ entry ∷ later) entry) entry.act

@@ -1,0 +1,11 @@
+-- The text so far and then the members that are left are all, and the old text stands in front.
+use Rattle.std.proofs.Common.{◌≡◌, ◌++◌, flat_map, drop}
+use Rattle.hippo_values_text.specs.Printing.{KeepsFront}
+use Rattle.hippo_history_statements.proofs.joining.append_later.Given as goal
+
+abbrev pub invariant-loop-member : goal.invariant-loop-member
+invariant-loop-member g l =
+    let text = g.S.Spelling.text l.spelling in
+    (l.out ++ flat_map (λ member. l.separator ++ text member) (drop l.member-index l.rest)
+    ≡ l.initial.out ++ flat_map (λ member. l.separator ++ text member) l.rest)
+    × KeepsFront l.initial.out l.out

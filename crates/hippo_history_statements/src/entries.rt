@@ -1,0 +1,60 @@
+//! An entry as a line.
+ghost use Rattle.std.specs.Prelude.{◌≡◌, ◌++◌, option_copied, OnOk, OnErr};
+ghost use Rattle.hippo_values_text.specs.Dates.{moment_text};
+ghost use Rattle.hippo_values_text.specs.Printing.{AddsText};
+ghost use Rattle.hippo_history_statements.specs.Telling.{entry_line};
+
+use crate::acts::tell_act;
+use hippo_model::{Entry, Schema};
+use hippo_values::{Memory, Moment, RoomyTxt};
+use hippo_values_text::moment_text;
+use itoa::Buffer;
+use std::alloc::Global;
+
+fn append_moment<const ROOM: usize>(moment: &Moment, out: &mut RoomyTxt<ROOM>) -> Result<(), Memory>
+    ensures adds { AddsText (moment_text moment.now) result out.old out.new }
+{
+    match str::from_utf8(&moment_text(*moment)) {
+        Ok(text) => out.append(text),
+        Err(_) => unreachable!(),
+    }
+}
+
+fn append_entry<const ROOM: usize>(
+    alloc: Global,
+    schema: Option<&Schema>,
+    entry: &Entry,
+    out: &mut RoomyTxt<ROOM>,
+) -> Result<(), Memory>
+    ensures adds { AddsText (entry_line (option_copied schema.entry) entry.now)
+        result out.old out.new }
+{
+    out.append(Buffer::new().format(entry.seq))?;
+    out.append(" ")?;
+    append_moment(&entry.moment, out)?;
+    out.append(" ")?;
+    tell_act(alloc, schema, &entry.act, out)?;
+    out.append("\n")
+}
+
+/// Adds an entry as a line: its number, its moment, and the statement that it came of as `tell_act`
+/// tells it. For an entry of a history this is `told_entry`, where the schema is that of the table
+/// that the act names, as the entries before it have it. The text is unchanged where memory is
+/// short.
+pub fn entry_line<const ROOM: usize>(
+    alloc: Global,
+    schema: Option<&Schema>,
+    entry: &Entry,
+    out: &mut RoomyTxt<ROOM>,
+) -> Result<(), Memory>
+    ensures ok { OnOk result (out.new ≡ out.old
+        ++ entry_line (option_copied schema.entry) entry.now) }
+    ensures err { OnErr result (out.new ≡ out.old) }
+{
+    let length = out.as_str().len();
+    let appended = append_entry(alloc, schema, entry, out);
+    if appended.is_err() {
+        out.truncate(length);
+    }
+    appended
+}

@@ -1,0 +1,133 @@
+-- What showing what is asked for comes to, by what was written.
+use Rattle.std.proofs.Common.{◌≡◌, ◌≢◌, ◌∙◌, ℕ, true, false, Option, Some, None, take, unwrap_or, arith, refl, sym, ap, subst}
+use Rattle.std.proofs.lemmas.Bool.{false≢true}
+use Rattle.hippo_values.specs.Texts.{Txt}
+use Rattle.hippo_io.specs.Told.{Appends, AppendsFront}
+use Rattle.hippo_model.specs.Terms.{History}
+use Rattle.hippo_policy.specs.Books.{BookStandsFor}
+use Rattle.hippo_keeper.specs.Answering.{has_failed}
+use Rattle.hippo_keeper.specs.Keeping.{KeeperState, IsReady}
+use Rattle.hippo_keeper.proofs.CallLemmas.{IsAfterCall-none, KeepsSame-here}
+use Rattle.hippo_replay.specs.Standing.{StandsFor}
+use Rattle.hippo_replay.specs.declared.state.State.{State}
+use Rattle.hippo_history_top.specs.declared.asking.Excerpt.{Excerpt}
+use Rattle.hippo_history_top.specs.declared.asking.Page.{Page}
+use Rattle.hippo_history_top.specs.declared.asking.View.TheVariants.{Entries, Rules}
+use Rattle.hippo_program_args.specs.declared.endings.Ending.{Ending}
+use Rattle.hippo_program_args.specs.declared.endings.Ending.TheVariants.{Served, Refused, KeeperFault, ReadFault, WriteFault, Damaged, NoMemory, TooMuch}
+use Rattle.hippo_program_args.specs.Endings.{ending_as_call}
+use Rattle.hippo_history_top.specs.Endings.{ends_showing}
+use Rattle.hippo_history_top.specs.Ruling.{rules_by_names}
+use Rattle.hippo_history_top.specs.Saying.{Writes}
+use Rattle.hippo_history_top.specs.ByNames.{entries_shown}
+use Rattle.hippo_history_top.specs.Showing.{shown_text}
+use Rattle.hippo_history_top.specs.Progress.{ShowsAll, WritesPage, ShowsLoaded}
+use Rattle.hippo_history_top.proofs.NameLemmas.{told_by_names}
+use Rattle.hippo_history_top.proofs.PolicyLemmas.{rules_of_first}
+use Rattle.hippo_history_top.proofs.WriteLemmas.{none_of, whole_front, CountsWrites-same}
+
+module _ (IsSo : History → Type 0) (page : History → Txt) (written : Option Txt) (faults : ℕ) where
+  -- memory was short before anything was written
+  pub page_unwritten : WritesPage IsSo page (Some NoMemory) written written faults faults
+  page_unwritten = record {
+    ends = refl;
+    sound = λ e. cc;
+    writes = CountsWrites-same (Some NoMemory) faults (λ e. cc);
+    whole = λ on. absurd cc;
+    front = λ history so. none_of written (page history);
+  }
+
+  -- the text that is the page of each such history was written
+  pub page_written : (written' : Option Txt) (faults' : ℕ) (lines : Txt) → ((history : History) → IsSo history → lines ≡ page history)
+      → (result : Option Ending) → Writes lines result written written' faults faults' → WritesPage IsSo page result written written' faults faults'
+  page_written written' faults' lines is None writes = record {
+    ends = refl;
+    sound = λ e. cc;
+    writes = record { cause = λ e. absurd cc; unfailed = λ e. writes.1 };
+    whole = λ on history so. subst (Appends written written') (is history so) writes.0;
+    front = λ history so. whole_front written written' (page history) (subst (Appends written written') (is history so) writes.0);
+  }
+  page_written written' faults' lines is (Some WriteFault) writes = record {
+    ends = refl;
+    sound = λ e. cc;
+    writes = record { cause = λ e. writes.1; unfailed = λ other. absurd (other refl) };
+    whole = λ on. absurd cc;
+    front = λ history so. subst (AppendsFront written written') (is history so) writes.0;
+  }
+  page_written written' faults' lines is (Some NoMemory) writes = record {
+    ends = refl;
+    sound = λ e. cc;
+    writes = record { cause = λ e. absurd cc; unfailed = λ other. writes.1 };
+    whole = λ on. absurd cc;
+    front = λ history so. subst (λ (told : Option Txt). AppendsFront written told (page history)) (sym writes.0) (none_of written (page history));
+  }
+  page_written written' faults' lines is (Some ending) writes = absurd writes
+
+module _ (state : State) (written written' : Option Txt) (faults faults' : ℕ) where
+  -- entries are shown by the names that a state holds, as by those that each entry found
+  pub loaded_entries : (excerpt : Excerpt) (result : Ending) (before after : KeeperState) (ticks ticks' : ℕ)
+      → ShowsAll state.catalog.names excerpt result before after written written' faults faults' ticks ticks'
+      → ShowsLoaded state (Entries excerpt) result before after written written' faults faults' ticks ticks'
+  loaded_entries excerpt result before after ticks ticks' shows = record {
+    call = shows.call;
+    stays = shows.stays;
+    status = shows.status;
+    writes = shows.writes;
+    whole = λ is tells history stands forms. subst (Appends written written') (named history stands) (shows.whole is tells history forms);
+    front = λ tells history stands forms. subst (AppendsFront written written') (named history stands) (shows.front tells history forms);
+    damaged = shows.damaged;
+    steps = shows.steps;
+  }
+    where
+      named : (history : History) → StandsFor state history → entries_shown state.catalog.names excerpt None history ≡ shown_text (Entries excerpt) history
+      named history stands = ap (λ known. entries_shown known excerpt None history) stands.names ∙ told_by_names history stands.valid excerpt None
+
+  -- and so are the rules, by those that it holds; nothing is read for them
+  module _ (page : Page) (keeper : KeeperState) (ready : IsReady true keeper) (ticks : ℕ) where
+    abbrev text : History → Txt
+    text history = rules_by_names state.catalog.names page.format page.scope (take page.last history)
+
+    named : (history : History) → StandsFor state history → text history ≡ shown_text (Rules page) history
+    named history stands =
+        ap (λ known. rules_by_names known page.format page.scope (take page.last history)) stands.names ∙ rules_of_first history stands.valid page.last page.format page.scope
+
+    abbrev Loaded : Ending → Type 0
+    Loaded result = ShowsLoaded state (Rules page) result keeper keeper written written' faults faults' ticks ticks
+
+    front : {cut : Option Ending} → WritesPage (BookStandsFor state.book) text cut written written' faults faults'
+        → (history : History) → StandsFor state history → AppendsFront written written' (shown_text (Rules page) history)
+    front writes history stands = subst (AppendsFront written written') (named history stands) (writes.front history stands.book)
+
+    -- what cut the text short
+    cut_short : (ending : Ending) → ends_showing (Some ending) ≡ true → ending ≢ Served → has_failed (ending_as_call ending) ≡ false
+        → WritesPage (BookStandsFor state.book) text (Some ending) written written' faults faults' → Loaded ending
+    cut_short ending listed unended fine writes = record {
+      call = IsAfterCall-none (ending_as_call ending) keeper fine ready;
+      stays = λ tells. KeepsSame-here keeper;
+      status = listed;
+      writes = writes.writes;
+      whole = λ is. absurd (unended is);
+      front = λ tells history stands forms. front writes history stands;
+      damaged = λ is. absurd (writes.sound (ap Some is));
+      steps = λ tells. omega arith;
+    }
+
+    pub loaded_rules : (cut : Option Ending) → WritesPage (BookStandsFor state.book) text cut written written' faults faults' → Loaded (unwrap_or cut Served)
+    loaded_rules None writes = record {
+      call = IsAfterCall-none (ending_as_call Served) keeper refl ready;
+      stays = λ tells. KeepsSame-here keeper;
+      status = refl;
+      writes = record { cause = λ e. absurd cc; unfailed = λ e. writes.writes.unfailed (λ e. cc) };
+      whole = λ is tells history stands forms. subst (Appends written written') (named history stands) (writes.whole refl history stands.book);
+      front = λ tells history stands forms. front writes history stands;
+      damaged = λ is. absurd cc;
+      steps = λ tells. omega arith;
+    }
+    loaded_rules (Some WriteFault) writes = cut_short WriteFault refl (λ e. cc) refl writes
+    loaded_rules (Some NoMemory) writes = cut_short NoMemory refl (λ e. cc) refl writes
+    loaded_rules (Some Damaged) writes = absurd (writes.sound refl)
+    loaded_rules (Some Served) writes = absurd (false≢true writes.ends)
+    loaded_rules (Some Refused) writes = absurd (false≢true writes.ends)
+    loaded_rules (Some KeeperFault) writes = absurd (false≢true writes.ends)
+    loaded_rules (Some ReadFault) writes = absurd (false≢true writes.ends)
+    loaded_rules (Some TooMuch) writes = absurd (false≢true writes.ends)

@@ -1,0 +1,122 @@
+-- The command line: which words the program takes, and what they ask for.
+use Rattle.std.specs.Prelude.{ℕ, Bool, true, false, not, ◌&&◌, ◌||◌, List, [], ◌∷◌, Option, Some, None, is_some, option_map, option_and_then, unwrap_or, if◌then◌else◌, codes, bytes_eq}
+use Rattle.std.specs.Option.{option_map_or}
+use Rattle.clap.specs.Words.{App, Row, first_of, matches_of}
+use Rattle.hippo_values.specs.Texts.{Txt}
+use Rattle.hippo_values.specs.Names.{name_of}
+use Rattle.hippo_report.specs.declared.format.Format.{Format}
+use Rattle.hippo_report.specs.declared.format.Format.TheVariants as formats
+use Rattle.hippo_program_args.specs.Arguments.{text_option, needed_option, entry_option, flag, command_with, is_taken, number_or, format_in}
+use Rattle.hippo_history_top.specs.declared.asking.Acts.{Acts}
+use Rattle.hippo_history_top.specs.declared.asking.Acts.TheVariants.{All, Tables}
+use Rattle.hippo_history_top.specs.declared.asking.Call.{Call}
+use Rattle.hippo_history_top.specs.declared.asking.Excerpt.{Excerpt}
+use Rattle.hippo_history_top.specs.declared.asking.Form.{Form}
+use Rattle.hippo_history_top.specs.declared.asking.Form.TheVariants.{Listing, Script}
+use Rattle.hippo_history_top.specs.declared.asking.Page.{Page}
+use Rattle.hippo_history_top.specs.declared.asking.Scope.{Scope}
+use Rattle.hippo_history_top.specs.declared.asking.Scope.TheVariants.{Whole, Table}
+use Rattle.hippo_history_top.specs.declared.asking.View.{View}
+use Rattle.hippo_history_top.specs.declared.asking.View.TheVariants.{Entries, Rules}
+
+-- the command, as clap is told of it
+abbrev pub showing_command_line : App
+showing_command_line = command_with (codes "hippo_history")
+    (needed_option (codes "store") ∷ entry_option (codes "entry") ∷ entry_option (codes "from")
+    ∷ entry_option (codes "to") ∷ text_option (codes "table") ∷ flag (codes "tables")
+    ∷ flag (codes "script")
+    ∷ flag (codes "rules") ∷ text_option (codes "format") ∷ [])
+
+-- whether a name that stands alone was written
+abbrev pub is_on : Txt → List Row → Bool
+is_on name rows = option_map_or (λ text. bytes_eq text (codes "true")) (first_of name rows) false
+
+-- one entry alone, or those from one number to another
+abbrev pub first_in : List Row → ℕ
+first_in rows =
+    number_or (number_or 1 (first_of (codes "from") rows)) (first_of (codes "entry") rows)
+
+abbrev pub last_in : List Row → ℕ
+last_in rows =
+    number_or (number_or 4000000 (first_of (codes "to") rows)) (first_of (codes "entry") rows)
+
+-- one entry goes with no end of a stretch
+abbrev pub has_end : List Row → Bool
+has_end rows = is_some (first_of (codes "from") rows) || is_some (first_of (codes "to") rows)
+
+abbrev pub entry_fits : List Row → Bool
+entry_fits rows = not (is_some (first_of (codes "entry") rows) && has_end rows)
+
+-- the rules are those after one entry, or after all: they go with no end of a stretch, and no form
+-- of entries
+abbrev pub has_form : List Row → Bool
+has_form rows = is_on (codes "tables") rows || is_on (codes "script") rows
+
+abbrev pub rules_fit : List Row → Bool
+rules_fit rows = not (is_on (codes "rules") rows && (has_end rows || has_form rows))
+
+abbrev pub options_fit : List Row → Bool
+options_fit rows = entry_fits rows && rules_fit rows
+
+-- the table of which something is shown; a word that is no name is none
+abbrev pub scope_of : Option Txt → Option Scope
+scope_of None = Some Whole
+scope_of (Some word) = option_map Table (name_of word)
+
+-- a script is lines of text
+abbrev pub is_text_format : Format → Bool
+is_text_format formats.Text = true
+is_text_format formats.Json = false
+is_text_format formats.Csv = false
+
+abbrev pub format_fits : List Row → Format → Bool
+format_fits rows format = is_text_format format || not (is_on (codes "script") rows)
+
+abbrev pub shown_form : List Row → Format → Form
+shown_form rows format = if is_on (codes "script") rows then Script else Listing format
+
+abbrev pub acts_in : List Row → Acts
+acts_in rows = if is_on (codes "tables") rows then Tables else All
+
+abbrev pub excerpt_in : List Row → Format → Scope → Excerpt
+excerpt_in rows format scope =
+    record {
+      first = first_in rows;
+      last = last_in rows;
+      acts = acts_in rows;
+      scope = scope;
+      form = shown_form rows format;
+    }
+
+abbrev pub page_in : List Row → Format → Scope → Page
+page_in rows format scope = record { last = last_in rows; scope = scope; format = format }
+
+abbrev pub view_in : List Row → Format → Scope → View
+view_in rows format scope =
+    if is_on (codes "rules") rows then Rules (page_in rows format scope)
+    else Entries (excerpt_in rows format scope)
+
+abbrev pub call_with : List Row → Format → Scope → Call
+call_with rows format scope =
+    record {
+      store = unwrap_or (first_of (codes "store") rows) [];
+      view = view_in rows format
+          scope;
+    }
+
+-- what is asked for in a format
+abbrev pub call_in_format : List Row → Format → Option Call
+call_in_format rows format =
+    if format_fits rows format
+    then option_map (call_with rows format) (scope_of (first_of (codes "table") rows)) else None
+
+-- what is asked for by words that the command takes
+abbrev pub showing_call : List Row → Option Call
+showing_call rows =
+    if options_fit rows then option_and_then (call_in_format rows) (format_in rows) else None
+
+-- what the words of a call ask for, if anything
+unfoldable pub asked_of : List Txt → Option Call
+asked_of words =
+    if is_taken showing_command_line words then showing_call (matches_of showing_command_line words)
+    else None

@@ -1,0 +1,66 @@
+-- What is in force after a history: for each purpose and recipient, and each table of which a rule
+-- names some column for them, every column with its rule.
+use Rattle.std.specs.Prelude.{Bool, true, ◌&&◌, [], flat_map, length, Option, is_some, if◌then◌else◌, bytes_eq}
+use Rattle.std.specs.List.{list_any, range_with_len}
+use Rattle.hippo_values.specs.Texts.{Txt}
+use Rattle.hippo_values.specs.declared.names.Name.{Name}
+use Rattle.hippo_model.specs.declared.schema.Schema.{Schema}
+use Rattle.hippo_model.specs.Rules.{Rule, rule_at}
+use Rattle.hippo_model.specs.Terms.{History, Place}
+use Rattle.hippo_typing_catalog.specs.Catalogs.{KnownNames, known_at}
+use Rattle.hippo_policy.specs.Rulings.{opt_in_at}
+use Rattle.hippo_report.specs.declared.format.Format.{Format}
+use Rattle.hippo_history_top.specs.declared.asking.Scope.{Scope}
+use Rattle.hippo_history_top.specs.declared.asking.Scope.TheVariants.{Whole, Table}
+use Rattle.hippo_history_formats.specs.Formats.{rule_line}
+
+-- the rule of a column, and its line
+abbrev pub column_rule : History → Name → Name → Schema → Place → Option Rule
+column_rule history purpose recipient schema place =
+    rule_at history purpose recipient schema.name place
+
+abbrev pub column_line : Format → History → Name → Name → Schema → Place → Txt
+column_line format history purpose recipient schema place =
+    rule_line format purpose recipient schema place
+    (column_rule history purpose recipient schema place)
+    (opt_in_at history (column_rule history purpose recipient schema place))
+
+-- whether some column of a table has a rule
+abbrev pub is_ruled : History → Name → Name → Schema → Bool
+is_ruled history purpose recipient schema =
+    list_any (λ place. is_some (column_rule history purpose recipient schema place))
+    (range_with_len 0 (length schema.columns))
+
+-- then every column is shown
+abbrev pub columns_shown : Format → History → Name → Name → Schema → Txt
+columns_shown format history purpose recipient schema =
+    flat_map (column_line format history purpose recipient schema)
+    (range_with_len 0 (length schema.columns))
+
+-- whether a table is asked for
+abbrev pub has_table : Scope → Name → Bool
+has_table Whole table = true
+has_table (Table name) table = bytes_eq name table
+
+abbrev pub table_shown : Format → Scope → History → Name → Name → Schema → Txt
+table_shown format scope history purpose recipient schema =
+    if has_table scope schema.name && is_ruled history purpose recipient schema
+    then columns_shown format history purpose recipient schema else []
+
+abbrev pub tables_shown : KnownNames → Format → Scope → History → Name → Name → Txt
+tables_shown known format scope history purpose recipient =
+    flat_map (λ named. table_shown format scope history purpose recipient named.1) known.tables
+
+-- for a purpose, to all recipients
+abbrev pub recipients_shown : KnownNames → Format → Scope → History → Name → Txt
+recipients_shown known format scope history purpose =
+    flat_map (tables_shown known format scope history purpose) known.recipients
+
+-- the rules in force, by these purposes, recipients and tables
+abbrev pub rules_by_names : KnownNames → Format → Scope → History → Txt
+rules_by_names known format scope history =
+    flat_map (recipients_shown known format scope history) known.purposes
+
+-- by all that a history creates, in the order of their creation
+abbrev pub rules_shown : Format → Scope → History → Txt
+rules_shown format scope history = rules_by_names (known_at history) format scope history

@@ -1,0 +1,30 @@
+//! The command's arguments, and what is found behind them.
+ghost use Rattle.std.specs.Prelude.{◌≡◌};
+ghost use Rattle.clap.specs.Words.{rows_of, found_of};
+ghost use Rattle.hippo_history_top.specs.CommandLine.{is_on};
+
+use clap::ArgMatches;
+use hippo_program_args::{Argument, text_of};
+
+/// The arguments that the command has.
+pub(crate) const ARGUMENTS: [Argument<'static>; 9] = [
+    Argument::Needed("store"),
+    Argument::Entry("entry"),
+    Argument::Entry("from"),
+    Argument::Entry("to"),
+    Argument::Text("table"),
+    Argument::Flag("tables"),
+    Argument::Flag("script"),
+    Argument::Flag("rules"),
+    Argument::Text("format"),
+];
+
+/// Whether a name that stands alone was written.
+pub(crate) fn is_on(matches: &ArgMatches<'_>, name: &str) -> bool
+    ensures { result ≡ is_on name.now (rows_of (found_of matches.now)) }
+{
+    match text_of(matches, name) {
+        None => false,
+        Some(text) => text == "true",
+    }
+}

@@ -1,0 +1,137 @@
+//! The lines of one entry.
+ghost use Rattle.std.specs.Prelude.{◌≡◌, ◌++◌, option_copied, OnOk, codes};
+ghost use Rattle.hippo_values_text.specs.Dates.{moment_text};
+ghost use Rattle.hippo_history_statements.specs.Telling.{told_act};
+ghost use Rattle.hippo_history_top.specs.ByNames.{schema_named, shown_as};
+ghost use Rattle.hippo_history_top.specs.Showing.{console_lines, session_lines, act_lines, stands_at, clock_line};
+
+use crate::asking::Form;
+use hippo_history_formats::{Question, append_entry, append_moment, question_of};
+use hippo_history_statements::{table_named, tell_act};
+use hippo_model::{Act, Entry, Schema};
+use hippo_typing_catalog::Catalog;
+use hippo_values::{Memory, Moment, Txt};
+use std::alloc::Global;
+
+// The schema of the table that an act names.
+fn schema_named<'a>(catalog: &'a Catalog, act: &Act) -> Option<&'a Schema>
+    ensures { option_copied result ≡ schema_named catalog.now.names act.now }
+{
+    match table_named(act) {
+        None => None,
+        Some(table) => catalog.table(table),
+    }
+}
+
+// Whether the clock stands at a moment.
+fn stands_at(clock: &Option<Moment>, moment: &Moment) -> bool
+    ensures { result ≡ stands_at clock.now moment.now }
+{
+    match clock {
+        None => false,
+        Some(set) => set.seconds() == moment.seconds(),
+    }
+}
+
+// A line that sets the clock.
+fn append_at(moment: &Moment, out: &mut Txt) -> Result<(), Memory>
+    ensures { OnOk result (out.new ≡ out.old
+        ++ (codes "at " ++ (moment_text moment.now ++ codes "\n"))) }
+{
+    out.append("at ")?;
+    append_moment(moment, out)?;
+    out.append("\n")
+}
+
+// A line that sets the clock where it does not stand so.
+fn append_clock(clock: &Option<Moment>, moment: &Moment, out: &mut Txt) -> Result<(), Memory>
+    ensures { OnOk result (out.new ≡ out.old ++ clock_line clock.now moment.now) }
+{
+    if stands_at(clock, moment) {
+        Ok(())
+    } else {
+        append_at(moment, out)
+    }
+}
+
+fn append_console(alloc: Global, catalog: &Catalog, act: &Act, out: &mut Txt) -> Result<(), Memory>
+    ensures { OnOk result (out.new
+        ≡ out.old ++ console_lines (told_act (schema_named catalog.now.names act.now) act.now)) }
+{
+    out.append("0 ")?;
+    tell_act(alloc, schema_named(catalog, act), act, out)?;
+    out.append("\n")
+}
+
+fn append_login(question: &Question<'_>, out: &mut Txt) -> Result<(), Memory>
+    ensures { OnOk result (out.new ≡ out.old ++ (codes "1 login " ++ (question.now.user.now
+        ++ (codes " " ++ (question.now.purpose.now
+        ++ (codes " " ++ question.now.recipient.now)))))) }
+{
+    out.append("1 login ")?;
+    out.append(question.user.as_str())?;
+    out.append(" ")?;
+    out.append(question.purpose.as_str())?;
+    out.append(" ")?;
+    out.append(question.recipient.as_str())
+}
+
+// The lines of a session that asks one question.
+fn append_session(question: &Question<'_>, out: &mut Txt) -> Result<(), Memory>
+    ensures { OnOk result (out.new ≡ out.old
+        ++ session_lines question.now.user.now question.now.purpose.now
+        question.now.recipient.now question.now.text.now) }
+{
+    append_login(question, out)?;
+    out.append("\n1 ")?;
+    out.append(question.text.as_str())?;
+    out.append("\n1 logout\n")
+}
+
+// The lines that make an act again.
+#[tactic(auto, using(crate::proofs::QuestionLemmas::statement_as_lines))]
+fn append_act(alloc: Global, catalog: &Catalog, act: &Act, out: &mut Txt) -> Result<(), Memory>
+    ensures { OnOk result (out.new
+        ≡ out.old ++ act_lines (schema_named catalog.now.names act.now) act.now) }
+{
+    match question_of(act) {
+        None => append_console(alloc, catalog, act, out),
+        Some(question) => append_session(&question, out),
+    }
+}
+
+fn append_script(
+    alloc: Global,
+    catalog: &Catalog,
+    clock: &Option<Moment>,
+    entry: &Entry,
+    out: &mut Txt,
+) -> Result<(), Memory>
+    ensures { OnOk result (out.new
+        ≡ out.old ++ (clock_line clock.now entry.now.moment
+        ++ act_lines (schema_named catalog.now.names entry.now.act) entry.now.act)) }
+{
+    append_clock(clock, &entry.moment, out)?;
+    append_act(alloc, catalog, &entry.act, out)
+}
+
+/// Adds an entry as it is shown, where the entry that was shown last had this moment.
+pub(crate) fn append_shown(
+    alloc: Global,
+    catalog: &Catalog,
+    form: Form,
+    clock: &Option<Moment>,
+    entry: &Entry,
+    out: &mut Txt,
+) -> Result<(), Memory>
+    ensures { OnOk result (out.new ≡ out.old
+        ++ shown_as catalog.now.names form clock.now entry.now) }
+{
+    match form {
+        Form::Listing(format) => {
+            let schema = schema_named(catalog, &entry.act);
+            append_entry(alloc, format, schema, entry, out)
+        }
+        Form::Script => append_script(alloc, catalog, clock, entry, out),
+    }
+}

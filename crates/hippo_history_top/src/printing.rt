@@ -1,0 +1,31 @@
+//! What the program writes of its own, and the write of a text.
+ghost use Rattle.hippo_program_args.specs.Saying.{Says};
+ghost use Rattle.hippo_program_args.specs.declared.endings.Ending.TheVariants.{Refused, WriteFault};
+ghost use Rattle.hippo_history_top.specs.Saying.{showing_usage as usage, Writes};
+
+use hippo_io::{Failed, Sink, write_whole};
+use hippo_program_args::{Ending, say};
+
+const USAGE: &str =
+    "usage: hippo_history --store NAME [--entry N | [--from N] [--to N]] [--table NAME] [--rules | [--tables] [--script]] \
+     [--format text|json|csv]\n";
+
+/// Writes the usage line.
+#[tactic(auto, unfolding(crate::specs::Saying::showing_usage))]
+pub(crate) fn refuse<K: Sink>(sink: &mut K) -> Ending
+    ensures says { Says Refused usage WriteFault result
+        (K.written sink.old) (K.written sink.new) (K.faults sink.old) (K.faults sink.new) }
+{
+    say(sink, USAGE, Ending::Refused)
+}
+
+/// Writes the lines of an entry.
+pub(crate) fn write_lines<K: Sink>(sink: &mut K, lines: &str) -> Option<Ending>
+    ensures writes { Writes lines.now result
+        (K.written sink.old) (K.written sink.new) (K.faults sink.old) (K.faults sink.new) }
+{
+    match write_whole(sink, lines.as_bytes()) {
+        Ok(()) => None,
+        Err(Failed) => Some(Ending::WriteFault),
+    }
+}

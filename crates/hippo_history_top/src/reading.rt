@@ -1,0 +1,228 @@
+//! What the words of a call ask for.
+ghost use Rattle.std.specs.Prelude.{◌≡◌, ◌||◌, codes, map, is_some, IfOk};
+ghost use Rattle.clap.specs.Words.{first_of, rows_of, found_of};
+ghost use Rattle.hippo_program_args.specs.Arguments.{FindsMatches};
+ghost use Rattle.hippo_history_top.specs.CommandLine.{showing_command_line, first_in, last_in, has_end, entry_fits, has_form, rules_fit, options_fit, scope_of, is_text_format, format_fits, shown_form, acts_in, excerpt_in, page_in, view_in, call_with, call_in_format, showing_call, asked_of};
+
+use crate::arguments::{ARGUMENTS, is_on};
+use crate::asking::{Acts, Call, Excerpt, Form, Page, Scope, View};
+use clap::ArgMatches;
+use hippo_program_args::{format_of, matches_in, number_or, text_of, texts_of};
+use hippo_report::Format;
+use hippo_values::{Memory, Name, Txt};
+use std::alloc::Global;
+
+// What the command finds in words: nothing exactly where it does not take them.
+fn found_in<'w>(alloc: Global, words: &'w [&'w str]) -> Result<Option<ArgMatches<'w>>, Memory>
+    ensures { IfOk result (FindsMatches showing_command_line (map (λ word. word.now) words.now)) }
+{
+    matches_in(alloc, "hippo_history", &ARGUMENTS, words)
+}
+
+fn is_there(matches: &ArgMatches<'_>, name: &str) -> bool
+    ensures { result ≡ is_some (first_of name.now (rows_of (found_of matches.now))) }
+{
+    text_of(matches, name).is_some()
+}
+
+fn has_end(matches: &ArgMatches<'_>) -> bool
+    ensures { result ≡ has_end (rows_of (found_of matches.now)) }
+{
+    is_there(matches, "from") || is_there(matches, "to")
+}
+
+fn entry_fits(matches: &ArgMatches<'_>) -> bool
+    ensures { result ≡ entry_fits (rows_of (found_of matches.now)) }
+{
+    !(is_there(matches, "entry") && has_end(matches))
+}
+
+fn has_form(matches: &ArgMatches<'_>) -> bool
+    ensures { result ≡ has_form (rows_of (found_of matches.now)) }
+{
+    is_on(matches, "tables") || is_on(matches, "script")
+}
+
+fn is_of_entries(matches: &ArgMatches<'_>) -> bool
+    ensures { result ≡ (has_end (rows_of (found_of matches.now))
+        || has_form (rows_of (found_of matches.now))) }
+{
+    has_end(matches) || has_form(matches)
+}
+
+fn rules_fit(matches: &ArgMatches<'_>) -> bool
+    ensures { result ≡ rules_fit (rows_of (found_of matches.now)) }
+{
+    !(is_on(matches, "rules") && is_of_entries(matches))
+}
+
+fn fits(matches: &ArgMatches<'_>) -> bool
+    ensures { result ≡ options_fit (rows_of (found_of matches.now)) }
+{
+    entry_fits(matches) && rules_fit(matches)
+}
+
+fn first_of(matches: &ArgMatches<'_>) -> Result<u64, Memory>
+    ensures { IfOk result (λ number. number ≡ first_in (rows_of (found_of matches.now))) }
+{
+    let from = number_or(matches, "from", 1)?;
+    number_or(matches, "entry", from)
+}
+
+fn last_of(matches: &ArgMatches<'_>) -> Result<u64, Memory>
+    ensures { IfOk result (λ number. number ≡ last_in (rows_of (found_of matches.now))) }
+{
+    let to = number_or(matches, "to", 4_000_000)?;
+    number_or(matches, "entry", to)
+}
+
+fn scope_of(alloc: Global, matches: &ArgMatches<'_>) -> Result<Option<Scope>, Memory>
+    ensures { IfOk result (λ scope. scope
+        ≡ scope_of (first_of (codes "table") (rows_of (found_of matches.now)))) }
+{
+    match text_of(matches, "table") {
+        None => Ok(Some(Scope::Whole)),
+        Some(word) => Ok(Name::from_word(alloc, word)?.map(Scope::Table)),
+    }
+}
+
+fn is_text(format: Format) -> bool
+    ensures { result ≡ is_text_format format }
+{
+    match format {
+        Format::Text => true,
+        Format::Json | Format::Csv => false,
+    }
+}
+
+fn format_fits(matches: &ArgMatches<'_>, format: Format) -> bool
+    ensures { result ≡ format_fits (rows_of (found_of matches.now)) format }
+{
+    is_text(format) || !is_on(matches, "script")
+}
+
+fn form_of(matches: &ArgMatches<'_>, format: Format) -> Form
+    ensures { result ≡ shown_form (rows_of (found_of matches.now)) format }
+{
+    if is_on(matches, "script") {
+        Form::Script
+    } else {
+        Form::Listing(format)
+    }
+}
+
+fn acts_of(matches: &ArgMatches<'_>) -> Acts
+    ensures { result ≡ acts_in (rows_of (found_of matches.now)) }
+{
+    if is_on(matches, "tables") {
+        Acts::Tables
+    } else {
+        Acts::All
+    }
+}
+
+fn excerpt_of(matches: &ArgMatches<'_>, format: Format, scope: Scope) -> Result<Excerpt, Memory>
+    ensures { IfOk result (λ excerpt. excerpt
+        ≡ excerpt_in (rows_of (found_of matches.now)) format scope) }
+{
+    let first = first_of(matches)?;
+    let last = last_of(matches)?;
+    Ok(Excerpt {
+        first,
+        last,
+        acts: acts_of(matches),
+        scope,
+        form: form_of(matches, format),
+    })
+}
+
+fn page_of(matches: &ArgMatches<'_>, format: Format, scope: Scope) -> Result<Page, Memory>
+    ensures { IfOk result (λ page. page ≡ page_in (rows_of (found_of matches.now)) format scope) }
+{
+    let last = last_of(matches)?;
+    Ok(Page {
+        last,
+        scope,
+        format,
+    })
+}
+
+fn view_of(matches: &ArgMatches<'_>, format: Format, scope: Scope) -> Result<View, Memory>
+    ensures { IfOk result (λ view. view ≡ view_in (rows_of (found_of matches.now)) format scope) }
+{
+    if is_on(matches, "rules") {
+        Ok(View::Rules(page_of(matches, format, scope)?))
+    } else {
+        Ok(View::Entries(excerpt_of(matches, format, scope)?))
+    }
+}
+
+fn call_with(
+    alloc: Global,
+    matches: &ArgMatches<'_>,
+    format: Format,
+    scope: Scope,
+) -> Result<Call, Memory>
+    ensures { IfOk result (λ call. call ≡ call_with (rows_of (found_of matches.now)) format scope) }
+{
+    let view = view_of(matches, format, scope)?;
+    let store = Txt::from_str(alloc, text_of(matches, "store").unwrap_or(""))?;
+    Ok(Call { store, view })
+}
+
+fn asked_by(alloc: Global, matches: &ArgMatches<'_>, format: Format) -> Result<Option<Call>, Memory>
+    ensures { IfOk result (λ call. call ≡ call_in_format (rows_of (found_of matches.now)) format) }
+{
+    if !format_fits(matches, format) {
+        return Ok(None);
+    }
+    match scope_of(alloc, matches)? {
+        None => Ok(None),
+        Some(scope) => Ok(Some(call_with(alloc, matches, format, scope)?)),
+    }
+}
+
+fn asked_with(alloc: Global, matches: &ArgMatches<'_>) -> Result<Option<Call>, Memory>
+    ensures { IfOk result (λ call. call ≡ showing_call (rows_of (found_of matches.now))) }
+{
+    if !fits(matches) {
+        return Ok(None);
+    }
+    match format_of(matches) {
+        None => Ok(None),
+        Some(format) => asked_by(alloc, matches, format),
+    }
+}
+
+#[tactic(auto, unfolding(crate::specs::CommandLine::asked_of))]
+fn asked_in(alloc: Global, words: &[&str]) -> Result<Option<Call>, Memory>
+    ensures { IfOk result (λ call. call ≡ asked_of (map (λ word. word.now) words.now)) }
+{
+    match found_in(alloc, words)? {
+        None => Ok(None),
+        Some(matches) => asked_with(alloc, &matches),
+    }
+}
+
+/// What the words of a call ask for: options in any order, `--NAME VALUE` or `--NAME=VALUE`, and
+/// the store must be among them. Nothing where the command does not take them, as where a word is
+/// unknown or an option stands twice, where a number is out of its bounds, a table's name is none
+/// or a format is none of the three, where an entry is named beside an end of a stretch, where the
+/// rules are asked for beside such an end, the tables or a script, or where a script is asked for
+/// in another format than text. Or want of memory.
+///
+/// ```text
+/// --store clinic.db --entry 18
+/// --store clinic.db --from 10 --to 20 --table patient
+/// --store clinic.db --script
+/// --store clinic.db --tables
+/// --store clinic.db --rules
+/// --store clinic.db --rules --entry 18 --table patient
+/// --store clinic.db --rules --format csv
+/// ```
+pub fn asked_of(alloc: Global, words: &[Txt]) -> Result<Option<Call>, Memory>
+    ensures { IfOk result (λ call. call ≡ asked_of words.now) }
+{
+    let texts = texts_of(alloc, words)?;
+    asked_in(alloc, &texts)
+}

@@ -1,0 +1,230 @@
+//! The rules in force, a line a column.
+ghost use Rattle.std.specs.Prelude.{◌≡◌, ◌++◌, ◌&&◌, [], take, slice_get, is_some, OnOk};
+ghost use Rattle.std.specs.Option.{option_map_or};
+ghost use Rattle.hippo_model.specs.Terms.{History};
+ghost use Rattle.hippo_policy.specs.Books.{BookStandsFor};
+ghost use Rattle.hippo_policy.specs.Rulings.{ruling_of, opt_in_of, opt_in_at};
+ghost use Rattle.hippo_history_top.specs.Ruling.{column_rule, column_line, is_ruled, columns_shown, has_table, table_shown, tables_shown, recipients_shown, rules_by_names};
+
+use crate::asking::{Page, Scope};
+use hippo_history_formats::{ColumnRule, append_rule_line};
+use hippo_model::{RuleAt, Schema};
+use hippo_policy::PolicyBook;
+use hippo_report::Format;
+use hippo_typing_catalog::Catalog;
+use hippo_values::{Memory, Name, Txt};
+use std::alloc::Global;
+
+// The names and the rules of a history, as of its first so many entries, which of them are asked
+// for, and how.
+#[derive(Clone, Copy)]
+struct Policy<'a> {
+    alloc: Global,
+    catalog: &'a Catalog,
+    book: &'a PolicyBook,
+    n: u64,
+    scope: &'a Scope,
+    format: Format,
+}
+
+// A table, for a purpose and a recipient.
+#[derive(Clone, Copy)]
+struct Group<'a> {
+    purpose: &'a Name,
+    recipient: &'a Name,
+    schema: &'a Schema,
+}
+
+// The rule of a column.
+fn ruling_at<'a>(policy: &Policy<'a>, group: &Group<'a>, place: usize) -> RuleAt<'a>
+    ensures rule { (history : History) → BookStandsFor policy.now.book.now history
+        → ruling_of result
+        ≡ column_rule (take policy.now.n history) group.now.purpose.now group.now.recipient.now
+        group.now.schema.now place }
+    ensures silence { (history : History) → BookStandsFor policy.now.book.now history
+        → opt_in_of result
+        ≡ opt_in_at (take policy.now.n history) (column_rule (take policy.now.n history)
+        group.now.purpose.now group.now.recipient.now group.now.schema.now place) }
+{
+    let table = &group.schema.name;
+    policy
+        .book
+        .rule_at(policy.n, group.purpose, group.recipient, table, place)
+}
+
+fn append_column(
+    policy: &Policy<'_>,
+    group: &Group<'_>,
+    place: usize,
+    out: &mut Txt,
+) -> Result<(), Memory>
+    ensures { OnOk result ((history : History) → BookStandsFor policy.now.book.now history → out.new
+        ≡ out.old ++ column_line policy.now.format (take policy.now.n history)
+        group.now.purpose.now group.now.recipient.now group.now.schema.now place) }
+{
+    let rule = ColumnRule {
+        purpose: group.purpose,
+        recipient: group.recipient,
+        schema: group.schema,
+        place,
+        ruling: ruling_at(policy, group, place),
+    };
+    append_rule_line(policy.alloc, policy.format, &rule, out)
+}
+
+fn append_columns(policy: &Policy<'_>, group: &Group<'_>, out: &mut Txt) -> Result<(), Memory>
+    ensures { OnOk result ((history : History) → BookStandsFor policy.now.book.now history → out.new
+        ≡ out.old ++ columns_shown policy.now.format (take policy.now.n history)
+        group.now.purpose.now group.now.recipient.now group.now.schema.now) }
+{
+    for place in 0..group.schema.columns.len() {
+        append_column(policy, group, place, out)?;
+    }
+    Ok(())
+}
+
+fn has_rule(policy: &Policy<'_>, group: &Group<'_>, place: usize) -> bool
+    ensures { (history : History) → BookStandsFor policy.now.book.now history → result
+        ≡ is_some (column_rule (take policy.now.n history)
+        group.now.purpose.now group.now.recipient.now group.now.schema.now place) }
+{
+    match ruling_at(policy, group, place) {
+        RuleAt::Unnamed => false,
+        RuleAt::Always { .. } | RuleAt::With { .. } | RuleAt::Revoked(_) => true,
+    }
+}
+
+// Whether some column has a rule.
+fn is_ruled(policy: &Policy<'_>, group: &Group<'_>) -> bool
+    ensures { (history : History) → BookStandsFor policy.now.book.now history → result
+        ≡ is_ruled (take policy.now.n history)
+        group.now.purpose.now group.now.recipient.now group.now.schema.now }
+{
+    for place in 0..group.schema.columns.len() {
+        if has_rule(policy, group, place) {
+            return true;
+        }
+    }
+    false
+}
+
+fn has_table(scope: &Scope, table: &Name) -> bool
+    ensures { result ≡ has_table scope.now table.now }
+{
+    match scope {
+        Scope::Whole => true,
+        Scope::Table(name) => name == table,
+    }
+}
+
+// Whether a table's columns are shown.
+fn is_shown(policy: &Policy<'_>, group: &Group<'_>) -> bool
+    ensures { (history : History) → BookStandsFor policy.now.book.now history → result
+        ≡ (has_table policy.now.scope.now group.now.schema.now.name
+        && is_ruled (take policy.now.n history)
+        group.now.purpose.now group.now.recipient.now group.now.schema.now) }
+{
+    has_table(policy.scope, &group.schema.name) && is_ruled(policy, group)
+}
+
+fn append_table(policy: &Policy<'_>, group: &Group<'_>, out: &mut Txt) -> Result<(), Memory>
+    ensures { OnOk result ((history : History) → BookStandsFor policy.now.book.now history → out.new
+        ≡ out.old ++ table_shown policy.now.format policy.now.scope.now (take policy.now.n history)
+        group.now.purpose.now group.now.recipient.now group.now.schema.now) }
+{
+    if is_shown(policy, group) {
+        append_columns(policy, group, out)
+    } else {
+        Ok(())
+    }
+}
+
+// The table that was created as the one with this place.
+fn append_table_at(
+    policy: &Policy<'_>,
+    purpose: &Name,
+    recipient: &Name,
+    place: usize,
+    out: &mut Txt,
+) -> Result<(), Memory>
+    ensures { OnOk result ((history : History) → BookStandsFor policy.now.book.now history → out.new
+        ≡ out.old ++ option_map_or (λ named. table_shown policy.now.format policy.now.scope.now
+        (take policy.now.n history)
+        purpose.now recipient.now named.1) (slice_get policy.now.catalog.now.names.tables place)
+        []) }
+{
+    match policy.catalog.table_at(place) {
+        None => Ok(()),
+        Some(schema) => {
+            let group = Group {
+                purpose,
+                recipient,
+                schema,
+            };
+            append_table(policy, &group, out)
+        }
+    }
+}
+
+fn append_tables(
+    policy: &Policy<'_>,
+    purpose: &Name,
+    recipient: &Name,
+    out: &mut Txt,
+) -> Result<(), Memory>
+    ensures { OnOk result ((history : History) → BookStandsFor policy.now.book.now history → out.new
+        ≡ out.old ++ tables_shown policy.now.catalog.now.names policy.now.format
+        policy.now.scope.now
+        (take policy.now.n history) purpose.now recipient.now) }
+{
+    for place in 0..policy.catalog.table_count() {
+        append_table_at(policy, purpose, recipient, place, out)?;
+    }
+    Ok(())
+}
+
+fn append_recipients(policy: &Policy<'_>, purpose: &Name, out: &mut Txt) -> Result<(), Memory>
+    ensures { OnOk result ((history : History) → BookStandsFor policy.now.book.now history → out.new
+        ≡ out.old ++ recipients_shown policy.now.catalog.now.names policy.now.format
+        policy.now.scope.now (take policy.now.n history) purpose.now) }
+{
+    for recipient in policy.catalog.recipients() {
+        append_tables(policy, purpose, recipient, out)?;
+    }
+    Ok(())
+}
+
+fn append_purposes(policy: &Policy<'_>, out: &mut Txt) -> Result<(), Memory>
+    ensures { OnOk result ((history : History) → BookStandsFor policy.now.book.now history → out.new
+        ≡ out.old ++ rules_by_names policy.now.catalog.now.names policy.now.format
+        policy.now.scope.now
+        (take policy.now.n history)) }
+{
+    for purpose in policy.catalog.purposes() {
+        append_recipients(policy, purpose, out)?;
+    }
+    Ok(())
+}
+
+/// Adds the rules that are in force after so many entries, for the tables that are asked for.
+pub(crate) fn append_rules(
+    alloc: Global,
+    catalog: &Catalog,
+    book: &PolicyBook,
+    page: &Page,
+    out: &mut Txt,
+) -> Result<(), Memory>
+    ensures { OnOk result ((history : History) → BookStandsFor book.now history → out.new
+        ≡ out.old ++ rules_by_names catalog.now.names page.now.format page.now.scope
+        (take page.now.last history)) }
+{
+    let policy = Policy {
+        alloc,
+        catalog,
+        book,
+        n: page.last,
+        scope: &page.scope,
+        format: page.format,
+    };
+    append_purposes(&policy, out)
+}

@@ -1,0 +1,277 @@
+//! Rows that are found by a column that is no key, where their table has an order by it, or by a
+//! list.
+ghost use Rattle.std.specs.Prelude.{◌<◌, IfOk, IfSome, length, None};
+ghost use Rattle.hippo_join_stages.specs.Stages.{Reaches, ReachesFrom};
+ghost use Rattle.hippo_join_stages.specs.declared.following.Following.TheVariants.{Searched};
+ghost use Rattle.hippo_join_stages.specs.Walking.{following_places};
+
+use crate::following::Following;
+use crate::keys::Span;
+use crate::reaching::open_slots;
+use crate::sides::Side;
+use hippo_join_lookups::{column_of, count_listed, find_list, outer_parts, places_listed};
+use hippo_model::{ChoiceView, CondOf, Expr, Ref};
+use hippo_values::{CompareOp, Memory, Value};
+use std::alloc::Global;
+
+// So many rows are looked at one by one, whatever order there is.
+const FEW: usize = 16;
+
+// A row that an order finds takes as long as so many that are tested one by one.
+pub(crate) const WALKED: usize = 4;
+
+// How rows of a table are found: by the bounds of a column, or by the values that a list has for
+// it.
+#[derive(Clone, Copy)]
+enum Access {
+    Bounds(usize),
+    List(usize),
+}
+
+// Whether so many rows are too many to be looked at one by one, where a row that an order finds
+// takes as long as so many of them.
+fn is_long(rows: usize, walked: usize) -> bool
+    requires { 0 < walked }
+{
+    rows > FEW && rows / walked > FEW / 2
+}
+
+// The column of a table that an expression shows.
+fn column_in(expr: &Expr, table: usize) -> Option<usize> {
+    match column_of(expr) {
+        Some(column) if column.table == table => Some(column.column),
+        _ => None,
+    }
+}
+
+// A column of a table that an equality compares.
+fn compared_column(part: &CondOf<Expr>, table: usize) -> Option<usize> {
+    match part {
+        CondOf::Compare {
+            op: CompareOp::Eq,
+            left,
+            right,
+        } => column_in(left, table).or(column_in(right, table)),
+        _ => None,
+    }
+}
+
+// How a part of a condition may find rows of a table.
+fn access_by(part: &CondOf<Expr>, table: usize) -> Option<Access> {
+    match part {
+        CondOf::Compare { left, right, .. } => {
+            let column = column_in(left, table).or(column_in(right, table));
+            Some(Access::Bounds(column?))
+        }
+        CondOf::Between { value, .. } => Some(Access::Bounds(column_in(value, table)?)),
+        CondOf::Among { value, .. } => Some(Access::List(column_in(value, table)?)),
+        _ => None,
+    }
+}
+
+impl<'a, C: ChoiceView> Side<'a, C> {
+    // Whether rows that are chosen, and no literal, say the value of a column.
+    pub(crate) fn is_joined(&self, column: Ref, slots: &[Option<usize>]) -> bool {
+        self.told_value(column, slots).is_some() && self.told_value(column, &[]).is_none()
+    }
+
+    // Whether rows that are chosen, and no literal, say the value of a column by which its table
+    // has an order.
+    fn finds_by(&self, column: Ref, slots: &[Option<usize>]) -> bool
+        requires { column.table < length self.now.sets.now }
+    {
+        self.sets.get(column.table).is_ordered_by(column.column) && self.is_joined(column, slots)
+    }
+
+    // Whether rows that are chosen, and no literal, say the value of some column by which a table
+    // has an order.
+    fn is_found(&self, table: usize, slots: &[Option<usize>]) -> bool
+        requires { table < length self.now.sets.now }
+    {
+        for part in outer_parts(&self.query.cond) {
+            if let Some(column) = compared_column(part, table) {
+                if self.finds_by(Ref { table, column }, slots) {
+                    return true;
+                }
+            }
+        }
+        false
+    }
+
+    // Whether rows that are chosen, and no literal, say the value of a column by which a table has
+    // an order, and looking rows up by it for so many combinations takes less than to list all.
+    pub(crate) fn finds_few(&self, table: usize, slots: &[Option<usize>], before: usize) -> bool
+        requires { table < length self.now.sets.now }
+    {
+        before < self.sets.get(table).len() / FEW && self.is_found(table, slots)
+    }
+
+    // How many rows of a table are found by the bounds of a column, where it has some and rows are
+    // found by it.
+    fn count_bounded(&self, table: usize, column: usize, slots: &[Option<usize>]) -> Option<usize>
+        requires { table < length self.now.sets.now }
+    {
+        let null = Value::Null;
+        let own = Ref { table, column };
+        let low = self.lowest(own, slots, &null)?;
+        let high = self.told_end(own, true, slots);
+        self.sets.get(table).count_within(column, Some(low), high)
+    }
+
+    // How many are found by a list, where there is one and rows are found by the column.
+    fn count_of_list(&self, table: usize, column: usize) -> Option<usize>
+        requires { table < length self.now.sets.now }
+    {
+        let set = self.sets.get(table);
+        if !set.is_ordered_by(column) {
+            return None;
+        }
+        let list = find_list(outer_parts(&self.query.cond), Ref { table, column })?;
+        Some(count_listed(set, column, list))
+    }
+
+    // How many rows of a table an access finds, where it serves.
+    fn count_by(&self, table: usize, access: Access, slots: &[Option<usize>]) -> Option<usize>
+        requires { table < length self.now.sets.now }
+    {
+        match access {
+            Access::Bounds(column) => self.count_bounded(table, column, slots),
+            Access::List(column) => self.count_of_list(table, column),
+        }
+    }
+
+    // The access that finds the fewest rows of a table, where it finds fewer than so many.
+    fn best_access(&self, table: usize, slots: &[Option<usize>], most: usize) -> Option<Access>
+        requires { table < length self.now.sets.now }
+    {
+        let mut best = None;
+        let mut least = most;
+        for part in outer_parts(&self.query.cond) {
+            if let Some(access) = access_by(part, table) {
+                let count = self.count_by(table, access, slots).unwrap_or(least);
+                if count < least {
+                    best = Some(access);
+                    least = count;
+                }
+            }
+        }
+        best
+    }
+
+    // The places of a table's rows that an access finds: those within the bounds which the condition
+    // says of a column, or with a value of a list which it says of it, if rows are found by it.
+    fn places_by(
+        &self,
+        alloc: Global,
+        table: usize,
+        access: Access,
+        slots: &[Option<usize>],
+    ) -> Result<Option<Vec<usize>>, Memory>
+        requires { table < length self.now.sets.now }
+        ensures { IfOk result (λ found. IfSome found (λ places. ReachesFrom
+            (C.choices self.now.choices.now) self.now.query.now self.now.sets.now slots.now table
+            places.items)) }
+    {
+        let set = self.sets.get(table);
+        match access {
+            Access::Bounds(column) => {
+                let null = Value::Null;
+                let own = Ref { table, column };
+                let Some(low) = self.lowest(own, slots, &null) else {
+                    return Ok(None);
+                };
+                let high = self.told_end(own, true, slots);
+                set.places_within(alloc, column, Some(low), high)
+            }
+            Access::List(column) => {
+                let own = Ref { table, column };
+                let Some(list) = find_list(outer_parts(&self.query.cond), own) else {
+                    return Ok(None);
+                };
+                places_listed(alloc, set, column, list)
+            }
+        }
+    }
+
+    // The places of a table's rows that the best access finds, where one finds fewer than so many.
+    fn found_places(
+        &self,
+        alloc: Global,
+        table: usize,
+        slots: &[Option<usize>],
+        most: usize,
+    ) -> Result<Option<Vec<usize>>, Memory>
+        requires { table < length self.now.sets.now }
+        ensures { IfOk result (λ found. IfSome found (λ places. ReachesFrom
+            (C.choices self.now.choices.now) self.now.query.now self.now.sets.now slots.now table
+            places.items)) }
+    {
+        match self.best_access(table, slots, most) {
+            None => Ok(None),
+            Some(access) => self.places_by(alloc, table, access, slots),
+        }
+    }
+
+    // The places that an access finds, where one finds fewer than so many; and else those of a
+    // span.
+    fn fewer_places<'s>(
+        &self,
+        alloc: Global,
+        table: usize,
+        slots: &[Option<usize>],
+        span: Span,
+        most: usize,
+    ) -> Result<Following<'s>, Memory>
+        requires table { table < length self.now.sets.now }
+        requires span { ReachesFrom (C.choices self.now.choices.now) self.now.query.now
+            self.now.sets.now
+            slots.now table (following_places (Searched span)) }
+        ensures { IfOk result (λ following. ReachesFrom
+            (C.choices self.now.choices.now) self.now.query.now self.now.sets.now
+            slots.now table (following_places following)) }
+    {
+        match self.found_places(alloc, table, slots, most)? {
+            Some(places) => Ok(Following::Found(places)),
+            None => Ok(Following::Searched(span)),
+        }
+    }
+
+    /// The places of a table's rows that may follow those that are chosen: by its key, or by the
+    /// column that finds the fewest, where a row that is found takes as long as so many of the
+    /// others.
+    pub fn candidates<'s>(
+        &self,
+        alloc: Global,
+        table: usize,
+        slots: &[Option<usize>],
+        walked: usize,
+    ) -> Result<Following<'s>, Memory>
+        requires table { table < length self.now.sets.now }
+        requires walked { 0 < walked }
+        ensures { IfOk result (λ following. ReachesFrom
+            (C.choices self.now.choices.now) self.now.query.now self.now.sets.now
+            slots.now table (following_places following)) }
+    {
+        let span = self.span(alloc, table, slots)?;
+        if is_long(span.len(), walked) {
+            self.fewer_places(alloc, table, slots, span, span.len() / walked)
+        } else {
+            Ok(Following::Searched(span))
+        }
+    }
+
+    // The places of a table's rows that can count, where no row is chosen.
+    pub(crate) fn open_candidates<'s>(
+        &self,
+        alloc: Global,
+        table: usize,
+    ) -> Result<Following<'s>, Memory>
+        requires { table < length self.now.sets.now }
+        ensures { IfOk result (λ following. Reaches
+            (C.choices self.now.choices.now) self.now.query.now self.now.sets.now table
+            (following_places following)) }
+    {
+        let slots = open_slots(alloc, self.sets.len())?;
+        self.candidates(alloc, table, &slots, WALKED)
+    }
+}

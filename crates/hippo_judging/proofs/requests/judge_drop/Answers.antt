@@ -1,7 +1,0 @@
--- A job that stands there ends, or it is refused.
-use Rattle.std.proofs.Common.{rules}
-use Rattle.hippo_judging.proofs.FindingLemmas.{may_drop, refused_drop}
-use Rattle.hippo_judging.proofs.requests.judge_drop.Goals as goal
-
-pub returns : goal.returns
-returns g c = λ state. search (rules, may_drop, refused_drop)

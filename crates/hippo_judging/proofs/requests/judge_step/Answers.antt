@@ -1,7 +1,0 @@
--- A job that stands there may be looked at, or it is refused.
-use Rattle.std.proofs.Common.{rules}
-use Rattle.hippo_judging.proofs.FindingLemmas.{may_step, refused_step}
-use Rattle.hippo_judging.proofs.requests.judge_step.Goals as goal
-
-pub returns : goal.returns
-returns g c = λ state. search (rules, may_step, refused_step)

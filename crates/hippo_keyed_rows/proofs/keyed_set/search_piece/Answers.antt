@@ -1,8 +1,0 @@
--- The search goes by each row's key.
-use Rattle.std.proofs.Common.{rules}
-use Rattle.std.proofs.lemmas.Fn.{always_returns_same}
-use Rattle.hippo_keyed_rows.specs.Searches.{sought_order}
-use Rattle.hippo_keyed_rows.proofs.keyed_set.search_piece.Goals as goal
-
-pub returns-clause-place : goal.returns-clause-place
-returns-clause-place c = rw c.deref.ensures.value at (c.binary_search_by.ensures.position (sought_order c.args.places.now c.args.sought.now) (always_returns_same _ _ _ (λ a r g called. search rules)))

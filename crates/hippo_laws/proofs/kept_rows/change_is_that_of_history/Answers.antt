@@ -1,5 +1,0 @@
-use Rattle.hippo_keyed_rows.proofs.ChangesOfRows.{changed-kept_at}
-use Rattle.hippo_laws.proofs.kept_rows.change_is_that_of_history.Goals as goal
-
-pub returns : goal.returns
-returns c = changed-kept_at

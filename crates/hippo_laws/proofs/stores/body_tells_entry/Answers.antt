@@ -1,5 +1,0 @@
-use Rattle.hippo_laws.proofs.ActCodes.{a_body}
-use Rattle.hippo_laws.proofs.stores.body_tells_entry.Goals as goal
-
-pub returns : goal.returns
-returns c = a_body.once

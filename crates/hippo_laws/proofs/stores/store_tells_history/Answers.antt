@@ -1,5 +1,0 @@
-use Rattle.hippo_laws.proofs.OneStore.{one_history}
-use Rattle.hippo_laws.proofs.stores.store_tells_history.Goals as goal
-
-pub returns : goal.returns
-returns c = one_history

@@ -1,4 +1,0 @@
-mod SpaceLemmas
-mod ValueLemmas
-pub mod FormLemmas
-mod LineFormsExamples

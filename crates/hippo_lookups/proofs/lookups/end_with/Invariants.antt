@@ -1,6 +1,0 @@
--- None before the place is above.
-use Rattle.hippo_lookups.specs.Lookups.{NoneAbove}
-use Rattle.hippo_lookups.proofs.lookups.end_with.Given as goal
-
-abbrev pub invariant-loop-end : goal.invariant-loop-end
-invariant-loop-end l = NoneAbove l.values l.value l.start l.end

@@ -1,7 +1,0 @@
--- What one part says, all parts say.
-use Rattle.std.proofs.Common.{sym}
-use Rattle.hippo_lookups.proofs.PartLemmas.{tie-of-part}
-use Rattle.hippo_lookups.proofs.ties.find_tie.Goals as goal
-
-pub returns-in-Some : goal.returns-in-Some
-returns-in-Some c = λ choices rows all. c.in-Some.ensures choices rows (tie-of-part c.args.parts.now c.loop-part.part-index c.part-item.result c.loop-part-test.true (sym c.part-item.is) choices rows all)

@@ -1,0 +1,113 @@
+//! How a program of this house begins and ends: the words behind its name, its standard streams, a
+//! count of steps, and its exit status.
+#![tactic(auto)]
+
+ghost use Rattle.std.specs.Prelude.{◌≡◌, ◌⊎◌, ◌<◌, ℕ, List};
+ghost use Rattle.std.specs.Process.{exit_status};
+ghost use Rattle.hippo_values.specs.Texts.{Txt};
+ghost use Rattle.hippo_program_start.specs.Statuses.{FaultCounts, fault_counts};
+
+use hippo_io::{Sink, Source, StdSink, StdSource};
+use hippo_keeper::Steps;
+use hippo_values::{Memory, Sequence, Txt};
+use std::marker::{Brand, Model};
+use std::process::{ExitCode, Termination};
+use std::rt::HostRuntime;
+use std::sync::ledger::{Blank, Ledger};
+use std::{env, io};
+
+type Words = Sequence<Txt>;
+
+/// The exit status where memory is short for the words.
+pub const NO_MEMORY: u8 = 7;
+
+/// What a program is run over: the machine, its input and its output, and the steps that it took.
+#[derive(Drop)]
+pub struct Host<S: Source, K: Sink, L: Ledger> {
+    pub runtime: HostRuntime,
+    pub source: S,
+    pub sink: K,
+    pub steps: Steps<L>,
+}
+
+/// What a program does with its words over its host.
+pub trait Program {
+    // Whether the program may answer this status where its words are these, and its source and sink
+    // failed so often before and after it.
+    ghost Answers: { List Txt → ℕ → FaultCounts → FaultCounts → Type 0 };
+
+    /// Does what the words ask for, and answers the exit status.
+    fn call<S: Source, K: Sink, L: Ledger>(words: &[Txt], host: &mut Host<S, K, L>) -> u8
+        ensures answers { Answers words.now result
+            (fault_counts (S.faults host.old.source) (K.faults host.old.sink))
+            (fault_counts (S.faults host.new.source) (K.faults host.new.sink)) };
+}
+
+/// How a program ended: its exit status. Only [`start`] makes one, so a `main` that answers one
+/// cannot end with a status of its own.
+#[derive(Drop)]
+pub struct Ended {
+    status: u8,
+}
+
+impl Model for Ended {
+    ghost Value = { ℕ };
+
+    ghost view = { λ ended. ended.status };
+}
+
+impl Termination for Ended {
+    fn report<R: Eprint>(self, _rt: &R) -> ExitCode
+        ensures status { exit_status result ≡ self }
+    {
+        ExitCode::from(self.status)
+    }
+}
+
+// The words behind the program's name; none where one of them is no text.
+fn words(rt: &HostRuntime) -> Result<Words, Memory> {
+    let mut words = Words::new(rt.alloc());
+    match env::args(rt) {
+        Ok(args) => {
+            for word in args.skip(1) {
+                words.push(Txt::from_string(word))?;
+            }
+            Ok(words)
+        }
+        Err(error) if error.kind() == io::ErrorKind::OutOfMemory => Err(Memory),
+        Err(_) => Ok(words),
+    }
+}
+
+// Has a program do what words ask for, over standard input and standard output, and on a ledger
+// that nobody uses.
+fn run<P: Program, L: Ledger>(rt: HostRuntime, words: &[Txt], blank: Blank) -> u8
+    requires name { blank.name ≡ L.name }
+    requires parts { blank.parts ≡ L.parts }
+    requires some { 0 < blank.parts }
+    ensures { (before : FaultCounts) × (after : FaultCounts)
+        × P.Answers words.now result before after }
+{
+    let mut host = Host {
+        runtime: rt,
+        source: StdSource::new(rt.stdin()),
+        sink: StdSink::new(rt.stdout()),
+        steps: Steps::<L>::new(blank),
+    };
+    P::call(words, &mut host)
+}
+
+/// Has a program do what the words behind its name ask for, over standard input and standard
+/// output. It ends with the status that the program answers, or with [`NO_MEMORY`], and nothing is
+/// read or written, where memory is short for the words.
+pub fn start<P: Program>(rt: HostRuntime) -> Ended
+    ensures ends { (result ≡ 7) ⊎ ((words : List Txt) × (before : FaultCounts)
+        × (after : FaultCounts)
+        × P.Answers words result before after) }
+{
+    let Ok(words) = words(&rt) else {
+        return Ended { status: NO_MEMORY };
+    };
+    let status = run::<P, Brand>(rt, words.as_slice(), Blank::new(1));
+    Ended { status }
+}

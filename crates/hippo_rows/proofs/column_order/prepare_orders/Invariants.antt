@@ -1,8 +1,0 @@
--- The orders before this place are ready, and the others are those of the set.
-use Rattle.hippo_rows.specs.ColumnOrders.{IsOrderOf, AreOrdersOf, IsReadyFor}
-use Rattle.hippo_model.proofs.ChangeLoops.{AreChangedTo}
-use Rattle.hippo_rows.proofs.column_order.prepare_orders.Given as goal
-
-abbrev pub invariant-loop-place : goal.invariant-loop-place
-invariant-loop-place l =
-    AreOrdersOf l.set l.initial.orders → AreChangedTo (IsOrderOf l.set) (IsReadyFor (record { row = l.row; born = l.born }) l.set) l.orders l.place

@@ -1,5 +1,0 @@
-use Rattle.hippo_run_laws.proofs.JobTheorem.{any_cut}
-use Rattle.hippo_run_laws.proofs.jobs.any_cut.Goals as goal
-
-pub returns : goal.returns
-returns c = any_cut

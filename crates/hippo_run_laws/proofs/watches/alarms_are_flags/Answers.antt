@@ -1,5 +1,0 @@
-use Rattle.hippo_run_laws.proofs.WatchTheorem.{alarms_are_flags}
-use Rattle.hippo_run_laws.proofs.watches.alarms_are_flags.Goals as goal
-
-pub returns : goal.returns
-returns c = alarms_are_flags

@@ -1,5 +1,0 @@
--- The ledger of a call is the blank one that it is given.
-use Rattle.hippo_runs.proofs.called.Given as goal
-
-abbrev pub ghosts-counted : goal.ghosts-counted
-ghosts-counted a = record { name = a.blank.name; parts = a.blank.parts }

@@ -1,5 +1,0 @@
-use Rattle.hippo_script_laws.proofs.ScriptTheorem.{runs_begin_free}
-use Rattle.hippo_script_laws.proofs.scripts.runs_begin_free.Goals as goal
-
-pub returns : goal.returns
-returns c = runs_begin_free

@@ -1,0 +1,31 @@
+-- Whatever input is read, the lines handed out so far have their replies; each line takes at least one byte.
+use Rattle.std.proofs.Common.{◌≡◌, ◌-◌, ◌≤◌, None, true, false}
+use Rattle.hippo_values.specs.Texts.{Txt}
+use Rattle.hippo_io.specs.HandingOut.{bytes_handed_out, input_limit}
+use Rattle.hippo_model.specs.Terms.{History}
+use Rattle.hippo_keeper.specs.Keeping.{IsAfterCall}
+use Rattle.hippo_engine.specs.Carrying.{AtWork}
+use Rattle.hippo_serve_args.specs.declared.calls.Setting.{Setting}
+use Rattle.hippo_program_args.specs.Endings.{part_as_call}
+use Rattle.hippo_serve_jobs.specs.Outside.{Told, outside}
+use Rattle.hippo_serve_jobs.specs.Runs.{IsHandingOut, HasServed}
+use Rattle.hippo_serve_jobs.proofs.serving.Serving.serve_all.Given as goal
+
+abbrev pub invariant-loop-ending : goal.invariant-loop-ending
+invariant-loop-ending g l = record {
+  unfailed : l.self.reader.failure ≡ None;
+  limit : l.self.reader.taken ≤ input_limit;
+  source_faults : g.S.Source.faults l.source ≡ g.S.Source.faults l.initial.source;
+  sink_faults : g.K.Sink.faults l.sink ≡ g.K.Sink.faults l.initial.sink;
+  call : IsAfterCall true false (part_as_call None) (g.P.Keeper.state l.initial.keeper) (g.P.Keeper.state l.keeper);
+  at_work : AtWork l.self.engine (g.P.Keeper.state l.keeper);
+  reading : (input : Txt) → IsHandingOut input l.initial.self.reader (g.S.Source.left l.initial.source) → IsHandingOut input l.self.reader (g.S.Source.left l.source);
+  served : (g.P.Keeper.state l.keeper).tells → (setting : Setting) (history : History) (before : Told)
+      → HasServed setting l.job history before l.initial.self.reader l.initial.self.engine
+      (outside (g.S.Source.left l.initial.source) (g.K.Sink.written l.initial.sink) (g.P.Keeper.state l.initial.keeper) l.initial.steps)
+      → HasServed setting l.job history before l.self.reader l.self.engine
+      (outside (g.S.Source.left l.source) (g.K.Sink.written l.sink) (g.P.Keeper.state l.keeper) l.steps);
+}
+
+abbrev pub decreases-loop-ending : goal.decreases-loop-ending
+decreases-loop-ending g l = input_limit - bytes_handed_out l.self.reader

@@ -1,6 +1,0 @@
--- So many hold nothing as there were turns.
-use Rattle.std.proofs.Common.{◌≡◌, None, replicate}
-use Rattle.hippo_sessions.proofs.numbered.Numbered.none.Given as goal
-
-abbrev pub invariant-loop : goal.invariant-loop
-invariant-loop g l = l.places.items ≡ replicate l.counter None

@@ -1,5 +1,0 @@
--- The places in order are those that were handed in.
-use Rattle.hippo_shared.proofs.candidates.first_of.Goals as goal
-
-pub returns : goal.returns
-returns g c = rw (c.deref.ensures.value, c.in_ok-listed.ensures.keys) at c.first_of_listed.ensures

@@ -1,8 +1,0 @@
--- The rows of the tables so far stand in the order of their keys.
-use Rattle.std.proofs.Common.{map, take}
-use Rattle.std.specs.List.{All}
-use Rattle.hippo_keyed_rows.specs.RowSets.{IsAscending, key_in}
-use Rattle.hippo_shared.proofs.sharing.know_order.Given as goal
-
-abbrev pub invariant-loop-table : goal.invariant-loop-table
-invariant-loop-table l = All (λ set. IsAscending (map (key_in set.key) set.rows)) (take l.table l.sets)

@@ -1,8 +1,0 @@
--- With the places of the tables that are left, the places are those of all.
-use Rattle.std.proofs.Common.{List, ◌++◌, drop}
-use Rattle.hippo_model.specs.Terms.{Place}
-use Rattle.hippo_shared.specs.FirstPlaces.{AreChosen}
-use Rattle.hippo_shared.proofs.told.chosen_in.Given as goal
-
-abbrev pub invariant-loop-table : goal.invariant-loop-table
-invariant-loop-table l = (others : List Place) → AreChosen l.slots (drop l.table-index l.tables) others → AreChosen l.slots l.tables (l.places.items ++ others)

@@ -1,8 +1,0 @@
--- What is found is copied.
-use Rattle.std.specs.Prelude.{option_copied}
-use Rattle.hippo_shared.specs.Searching.{SharedBy}
-use Rattle.hippo_shared.proofs.AmongLemmas.{copied-first}
-use Rattle.hippo_shared.proofs.told.first_candidate.Goals as goal
-
-pub returns : goal.returns
-returns g c = copied-first (SharedBy g.C.ChoiceView.choices c.args.sides.now) c.args.candidates.now (option_copied c.in_ok-found-2.found) c.copied-2.result c.copied-2.ensures c.in_ok-found-2.ensures

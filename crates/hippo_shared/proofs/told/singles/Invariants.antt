@@ -1,7 +1,0 @@
--- The places so far, each alone.
-use Rattle.std.proofs.Common.{◌≡◌, map, take}
-use Rattle.hippo_shared.proofs.FewLemmas.{alone}
-use Rattle.hippo_shared.proofs.told.singles.Given as goal
-
-abbrev pub invariant-loop-place : goal.invariant-loop-place
-invariant-loop-place l = l.singles.items ≡ map alone (take l.place-index l.places)

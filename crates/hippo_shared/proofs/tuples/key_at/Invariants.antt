@@ -1,9 +1,0 @@
--- The key so far, with the values of the columns that are left behind it, is the row's.
-use Rattle.std.proofs.Common.{◌≡◌, ◌++◌, map, drop}
-use Rattle.hippo_keyed_rows.specs.RowSets.{key_in}
-use Rattle.hippo_lookups.specs.Places.{row_at_place}
-use Rattle.hippo_lookups.specs.Lookups.{value_at_place}
-use Rattle.hippo_shared.proofs.tuples.key_at.Given as goal
-
-abbrev pub invariant-loop-column : goal.invariant-loop-column
-invariant-loop-column l = l.key ++ map (λ column. value_at_place l.set column l.place) (drop l.column-index l.set.key) ≡ key_in l.set.key (row_at_place l.set.rows l.place)

@@ -1,6 +1,0 @@
--- The formats of the command line, computed. The example is named by what it shows.
-use Rattle.std.proofs.Common.{◌≡◌, None, refl, codes}
-use Rattle.hippo_programs.specs.Arguments.{format_named}
-
-formats_have_names_in_lower_case : format_named (codes "JSON") ≡ None
-formats_have_names_in_lower_case = refl

@@ -1,0 +1,75 @@
+//! A keeper over files.
+ghost use Rattle.std.specs.Prelude.{ℕ, ◌↔◌, List, false};
+ghost use Rattle.sqlite_wal.specs.Files.{image_at};
+ghost use Rattle.hippo_keeper.specs.Keeping.{Store, IsReady};
+ghost use Rattle.hippo_sqlite.specs.Openings.{IsFoundIn};
+ghost use Rattle.hippo_sqlite.specs.Standings.{finds_by};
+
+use hippo_keeper::{Keeper, KeeperFault, ReadQuery, ReadResult, Steps};
+use hippo_model::StoredEntry;
+use hippo_sqlite::{FileOpener, SqliteKeeper};
+use hippo_values::Moment;
+use sqlite::{Start, Unknown};
+use std::alloc::Global;
+use std::rt::HostRuntime;
+use std::sync::ledger::Ledger;
+
+/// A keeper over the SQLite file with the name of its start, which is made where there is none; or
+/// over a store in memory, where that name is empty.
+#[derive(Drop)]
+pub struct FileKeeper {
+    keeper: SqliteKeeper<FileOpener>,
+}
+
+impl FileKeeper {
+    /// A keeper that is not started. Its start finds what the file with that name and its log
+    /// recover to.
+    pub fn new(runtime: HostRuntime) -> FileKeeper
+        ensures ready { IsReady false (⟦<FileKeeper as Keeper>⟧.state result) }
+        ensures finds { (name : List ℕ) (entries : Store)
+            → (⟦<FileKeeper as Keeper>⟧.state result).finds name entries
+            ↔ finds_by (λ file trees. IsFoundIn (image_at ⟦<Unknown as Start>⟧) trees) name
+            entries }
+    {
+        FileKeeper {
+            keeper: SqliteKeeper::new(FileOpener::new(runtime)),
+        }
+    }
+
+    /// Lets go of its files.
+    pub fn close(self) {
+        drop(self);
+    }
+}
+
+impl Keeper for FileKeeper {
+    ghost state = { λ keeper. ⟦<SqliteKeeper<FileOpener> as Keeper>⟧.state keeper.keeper };
+
+    fn start(&mut self, alloc: Global, name: &str) -> Result<(), KeeperFault> {
+        self.keeper.start(alloc, name)
+    }
+
+    fn append(&mut self, alloc: Global, entry: StoredEntry) -> Result<(), KeeperFault> {
+        self.keeper.append(alloc, entry)
+    }
+
+    fn read<L: Ledger>(
+        &mut self,
+        alloc: Global,
+        read_query: &ReadQuery<'_>,
+        steps: &mut Steps<L>,
+    ) -> ReadResult {
+        self.keeper.read(alloc, read_query, steps)
+    }
+
+    fn read_asked(
+        &mut self,
+        alloc: Global,
+        from: Moment,
+        to: Moment,
+        after: u64,
+        max: u64,
+    ) -> ReadResult {
+        self.keeper.read_asked(alloc, from, to, after, max)
+    }
+}

@@ -1,5 +1,0 @@
-use Rattle.hippo_telling_laws.proofs.TableTheorem.{creates_read_back}
-use Rattle.hippo_telling_laws.proofs.reading.creates_read_back.Goals as goal
-
-pub returns : goal.returns
-returns c = creates_read_back

@@ -1,5 +1,0 @@
-use Rattle.hippo_telling_laws.proofs.EntryTheorem.{entries_are_made_again}
-use Rattle.hippo_telling_laws.proofs.reading.entries_are_made_again.Goals as goal
-
-pub returns : goal.returns
-returns c = entries_are_made_again

@@ -1,5 +1,0 @@
-use Rattle.hippo_telling_laws.proofs.RowTheorem.{inserts_read_back}
-use Rattle.hippo_telling_laws.proofs.reading.inserts_read_back.Goals as goal
-
-pub returns : goal.returns
-returns c = inserts_read_back

@@ -1,5 +1,0 @@
-use Rattle.hippo_telling_laws.proofs.ReadingTheorem.{names_read_back}
-use Rattle.hippo_telling_laws.proofs.reading.names_read_back.Goals as goal
-
-pub returns : goal.returns
-returns c = names_read_back

@@ -1,5 +1,0 @@
-use Rattle.hippo_telling_laws.proofs.ChangeTheorem.{updates_read_back}
-use Rattle.hippo_telling_laws.proofs.reading.updates_read_back.Goals as goal
-
-pub returns : goal.returns
-returns c = updates_read_back

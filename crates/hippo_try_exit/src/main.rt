@@ -1,0 +1,38 @@
+//! A program that begins and ends as the others do: it writes each word that it is called with on a
+//! line, and ends with the number of the words as its status, or with 255 where a write fails.
+#![tactic(auto)]
+
+ghost use Rattle.std.specs.Prelude.{◌≡◌, ◌⊎◌, IfOk, length, min};
+
+use hippo_io::{Failed, Sink, Source, write_whole};
+use hippo_program_start::{Ended, Host, Program, start};
+use hippo_values::Txt;
+use std::sync::ledger::Ledger;
+
+// Writes each word on a line, and answers how many there are.
+fn say_words<K: Sink>(words: &[Txt], sink: &mut K) -> Result<u8, Failed>
+    ensures count { IfOk result (λ count. count ≡ min 255 (length words.now)) }
+{
+    let mut count: u8 = 0;
+    for word in words {
+        write_whole(sink, word.as_str().as_bytes())?;
+        write_whole(sink, b"\n")?;
+        count = count.saturating_add(1);
+    }
+    Ok(count)
+}
+
+struct Echo;
+
+impl Program for Echo {
+    ghost Answers = { λ words status before after.
+        (status ≡ min 255 (length words)) ⊎ (status ≡ 255) };
+
+    fn call<S: Source, K: Sink, L: Ledger>(words: &[Txt], host: &mut Host<S, K, L>) -> u8 {
+        say_words(words, &mut host.sink).unwrap_or(u8::MAX)
+    }
+}
+
+fn main(rt: HostRuntime) -> Ended {
+    start::<Echo>(rt)
+}

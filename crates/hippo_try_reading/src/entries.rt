@@ -1,0 +1,43 @@
+//! Shows which entry has a stored form.
+
+use crate::unless_short;
+use hippo_entry::decode;
+use hippo_entry_hex::stored;
+use hippo_model::{Entry, StoredEntry};
+use hippo_values::{Duplicate, Memory};
+use std::alloc::{AllocError, Global};
+
+fn shown_as(alloc: Global, entry: &Entry) -> Result<String, Memory> {
+    let Entry { seq, moment, act } = entry;
+    Ok(format!(in alloc; "{seq} {} {act:?}", moment.seconds())?)
+}
+
+// A copy of the entry, as it is shown.
+fn copy_shown(alloc: Global, entry: &Entry) -> Result<String, Memory> {
+    let copy = entry.copy(alloc)?;
+    let shown = shown_as(alloc, &copy);
+    drop(copy);
+    shown
+}
+
+fn found(alloc: Global, kept: &StoredEntry) -> Result<String, Memory> {
+    match decode(alloc, kept)? {
+        None => Ok(String::from_str(alloc, "none")?),
+        Some(entry) => {
+            let shown = copy_shown(alloc, &entry);
+            drop(entry);
+            shown
+        }
+    }
+}
+
+fn shown(alloc: Global, text: &str) -> Result<String, Memory> {
+    let kept = stored(alloc, text)?;
+    found(alloc, &kept)
+}
+
+/// The entry that has the stored form that a text writes: its number, its moment and its act, or
+/// that there is none.
+pub fn shown_entry(alloc: Global, text: &str) -> Result<String, AllocError> {
+    unless_short(shown(alloc, text))
+}

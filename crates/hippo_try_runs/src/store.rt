@@ -1,0 +1,88 @@
+//! The entries that a call left, which rows may change before the next one.
+ghost use Rattle.std.specs.Prelude.{false, IsTrue, IfSome, IfOk};
+ghost use Rattle.hippo_keeper.specs.Keeping.{IsReady, RisesAbove};
+ghost use Rattle.hippo_keeper.specs.MemoryKeeping.{memory_keeper_state};
+
+use hippo_entry_hex::{first_word, stored, written};
+use hippo_keeper::{KeeperFails, MemoryKeeper};
+use hippo_model::{StoredEntry, StoredList};
+use hippo_values::{Duplicate, Memory};
+use std::alloc::Global;
+
+/// All entries, each in a line as a row writes it.
+pub fn all_written(alloc: Global, entries: &[StoredEntry]) -> Result<String, Memory> {
+    let mut text = String::new(alloc);
+    for entry in entries {
+        text.push_str(written(alloc, entry)?.as_str())?;
+    }
+    Ok(text)
+}
+
+fn push_copies(
+    alloc: Global,
+    list: &mut StoredList,
+    entries: &[StoredEntry],
+) -> Result<(), Memory> {
+    for entry in entries {
+        list.push(entry.copy(alloc)?)?;
+    }
+    Ok(())
+}
+
+// The entries before a place, counted from 1, and those from there on.
+fn at_place<'a>(entries: &'a [StoredEntry], place: &str) -> (&'a [StoredEntry], &'a [StoredEntry]) {
+    let before = place.parse::<usize>().unwrap_or(0).saturating_sub(1);
+    entries.split_at(before.min(entries.len()))
+}
+
+/// The entries without the one at the place that a row names.
+pub fn without(alloc: Global, entries: &[StoredEntry], place: &str) -> Result<StoredList, Memory> {
+    let (front, back) = at_place(entries, place);
+    let mut list = StoredList::new(alloc);
+    push_copies(alloc, &mut list, front)?;
+    if let Some((_, rest)) = back.split_first() {
+        push_copies(alloc, &mut list, rest)?;
+    }
+    Ok(list)
+}
+
+/// The entries with one more, which a row writes behind its place.
+pub fn with(alloc: Global, entries: &[StoredEntry], row: &str) -> Result<StoredList, Memory> {
+    let (place, text) = first_word(row);
+    let (front, back) = at_place(entries, place);
+    let entry = stored(alloc, text)?;
+    let mut list = StoredList::new(alloc);
+    push_copies(alloc, &mut list, front)?;
+    list.push(entry)?;
+    push_copies(alloc, &mut list, back)?;
+    Ok(list)
+}
+
+fn is_rising(entries: &[StoredEntry]) -> bool
+    ensures { IsTrue result → RisesAbove 0 entries.now }
+{
+    let mut last = 0;
+    for entry in entries {
+        if entry.seq <= last {
+            return false;
+        }
+        last = entry.seq;
+    }
+    true
+}
+
+/// A keeper of these entries, if their numbers begin above 0 and rise.
+pub fn keeper_of(
+    alloc: Global,
+    list: &StoredList,
+    failing: KeeperFails,
+) -> Result<Option<MemoryKeeper>, Memory>
+    ensures { IfOk result (λ made. IfSome made (λ keeper. IsReady false
+        (memory_keeper_state keeper))) }
+{
+    if !is_rising(list.as_slice()) {
+        return Ok(None);
+    }
+    let keeper = MemoryKeeper::of(alloc, list, failing)?;
+    Ok(Some(keeper))
+}

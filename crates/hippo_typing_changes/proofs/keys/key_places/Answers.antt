@@ -1,0 +1,17 @@
+-- Columns that are not the key's are refused behind groups in which nothing is refused.
+use Rattle.std.proofs.lemmas.Result.{err_from_is_err_and}
+use Rattle.hippo_typing_catalog.specs.ChangesRefused.{rule_refused, key_refused}
+use Rattle.hippo_typing_catalog.proofs.Refused.{first_with_more}
+use Rattle.hippo_typing_changes.proofs.keys.key_places.Goals as goal
+
+pub returns-in_err-places : goal.returns-in_err-places
+returns-in_err-places c =
+    let p = err_from_is_err_and c.from_residual.result c.from_residual.ensures.1 in
+    let table = c.args.table.now in
+    let keys = c.args.key.now in
+    rw (p.1, p.2) (first_with_more (rule_refused keys table) (key_refused table keys) c.in_err-places.field-0.0 c.in_err-places.ensures)
+
+pub returns-in_err-check_key : goal.returns-in_err-check_key
+returns-in_err-check_key c =
+    let p = err_from_is_err_and c.from_residual-in_err-check_key.result c.from_residual-in_err-check_key.ensures.1 in
+    rw (p.1, p.2, c.in_ok-places.ensures.0) (rw (c.schema.ensures, c.as_slice.ensures, c.in_ok-places.ensures.1) at c.in_err-check_key.ensures)

@@ -1,0 +1,28 @@
+-- Columns of the key that are set are refused behind groups in which nothing is refused, and before what is assigned.
+use Rattle.std.proofs.Common.{◌++◌}
+use Rattle.std.specs.List.{zip}
+use Rattle.std.proofs.lemmas.Result.{err_from_is_err_and}
+use Rattle.hippo_typing_catalog.specs.ChangesRefused.{key_refused, key_changed, assignments_refused}
+use Rattle.hippo_typing_catalog.proofs.Refused.{first_with_more, first_of_three}
+use Rattle.hippo_typing_changes.specs.Checking.{names_refused}
+use Rattle.hippo_typing_changes.proofs.keys.update_places.Goals as goal
+
+pub returns-in_err-places : goal.returns-in_err-places
+returns-in_err-places c =
+    let p = err_from_is_err_and c.from_residual.result c.from_residual.ensures.1 in
+    let table = c.args.table.now in
+    let set = c.args.set.names.now in
+    let keys = c.args.key.names.now in
+    rw (p.1, p.2) (first_of_three (names_refused set keys table ++ key_refused table keys) (key_changed table set) (assignments_refused table (zip set c.args.set.values.now ++ zip keys c.args.key.values.now)) c.in_err-places.field-0.0 c.in_err-places.ensures)
+
+pub returns-in_err-check_key_stays : goal.returns-in_err-check_key_stays
+returns-in_err-check_key_stays c =
+    let p = err_from_is_err_and c.from_residual-in_err-check_key_stays.result c.from_residual-in_err-check_key_stays.ensures.1 in
+    let table = c.args.table.now in
+    let set = c.args.set.names.now in
+    rw (p.1, p.2, c.in_ok-places.ensures.0) (first_with_more (key_changed table set) (assignments_refused table (zip set c.args.set.values.now ++ zip c.args.key.names.now c.args.key.values.now)) c.in_err-check_key_stays.field-0.0 c.in_err-check_key_stays.ensures)
+
+pub returns-in_err-check_assignments : goal.returns-in_err-check_assignments
+returns-in_err-check_assignments c =
+    let p = err_from_is_err_and c.from_residual-in_err-check_assignments.result c.from_residual-in_err-check_assignments.ensures.1 in
+    rw (p.1, p.2, c.in_ok-places.ensures.0, c.in_ok-check_key_stays.ensures.0) c.in_err-check_assignments.ensures

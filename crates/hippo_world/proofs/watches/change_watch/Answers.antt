@@ -1,5 +1,0 @@
--- A watch that goes back does so in the one way that asks for it.
-use Rattle.hippo_world.proofs.watches.change_watch.Goals as goal
-
-pub returns-in-Back-clause-changes : goal.returns-in-Back-clause-changes
-returns-in-Back-clause-changes c = rw c.in-Back.is c.take_back.ensures.goes_back

@@ -1,8 +1,0 @@
--- The number that is free is seen to be.
-use Rattle.std.proofs.Common.{◌∙◌, sym}
-use Rattle.hippo_world.specs.Auditing.{watched}
-use Rattle.hippo_sessions.proofs.HeldLemmas.{seen-free}
-use Rattle.hippo_world.proofs.worlds.WorldWorldView.free_watch.Goals as goal
-
-pub returns : goal.returns
-returns c = c.free.ensures ∙ sym (seen-free watched c.args.self.now.watches)

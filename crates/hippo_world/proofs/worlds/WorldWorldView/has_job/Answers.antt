@@ -1,8 +1,0 @@
--- What is held there is seen there.
-use Rattle.std.proofs.Common.{◌∙◌, sym}
-use Rattle.hippo_audit_job.specs.Jobs.{open_audit}
-use Rattle.hippo_sessions.proofs.HeldLemmas.{some_seen, seen-some}
-use Rattle.hippo_world.proofs.worlds.WorldWorldView.has_job.Goals as goal
-
-pub returns : goal.returns
-returns c = c.is_some.ensures ∙ sym (some_seen _ c.at.result) ∙ seen-some open_audit c.args.self.now.jobs c.args.number _ (rw c.from.ensures at c.at.ensures)
