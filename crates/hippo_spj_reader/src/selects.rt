@@ -322,7 +322,7 @@ fn from_list(alloc: Global, tokens: &[Token]) -> Result<(Sources, &[Token]), Syn
     Ok((sources, rest))
 }
 
-/// The condition after WHERE, if WHERE comes first, and the tokens after it.
+/// The condition of WHERE, or none if WHERE does not come first, and the tokens after it.
 #[tactic(auto, unfolding(crate::specs::SelectFinder::leading_where))]
 pub fn after_where(
     alloc: Global,
