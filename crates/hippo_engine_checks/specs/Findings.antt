@@ -52,8 +52,8 @@ IsOfLine (commands.make_statement who statement text) =
     (line : Txt) × StandsIn line statement text
 IsOfLine command = Unit {0}
 
--- a command that takes memory and may be answered by out of memory with nothing changed, in any
--- world; not a step, since a step may stop its job at any number up to the step's end
+-- a command that takes memory and may fail as out of memory with nothing changed, in any world; not
+-- a step, since a step may stop its job at any number up to the step's end
 abbrev pub may_do_nothing : Command → Bool
 may_do_nothing (make_request who (requests.steps job count)) = false
 may_do_nothing command = takes_memory command
@@ -72,8 +72,8 @@ IsJudged command state world judgement =
     (history : History) → StandsFor state history
     → judged history world command ≡ judgement
 
--- the command is refused, or is out of memory if it takes any; if it may not be answered by out of
--- memory, its refusal is short
+-- the command is refused, or fails as out of memory if it takes any; if it may not fail so, its
+-- refusal is short
 pub record IsRefused (command : Command) (refusal : Refusal) (state : State) (world : World)
     : Type 0 where
   pub refuses : (history : History) → StandsFor state history

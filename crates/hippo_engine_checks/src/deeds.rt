@@ -54,7 +54,7 @@ pub enum Deed<'a> {
     Change {
         entry: Boxed<Entry>,
     },
-    /// Answer this question, and deliver its answer like this.
+    /// Answer this question, and deliver its answer in this way.
     Ask {
         question: Question<'a>,
         delivery: Delivery,

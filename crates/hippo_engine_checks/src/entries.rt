@@ -71,9 +71,9 @@ fn first_entry(alloc: Global, list: &[StoredEntry], number: u64) -> Result<Boxed
     }
 }
 
-// The entry with a number in the history that a keeper keeps. Or a fault: `Keeper` only if the
-// keeper failed, `Damaged` only if the store is not transparent, or out of memory. Each version
-// that is read counts as a step.
+// The entry with a number in the history that a keeper keeps. Or a fault: out of memory, `Keeper`
+// only if the keeper failed, or `Damaged` only if the store is not transparent. Each version that
+// is read counts as a step.
 fn read_entry<P: Keeper, L: Ledger>(
     alloc: Global,
     keeper: &mut P,

@@ -1,5 +1,4 @@
-//! Checks of the clock and of requests (lines that begin with a short word): what to do, or why
-//! not.
+//! Checks of the clock and of requests, which short words make: what to do, or why not.
 ghost use Rattle.std.specs.Prelude.{◌≡◌, int_lt, IfOk};
 ghost use Rattle.hippo_stmt_lines.specs.Forms as requests;
 ghost use Rattle.hippo_stmt_lines.specs.LentForms.{request};
@@ -28,7 +27,7 @@ fn is_earlier(moment: &Moment, clock: &Moment) -> bool
     moment.seconds() < clock.seconds()
 }
 
-/// Sets the clock to a moment. A moment before the clock's is refused.
+/// The deed that sets the clock to a moment. A moment before the clock's is refused.
 pub(crate) fn judge_clock<W: WorldView>(world: &W, moment: Moment) -> Result<Deed<'static>, Refusal>
     ensures { (state : HeldState) → FindsDeed (commands.set_clock moment) result state
         (W.seen world.now) }

@@ -28,7 +28,7 @@ use Rattle.hippo_stmt_reader.specs.StatementFinder.{end_left, placed_select_of, 
 use Rattle.hippo_stmt_reader.proofs.ConsoleTheorem.{console_found, console_complete, console-no_select}
 use Rattle.hippo_stmt_reader.proofs.PartTheorem.{end_found, end_complete}
 
--- the tokens whose kinds are the end of the kinds
+-- the last tokens, whose kinds are a suffix of all kinds
 rest_of : (tokens : List Token) (front rest : List TokenKind) → kinds tokens ≡ front ++ rest → kinds (drop (length tokens - length rest) tokens) ≡ rest
 rest_of tokens front rest e =
     let whole : length (kinds tokens) ≡ length front + length rest = ap length e ∙ length-append front rest in

@@ -118,7 +118,7 @@ token-less place tokens text remaining front rest kind (a_day _ word after blank
     a_day text word (blanks ++ (quoted_text said ++ front)) blanks said front day (day_less word after blanks said front rest opens_there) is_day spelled
 token-less place tokens text remaining front rest kind (a_sign _ _ sign h longest) parts is_cut = a_sign text front sign h (longest-less text front rest (rw (← parts) longest))
 
--- where the last of some tokens ends, from a place on
+-- where the last of some tokens ends; the place itself if there are none
 abbrev pub end_from : ℕ → List Token → ℕ
 end_from place [] = place
 end_from place (token ∷ tokens) = end_from token.end tokens
