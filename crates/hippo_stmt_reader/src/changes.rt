@@ -94,8 +94,8 @@ fn columns_and_values(
     Ok(Assignments { columns, values })
 }
 
-// The columns and values of the assignments after a keyword, and the tokens after them. BadSyntax if
-// the keyword and an assignment do not come first.
+// The columns and values of the assignments after a keyword, and the tokens after them. BadSyntax
+// if the keyword and an assignment do not come first.
 fn assigned<S: Separator>(
     alloc: Global,
     keyword: Keyword,

@@ -242,8 +242,8 @@ fn query(found: FoundSelect<'_>, head: QueryHead) -> Query
     }
 }
 
-/// The query that a select means, or why it is refused. Each of its columns is resolved to one table of
-/// its FROM list.
+/// The query that a select means, or why it is refused. Each of its columns is resolved to one
+/// table of its FROM list.
 ///
 /// Over `patient (pid, name)` and `visit (vno, pid)`:
 ///

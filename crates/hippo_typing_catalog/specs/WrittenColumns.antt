@@ -16,7 +16,7 @@ use Rattle.hippo_model.specs.Terms.{Place}
 abbrev pub place_of : Schema → Name → Option Place
 place_of schema column = position (λ known. bytes_eq column known.name) schema.columns
 
--- a column as it is written: qualified by its table and a point, or unqualified
+-- a column as it is written: qualified by its table and a dot, or unqualified
 abbrev pub column_text : RawColumn → Txt
 column_text written =
     option_map_or (λ table. table ++ codes "." ++ written.column) written.table written.column

@@ -10,7 +10,7 @@ use hippo_stmt_ast::RawColumn;
 use hippo_values::{Memory, Name, Txt};
 use std::alloc::Global;
 
-// A column as it is written: qualified by its table and a point, or unqualified.
+// A column as it is written: qualified by its table and a dot, or unqualified.
 fn column_text(alloc: Global, written: &RawColumn) -> Result<Txt, Memory>
     ensures { IfOk result (λ text. text ≡ column_text written.now) }
 {
@@ -20,7 +20,7 @@ fn column_text(alloc: Global, written: &RawColumn) -> Result<Txt, Memory>
     }
 }
 
-// A text qualified by a table and a point.
+// A text qualified by a table and a dot.
 fn qualified(alloc: Global, table: &Name, text: &str) -> Result<Txt, Memory>
     ensures { IfOk result (λ made. made ≡ table.now ++ codes "." ++ text.now) }
 {

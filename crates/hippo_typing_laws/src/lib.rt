@@ -1,5 +1,5 @@
-//! Laws on how texts are read and on what may follow a history, and what their types guarantee of
-//! moments and names. Each law is the contract of a function that does nothing.
+//! Laws on how texts are read, on what may follow a history, and on what the types of moments and
+//! names guarantee. Each law is the contract of a function that does nothing.
 #![tactic(auto)]
 
 pub mod follow;
