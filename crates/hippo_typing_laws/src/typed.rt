@@ -1,4 +1,4 @@
-//! What their types guarantee of a moment and of a name. The calls look at nothing.
+//! What the types of moments and names guarantee. These functions look at no value.
 ghost use Rattle.std.specs.Prelude.{◌≡◌, true};
 ghost use Rattle.hippo_values.specs.Moments.{is_moment};
 ghost use Rattle.hippo_model.specs.Keepable.{is_folded_name};
