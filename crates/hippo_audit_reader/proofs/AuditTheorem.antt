@@ -1,4 +1,4 @@
--- The audit expression that is found is the one of the grammar.
+-- The audit expression that is found is the grammar's.
 use Rattle.std.proofs.Common.{◌≡◌, ℕ, suc, ◌<◌, Bool, List, [], ◌∷◌, length, Option, Some, None, refl, arith}
 use Rattle.std.proofs.lemmas.Option.{none-some, some_pair_parts}
 use Rattle.hippo_model.specs.declared.audit.Pair.{Pair}
@@ -107,7 +107,7 @@ found tokens a rest e =
     rw is_during (read_as IsAudit _ _ _ _ _ e
     (audit_expression {audit = audit_with period.0 exempt.0 shown.0 columns.0 tables.0 last.0} are_exempt (shown_found audited shown.0 shown.1 shown_is) are_columns (names_found named tables.0 tables.1 tables_is) (where_found tables.1 last.0 last.1 last_is) refl)))))))))))
 
--- what a whole audit expression is not followed by
+-- what cannot follow a whole audit expression
 pub record AuditEnds (rest : List TokenKind) : Type 0 where
   pub condition_ends : Ends rest
   pub no_comma : after_symbol Comma rest ≡ None
@@ -117,14 +117,14 @@ where-no_comma : (tokens : List TokenKind) (last : Option RawCond) (rest : List 
 where-no_comma tokens last rest no_where no_comma = no_comma
 where-no_comma tokens last rest (condition d) no_comma = refl
 
--- nothing follows it, or a semicolon
+-- nothing, or a semicolon, may follow it
 pub ends-nothing : AuditEnds []
 ends-nothing = record { condition_ends = record { no_dot = refl; no_and = refl; no_or = refl }; no_comma = refl; no_where = refl }
 
 pub ends-semicolon : (rest : List TokenKind) → AuditEnds (Symbol Semicolon ∷ rest)
 ends-semicolon rest = record { condition_ends = record { no_dot = refl; no_and = refl; no_or = refl }; no_comma = refl; no_where = refl }
 
--- the audit expression is found, whole, where nothing behind it goes on with it
+-- the whole audit expression is found if nothing after it continues it
 pub complete : (tokens : List TokenKind) (a : RawAudit) (rest : List TokenKind) → IsAudit tokens a rest → AuditEnds rest → leading_audit tokens ≡ Some (a, rest)
 unfolding leading_audit leading_period
 complete _ _ rest (audit_expression {audit = audit} {last = last} {tokens = tokens} {audited = audited} {listed = listed} {named = named} {remaining = remaining}

@@ -1,5 +1,4 @@
--- The audit expression that can be found at the front of a list of tokens, part by part: the
--- longest one.
+-- The longest audit expression at the front of a list of tokens, part by part.
 use Rattle.std.specs.Prelude.{Bool, true, false, List, [], ◌∷◌, Option, option_to_list, Some, None}
 use Rattle.hippo_values.specs.Texts.{Txt}
 use Rattle.hippo_values.specs.declared.names.Name.{Name}
@@ -19,7 +18,7 @@ use Rattle.hippo_spj_reader.specs.ListFinder.{leading_list}
 use Rattle.hippo_spj_reader.specs.SelectFinder.{leading_where}
 use Rattle.hippo_spj_reader.specs.SelectGrammar.{whole_condition}
 
--- the quoted text that stands first
+-- the quoted text at the front
 abbrev pub leading_quoted : Finder Txt
 leading_quoted (Quoted text ∷ rest) = Some (text, rest)
 leading_quoted tokens = None
@@ -49,12 +48,12 @@ leading_period tokens = do
   end ← leading_quoted second
   Some (period_of start.0 end.0, end.1)
 
--- whether SHOWN stands first, and what follows it
+-- whether SHOWN comes first, and what follows it
 unfoldable pub leading_shown : Finder Bool
 leading_shown tokens =
     either (after_keyword KShown tokens) (λ rest. Some (true, rest)) (Some (false, tokens))
 
--- an audit by its parts, where a condition may be the last of them
+-- an audit from its parts; the condition, which comes last, may be absent
 abbrev pub audit_with : Period → List Pair → Bool → List RawColumn → List Name → Option RawCond
     → RawAudit
 audit_with period exempt shown columns tables last = record {
@@ -67,7 +66,7 @@ audit_with period exempt shown columns tables last = record {
   cond = whole_condition (option_to_list last);
 }
 
--- the longest audit expression that stands first
+-- the longest audit expression at the front
 unfoldable pub leading_audit : Finder RawAudit
 leading_audit tokens = do
   period ← leading_period tokens

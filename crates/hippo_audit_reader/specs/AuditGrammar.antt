@@ -1,5 +1,5 @@
 -- The grammar of audit expressions. Each relation says that the tokens begin with such a part, how
--- it reads, and what follows it.
+-- the part reads, and what follows it.
 use Rattle.std.specs.Prelude.{◌≡◌, Bool, true, false, List, [], ◌∷◌, Option, option_to_list}
 use Rattle.hippo_values.specs.declared.names.Name.{Name}
 use Rattle.hippo_model.specs.declared.audit.Pair.{Pair}

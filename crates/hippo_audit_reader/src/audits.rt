@@ -1,4 +1,4 @@
-//! Audit expressions.
+//! Reads audit expressions.
 
 ghost use Rattle.std.specs.Prelude.{◌≡◌, ◌≤◌, length, option_to_list, IfOk, Some};
 ghost use Rattle.hippo_spj_reader.specs.Promises.{CanBeRead, Reads, ReadsAll};
@@ -38,7 +38,7 @@ fn pair(alloc: Global, tokens: &[Token]) -> Result<(Pair, &[Token]), SyntaxFault
     Ok((Pair { purpose, recipient }, rest))
 }
 
-// The rule of a pair.
+// The grammar rule of a pair.
 struct PairPart;
 
 impl Part for PairPart {
@@ -63,7 +63,7 @@ fn exempt(alloc: Global, tokens: &[Token]) -> Result<(Pairs, &[Token]), SyntaxFa
     list::<PairPart, Commas>(alloc, remaining)
 }
 
-// The texts of the period's beginning and end.
+// The texts that write the period's beginning and end.
 #[derive(Drop)]
 struct Period {
     from: Txt,
@@ -81,7 +81,7 @@ fn during(alloc: Global, tokens: &[Token]) -> Result<(Period, &[Token]), SyntaxF
     Ok((Period { from, to }, rest))
 }
 
-// Whether SHOWN stands first, and the tokens behind it.
+// Whether SHOWN comes first, and the tokens after it.
 #[tactic(auto, unfolding(crate::specs::AuditFinder::leading_shown))]
 fn shown(tokens: &[Token]) -> (bool, &[Token])
     ensures found { leading_shown (kinds tokens.now) ≡ Some (result.0, kinds result.1.now) }
@@ -93,7 +93,7 @@ fn shown(tokens: &[Token]) -> (bool, &[Token])
     }
 }
 
-// The condition of a statement that has this one behind WHERE, or none.
+// The condition of a statement with this WHERE condition, if it has one.
 fn condition_of(alloc: Global, condition: Option<RawCond>) -> Result<RawCond, Memory>
     ensures { IfOk result (λ whole. whole ≡ whole_condition (option_to_list condition)) }
 {
@@ -104,7 +104,8 @@ fn condition_of(alloc: Global, condition: Option<RawCond>) -> Result<RawCond, Me
     whole_condition(alloc, conditions)
 }
 
-/// The audit expression that has to stand first, as long as it goes on, and the tokens behind it.
+/// The longest audit expression at the front of the tokens, and the tokens after it. BadSyntax if
+/// there is none.
 #[tactic(auto, unfolding(crate::specs::AuditFinder::leading_audit))]
 pub fn audit(alloc: Global, tokens: &[Token]) -> Result<(RawAudit, &[Token]), SyntaxFault>
     ensures { Reads leading_audit tokens.now result }
@@ -133,7 +134,7 @@ pub fn audit(alloc: Global, tokens: &[Token]) -> Result<(RawAudit, &[Token]), Sy
     ))
 }
 
-// The rule of an audit expression.
+// The grammar rule of an audit expression.
 struct AuditPart;
 
 impl Part for AuditPart {
@@ -148,9 +149,9 @@ impl Part for AuditPart {
     }
 }
 
-/// The audit expression that the tokens from place `first` to the place before `last` are;
-/// BadSyntax exactly where they are no audit expression, but for want of memory. The depth of the
-/// recursion is that of NOT and of parentheses.
+/// The audit expression that the tokens from place `first` up to, but not including, place `last`
+/// form. BadSyntax exactly if they form no audit expression; it may also fail when out of memory.
+/// The recursion is as deep as NOT and the parentheses.
 pub fn read_audit(
     alloc: Global,
     t: &Tokens,

@@ -1,4 +1,4 @@
--- What the checks of a question let pass may follow.
+-- A question that passes its checks may follow the history.
 use Rattle.std.proofs.Common.{◌≡◌, ◌∙◌, refl, sym, ap, subst, ℕ, ◌+◌, ◌<◌, ◌≤◌, ◌^◌, true, List, [], length, Some, Ok}
 use Rattle.hippo_values.specs.Limits.{line_limit}
 use Rattle.hippo_values.specs.Moments.{is_moment}
@@ -60,7 +60,7 @@ allowed_so : (word : Authorization) (allowed : Unit {0}) → allowed_by word ≡
 allowed_so Yes allowed is = refl
 allowed_so (No number) allowed is = absurd cc
 
--- what is known of a question that is judged to be asked
+-- what is known of a question that passes its checks
 record IsAsked (history : History) (select : RawSelect) (text : Txt) (asking : Asking) : Type 0 where
   authorized : authorized_at history asking.asker.now.user asking.asker.now.pair.purpose asking.asker.now.pair.recipient ≡ Yes
   unrefused : select_refused (known_at history) select ≡ []
@@ -112,13 +112,13 @@ module _ (handing : Handing) (history : History) (world : World) (number : ℕ) 
       (sym (asked_so opened.found asks.found asks.found handed.found) ∙ (ap (question_asked asks.found) room.on
       ∙ asked_so asking.asker.now (question_of number asking) asks.found asking.delivery))
 
--- the statement that asks has this select between these places
+-- the statement that asks the question has this select between these offsets
 asks_select : (handing : Handing) (select : RawSelect) (start end : ℕ) → question_in_statement (statement_asked handing select start end) ≡ Some (select, start, end)
 asks_select Rows select start end = refl
 asks_select Records select start end = refl
 asks_select Cursor select start end = refl
 
--- the entry that the checks of a question found may follow
+-- the entry of a question that was found may follow the history
 pub question_follows : (state : State) (held : World) (session : ℕ) (written : WrittenQuestion) (text : Txt) (asking : Asking)
     → IsTimely state held.clock → is_moment held.clock ≡ true → names_fit asking.asker.now.user asking.asker.now.pair.purpose asking.asker.now.pair.recipient ≡ true
     → IsOfLine (written_command session written text) → length (written_text written text) ≤ line_limit → state.count + 1 < 2 ^ 63
@@ -169,7 +169,7 @@ may_be_asked state held session written text asking question timely fits names o
           (question_follows state held session written text asking timely fits names of_line short below judged_is);
     }
 
--- or it is refused
+-- otherwise it is refused
 pub refused_question : (state : State) (held : World) (session : ℕ) (written : WrittenQuestion) (text : Txt) (refusal : Refusal)
     → ((history : History) → StandsFor state history → Refuses (judged_question written.handing history held (speaker.Session session) written.select.now (written_text written text)) refusal)
     → IsRefused (written_command session written text) refusal state held

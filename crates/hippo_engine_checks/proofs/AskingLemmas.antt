@@ -1,4 +1,4 @@
--- What the checks of a question come to.
+-- The results of the checks of a question.
 use Rattle.std.proofs.Common.{◌≡◌, ◌≢◌, ◌⊎◌, ◌∙◌, inl, inr, refl, sym, ap, subst, true, List, [], ◌∷◌, Option, Some, Ok, Err}
 use Rattle.std.specs.Prelude.{ℕ, length, is_none, is_some, flat_map, unwrap_or, slice_get}
 use Rattle.std.proofs.lemmas.Bool.{and_from}
@@ -37,12 +37,12 @@ use Rattle.hippo_engine_checks.specs.Judging.{text_between, delivery_for, deed_f
 use Rattle.hippo_engine_checks.specs.declared.asking.WrittenQuestion.{WrittenQuestion}
 use Rattle.hippo_engine_checks.specs.Asking.{statement_asked, written_command, written_text, delivery_in_room, asking_with, deed_asked, IsAnswerable}
 
--- where nothing is refused, the form is meant
+-- without faults, the statement means its form
 pub meant_so : {A : Type 0} (faults : List NameFault) (form made : A) → faults ≡ [] → made ≡ form → unless_refused faults form ≡ Ok made
 meant_so [] form made none is = λ i. Ok (sym is i)
 meant_so (fault ∷ more) form made none is = absurd cc
 
--- and else the first refusal is told, or want of memory
+-- otherwise the first fault is the refusal, or out of memory
 pub meant_not : {A : Type 0} (faults : List NameFault) (form : A) (fault : NameFault) (refusal : Refusal) → IsFirstOf faults fault
     → ((fault ≢ NoRoom) × (refusal ≡ Meaningless fault)) ⊎ (refusal ≡ Memory) → (unless_refused faults form ≡ Err refusal) ⊎ (refusal ≡ Memory)
 meant_not faults form fault refusal first (inr short) = inr short
@@ -66,7 +66,7 @@ pub judged_written : (written : WrittenQuestion) (text : Txt) (history : History
 judged_written written text history world session =
     judged_asked written.handing history world session written.select.now written.start written.end text
 
--- tables that are not refused are created
+-- a table that is not refused is created
 created : (history : History) (names : List Name) → NamesAreThoseOf history → flat_map (unknown_table (known_at history)) names ≡ [] → are_created history names ≡ true
 created history [] known none = refl
 created history (name ∷ names) known none =
@@ -92,7 +92,7 @@ answerable state history select query stands none is =
       };
     }
 
--- a way to hand out and then room, or both at once
+-- the check of the delivery and then the check of the room equal both checks at once
 delivery_then_room : (wanted : Checked Delivery) (room : Checked (Unit {0})) (deed : Delivery → Deed)
     → (wanted >>= λ delivery. room >>= λ free. Ok (deed delivery)) ≡ ((wanted >>= λ delivery. room >>= λ free. Ok delivery) >>= λ delivery. Ok (deed delivery))
 delivery_then_room (Ok delivery) (Ok free) deed = refl
@@ -106,7 +106,7 @@ with_found session asking checked (Err refusal) (inl is) = inl (ap (λ (c : Chec
 with_found session asking checked (Err refusal) (inr short) = inr short
 
 module _ (handing : Handing) (history : History) (world : World) (session : ℕ) (select : RawSelect) (asking : Asking) where
-  -- what follows once it is known who asks, that the asker is authorized, and what is meant
+  -- the rest of the checks, after the asker, the authorization and the meaning are known
   left_asker : Checked Session → Checked Question → Checked Deed
   left_asker opened found = found >>= λ question. opened >>= λ asker. delivery_for handing asker >>= λ delivery. has_room history world >>= λ room. Ok (deed_for asker question delivery)
 
@@ -130,7 +130,7 @@ module _ (handing : Handing) (history : History) (world : World) (session : ℕ)
       ∙ ap (λ (meaning : Checked Query). left_asker (Ok asker) (from_meant asker meaning)) means
       ∙ delivery_then_room (delivery_for handing asker) (has_room history world) (λ delivery. deed_asked session (record asking { delivery = delivery }))
 
-  -- a question is found as the checks say
+  -- a question is found as its checks say
   pub question_found : (allowed : Unit {0}) (count : ℕ) (wanted : Checked Delivery) → open_session world session ≡ Ok asking.asker.now
       → by_authorized_user history asking.asker.now.user asking.asker.now.pair ≡ Ok allowed
       → unless_refused (select_refused (known_at history) select) (query_of (known_at history) select) ≡ Ok asking.query

@@ -1,4 +1,4 @@
--- From what an audit expression means by names to what it means in a history.
+-- From the meaning of an audit expression by a catalog's names to its meaning in a history.
 use Rattle.std.proofs.Common.{◌≡◌, ◌∙◌, ℤ, refl, sym, ap, subst, true, [], ◌++◌, Option, Some, None, append-nil}
 use Rattle.hippo_values.specs.Texts.{Txt}
 use Rattle.hippo_model.specs.declared.audit.Audit.{Audit}
@@ -18,7 +18,7 @@ use Rattle.hippo_replay.specs.Standing.{StandsFor}
 use Rattle.hippo_engine_checks.specs.Checks.{Checked, Finds, unless_refused}
 use Rattle.hippo_engine_checks.specs.Judging.{audit_in}
 
--- the moment that is found in a text is the one that it writes
+-- the moment found in a text is the one that the text writes
 moment_is : (text : Txt) → IsMomentIn text (moment_in text)
 moment_is text = by (moment_in text) refl
   where
@@ -29,17 +29,17 @@ moment_is text = by (moment_in text) refl
     by None is = λ second writes. missing second (sym is ∙ (moments_are_read text second).1 writes)
     by (Some second) is = (moments_are_read text second).0 is
 
--- the period of an audit is that of its texts
+-- the period of an audit is the one that its texts write
 pub period_is : (written : RawAudit) → IsPeriodOf written (period_in written)
 period_is written = record { from = moment_is written.from; to = moment_is written.to }
 
--- the audit that a catalog's names give is that of the history, at the console
+-- at the console, the audit by a catalog's names is the audit of the history
 pub audit_found : (history : History) (written : RawAudit) (known : KnownNames) (result : Checked Audit) → known ≡ known_at history
     → Finds (λ audit. audit) (unless_refused (audit_refused known (period_in written) written) (audit_of known (period_in written) written)) result → Finds (λ audit. audit) (audit_in history Console written) result
 audit_found history written known result same finds =
     subst (λ (names : KnownNames). Finds (λ audit. audit) (unless_refused (audit_refused names (period_in written) written) (audit_of names (period_in written) written)) result) same finds
 
--- an audit expression of which nothing is refused means an audit of each history that the state stands for
+-- an audit expression without faults means an audit of every history that the state stands for
 pub audit_stands : (held : State) (written : RawAudit) (audit : Audit) (history : History) → StandsFor held history
     → (audit_refused held.catalog.names (period_in written) written ≡ []) × (audit ≡ audit_of held.catalog.names (period_in written) written) → IsAuditOf history audit
 audit_stands held written audit history stands unrefused =

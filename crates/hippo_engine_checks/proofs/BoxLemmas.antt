@@ -1,4 +1,4 @@
--- What was found holds of what is put into a box, unless memory was short for that.
+-- What holds of a found value also holds of its box, unless out of memory.
 use Rattle.std.proofs.Common.{◌≡◌, ◌∙◌, Ok, Err, IfOk, ap, subst, sym, inr}
 use Rattle.std.specs.Prelude.{MatchResult}
 use Rattle.hippo_report.specs.declared.refusal.Refusal.{Refusal}

@@ -1,4 +1,4 @@
--- From the checks of a statement that changes something to how it is judged.
+-- From the checks of a changing statement to its judgement.
 use Rattle.std.proofs.Common.{◌≡◌, inl, inr, refl, ap, Option, Some, None, Ok, Err, true}
 use Rattle.std.specs.Prelude.{ok_or}
 use Rattle.std.proofs.lemmas.Bool.{false≢true}
@@ -19,18 +19,18 @@ use Rattle.hippo_engine_checks.specs.Checks.{Refuses, Checked}
 use Rattle.hippo_engine_checks.specs.Deeds.{Deed}
 use Rattle.hippo_engine_checks.specs.Judging.{judged, judged_change}
 
--- what a statement means is what is asked for
+-- what a statement means is what it asks for
 abbrev asked_for : Checked (Option Wanted) → Checked Wanted
 asked_for means = means >>= λ change. ok_or change refusals.BadSyntax
 
--- the check of names and types, and then what is wanted is judged
+-- the check of names and types, followed by the judgement of what is asked for
 abbrev after_names : Checked (Option Wanted) → (Wanted → Checked Deed) → Checked Deed
 after_names means next = means >>= λ change. ok_or change refusals.BadSyntax >>= λ wanted. next wanted
 
 refusal_same : (one other : Refusal) → err_of Wanted one ≡ Err other → one ≡ other
 refusal_same one other e = cc
 
--- names and types are refused
+-- the names and types are refused
 pub names_refused : (means : Checked (Option Wanted)) (next : Wanted → Checked Deed) (refusal : Refusal)
     → Refuses (asked_for means) refusal → Refuses (after_names means next) refusal
 names_refused means next refusal (inr memory) = inr memory
@@ -38,7 +38,7 @@ names_refused (Err other) next refusal (inl is) = inl (ap Err (refusal_same othe
 names_refused (Ok None) next refusal (inl is) = inl (ap Err (refusal_same refusals.BadSyntax refusal is))
 names_refused (Ok (Some w)) next refusal (inl is) = absurd cc
 
--- a statement that changes something is judged as a change
+-- a changing statement is judged as a change
 pub judged_as_change : (history : History) (world : World) (who : Speaker) (statement : Stmt) (text : Txt) → changes_something statement ≡ true
     → judged history world (make_statement who statement text) ≡ judged_change history world who statement
 judged_as_change history world who (stmt.Explain question) text changes = absurd (false≢true changes)

@@ -1,4 +1,4 @@
--- From what a keeper hands over to the entry with a number.
+-- From the read result of a keeper to the entry with a number.
 use Rattle.std.proofs.Common.{◌≡◌, ◌≢◌, ◌∙◌, ◌≤◌, ◌<◌, ◌+◌, ℕ, zero, suc, ℤ, pos, negsuc, refl, sym, ap, subst, arith, cond, Bool, true, false, List, [], ◌∷◌, ◌++◌, length, map, take, drop, Option, Some, None, Result, Ok, Err}
 use Rattle.std.specs.Prelude.{◌-◌, ◌&&◌, if◌then◌else◌, find, slice_get, nat_le, int_lt, unsigned_abs, unwrap_or}
 use Rattle.std.specs.Bool.{then_some}
@@ -40,13 +40,13 @@ use Rattle.hippo_engine_checks.specs.Entries.{number_within, IsFormOf, IsRead, H
 abbrev pub err_of : (T : Type 0) → {E : Type 0} → E → Result T E
 err_of T fault = Err fault
 
--- a number of one of so many entries
+-- the number is one of this many entries
 pub record IsNumber (number : ℤ) (count place : ℕ) : Type 0 where
   pub same : number ≡ pos place
   pub from : 1 ≤ place
   pub to : place ≤ count
 
--- a member at a place is found where no other passes
+-- the member at a place is found if no other member passes the test
 found_at : {A : Type 0} (test : A → Bool) (members : List A) (place : ℕ) (member : A) → slice_get members place ≡ Some member
     → ((other : ℕ) (one : A) → slice_get members other ≡ Some one → other ≢ place → test one ≡ false) → find test members ≡ then_some (test member) member
 found_at test [] place member is others = absurd cc
@@ -88,7 +88,7 @@ module _ (history : History) (valid : is_valid meaning history ≡ true) where
   seq_of : (place : Place) (entry : Entry) → slice_get history place ≡ Some entry → entry.seq ≡ place + 1
   seq_of place entry is = entry_has_its_number meaning history valid place entry is
 
-  -- the question with the number of an entry is that entry, if it is one
+  -- the question with an entry's number is that entry, if the entry is a question
   pub question_is : (place : Place) (entry : Entry) → slice_get history place ≡ Some entry → question_at history (pos entry.seq) ≡ then_some (is_question entry.act) entry
   question_is place entry is =
       found_at (asks (pos entry.seq)) history place entry is (λ other one at differ.
@@ -105,7 +105,7 @@ none_found : {A : Type 0} (test : A → Bool) (members : List A) → ((other : �
 none_found test [] fails = refl
 none_found test (one ∷ more) fails = rw (fails 0 one refl) (none_found test more (λ other member is. fails (suc other) member is))
 
--- no entry has a number that is none of so many
+-- no entry has a number outside the range
 pub no_question : (history : History) (number : ℤ) → is_valid meaning history ≡ true → number_within number (length history) ≡ None → question_at history number ≡ None
 no_question history (pos number) valid none =
     none_found (asks (pos number)) history (λ place entry is.
@@ -129,7 +129,7 @@ no_question history (negsuc number) valid none =
     apart : (a b : ℕ) → int_eq (pos a) (negsuc b) ≡ false
     apart a b = refl
 
--- a number is one of so many
+-- a number in the range
 pub is_number : (number : ℤ) (count place : ℕ) → number_within number count ≡ Some place → IsNumber number count place
 is_number (pos number) count place is =
     elim (int_lt (pos number) (pos 1)) as (λ low. int_lt (pos number) (pos 1) ≡ low → (if low then None else then_some (nat_le number count) number) ≡ Some place → IsNumber (pos number) count place) [
@@ -172,7 +172,7 @@ module _ (history : History) (valid : is_valid meaning history ≡ true) (number
   whole : take place history ++ entry ∷ later ≡ history
   whole = ap (λ (rest : History). take place history ++ rest) (sym (drop_at_item history place entry is)) ∙ take-append-drop place history
 
-  -- what is handed over above the number before it
+  -- reading one entry after the previous number yields the entry
   pub handed : handed_over is_any place 1 (map stored history) ≡ stored entry ∷ []
   handed =
       let front : History = take place history in
@@ -226,7 +226,7 @@ module _ (number : ℕ) (from : 1 ≤ number) (before after : KeeperState) (step
     read_as (Err (Damaged other)) read = absurd (read entry same_form)
     read_as (Err Memory) read = record { entry_is = tt; undamaged = λ other e. absurd cc; few = few; idle = tt }
 
-  -- an entry was handed over
+  -- an entry was returned
   pub handed_entry : (list : Store) (result : Result Entry ReadFault) → ReadsEntries is_any (number - 1) 1 (Ok list) before after → steps' ≡ steps + stored_versions list → IsRead list number result
       → ReadsEntry number result before after steps steps'
   handed_entry list result over counted read = record {
@@ -238,7 +238,7 @@ module _ (number : ℕ) (from : 1 ≤ number) (before after : KeeperState) (step
         read_as history stands.valid list at.0 at.1 first counted result read;
   }
 
-  -- it was not
+  -- no entry was returned
   pub unhanded_entry : (fault : KeeperFault) → ReadsEntries is_any (number - 1) 1 (Err fault) before after → steps' ≡ steps → ReadsEntry number (Err (reads.read_fault fault)) before after steps steps'
   unhanded_entry fault unread same = record {
     call = IsAfterCall-as true false (err_of Store fault) (reads.reading_as_call (err_of Entry (reads.read_fault fault))) before after (reading_as_call-read_fault Entry Store fault) unread.call;

@@ -43,7 +43,7 @@ use Rattle.hippo_engine_checks.specs.Findings.{AddsNextEntry, IsJudged, IsRefuse
 use Rattle.hippo_engine_checks.specs.Judging.{judged, audit_in}
 use Rattle.hippo_engine_checks.proofs.FollowingLemmas.{some_so}
 
--- a command that takes memory is refused, or memory was short
+-- a command that takes memory is refused, or is out of memory
 pub refused_or_short : (command : Command) (refusal : Refusal) (state : State) (world : World) → may_do_nothing command ≡ true
     → ((history : History) → StandsFor state history → Refuses (judged history world command) refusal) → IsRefused command refusal state world
 refused_or_short command refusal state world takes refuses = record {
@@ -52,7 +52,7 @@ refused_or_short command refusal state world takes refuses = record {
   short = λ none. absurd (false≢true (sym none ∙ takes));
 }
 
--- a command is refused, and that is short
+-- a command is refused, and its refusal is short
 pub refused_so : (command : Command) (refusal : Refusal) (state : State) (world : World) → IsJudged command state world (Err refusal)
     → length (refusal_line (who_commands command) refusal) ≤ reply_room → IsRefused command refusal state world
 refused_so command refusal state world is fits = record {
@@ -61,12 +61,12 @@ refused_so command refusal state world is fits = record {
   short = λ none. fits;
 }
 
--- a check that refuses lets no later one be looked at
+-- after a check that refuses, no later check runs
 pub refuses_on : {A B : Type 0} (checked : Checked A) (next : A → Checked B) (refusal : Refusal) → Refuses checked refusal → Refuses (checked >>= next) refusal
 refuses_on checked next refusal (inl is) = inl (ap (λ c. c >>= next) is)
 refuses_on checked next refusal (inr short) = inr short
 
--- what was found without reading is found whatever the keeper keeps
+-- a result that was found without reading does not depend on what the keeper keeps
 pub judges_unread : (command : Command) (found : Checked Deed) (state : State) (world : World) (before after : KeeperState) (steps steps' : ℕ) → FindsDeed command found state world
     → Judges command (without_reading found) state world before after steps steps'
 judges_unread command (Ok (kinds.Explain entry)) state world before after steps steps' is = absurd is
@@ -79,7 +79,7 @@ judges_found command found result state world before after steps steps' is finds
     subst (λ (one : Result Deed Unjudged). Judges command one state world before after steps steps') (sym is) (judges_unread command found state world before after steps steps' finds)
 
 -- ---- who speaks
--- what asks nothing is the console's
+-- only the console may use a statement that asks nothing
 for_console : (who : Speaker) (statement : Stmt) (text : Txt) (history : History) (world : World) → by_console who ≡ Err ConsoleOnly → is_asking statement ≡ false
     → judged history world (commands.make_statement who statement text) ≡ Err ConsoleOnly
 for_console Console statement text history world refused plain = absurd cc
@@ -95,7 +95,7 @@ console_only who statement text state world refused plain =
     refused_or_short (commands.make_statement who statement text) ConsoleOnly state world refl
     (λ history stands. inl (for_console who statement text history world refused plain))
 
--- a question is a session's
+-- only a session may ask a question
 for_sessions : (who : Speaker) (handing : Handing) (select : RawSelect) (start end : ℕ) (text : Txt) (history : History) (world : World) → by_session who ≡ Err SessionsOnly
     → judged history world (commands.make_statement who (statement_asked handing select start end) text) ≡ Err SessionsOnly
 for_sessions (speaker.Session number) handing select start end text history world refused = absurd cc
@@ -114,17 +114,17 @@ sessions_only who statement written text state world refused asks =
     (λ history stands. inl (for_sessions who written.handing written.select.now written.start written.end text history world refused)))
 
 -- ---- sessions and cursors
--- a session that is open is there
+-- an open session is in the world
 pub is_there : (world : World) (number : ℕ) (session : Session) → open_session world number ≡ Ok session → session_at world number ≡ Some session
 is_there world number session is = some_so (session_at world number) NoSession session is
 
--- what follows from a check that is refused is refused so
+-- if the first check refuses, so do the checks together
 refused_first : {A B : Type 0} (found : Checked A) (next : A → Checked B) (last : A → B → deeds.Deed) (refusal : Refusal) → ◌≡◌ {A = Checked B} (found >>= next) (Err refusal)
     → (found >>= λ one. next one >>= λ other. Ok (last one other)) ≡ Err refusal
 refused_first {A} {B} (Ok one) next last refusal is = ap (λ (checked : Checked B). checked >>= λ other. Ok (last one other)) is
 refused_first (Err other) next last refusal is = let same : other ≡ refusal = cc in ap Err same
 
--- closing a cursor is refused where it is not open
+-- closing a cursor is refused if it is not open
 pub refused_close : (world : World) (state : State) (number at : ℕ) (refusal : Refusal) → cursor_in_session world number at ≡ Err refusal
     → length (refusal_line (speaker.Session number) refusal) ≤ reply_room → IsRefused (make_request (speaker.Session number) (requests.closes at)) refusal state world
 refused_close world state number at refusal is fits =
@@ -132,14 +132,14 @@ refused_close world state number at refusal is fits =
     (λ history stands. refused_first (open_session world number) (λ session. ok_or (at_number session.cursors at) (NoCursor at)) (λ session cursor. deeds.close_cursor number session at) refusal is) fits
 
 -- ---- jobs
--- a job stands at a number, or it is not found there
+-- a job has this number, or looking it up fails
 pub job_there : (world : World) (number : ℕ) → is_some (at_number world.jobs number) ≡ true → StandsJob world number
 job_there world number is = some_there (at_number world.jobs number) is
 
 pub no_job : (world : World) (number : ℕ) → is_some (at_number world.jobs number) ≡ false → job_at world number ≡ Err (NoJob number)
 no_job world number is = ap (λ (held : Option OpenAudit). ok_or held (NoJob number)) (none_there (at_number world.jobs number) is)
 
--- a watch stands at a number, or it is not found there
+-- a watch has this number, or looking it up fails
 pub watch_there : (world : World) (number : ℕ) → is_some (at_number world.watches number) ≡ true → held_watch world number ≡ Ok tt
 watch_there world number is =
     let there = some_there (at_number world.watches number) is in
@@ -152,14 +152,14 @@ watch_first : (found : Checked Audit) (deed : deeds.Deed) (refusal : Refusal) �
 watch_first (Ok audit) deed refusal is = absurd cc
 watch_first (Err other) deed refusal is = let same : other ≡ refusal = cc in ap Err same
 
--- ending a watch is refused where none stands
+-- ending a watch is refused if none has the number
 pub refused_unwatch : (world : World) (state : State) (number : ℕ) (refusal : Refusal) → held_watch world number ≡ Err refusal
     → length (refusal_line Console refusal) ≤ reply_room → IsRefused (make_request Console (requests.unwatches number)) refusal state world
 refused_unwatch world state number refusal is fits =
     refused_so (make_request Console (requests.unwatches number)) refusal state world
     (λ history stands. watch_first (ok_or (at_number world.watches number) (NoWatch number)) (deeds.end_watch number) refusal is) fits
 
--- a step of a job that stands there, and its end
+-- a step of an existing job, and its end
 module _ (world : World) (state : State) (number : ℕ) (job : OpenAudit) (there : at_number world.jobs number ≡ Some job) where
   pub may_step : (count : ℕ) → Does (make_request Console (requests.steps number count)) (kinds.StepJob number count) state world
   may_step count = (
@@ -214,7 +214,7 @@ module _ (state : State) (world : World) (written : RawAudit) (text : Txt) where
     begun make limit free found is history stands =
         judged_audit (λ one. ok_or free limit >>= λ number. Ok (make number one)) history stands ∙ at_free make limit free found is
 
-    -- a job begins where a number is free, and a watch is set
+    -- a job begins, or a watch is set, if a number is free
     pub may_begin : (lasting : LastingAudit) (found : Option ℕ) → free_to_begin lasting world ≡ found → FindsDeed (commands.make_statement Console (begins lasting written) text) (begun_with lasting audit found) state world
     may_begin Job (Some number) free = ((written, text, refl), means, free, begun deeds.begin_audit JobLimit (free_number world.jobs) (Some number) free)
     may_begin Watch (Some number) free = ((written, text, refl), means, begun deeds.watch WatchLimit (free_number world.watches) (Some number) free)
@@ -225,7 +225,7 @@ module _ (state : State) (world : World) (written : RawAudit) (text : Txt) where
         refused_or_short (commands.make_statement Console (stmt.Watch written) text) WatchLimit state world refl
         (λ history stands. inl (begun deeds.watch WatchLimit (free_number world.watches) None free history stands))
 
--- what begins with an audit is refused where that is
+-- a statement with an audit is refused if the audit is refused
 pub refused_audit : (state : State) (world : World) (written : RawAudit) (command : Command) (next : Audit → Checked deeds.Deed) (refusal : Refusal) → may_do_nothing command ≡ true
     → ((history : History) → judged history world command ≡ (audit_in history Console written >>= next))
     → ((history : History) → StandsFor state history → Refuses (audit_in history Console written) refusal) → IsRefused command refusal state world
@@ -234,7 +234,7 @@ refused_audit state world written command next refusal takes begins refuses =
     (λ history stands. subst (λ (judgement : Checked deeds.Deed). Refuses judgement refusal) (sym (begins history))
     (refuses_on (audit_in history Console written) next refusal (refuses history stands)))
 
--- so is what begins a job, or sets a watch
+-- so is a statement that begins a job or sets a watch
 pub refused_begin : (state : State) (world : World) (written : RawAudit) (text : Txt) (lasting : LastingAudit) (refusal : Refusal)
     → ((history : History) → StandsFor state history → Refuses (audit_in history Console written) refusal)
     → IsRefused (commands.make_statement Console (begins lasting written) text) refusal state world

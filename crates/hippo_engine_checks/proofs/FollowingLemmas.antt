@@ -1,4 +1,4 @@
--- What the checks of a change let pass may follow.
+-- A change that passes its checks may follow the history.
 use Rattle.std.proofs.Common.{◌≡◌, ◌∙◌, refl, sym, ap, subst, arith, ℕ, ◌+◌, ◌<◌, ◌^◌, true, List, [], ◌∷◌, length, Option, Some, None, Result, Ok, Err, IfOk}
 use Rattle.std.specs.Prelude.{int_le, ok_or}
 use Rattle.std.proofs.lemmas.Bool.{and_parts, lt-ltb}
@@ -34,7 +34,7 @@ use Rattle.hippo_engine_checks.specs.Deeds.{Deed}
 use Rattle.hippo_engine_checks.specs.Deeds as deeds
 use Rattle.hippo_engine_checks.specs.Judging.{judged_wanted, judged_change}
 
--- a check was passed, and so were those behind it
+-- a check is passed, and so are the checks after it
 pub record Passed {A B : Type 0} (checked : Checked A) (next : A → Checked B) (last : B) : Type 0 where
   pub found : A
   pub is : checked ≡ Ok found
@@ -47,7 +47,7 @@ passed (Err refusal) next last is = absurd cc
 pub found_same : {A : Type 0} (one other : A) → ◌≡◌ {A = Checked A} (Ok one) (Ok other) → one ≡ other
 found_same one other is = cc
 
--- what is meant is not refused
+-- a statement that means something has no fault
 pub unrefused : {A : Type 0} (faults : List NameFault) (form found : A) → unless_refused faults form ≡ Ok found → (faults ≡ []) × (form ≡ found)
 unrefused [] form found is = (refl, found_same form found is)
 unrefused (fault ∷ more) form found is = absurd cc
@@ -64,7 +64,7 @@ abbrev act_in : Act → Checked Deed → Act
 act_in other (Ok (deeds.change act)) = act
 act_in other judgement = other
 
--- a statement that is judged to make an act comes to it
+-- a statement that is judged to make an act asks for that act
 comes_to : (history : History) (world : World) (statement : Stmt) (act : Act) → is_written statement ≡ true
     → judged_change history world Console statement ≡ Ok (deeds.change act) → ComesTo history statement act
 comes_to history world statement act written is =
@@ -93,7 +93,7 @@ has_room_at state history moment number stands timely fits is below = record {
   order = sym (order_is state history moment stands (and_parts (int_le first_moment moment) (int_le moment last_moment) fits).0) ∙ timely;
 }
 
--- the entry that the checks of a change found may follow
+-- the entry of a change that was found may follow the history
 pub change_follows : (state : State) (held : World) (statement : Stmt) (found : Result Entry Refusal) → IsTimely state held.clock → is_written statement ≡ true
     → ((history : History) → StandsFor state history → FindsChange history held (judged_change history held Console statement) found)
     → IfOk found (λ entry. entry.seq < 2 ^ 63) → IfOk found (λ entry. is_moment entry.moment ≡ true) → IfOk found (λ entry. MayFollow state entry)

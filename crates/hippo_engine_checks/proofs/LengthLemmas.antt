@@ -1,4 +1,4 @@
--- How long the replies are that must not want memory: each of them is within the room.
+-- The lengths of the replies that need no memory: each fits into the reply's reserved room.
 use Rattle.std.proofs.Common.{◌≡◌, ◌+◌, ◌≤◌, ◌<◌, ◌^◌, ℕ, ℤ, [], true, Some, None, Result, Ok, Err, IsOk, is_err, length, decimal, codes, refl, ap, arith, length-append}
 use Rattle.std.proofs.lemmas.Fmt.{length-decimal-le}
 use Rattle.hippo_values.specs.Texts.{Txt}
@@ -23,7 +23,7 @@ pub length-moment_text : (moment : ℤ) → length (moment_text moment) ≡ 20
 unfolding moment_text day_text time_text
 length-moment_text moment = refl
 
--- a session that is replied to has a number of 8 bits
+-- a session that gets a reply has a number of 8 bits
 abbrev pub IsSpeaker : Speaker → Type 0
 IsSpeaker Nobody = Unit {0}
 IsSpeaker Console = Unit {0}
@@ -43,7 +43,7 @@ pub length-naming : (who title detail : Txt) → length (said_of who title (Some
 unfolding said_of
 length-naming who title detail = simp length-append (omega arith)
 
--- they are within the room where the title and what is named are short
+-- they fit if the title and what is named are short
 pub plain_fits : (who : Speaker) (title : Txt) → IsSpeaker who → length title ≤ 20 → length (said_of (who_text who) title None) ≤ reply_room
 plain_fits who title is short = omega (arith, length-plain (who_text who) title, length-who_text who is)
 
@@ -76,7 +76,7 @@ pub moment_back_fits : (who : Speaker) (moment : ℤ) → IsSpeaker who → leng
 moment_back_fits who moment is =
     naming_fits who (codes "19 MomentBack") (moment_text moment) is (omega arith) (omega (arith, length-moment_text moment))
 
--- a line that was carried out, and one with a number
+-- the reply to a line that was carried out, and the one with a number
 pub done_fits : (who : Speaker) → IsSpeaker who → length (done_line who) ≤ reply_room
 done_fits who is = omega (arith, length-append (who_text who) (codes " ok\n"), length-who_text who is)
 
@@ -85,7 +85,7 @@ pub number_fits : (session number : ℕ) (word : Txt) → session < 256 → numb
 number_fits session number word few small short =
     simp length-append (omega (arith, length-decimal_byte session few, length-decimal_word number small))
 
--- what has room is not refused
+-- text that has room is not refused
 pub never_short : {E : Type 0} (result : Result (Unit {0}) E) (old text : Txt) (room : ℕ) → (length old + length text ≤ room → IsOk result)
     → old ≡ [] → length text ≤ room → is_err result ≡ true → ⊥
 never_short (Ok done) old text room within empty fits fails = absurd cc

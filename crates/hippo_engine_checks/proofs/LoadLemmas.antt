@@ -1,4 +1,4 @@
--- From the checks of a record that is loaded to those of its INSERT.
+-- From the checks of a loaded record to the checks of its INSERT.
 use Rattle.std.proofs.Common.{◌≡◌, ◌∙◌, inl, inr, sym, ap, subst, Result, Ok}
 use Rattle.hippo_values.specs.Texts.{Txt}
 use Rattle.hippo_values.specs.declared.names.Name.{Name}
@@ -16,7 +16,7 @@ use Rattle.hippo_engine_checks.specs.Deeds.{Deed}
 use Rattle.hippo_engine_checks.specs.Judging.{judged_change, loaded_insert, judged_load}
 
 module _ (history : History) (world : World) (table : Name) (text : Txt) (known : KnownNames) (names : known ≡ known_at history) where
-  -- at the console a record is judged once its INSERT is found
+  -- at the console a record is judged after its INSERT is found
   at_console : judged_load history world Console table text ≡ (loaded_insert known table text >>= λ insert. judged_change history world Console insert)
   at_console = ap (λ (k : KnownNames). loaded_insert k table text >>= λ insert. judged_change history world Console insert) (sym names)
 

@@ -23,7 +23,7 @@ use Rattle.hippo_engine_checks.proofs.EntryLemmas.{err_of, IsNumber, question_is
 abbrev found_as : Option Entry → Result (Option Entry) ReadFault
 found_as entry = Ok entry
 
--- no entry has the number
+-- no entry has this number
 pub missing_looks : (number : ℤ) (held : State) (keeper : KeeperState) (steps : ℕ) → IsReady true keeper → number_within number held.count ≡ None → LooksUp number (Ok None) held keeper keeper steps steps
 missing_looks number held keeper steps ready none = record {
   call = IsAfterCall-none (reads.reading_as_call (found_as None)) keeper refl ready;
@@ -44,7 +44,7 @@ module _ (number : ℤ) (held : State) (place : ℕ) (in_range : IsNumber number
   back : 1 ≤ place → (place - 1) + 1 ≡ place
   back from = omega (arith, from)
 
-  -- its entry was read, which is a question or none
+  -- the entry was read; it is a question or not
   by_asking : (history : History) (entry : Entry) → HasReadEntry history place (Ok entry) steps steps' → (asks : Bool) → is_question entry.act ≡ asks
       → question_at history number ≡ then_some asks entry → HasLookedUp history number (Ok (then_some asks entry)) steps steps'
   by_asking history entry was true asks is = record { is = is; there = (place - 1, was.entry_is); undamaged = λ other e. absurd cc; few = was.few; idle = was.idle asks }
@@ -62,7 +62,7 @@ module _ (number : ℤ) (held : State) (place : ℕ) (in_range : IsNumber number
         by_asking history entry was (is_question entry.act) refl is;
   }
 
-  -- it was not read
+  -- the entry was not read
   pub unread_looks : (fault : ReadFault) → ReadsEntry place (Err fault) before between steps steps' → LooksUp number (Err fault) held before between steps steps'
   unread_looks fault read = record {
     call = IsAfterCall-as true false (reads.reading_as_call (err_of Entry fault)) (reads.reading_as_call (err_of (Option Entry) fault)) before between (same_call fault) read.call;

@@ -1,4 +1,4 @@
--- What is asked for by whom it is not open to is refused.
+-- A request is refused to a speaker who may not make it.
 use Rattle.std.proofs.Common.{◌≡◌, ◌<◌, ◌≤◌, true, false, length, Err, refl}
 use Rattle.hippo_report.specs.declared.refusal.Refusal.TheVariants.{ConsoleOnly, SessionsOnly}
 use Rattle.hippo_report.specs.declared.speaker.Speaker.{Speaker}
@@ -11,15 +11,15 @@ use Rattle.hippo_engine_checks.specs.Findings.{IsJudged, IsRefused, is_of_sessio
 use Rattle.hippo_engine_checks.proofs.FindingLemmas.{refused_so}
 use Rattle.hippo_engine_checks.proofs.LengthLemmas.{IsSpeaker, console_only_fits, sessions_only_fits}
 
--- what the console alone may ask for
+-- what only the console may ask for
 pub console_only : (who : Speaker) (request : Request) (state : State) (world : World) → IsSpeaker who → IsJudged (make_request who request) state world (Err ConsoleOnly) → IsRefused (make_request who request) ConsoleOnly state world
 console_only who request state world is judged = refused_so (make_request who request) ConsoleOnly state world judged (console_only_fits who is)
 
--- what sessions alone may ask for
+-- what only sessions may ask for
 pub sessions_only : (who : Speaker) (request : Request) (state : State) (world : World) → IsSpeaker who → IsJudged (make_request who request) state world (Err SessionsOnly) → IsRefused (make_request who request) SessionsOnly state world
 sessions_only who request state world is judged = refused_so (make_request who request) SessionsOnly state world judged (sessions_only_fits who is)
 
--- nobody is a session, and nobody is the console
+-- if nobody speaks, the line comes neither from a session nor from the console
 pub no_session : (request : Request) (state : State) (world : World) → is_of_session request ≡ true → IsRefused (make_request Nobody request) SessionsOnly state world
 no_session (logs_in user purpose recipient) state world is = sessions_only Nobody (logs_in user purpose recipient) state world tt (λ history stands. refl)
 no_session logs_out state world is = sessions_only Nobody logs_out state world tt (λ history stands. refl)

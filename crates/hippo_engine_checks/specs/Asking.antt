@@ -1,4 +1,4 @@
--- What is found where a question may be asked.
+-- What the checks of a question find if it may be asked.
 use Rattle.std.specs.Prelude.{◌≡◌, ℕ, ◌+◌, nat_le, Bool, true, false, Option, Some, None, Ok, Err}
 use Rattle.hippo_values.specs.Texts.{Txt}
 use Rattle.hippo_values.specs.declared.moments.Moment.{Moment}
@@ -24,7 +24,7 @@ use Rattle.hippo_engine_checks.specs.Checks.{Checked, refused_if}
 use Rattle.hippo_engine_checks.specs.Deeds.{Deed, Question, question_act}
 use Rattle.hippo_engine_checks.specs.Judging.{text_between, delivery_for, deed_for}
 
--- the question that is asked in a session, whose asker and text are lent
+-- the question that is asked in a session
 abbrev pub question_of : ℕ → Asking → Question
 question_of session asking = record {
   session = session;
@@ -34,14 +34,13 @@ question_of session asking = record {
   query = asking.query;
 }
 
--- the statement that asks so
+-- the statement that asks for an answer in this form
 abbrev pub statement_asked : Handing → RawSelect → ℕ → ℕ → Stmt
 statement_asked Rows select start end = stmt.Select select start end
 statement_asked Records select start end = stmt.Extract select start end
 statement_asked Cursor select start end = stmt.Ask select start end
 
--- the statement of a written question, the command that it is in a session and a text, and its own
--- text
+-- the statement of a written question, the command that it makes in a session, and its own text
 abbrev pub written_statement : WrittenQuestion → Stmt
 written_statement written =
     statement_asked written.handing written.select.now written.start written.end
@@ -53,19 +52,19 @@ written_command session written text =
 abbrev pub written_text : WrittenQuestion → Txt → Txt
 written_text written text = text_between text written.start written.end
 
--- a statement that asks a question
+-- whether a statement asks a question
 abbrev pub is_asking : Stmt → Bool
 is_asking (stmt.Select select start end) = true
 is_asking (stmt.Extract select start end) = true
 is_asking (stmt.Ask select start end) = true
 is_asking statement = false
 
--- the question that a statement asks; none where it asks nothing
+-- the question that a statement asks, or none if it asks nothing
 abbrev pub IsWritten : Stmt → Option WrittenQuestion → Type 0
 IsWritten statement (Some written) = statement ≡ written_statement written
 IsWritten statement None = is_asking statement ≡ false
 
--- how an answer is handed out, where there is room for one entry more
+-- how an answer is delivered, if there is room for one more entry
 abbrev pub delivery_in_room : Handing → Session → ℕ → ℕ → Checked Delivery
 delivery_in_room handing session count limit = do
   delivery ← delivery_for handing session
@@ -76,15 +75,15 @@ abbrev pub asking_with : Asking → Checked Delivery → Checked Asking
 asking_with asking (Ok delivery) = Ok (record asking { delivery = delivery })
 asking_with asking (Err refusal) = Err refusal
 
--- what is to be done for a question that was found
+-- what to do for a question that was found
 abbrev pub deed_asked : ℕ → Asking → Deed
 deed_asked session asking = deed_for asking.asker.now (question_of session asking) asking.delivery
 
--- the entry of a question that comes next
+-- the entry that logs a question, as the next entry
 abbrev pub question_entry : State → Moment → Question → Entry
 question_entry state clock question =
     record { seq = state.count + 1; moment = clock; act = question_act question }
 
--- a query that a state can answer: its tables are kept
+-- a state can answer a query: it keeps the query's tables
 pub record IsAnswerable (state : State) (query : Query) : Type 0 where
   pub tables : AreKeptTables state.tables query.tables

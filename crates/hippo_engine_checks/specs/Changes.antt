@@ -1,5 +1,4 @@
--- What the checks of a statement that changes something find: the entry that it adds, or why it is
--- refused.
+-- What the checks of a changing statement find: the entry that it adds, or why it is refused.
 use Rattle.std.specs.Prelude.{◌≡◌, Result, Ok, MatchResult, ok_or}
 use Rattle.hippo_values.specs.Results.{◌>>=◌}
 use Rattle.hippo_model.specs.declared.entry.Act.{Act}
@@ -17,23 +16,23 @@ use Rattle.hippo_engine_checks.specs.Checks.{Checked, Refuses, unless_refused, h
 use Rattle.hippo_engine_checks.specs.Deeds.{Deed, next_entry}
 use Rattle.hippo_engine_checks.specs.Deeds as deeds
 
--- what a statement asks for, by names and types
+-- what a statement asks for, by its names and types
 abbrev pub wanted_in : KnownNames → Stmt → Checked Wanted
 wanted_in known statement =
     unless_refused (change_refused known statement) (wanted_by known statement) >>=
     λ change. ok_or change BadSyntax
 
--- an act, where the history has room for it
+-- the act, if the history has room for it
 abbrev pub change_in_room : History → World → Act → Checked Deed
 change_in_room history world act = has_room history world >>= λ room. Ok (deeds.change act)
 
--- an entry is the next one, with the act of a judgement
+-- the entry is the next one, with the act that the judgement gives
 pub record IsChange (history : History) (world : World) (judgement : Checked Deed) (entry : Entry)
     : Type 0 where
   pub judged_so : judgement ≡ Ok (deeds.change entry.act)
   pub next : entry ≡ next_entry history world entry.act
 
--- an entry is found that adds what a judgement says, or its refusal, or memory was short
+-- the result is the entry that the judgement adds, or its refusal, or out of memory
 abbrev pub FindsChange : History → World → Checked Deed → Result Entry Refusal → Type 0
 FindsChange history world judgement result =
     MatchResult result (λ entry. IsChange history world judgement entry)

@@ -1,4 +1,4 @@
--- The checks of a line, one after the other; the first that fails refuses it.
+-- The checks of a line, one after the other. The first one that fails refuses the line.
 use Rattle.std.specs.Prelude.{◌≡◌, ◌⊎◌, ℕ, ℤ, pos, Bool, nat_le, if◌then◌else◌, List, [], ◌∷◌, length, find, ◌&&◌, Option, Some, is_some, Result, Ok, Err, ok_or}
 use Rattle.std.specs.Ordering.{int_eq}
 use Rattle.hippo_model.specs.declared.audit.Pair.{Pair}
@@ -23,24 +23,25 @@ use Rattle.hippo_engine_sessions.specs.declared.cursors.Cursor.{Cursor}
 use Rattle.hippo_engine_sessions.specs.declared.sessions.Session.{Session as OpenSession}
 use Rattle.hippo_engine_sessions.specs.Worlds.{World, at_number, session_at}
 
--- what a check finds, or the refusal
+-- the result of a check: what it finds, or a refusal
 abbrev pub Checked : Type 0 → Type 0
 Checked A = Result A Refusal
 
--- a refusal is that of a check, or memory was short
+-- the refusal is the check's, or out of memory
 abbrev pub Refuses : {A : Type 0} → Checked A → Refusal → Type 0
 Refuses checked refusal = (checked ≡ Err refusal) ⊎ (refusal ≡ Memory)
 
--- a check finds something, by what that stands for; or it refuses as is said, or for want of memory
+-- the result, seen through `view`, is what the check finds; or it is the check's refusal, or out of
+-- memory
 abbrev pub Finds : {A B : Type 0} → (A → B) → Checked B → Checked A → Type 0
 Finds view checked (Ok found) = checked ≡ Ok (view found)
 Finds view checked (Err refusal) = Refuses checked refusal
 
--- refused where this holds
+-- refused if the test holds
 abbrev pub refused_if : Bool → Refusal → Checked (Unit {0})
 refused_if test refusal = if test then Err refusal else Ok tt
 
--- only a session may, which has this number; only the console may
+-- only a session may do this, and the check gives its number; only the console may do this
 abbrev pub by_session : Speaker → Checked ℕ
 by_session (Session number) = Ok number
 by_session who = Err SessionsOnly
@@ -49,16 +50,16 @@ abbrev pub by_console : Speaker → Checked (Unit {0})
 by_console Console = Ok tt
 by_console who = Err ConsoleOnly
 
--- the session of this number is open
+-- the session with this number is open
 abbrev pub open_session : World → ℕ → Checked OpenSession
 open_session world number = ok_or (session_at world number) NoSession
 
--- the cursor of this number is open in such a session
+-- the cursor with this number is open in that session
 abbrev pub cursor_in_session : World → ℕ → ℕ → Checked Cursor
 cursor_in_session world number at =
     open_session world number >>= λ session. ok_or (at_number session.cursors at) (NoCursor at)
 
--- no session of this number is open
+-- no session with this number is open
 abbrev pub closed_session : World → ℕ → Checked (Unit {0})
 closed_session world number = refused_if (is_some (session_at world number)) SessionOpen
 
@@ -71,17 +72,17 @@ abbrev pub by_authorized_user : History → Name → Pair → Checked (Unit {0})
 by_authorized_user history user pair =
     allowed_by (authorized_at history user pair.purpose pair.recipient)
 
--- a user may open the session of this number
+-- a user may open the session with this number
 abbrev pub may_log_in : History → World → ℕ → Name → Pair → Checked (Unit {0})
 may_log_in history world number user pair =
     closed_session world number >>= λ _. by_authorized_user history user pair
 
--- a statement means this, or is refused by the first of these
+-- what a statement means, or the first of its faults
 abbrev pub unless_refused : {A : Type 0} → List NameFault → A → Checked A
 unless_refused [] form = Ok form
 unless_refused (fault ∷ more) form = Err (Meaningless fault)
 
--- why the rows that are there do not let a change be made
+-- why the existing rows do not allow a change
 abbrev pub rows_refusal : TableFault → Refusal
 rows_refusal (tables.KeyThere number) = KeyThere number
 rows_refusal tables.KeyMissing = KeyMissing
@@ -91,7 +92,7 @@ abbrev pub act_made : Result Act TableFault → Checked Act
 act_made (Ok act) = Ok act
 act_made (Err fault) = Err (rows_refusal fault)
 
--- the history may have one entry more
+-- the history has room for one more entry
 abbrev pub has_room : History → World → Checked (Unit {0})
 has_room history world = refused_if (nat_le world.limit (length history)) HistoryFull
 
@@ -104,14 +105,14 @@ question_at history number =
 abbrev pub job_at : World → ℕ → Checked OpenAudit
 job_at world at = ok_or (at_number world.jobs at) (NoJob at)
 
--- a job stands at this number
+-- a job has this number
 abbrev pub StandsJob : World → ℕ → Type 0
 StandsJob world number = (job : OpenAudit) × (at_number world.jobs number ≡ Some job)
 
--- a watch stands at this number
+-- a watch has this number
 abbrev pub held_watch : World → ℕ → Checked (Unit {0})
 held_watch world at = ok_or (at_number world.watches at) (NoWatch at) >>= λ audit. Ok tt
 
--- how many bytes of a reply there is always room for
+-- a reply of at most this many bytes always fits
 abbrev pub reply_room : ℕ
 reply_room = 64

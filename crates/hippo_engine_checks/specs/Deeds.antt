@@ -1,4 +1,4 @@
--- What is to be done for a line that is not refused, with what the checks found.
+-- What to do for a line that is not refused, with what the checks found.
 use Rattle.std.specs.Prelude.{ℕ, ◌+◌, length}
 use Rattle.hippo_values.specs.declared.moments.Moment.{Moment}
 use Rattle.hippo_values.specs.declared.names.Name.{Name}
@@ -15,7 +15,7 @@ use Rattle.hippo_engine_sessions.specs.declared.sessions.Session.{Session}
 use Rattle.hippo_engine_sessions.specs.Worlds.{World}
 use Rattle.hippo_audit_job.specs.Jobs.{OpenAudit}
 
--- a question of a session: its text, and what that means
+-- a question of a session: its text, and the query that it means
 pub record Question : Type 0 where
   pub session : ℕ
   pub user : Name
@@ -23,12 +23,12 @@ pub record Question : Type 0 where
   pub text : Txt
   pub query : Query
 
--- the act by which a question is logged
+-- the act that logs a question
 abbrev pub question_act : Question → Act
 question_act question =
     Asked question.user question.pair.purpose question.pair.recipient question.text
 
--- an act as the next entry
+-- the next entry, with this act
 abbrev pub next_entry : History → World → Act → Entry
 next_entry history world act = record { seq = length history + 1; moment = world.clock; act = act }
 
@@ -37,20 +37,21 @@ pub data Deed : Type 0 where
   set_clock : Moment → Deed
   log_in : ℕ → Name → Pair → Deed
   log_out : ℕ → Deed
-  -- of a session with its number, the cursor at a number: so many rows more
+  -- up to this many further rows of a cursor: the session's number, the session, the cursor's
+  -- number, the cursor
   hand_out : ℕ → Session → ℕ → Cursor → ℕ → Deed
   close_cursor : ℕ → Session → ℕ → Deed
-  -- of the job at a number, so many entry numbers more
+  -- up to this many further entry numbers of the job with this number
   step_job : ℕ → OpenAudit → ℕ → Deed
   drop_job : ℕ → Deed
   end_watch : ℕ → Deed
   change : Act → Deed
   answer_question : Question → Deed
-  -- with the number that its cursor gets, in its session
+  -- the number is that of the new cursor in its session
   open_cursor : Session → ℕ → Question → Deed
   extract : Question → Deed
   explain : Entry → Deed
   audit : Audit → Deed
-  -- with the number that the job or the watch gets
+  -- the number is that of the new job or watch
   begin_audit : ℕ → Audit → Deed
   watch : ℕ → Audit → Deed

@@ -1,4 +1,4 @@
--- The entry with a number, read from the history that a keeper keeps.
+-- Reading one entry, by its number, from the history that a keeper keeps.
 use Rattle.std.specs.Prelude.{◌≡◌, ◌≤◌, ℕ, ◌+◌, ◌-◌, ℤ, pos, true, false, if◌then◌else◌, int_lt, nat_le, unsigned_abs, map, length, slice_get, Option, Some, None, Result, Ok, Err, IfOk}
 use Rattle.std.specs.Bool.{then_some}
 use Rattle.hippo_model.specs.declared.entry.Entry.{Entry}
@@ -15,19 +15,20 @@ use Rattle.hippo_replay.specs.declared.state.State.{State}
 use Rattle.hippo_replay.specs.Standing.{StandsFor}
 use Rattle.hippo_model.specs.HandedOver.{is_question}
 
--- the number of one of so many entries
+-- the number as one of this many entries, or none
 abbrev pub number_within : ℤ → ℕ → Option ℕ
 number_within number count =
     if int_lt number (pos 1) then None else then_some (nat_le (unsigned_abs number) count)
     (unsigned_abs number)
 
--- a stored form is that of this entry, which can be kept and has this number
+-- the stored form is that of this entry, which can be stored and has this number
 pub record IsFormOf (number : ℕ) (kept : Option StoredEntry) (entry : Entry) : Type 0 where
   pub form : kept ≡ Some (stored entry)
   pub keepable : is_keepable entry ≡ true
   pub number_is : entry.seq ≡ number
 
--- what stands first with a number is this entry alone; or nothing does, or memory was short
+-- the first of the list is the form of this entry only; or of no entry with the number; or out of
+-- memory
 abbrev pub IsRead : Store → ℕ → Result Entry ReadFault → Type 0
 IsRead list number (Ok entry) =
     (other : Entry) → IsFormOf number (slice_get list 0) other → entry ≡ other
@@ -36,8 +37,8 @@ IsRead list number (Err (Damaged other)) =
     (entry : Entry) → IsFormOf number (slice_get list 0) entry → ⊥
 IsRead list number (Err Memory) = Unit {0}
 
--- the entry of a history with a number was read, in no step where it is a question; or memory was
--- short, or the keeper failed
+-- the entry with a number was read, in no step if it is a question; or out of memory, or the keeper
+-- failed
 pub record HasReadEntry (history : History) (number : ℕ) (result : Result Entry ReadFault)
     (steps steps' : ℕ)
     : Type 0 where

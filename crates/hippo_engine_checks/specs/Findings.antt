@@ -1,5 +1,4 @@
--- What judging a command finds: what is to be done, with what performing it needs; or its first
--- refusal.
+-- What judging a command finds: what to do, with what carrying it out needs; or the first refusal.
 use Rattle.std.specs.Prelude.{◌≡◌, ◌≢◌, ◌≤◌, ◌<◌, ◌^◌, ℕ, ◌+◌, ℤ, Bool, true, false, length, map, slice_get, bytes_eq, Option, Some, None, IfSome, Result, Ok, Err, IfOk}
 use Rattle.std.specs.List.{IsDistinct}
 use Rattle.hippo_values.specs.Texts.{Txt}
@@ -45,21 +44,21 @@ use Rattle.hippo_engine_checks.specs.Checks.{Checked, Refuses, question_at, repl
 use Rattle.hippo_engine_checks.specs.Deeds as deeds
 use Rattle.hippo_engine_checks.specs.Judging.{deed_for, judged}
 
--- what holds of each command that a line gives: a refusal of nobody's line is short, and a
--- statement stands in the line
+-- what holds of each command that comes from a line: if nobody speaks, the refusal is short, and a
+-- statement is part of the line
 abbrev pub IsOfLine : Command → Type 0
 IsOfLine (wrong Nobody refusal) = length (refusal_line Nobody refusal) ≤ reply_room
 IsOfLine (commands.make_statement who statement text) =
     (line : Txt) × StandsIn line statement text
 IsOfLine command = Unit {0}
 
--- a command that takes memory and may be answered by want of it so that nothing changes, in any
--- world: not a step, which leaves its job at some number up to the step's end
+-- a command that takes memory and may fail as out of memory with nothing changed, in any world; not
+-- a step, since a step may stop its job at any number up to the step's end
 abbrev pub may_do_nothing : Command → Bool
 may_do_nothing (make_request who (requests.steps job count)) = false
 may_do_nothing command = takes_memory command
 
--- a session alone asks for these, the console alone for the others
+-- true for the requests that only sessions may make; only the console may make the others
 abbrev pub is_of_session : requests.Request → Bool
 is_of_session (requests.logs_in user purpose recipient) = true
 is_of_session requests.logs_out = true
@@ -67,13 +66,13 @@ is_of_session (requests.fetches cursor count) = true
 is_of_session (requests.closes cursor) = true
 is_of_session request = false
 
--- a command is judged so, whatever history the state stands for
+-- the judgement of a command, for every history that the state stands for
 abbrev pub IsJudged : Command → State → World → Checked deeds.Deed → Type 0
 IsJudged command state world judgement =
     (history : History) → StandsFor state history
     → judged history world command ≡ judgement
 
--- a command is refused, or memory was short, if it takes any; where it may not be answered so, its
+-- the command is refused, or fails as out of memory if it takes any; if it may not fail so, its
 -- refusal is short
 pub record IsRefused (command : Command) (refusal : Refusal) (state : State) (world : World)
     : Type 0 where
@@ -83,7 +82,7 @@ pub record IsRefused (command : Command) (refusal : Refusal) (state : State) (wo
   pub short : may_do_nothing command ≡ false
       → length (refusal_line (who_commands command) refusal) ≤ reply_room
 
--- the cursor at a number of an open session
+-- the cursor with a number in an open session
 pub record HoldsCursor (world : World) (session at : ℕ) (holds : Session → Cursor → Type 0)
     : Type 0 where
   pub held : Session
@@ -92,13 +91,13 @@ pub record HoldsCursor (world : World) (session at : ℕ) (holds : Session → C
   pub stands : at_number held.cursors at ≡ Some cursor
   pub does : holds held cursor
 
--- the job at a number
+-- the job with a number
 pub record HoldsJob (world : World) (number : ℕ) (holds : OpenAudit → Type 0) : Type 0 where
   pub job : OpenAudit
   pub there : at_number world.jobs number ≡ Some job
   pub does : holds job
 
--- an entry is the next one, and may follow
+-- the entry is the next one, and may follow the history
 pub record AddsNextEntry (command : Command) (entry : Entry) (state : State) (world : World)
     : Type 0 where
   pub console : who_commands command ≡ Console
@@ -108,7 +107,7 @@ pub record AddsNextEntry (command : Command) (entry : Entry) (state : State) (wo
   pub number : entry.seq < 2 ^ 63
   pub follows : MayFollow state entry
 
--- a question of an open session, by its asker
+-- the question of an open session, with its asker
 abbrev pub question_by : Session → Question → deeds.Question
 question_by asker question = record {
   session = question.session;
@@ -118,7 +117,7 @@ question_by asker question = record {
   query = question.query;
 }
 
--- a question can be answered, and its entry may follow
+-- a question can be answered, and its entry may follow the history
 pub record MayBeAsked (command : Command) (question : Question) (delivery : Delivery)
     (state : State) (world : World)
     : Type 0 where
@@ -132,12 +131,12 @@ pub record MayBeAsked (command : Command) (question : Question) (delivery : Deli
   pub below : state.count + 1 < 2 ^ 63
   pub follows : MayFollow state (question_entry state world.clock (question_by asker question))
 
--- an audit of the history
+-- the audit is an audit of every history that the state stands for
 pub record IsAuditOfState (audit : Audit) (state : State) : Type 0 where
   pub fits : (history : History) → StandsFor state history → IsAuditOf history audit
   pub differ : IsDistinct bytes_eq audit.tables
 
--- what is to be done for a command, and what performing it needs
+-- what to do for a command, and what carrying it out needs
 abbrev pub Does : Command → Deed → State → World → Type 0
 Does command kinds.DoNothing state world = IsJudged command state world (Ok deeds.do_nothing)
 Does command (kinds.SetClock moment) state world =
@@ -181,17 +180,17 @@ Does command (kinds.Watch number audit) state world =
     × (command ≡ commands.make_statement Console (stmt.Watch written) text))
     × IsAuditOfState audit state × IsJudged command state world (Ok (deeds.watch number audit))
 
--- a command that names no logged question does this, or is refused
+-- a command that names no logged question gives this deed, or is refused
 abbrev pub FindsDeed : Command → Result Deed Refusal → State → World → Type 0
 FindsDeed command (Ok deed) state world = Does command deed state world
 FindsDeed command (Err refusal) state world = IsRefused command refusal state world
 
--- the statement that begins a job, or sets a watch
+-- the statement that begins a job or sets a watch
 abbrev pub begins : LastingAudit → RawAudit → Stmt
 begins Job written = stmt.BeginAudit written
 begins Watch written = stmt.Watch written
 
--- why there is no further one
+-- the refusal when there is no number left
 abbrev pub limit_of : LastingAudit → Refusal
 limit_of Job = JobLimit
 limit_of Watch = WatchLimit
@@ -200,18 +199,18 @@ abbrev pub begun_at : LastingAudit → ℕ → Audit → Deed
 begun_at Job number audit = kinds.BeginAudit number audit
 begun_at Watch number audit = kinds.Watch number audit
 
--- it gets the number that is free; or none is, and that refuses it
+-- it gets the free number; if there is none, it is refused
 abbrev pub begun_with : LastingAudit → Audit → Option ℕ → Checked Deed
 begun_with lasting audit (Some number) = Ok (begun_at lasting number audit)
 begun_with lasting audit None = Err (limit_of lasting)
 
--- the lowest number that is free for it
+-- the lowest free number for it
 abbrev pub free_to_begin : LastingAudit → World → Option ℕ
 free_to_begin Job world = free_number world.jobs
 free_to_begin Watch world = free_number world.watches
 
--- the question with a number was looked up in a history, or memory was short, or the keeper failed;
--- no step is taken for one that is there
+-- the question with a number was looked up in a history, in no step if it is there; or out of
+-- memory, or the keeper failed
 pub record HasLookedUp (history : History) (number : ℤ) (result : Result (Option Entry) ReadFault)
     (steps steps' : ℕ)
     : Type 0 where
@@ -222,7 +221,7 @@ pub record HasLookedUp (history : History) (number : ℤ) (result : Result (Opti
   pub few : steps' ≤ steps + versions history
   pub idle : IfOk result (λ entry. IfSome entry (λ one. steps' ≡ steps))
 
--- looking up the question with a number in the history that is kept
+-- looking up the question with a number in the kept history
 pub record LooksUp (number : ℤ) (result : Result (Option Entry) ReadFault) (state : State)
     (before after : KeeperState)
     (steps steps' : ℕ) : Type 0 where
@@ -232,7 +231,8 @@ pub record LooksUp (number : ℤ) (result : Result (Option Entry) ReadFault) (st
       → StandsFor state history
       → HasLookedUp history number result steps steps'
 
--- the console asks why cells were denied to the question with a number, and that is looked up
+-- the console asks why cells were denied to the question with a number, and that question is looked
+-- up
 pub record LooksUpFor (command : Command) (number : ℤ) (result : Result (Option Entry) ReadFault)
     (state : State)
     (before after : KeeperState) (steps steps' : ℕ) : Type 0 where
@@ -240,7 +240,8 @@ pub record LooksUpFor (command : Command) (number : ℤ) (result : Result (Optio
   pub is : command ≡ commands.make_statement Console (stmt.Explain number) text
   pub looks : LooksUp number result state before after steps steps'
 
--- what judging a command comes to: a question's entry or none was looked up, or nothing was read
+-- the result of judging a command: a question's entry was looked up or found missing, or nothing
+-- was read
 abbrev pub Judges : Command → Result Deed Unjudged → State → World → KeeperState → KeeperState
     → ℕ → ℕ → Type 0
 Judges command (Ok (kinds.Explain entry)) state world before after steps steps' =
@@ -253,12 +254,12 @@ Judges command (Err (NoQuestion number)) state world before after steps steps' =
 Judges command (Err (Unread fault)) state world before after steps steps' =
     (number : ℤ) × LooksUpFor command number (Err fault) state before after steps steps'
 
--- what was found without reading
+-- a result that was found without reading
 abbrev pub without_reading : Result Deed Refusal → Result Deed Unjudged
 without_reading (Ok deed) = Ok deed
 without_reading (Err refusal) = Err (Refused refusal)
 
--- nothing was read for what was found
+-- nothing was read to find this result
 abbrev pub is_still : Result Deed Unjudged → Bool
 is_still (Ok (kinds.Explain entry)) = false
 is_still (Ok deed) = true

@@ -1,4 +1,4 @@
--- What is to be done for a command, or the first refusal that holds.
+-- What to do for a command, or the first refusal that applies.
 use Rattle.std.specs.Prelude.{ℕ, ◌-◌, ℤ, int_lt, [], take, drop, length, slice_get, option_map, Ok, Err, ok_or}
 use Rattle.std.specs.Option.{option_map_or}
 use Rattle.std.specs.Result.{result_map_both}
@@ -92,7 +92,7 @@ judged_unwatch world who at = do
   audit ← ok_or (at_number world.watches at) (NoWatch at)
   Ok (deeds.end_watch at)
 
--- what is wanted is made, where the rows that are there let it be, and the history has room
+-- the change is made if the existing rows allow it and the history has room
 abbrev pub judged_wanted : History → World → Wanted → Checked Deed
 judged_wanted history world wanted = do
   act ← act_made (finished_act history wanted)
@@ -108,31 +108,31 @@ judged_change history world who statement = do
   wanted ← ok_or change BadSyntax
   judged_wanted history world wanted
 
--- the name of the column at a place
+-- the name of the column at a place, or an empty name
 abbrev pub schema_column_name : Schema → ℕ → Name
 schema_column_name schema place =
     option_map_or (λ column. column.name) (slice_get schema.columns place) []
 
--- why the fields of a record are no row of a table
+-- why the fields of a record do not give a row of a table
 abbrev pub record_refusal : Schema → CsvFault → Refusal
 record_refusal schema csv.Count = Meaningless (faults.WrongCount (length schema.columns))
 record_refusal schema (csv.Field place) = BadField (schema_column_name schema place)
 record_refusal schema csv.Memory = Memory
 
--- the row of a table that a text is, as one record
+-- the row of a table that a text gives as one record
 abbrev pub loaded_row : Schema → Txt → Checked Row
 loaded_row schema text = do
   fields ← ok_or (record_fields text) BadRecord
   result_map_both (λ row. row) (record_refusal schema) (row_of_fields schema fields)
 
--- the INSERT of that row
+-- the INSERT of the record's row
 abbrev pub loaded_insert : KnownNames → Name → Txt → Checked Stmt
 loaded_insert known table text = do
   schema ← ok_or (table_of known table) (Meaningless (faults.UnknownTable table))
   row ← loaded_row schema text
   Ok (stmt.Insert table row)
 
--- a record that is loaded into a table is judged as its INSERT
+-- a record that is loaded into a table is judged like the INSERT of its row
 abbrev pub judged_load : History → World → Speaker → Name → Txt → Checked Deed
 judged_load history world who table text = do
   console ← by_console who
@@ -143,7 +143,7 @@ judged_load history world who table text = do
 abbrev pub text_between : Txt → ℕ → ℕ → Txt
 text_between text start end = take (end - start) (drop start text)
 
--- an authorized question of the session with a number, that means something
+-- the question of an open session, if its user is authorized and it means something
 abbrev pub question_in : History → World → ℕ → RawSelect → Txt → Checked Question
 question_in history world number select text = do
   session ← open_session world number
@@ -158,7 +158,7 @@ question_in history world number select text = do
     query = query;
   })
 
--- how an answer is handed out: an OPEN wants a free cursor of its session
+-- how an answer is delivered; an OPEN needs a free cursor in its session
 abbrev pub delivery_for : Handing → Session → Checked Delivery
 delivery_for Rows session = Ok delivered.Rows
 delivery_for Records session = Ok delivered.Records
@@ -186,7 +186,7 @@ judged_explain history who question = do
   entry ← ok_or (question_at history question) (NoSuchQuery question)
   Ok (deeds.explain entry)
 
--- an audit expression that means something
+-- the audit that an audit expression of the console means
 abbrev pub audit_in : History → Speaker → RawAudit → Checked Audit
 audit_in history who audit = do
   console ← by_console who
@@ -236,7 +236,7 @@ judged_request history world who (drops job) = judged_drop world who job
 judged_request history world who (unwatches watch) = judged_unwatch world who watch
 judged_request history world who (loads table text) = judged_load history world who table text
 
--- what is to be done for a command, or why not
+-- what to do for a command, or why not
 abbrev pub judged : History → World → Command → Checked Deed
 judged history world nothing = Ok deeds.do_nothing
 judged history world (wrong who refusal) = Err refusal

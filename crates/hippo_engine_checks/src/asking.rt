@@ -1,4 +1,4 @@
-//! Questions of sessions: what is to be done for each, or why it may not be asked.
+//! Checks of the questions that sessions ask: what to do for each, or why it is refused.
 ghost use Rattle.std.specs.Prelude.{◌≡◌, ◌+◌, ◌<◌, ◌≤◌, ◌^◌, length, true, MatchResult, IfOk, OnOk};
 ghost use Rattle.std.specs.Prelude.{Ok as Good, Err as Bad};
 ghost use Rattle.hippo_values.specs.Limits.{line_limit};
@@ -30,8 +30,8 @@ use hippo_typing_laws::{moment_fits, name_fits};
 use hippo_values::{Boxed, LINE_LIMIT};
 use std::alloc::Global;
 
-/// What a question wants its answer to be: rows or records, which are the reply, or a cursor that
-/// holds it.
+/// The form in which a question wants its answer: as rows or as records in the reply, or in a
+/// cursor.
 #[derive(Clone, Copy, PartialEq, Eq)]
 pub enum Handing {
     Rows,
@@ -39,8 +39,8 @@ pub enum Handing {
     Cursor,
 }
 
-/// A question as it is written: its select, what its answer is to be, and where it begins and ends
-/// in its text, in bytes.
+/// A question as the line writes it: its select, the form that it wants for its answer, and where
+/// it begins and ends in the text, as byte offsets.
 #[derive(Clone, Copy)]
 pub struct WrittenQuestion<'a> {
     pub handing: Handing,
@@ -49,7 +49,8 @@ pub struct WrittenQuestion<'a> {
     pub end: usize,
 }
 
-/// How an answer is handed out: as wanted, with the number of the cursor that is to hold it.
+/// How the answer is delivered: in the form that the question wants and, for a cursor, with the
+/// cursor's number.
 #[derive(Clone, Copy, PartialEq, Eq)]
 pub enum Delivery {
     Rows,
@@ -57,8 +58,8 @@ pub enum Delivery {
     Cursor(u8),
 }
 
-/// A question that may be asked: by whom, its text, the query that it means, and how its answer is
-/// handed out.
+/// A question that passed its checks: who asks, its text, the query that it means, and how its
+/// answer is delivered.
 #[derive(Drop)]
 pub struct Asking<'a> {
     pub asker: &'a Session,
@@ -67,7 +68,7 @@ pub struct Asking<'a> {
     pub delivery: Delivery,
 }
 
-/// The question that a statement asks; none where it asks nothing.
+/// The question that a statement asks, or none if the statement asks nothing.
 pub(crate) fn written_question(statement: &Stmt) -> Option<WrittenQuestion<'_>>
     ensures { IsWritten statement.now result }
 {
@@ -85,8 +86,8 @@ pub(crate) fn written_question(statement: &Stmt) -> Option<WrittenQuestion<'_>>
     })
 }
 
-// The part of a text that is a question; one that cannot be cut out, or is longer than a line, is
-// answered by want of memory.
+// The part of a text that is the question. If it cannot be cut out, or is longer than a line, the
+// refusal is out of memory.
 fn cut(text: &str, start: usize, end: usize) -> Result<&str, Refusal>
     ensures cut { MatchResult result (λ cut. cut.now ≡ text_between text.now start end)
         (λ refusal. refusal ≡ NoMemory) }
@@ -103,7 +104,7 @@ fn cut(text: &str, start: usize, end: usize) -> Result<&str, Refusal>
     }
 }
 
-// Who asks in a session.
+// The session that asks.
 fn asker<W: WorldView>(world: &W, session: u8) -> Result<&Session, Refusal>
     ensures { MatchResult result (λ asker. open_session (W.seen world.now) session
         ≡ Good asker.now)
@@ -127,7 +128,8 @@ fn meaning(alloc: Global, state: &State, select: &RawSelect) -> Result<Boxed<Que
     }
 }
 
-// A number that a cursor may have; one that none has is answered by want of memory.
+// The number as one that a cursor can have. If it is too large for one, the refusal is out of
+// memory.
 fn cursor_number(number: usize) -> Result<Delivery, Refusal>
     ensures { MatchResult result (λ delivery. delivery ≡ delivered.Cursor number)
         (λ refusal. refusal ≡ NoMemory) }
@@ -147,7 +149,7 @@ fn free_cursor(asker: &Session) -> Result<Delivery, Refusal>
     }
 }
 
-// How an answer is handed out.
+// How the answer is delivered.
 fn delivery_for(handing: Handing, asker: &Session) -> Result<Delivery, Refusal>
     ensures { Finds (λ delivery. delivery) (delivery_for handing asker.now) result }
 {
@@ -158,7 +160,7 @@ fn delivery_for(handing: Handing, asker: &Session) -> Result<Delivery, Refusal>
     }
 }
 
-// How an answer is handed out, where the history has room for an entry more.
+// How the answer is delivered, if the history has room for one more entry.
 fn delivery_in_room(
     handing: Handing,
     asker: &Session,
@@ -174,7 +176,7 @@ fn delivery_in_room(
     Ok(delivery)
 }
 
-// A question whose answer is handed out so; it falls where that is refused.
+// The question with this delivery. If the delivery is refused, the question is dropped.
 fn with_delivery(
     asking: Asking<'_>,
     delivery: Result<Delivery, Refusal>,
@@ -190,7 +192,7 @@ fn with_delivery(
     }
 }
 
-// What a question asks whose own text is cut out.
+// The checks of a question whose own text is already cut out.
 fn question<'a, W: WorldView>(
     alloc: Global,
     state: &State,
@@ -223,7 +225,8 @@ fn question<'a, W: WorldView>(
     with_delivery(asking, delivery)
 }
 
-// By their types who asks, and what for, are named in lower case.
+// The types of the user, the purpose and the recipient guarantee that these names are in lower
+// case.
 fn names_fit(asker: &Session)
     ensures { names_fit asker.now.user asker.now.pair.purpose asker.now.pair.recipient ≡ true }
 {
@@ -232,7 +235,7 @@ fn names_fit(asker: &Session)
     name_fits(&asker.pair.recipient);
 }
 
-// What is to be done for a question, whose text is the line's own.
+// What to do for a question. Its text is borrowed from the line.
 fn deed_of<'t>(session: u8, text: &'t str, asking: Asking<'_>) -> Deed<'t>
     ensures { result ≡ Ask (record {
       session = session;
@@ -252,10 +255,9 @@ fn deed_of<'t>(session: u8, text: &'t str, asking: Asking<'_>) -> Deed<'t>
     }
 }
 
-/// What is to be done for a SELECT, an EXTRACT or an OPEN that stands in a text, or why it may not
-/// be asked: its session has to be open, its user still authorized, its names and types have to
-/// mean something, an OPEN's session has to have a cursor left, and the history has to have room.
-/// Want of memory may refuse it, too.
+/// What to do for a SELECT, an EXTRACT or an OPEN in a text. It is refused unless its session is
+/// open, the user is still authorized, its names and types are valid, an OPEN finds a free cursor
+/// in its session, and the history has room. It may also be refused when out of memory.
 pub(crate) fn judge_question<'t, W: WorldView>(
     alloc: Global,
     state: &State,

@@ -1,4 +1,4 @@
-//! Audit expressions of the console: what each means, or why it is refused.
+//! Checks of the console's audit expressions: what each means, or why it is refused.
 ghost use Rattle.std.specs.Prelude.{◌≡◌, [], bytes_eq, IfOk};
 ghost use Rattle.std.specs.List.{IsDistinct};
 ghost use Rattle.hippo_model.specs.Terms.{History};
@@ -20,7 +20,7 @@ use hippo_typing_catalog::Catalog;
 use hippo_values::Boxed;
 use std::alloc::Global;
 
-// What an audit expression means, by names, types and period.
+// The audit that an audit expression means, after a check of its names, types and period.
 fn meaning(alloc: Global, catalog: &Catalog, written: &RawAudit) -> Result<Boxed<Audit>, Refusal>
     ensures found { let period = period_in written.now in Finds (λ audit. audit)
         (unless_refused (audit_refused catalog.now.names period written.now)
@@ -35,8 +35,8 @@ fn meaning(alloc: Global, catalog: &Catalog, written: &RawAudit) -> Result<Boxed
     }
 }
 
-/// The audit that an audit expression of the console means; or its first refusal: that its names,
-/// types or period are wrong. Want of memory may refuse it, too.
+/// The audit that an audit expression of the console means, or its first refusal: its names, types
+/// or period are wrong. It may also be refused when out of memory.
 pub(crate) fn audit_in(
     alloc: Global,
     state: &State,

@@ -1,4 +1,5 @@
-//! Statements that change something: the entry that each adds to the history, or why it is refused.
+//! Checks of the statements that change something: the entry that each adds to the history, or why
+//! it is refused.
 ghost use Rattle.std.specs.Prelude.{◌≡◌, ◌^◌, ◌<◌, true, length, IfOk};
 ghost use Rattle.hippo_values.specs.Moments.{is_moment};
 ghost use Rattle.hippo_model.specs.Terms.{History};
@@ -34,7 +35,7 @@ fn rows_refusal(fault: TableFault) -> Refusal
     }
 }
 
-// What a statement asks for, by names and types.
+// What a statement asks for, after a check of its names and types.
 fn check_names(alloc: Global, catalog: &Catalog, statement: &Stmt) -> Result<Wanted, Refusal>
     ensures { Finds (λ found. found) (wanted_in catalog.now.names statement.now) result }
 {
@@ -44,7 +45,7 @@ fn check_names(alloc: Global, catalog: &Catalog, statement: &Stmt) -> Result<Wan
     }
 }
 
-// What is wanted is made, where the rows that are there let it be.
+// The act that makes the change, if the existing rows allow it.
 fn check_rows(alloc: Global, tables: &Tables, wanted: Wanted) -> Result<Act, Refusal>
     ensures { (history : History) → TablesStandFor tables.now history
         → Finds (λ found. found) (act_made (finished_act history wanted)) result }
@@ -55,7 +56,7 @@ fn check_rows(alloc: Global, tables: &Tables, wanted: Wanted) -> Result<Act, Ref
     }
 }
 
-// The next entry with an act, where the history has room for it.
+// The next entry, with this act, if the history has room for it.
 fn entry_in_room<W: WorldView>(
     alloc: Global,
     count: u64,
@@ -82,7 +83,7 @@ fn entry_in_room<W: WorldView>(
     }
 }
 
-// The entry that makes what is wanted, where rows and room let it be.
+// The entry that makes the change, if the existing rows and the room in the history allow it.
 fn entry_wanted<W: WorldView>(
     alloc: Global,
     state: &State,
@@ -101,7 +102,7 @@ fn entry_wanted<W: WorldView>(
     }
 }
 
-// The entry that a statement which changes something adds, or its first refusal.
+// The entry that a changing statement adds, or its first refusal.
 fn entry_for<W: WorldView>(
     alloc: Global,
     state: &State,
@@ -120,10 +121,9 @@ fn entry_for<W: WorldView>(
     }
 }
 
-/// The entry that a statement of the console which changes something adds: the next one, with the
-/// clock's moment. It may follow the history. Or its first refusal: that its names or types are
-/// wrong, that the rows which are there do not let it be, or that the history is full. Want of
-/// memory may refuse it, too.
+/// The entry that a changing statement of the console adds: the next one, with the clock's moment.
+/// It may follow the history. Or its first refusal: its names or types are wrong, the existing rows
+/// do not allow it, or the history is full. It may also be refused when out of memory.
 pub(crate) fn entry_of_change<W: WorldView>(
     alloc: Global,
     state: &State,

@@ -1,11 +1,11 @@
-//! What is to be done for a line that is not refused.
+//! What to do for a line that is not refused.
 use crate::asking::Delivery;
 use hippo_backlog::ReadFault;
 use hippo_model::{Audit, Entry, Pair, Query};
 use hippo_report::Refusal;
 use hippo_values::{Boxed, Moment, Name};
 
-/// A question of an open session: its text, which is the line's own, and what that means.
+/// A question of an open session: its text, borrowed from the line, and the query that it means.
 #[derive(Drop)]
 pub struct Question<'a> {
     pub session: u8,
@@ -13,8 +13,8 @@ pub struct Question<'a> {
     pub query: Boxed<Query>,
 }
 
-/// What is to be done for a line, with what the checks found. Sessions, cursors, jobs and watches
-/// are told by their numbers. What is large is boxed, since a deed is moved often.
+/// What to do for a line, with what the checks found. Sessions, cursors, jobs and watches are given
+/// by their numbers. Large values are boxed, since a deed is moved often.
 #[derive(Drop)]
 pub enum Deed<'a> {
     DoNothing,
@@ -29,7 +29,7 @@ pub enum Deed<'a> {
     LogOut {
         session: u8,
     },
-    /// So many further rows of a cursor of a session.
+    /// Return up to `count` further rows of a session's cursor.
     HandOut {
         session: u8,
         cursor: u8,
@@ -39,7 +39,7 @@ pub enum Deed<'a> {
         session: u8,
         cursor: u8,
     },
-    /// So many further entry numbers of a job.
+    /// Let a job look at up to `count` further entry numbers.
     StepJob {
         job: u8,
         count: u32,
@@ -50,41 +50,41 @@ pub enum Deed<'a> {
     EndWatch {
         watch: u8,
     },
-    /// The entry that is added.
+    /// Add this entry.
     Change {
         entry: Boxed<Entry>,
     },
-    /// The question that is asked, and how its answer is handed out.
+    /// Answer this question, and deliver its answer in this way.
     Ask {
         question: Question<'a>,
         delivery: Delivery,
     },
-    /// The entry of the question that is explained.
+    /// Explain the question whose entry this is.
     Explain {
         entry: Boxed<Entry>,
     },
     Audit {
         audit: Boxed<Audit>,
     },
-    /// With the number that the job gets.
+    /// Begin a job with this number.
     BeginAudit {
         job: usize,
         audit: Boxed<Audit>,
     },
-    /// With the number that the watch gets.
+    /// Set a watch with this number.
     Watch {
         watch: usize,
         audit: Boxed<Audit>,
     },
 }
 
-/// Why nothing is to be done for a line.
+/// Why there is nothing to do for a line.
 #[derive(Drop)]
 pub enum Unjudged {
-    /// Its first refusal, or want of memory.
+    /// The line's first refusal, or out of memory.
     Refused(Refusal),
     /// No question has the number that an EXPLAIN of the console names.
     NoQuestion(i64),
-    /// The entry with that number was not read.
+    /// The question's entry could not be read.
     Unread(ReadFault),
 }

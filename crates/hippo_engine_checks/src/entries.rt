@@ -1,4 +1,4 @@
-//! The entry with a number, read from the history that a keeper keeps.
+//! Reads one entry, by its number, from the history that a keeper keeps.
 ghost use Rattle.std.specs.Prelude.{◌≡◌, ◌≤◌, ◌∷◌, [], true, MatchResult};
 ghost use Rattle.std.specs.Bool.{then_some};
 ghost use Rattle.hippo_keeper.specs.Keeping.{IsReady};
@@ -15,7 +15,7 @@ use hippo_values::{Boxed, Memory};
 use std::alloc::Global;
 use std::sync::ledger::Ledger;
 
-// A number as that of one of so many entries; none where it is below one or above their count.
+// The number as an entry number, or none if it is below 1 or above the number of entries.
 fn number_in(number: &i64, count: u64) -> Option<u64>
     ensures { result ≡ number_within number.now count }
 {
@@ -33,7 +33,7 @@ fn is_question(act: &Act) -> bool
     matches!(act, Act::Asked { .. })
 }
 
-// An entry in its box, or want of memory for that.
+// The entry in a box, or out of memory.
 fn boxed(alloc: Global, entry: Entry) -> Result<Boxed<Entry>, ReadFault>
     ensures { MatchResult result (λ boxed. boxed ≡ entry) (λ fault. fault ≡ ReadFault.Memory) }
 {
@@ -43,7 +43,7 @@ fn boxed(alloc: Global, entry: Entry) -> Result<Boxed<Entry>, ReadFault>
     }
 }
 
-// The entry with a number that a stored form is.
+// The entry with a number, decoded from its stored form.
 fn entry_of(alloc: Global, kept: &StoredEntry, number: u64) -> Result<Boxed<Entry>, ReadFault>
     ensures { IsRead (kept.now ∷ []) number result }
 {
@@ -61,7 +61,7 @@ fn entry_of(alloc: Global, kept: &StoredEntry, number: u64) -> Result<Boxed<Entr
     }
 }
 
-// The entry with a number, where it stands first.
+// The entry with a number, if it is the first of the list.
 fn first_entry(alloc: Global, list: &[StoredEntry], number: u64) -> Result<Boxed<Entry>, ReadFault>
     ensures { IsRead list.now number result }
 {
@@ -71,9 +71,9 @@ fn first_entry(alloc: Global, list: &[StoredEntry], number: u64) -> Result<Boxed
     }
 }
 
-// The entry with a number in the history that a keeper keeps. Or a fault: `Keeper` only where the
-// keeper failed, `Damaged` only where it does not tell what it keeps, or want of memory. A version
-// that is read counts as a step.
+// The entry with a number in the history that a keeper keeps. Or a fault: out of memory, `Keeper`
+// only if the keeper failed, or `Damaged` only if the store is not transparent. Each version that
+// is read counts as a step.
 fn read_entry<P: Keeper, L: Ledger>(
     alloc: Global,
     keeper: &mut P,
@@ -95,7 +95,7 @@ fn read_entry<P: Keeper, L: Ledger>(
     }
 }
 
-// An entry, if it is a question.
+// The entry if it is a question, otherwise none.
 fn if_question(entry: Boxed<Entry>) -> Option<Boxed<Entry>>
     ensures { result ≡ then_some (is_question entry.act) entry }
 {
@@ -107,8 +107,8 @@ fn if_question(entry: Boxed<Entry>) -> Option<Boxed<Entry>>
     }
 }
 
-/// The question with a number in the history that a keeper keeps; none where no question has it. Or
-/// a fault, as reading an entry has it. A version that is read counts as a step.
+/// The question with a number in the history that a keeper keeps, or none if no question has that
+/// number. Or a fault, as for reading an entry. Each version that is read counts as a step.
 pub(crate) fn question_at<P: Keeper, L: Ledger>(
     alloc: Global,
     keeper: &mut P,

@@ -1,4 +1,4 @@
-//! What is to be done for what a line commands, or why not.
+//! What to do for a command, or why not.
 ghost use Rattle.std.specs.Prelude.{◌≡◌, true};
 ghost use Rattle.hippo_keeper.specs.Keeping.{IsReady};
 ghost use Rattle.hippo_stmt_lines.specs.Commands as commands;
@@ -17,7 +17,7 @@ use hippo_stmt_lines::Command;
 use std::alloc::Global;
 use std::sync::ledger::Ledger;
 
-/// Who the line of a command speaks for.
+/// For whom the line of a command speaks.
 pub fn who_commands(found: &Command<'_>) -> Speaker
     ensures { result ≡ commands.who_commands (command found.now) }
 {
@@ -30,9 +30,9 @@ pub fn who_commands(found: &Command<'_>) -> Speaker
     }
 }
 
-/// What is to be done for a command, or why not: its first refusal, or want of memory. An EXPLAIN
-/// of the console looks up its question in what the keeper keeps, where each version that is read
-/// counts as a step; nothing else reads.
+/// What to do for a command, or why not: its first refusal, or out of memory. An EXPLAIN of the
+/// console looks up its question in the keeper's history, where each version that is read counts as
+/// a step. No other command reads the history.
 pub fn judge<'t, P: Keeper, L: Ledger, W: WorldView>(
     alloc: Global,
     state: &State,

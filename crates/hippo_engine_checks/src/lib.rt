@@ -1,4 +1,4 @@
-//! What is to be done for a line, or its first refusal.
+//! Decides what to do for a line, or finds its first refusal.
 #![tactic(auto)]
 
 mod asking;

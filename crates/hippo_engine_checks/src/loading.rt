@@ -1,4 +1,4 @@
-//! Records that are loaded: each is an INSERT of its row.
+//! Checks of records that are loaded. Each is an INSERT of its row.
 ghost use Rattle.std.specs.Prelude.{◌≡◌, ◌⊎◌, ◌^◌, ◌<◌, ◌&&◌, true, IfOk};
 ghost use Rattle.std.specs.List.{list_all};
 ghost use Rattle.std.specs.Result.{result_map_both};
@@ -32,7 +32,7 @@ use hippo_typing_laws::name_fits;
 use hippo_values::{Boxed, DayNumber, Memory, Name, Value};
 use std::alloc::Global;
 
-// The refusal of the field at a place, which names its column.
+// The refusal of the field at a place. It names the field's column.
 fn field_refusal(alloc: Global, schema: &Schema, place: usize) -> Refusal
     ensures { (result ≡ record_refusal schema.now (fields.Field place)) ⊎ (result ≡ NoMemory) }
 {
@@ -55,7 +55,7 @@ fn record_refusal(alloc: Global, schema: &Schema, fault: CsvFault) -> Refusal
     }
 }
 
-// The row that fields are, or why they are none.
+// The row that the fields of a record give, or why they give none.
 fn row_of(alloc: Global, schema: &Schema, fields: &Fields) -> Result<Cells, Refusal>
     ensures { Finds (λ row. row)
         (result_map_both (λ row. row) (record_refusal schema.now)
@@ -67,7 +67,7 @@ fn row_of(alloc: Global, schema: &Schema, fields: &Fields) -> Result<Cells, Refu
     }
 }
 
-// The row that a text is, as one record.
+// The row that a text gives as one record.
 fn loaded_row(alloc: Global, schema: &Schema, text: &str) -> Result<Cells, Refusal>
     ensures { Finds (λ row. row) (loaded_row schema.now text.now) result }
 {
@@ -78,8 +78,8 @@ fn loaded_row(alloc: Global, schema: &Schema, text: &str) -> Result<Cells, Refus
     }
 }
 
-// By their types each number has 64 bits, each text is UTF-8, and each day is one of the years 0001
-// to 9999: nothing of them is looked at.
+// The types guarantee that each number has 64 bits, each text is UTF-8, and each day lies in the
+// years 0001 to 9999. These functions look at none of it.
 fn number_fits(_number: i64)
     ensures { is_signed_number _number ≡ true }
 {}
@@ -120,7 +120,7 @@ fn insert_fits(table: &Name, values: &[Value])
     values_fit(values);
 }
 
-// There is no table of this name.
+// The refusal that no table has this name.
 fn unknown_table(alloc: Global, table: &Name) -> Refusal
     ensures { (result ≡ refusals.Meaningless (faults.UnknownTable table.now)) ⊎ (result ≡ NoMemory) }
 {
@@ -130,7 +130,7 @@ fn unknown_table(alloc: Global, table: &Name) -> Refusal
     }
 }
 
-// The INSERT of that row into a table.
+// The INSERT of the record's row into a table.
 fn insert_into(alloc: Global, catalog: &Catalog, table: Name, text: &str) -> Result<Stmt, Refusal>
     ensures found { Finds (λ insert. insert) (loaded_insert catalog.now.names table text.now)
         result }
@@ -162,16 +162,17 @@ fn insert_of(
     }
 }
 
-/// A record for a table, as a line has it.
+/// A record to load into a table, as the line writes it.
 #[derive(Clone, Copy)]
 pub(crate) struct Record<'a> {
     pub(crate) table: &'a WrittenName<'a>,
     pub(crate) text: &'a str,
 }
 
-/// The entry that a record for a table adds, which is that of its row's INSERT and may follow the
-/// history. Or its first refusal: that there is no such table, that the text is not one record with
-/// a field of its form for each column, or that of the INSERT. Want of memory may refuse it, too.
+/// The entry that a record for a table adds: the entry of the INSERT of its row. It may follow the
+/// history. Or its first refusal: there is no such table, the text is not one record with a
+/// well-formed field for each column, or the INSERT is refused. It may also be refused when out of
+/// memory.
 pub(crate) fn entry_of_record<W: WorldView>(
     alloc: Global,
     state: &State,

@@ -1,4 +1,4 @@
-//! The clock, and what short words ask for: what is to be done, or why not.
+//! Checks of the clock and of requests, which short words make: what to do, or why not.
 ghost use Rattle.std.specs.Prelude.{◌≡◌, int_lt, IfOk};
 ghost use Rattle.hippo_stmt_lines.specs.Forms as requests;
 ghost use Rattle.hippo_stmt_lines.specs.LentForms.{request};
@@ -27,7 +27,7 @@ fn is_earlier(moment: &Moment, clock: &Moment) -> bool
     moment.seconds() < clock.seconds()
 }
 
-/// The clock does not go back.
+/// The deed that sets the clock to a moment. A moment before the clock's is refused.
 pub(crate) fn judge_clock<W: WorldView>(world: &W, moment: Moment) -> Result<Deed<'static>, Refusal>
     ensures { (state : HeldState) → FindsDeed (commands.set_clock moment) result state
         (W.seen world.now) }
@@ -40,7 +40,7 @@ pub(crate) fn judge_clock<W: WorldView>(world: &W, moment: Moment) -> Result<Dee
     }
 }
 
-// The names of a line that opens a session, in boxes, or want of memory.
+// The names of a line that opens a session, in boxes, or out of memory.
 fn login_names(
     alloc: Global,
     user: &WrittenName<'_>,
@@ -181,7 +181,7 @@ fn judge_load<W: WorldView>(
     }
 }
 
-// What is to be done for what a short word asks for in a session; what is the console's is refused.
+// What to do for a request in a session. A request that only the console may make is refused.
 fn request_of_session<W: WorldView>(
     asked: &RequestForm<'_>,
     alloc: Global,
@@ -208,7 +208,7 @@ fn request_of_session<W: WorldView>(
     }
 }
 
-// What is to be done for what a short word asks for at the console; what is a session's is refused.
+// What to do for a request at the console. A request that only a session may make is refused.
 fn request_of_console<W: WorldView>(
     asked: &RequestForm<'_>,
     alloc: Global,
@@ -249,7 +249,7 @@ fn is_of_session(asked: &RequestForm<'_>) -> bool
     }
 }
 
-// Why what a short word asks for is refused to nobody.
+// Why a request is refused when nobody speaks.
 fn refused_to_nobody(asked: &RequestForm<'_>) -> Refusal
     ensures { (state : HeldState) (world : World)
         → IsRefused (commands.make_request Nobody (request asked.now)) result state world }
@@ -261,8 +261,7 @@ fn refused_to_nobody(asked: &RequestForm<'_>) -> Refusal
     }
 }
 
-/// What is to be done for what a short word asks for, or why not: each is a session's or the
-/// console's.
+/// What to do for a request, or why not. Each request is open either to sessions or to the console.
 pub(crate) fn judge_request<W: WorldView>(
     alloc: Global,
     state: &State,

@@ -1,4 +1,4 @@
-//! What is checked of sessions and cursors.
+//! Checks of sessions and cursors.
 ghost use Rattle.std.specs.Prelude.{◌≡◌, ◌≤◌, Some, length, ok_or, IfErr};
 ghost use Rattle.std.specs.Result.{result_map_both};
 ghost use Rattle.hippo_model.specs.Terms.{History};
@@ -16,7 +16,7 @@ use hippo_replay::State;
 use hippo_report::Refusal;
 use hippo_values::Name;
 
-/// The open session with a number; or the refusal that none is open with it, which is short.
+/// The open session with this number, or `NoSession`, whose reply is short.
 pub(crate) fn open_session<W: WorldView>(world: &W, number: u8) -> Result<&Session, Refusal>
     ensures found { result_map_both (λ session. session.now) (λ refusal. refusal) result
         ≡ open_session (W.seen world.now) number }
@@ -41,8 +41,8 @@ fn held_cursor(session: &Session, number: u8, cursor: u8) -> Result<&Cursor, Ref
     }
 }
 
-/// The cursor with a number in the open session with a number; or the refusal of `open_session`, or
-/// that there is no such cursor. Its refusals are short.
+/// The cursor with a number in the open session with a number, or the refusal of `open_session`, or
+/// that there is no such cursor. The replies to these refusals are short.
 pub(crate) fn open_cursor<W: WorldView>(
     world: &W,
     number: u8,
@@ -59,7 +59,7 @@ pub(crate) fn open_cursor<W: WorldView>(
     }
 }
 
-// Whether no session is open with a number.
+// Checks that no session is open with this number.
 fn check_closed<W: WorldView>(world: &W, number: u8) -> Result<(), Refusal>
     ensures { result ≡ closed_session (W.seen world.now) number }
 {
@@ -69,7 +69,7 @@ fn check_closed<W: WorldView>(world: &W, number: u8) -> Result<(), Refusal>
     }
 }
 
-/// Whether a user may ask for a purpose and recipient.
+/// Checks that a user may ask for a purpose and recipient.
 pub(crate) fn check_allowed(state: &State, user: &Name, pair: &Pair) -> Result<(), Refusal>
     ensures { (history : History) → StandsFor state.now history → result
         ≡ by_authorized_user history user.now pair.now }
@@ -83,8 +83,8 @@ pub(crate) fn check_allowed(state: &State, user: &Name, pair: &Pair) -> Result<(
     }
 }
 
-/// Whether a user may open the session with a number, to ask for a purpose and recipient; or the
-/// refusal that one is open with the number, or that the user is not authorized.
+/// Checks that a user may open the session with a number to ask for a purpose and recipient. It is
+/// refused if a session is already open with the number, or if the user is not authorized.
 pub(crate) fn check_login<W: WorldView>(
     state: &State,
     world: &W,

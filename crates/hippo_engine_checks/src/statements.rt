@@ -1,4 +1,4 @@
-//! Statements: what is to be done for each, or why not.
+//! Checks of statements: what to do for each, or why not.
 ghost use Rattle.std.specs.Prelude.{◌≡◌, true, false};
 ghost use Rattle.hippo_values.specs.Texts.{Txt as Text};
 ghost use Rattle.hippo_stmt_ast.specs.declared.statement.Stmt.TheVariants as stmt;
@@ -59,7 +59,7 @@ fn judge_audit(alloc: Global, state: &State, written: &RawAudit) -> Result<Deed<
     }
 }
 
-// An audit that lasts beyond its line: a job, which looks back step by step, or a watch on later
+// An audit that outlives its line: a job, which looks back step by step, or a watch on later
 // questions.
 #[derive(Clone, Copy)]
 enum LastingAudit {
@@ -88,7 +88,7 @@ fn begun_at(lasting: LastingAudit, audit: Boxed<Audit>, number: usize) -> Deed<'
     }
 }
 
-// The lowest number that is free for a job, or for a watch.
+// The lowest free number for a job or for a watch.
 fn free_number<W: WorldView>(world: &W, lasting: LastingAudit) -> Option<usize>
     ensures { result ≡ free_to_begin lasting (W.seen world.now) }
 {
@@ -98,7 +98,7 @@ fn free_number<W: WorldView>(world: &W, lasting: LastingAudit) -> Option<usize>
     }
 }
 
-// A job gets the number that is free, and so does a watch.
+// Gives the job or the watch the free number.
 fn begun_with(
     lasting: LastingAudit,
     audit: Boxed<Audit>,
@@ -115,7 +115,7 @@ fn begun_with(
     }
 }
 
-// BEGIN AUDIT, and WATCH.
+// Checks a BEGIN AUDIT or a WATCH.
 fn judge_begin<W: WorldView>(
     alloc: Global,
     state: &State,
@@ -134,8 +134,8 @@ fn judge_begin<W: WorldView>(
     }
 }
 
-// What was found without reading. It is a part of its callers, so that what was found, which is
-// large, is not handed in and out.
+// A result that was found without reading. Inlined, since the result is large and would otherwise
+// be copied in and out.
 #[inline(always)]
 pub(crate) fn unread<'t>(found: Result<Deed<'t>, Refusal>) -> Result<Deed<'t>, Unjudged>
     ensures { result ≡ without_reading found.entry }
@@ -146,7 +146,7 @@ pub(crate) fn unread<'t>(found: Result<Deed<'t>, Refusal>) -> Result<Deed<'t>, U
     }
 }
 
-// EXPLAIN at the console looks up the question with a number.
+// EXPLAIN at the console: looks up the question with a number.
 fn look_up<P: Keeper, L: Ledger>(
     alloc: Global,
     state: &State,
@@ -167,7 +167,7 @@ fn look_up<P: Keeper, L: Ledger>(
     }
 }
 
-// What is to be done for a statement of a session: it asks a question, or is refused.
+// What to do for a statement of a session. It asks a question, or is refused.
 fn statement_of_session<'t, W: WorldView>(
     alloc: Global,
     state: &State,
@@ -188,7 +188,7 @@ fn statement_of_session<'t, W: WorldView>(
     }
 }
 
-// What is to be done for a statement of the console. Only EXPLAIN reads what is kept.
+// What to do for a statement of the console. Only EXPLAIN reads the history.
 fn statement_of_console<P: Keeper, L: Ledger, W: WorldView>(
     alloc: Global,
     state: &State,
@@ -232,7 +232,7 @@ fn statement_of_console<P: Keeper, L: Ledger, W: WorldView>(
     }
 }
 
-// Why a statement is refused to nobody.
+// Why a statement is refused when nobody speaks.
 fn refused_to_nobody(statement: &Stmt) -> Refusal
     ensures { (text : Text) (state : HeldState) (world : World)
         → IsRefused (commands.make_statement Nobody statement.now text) result state world }
@@ -243,8 +243,8 @@ fn refused_to_nobody(statement: &Stmt) -> Refusal
     }
 }
 
-/// What is to be done for a statement that stands in a text, or why not: a question is a session's,
-/// all else is the console's. Only EXPLAIN reads what is kept.
+/// What to do for a statement in a text, or why not. Only sessions may ask questions, and only the
+/// console may use the other statements. Only EXPLAIN reads the history.
 pub(crate) fn judge_statement<'t, P: Keeper, L: Ledger, W: WorldView>(
     alloc: Global,
     state: &State,

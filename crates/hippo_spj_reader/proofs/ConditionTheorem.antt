@@ -1,4 +1,4 @@
--- The condition that is found is the one of the grammar.
+-- The condition that is found is the grammar's.
 use Rattle.std.proofs.Common.{◌≡◌, ℕ, zero, suc, ◌<◌, ◌≤◌, List, ◌∷◌, length, Some, None, refl, sym, arith}
 use Rattle.std.proofs.lemmas.Option.{none-some, some_pair_parts}
 use Rattle.hippo_model.specs.declared.query.CondOf.{Not, Between, Among, Missing}
@@ -22,7 +22,7 @@ operands_found tokens list rest e =
     parts_found leading_operand (after_symbol Comma) IsOperand (Symbol Comma) (IsListOf IsOperand (Symbol Comma)) operand_found (after_symbol-some Comma)
     (λ _ _ _ d. last_part d) (λ _ _ _ _ _ d ds. more_parts d ds) (suc (length tokens)) tokens list rest e
 
--- what BETWEEN or IN says behind an operand
+-- the BETWEEN or IN after an operand
 range_found : {P : Type 0} (v : RawOperand) (tokens : List TokenKind) (c : RawCond) (rest : List TokenKind) → leading_range v tokens ≡ Some (c, rest) →
     ((low high : RawOperand) (lows highs : List TokenKind) → tokens ≡ Keyword KBetween ∷ lows → IsOperand lows low (Keyword KAnd ∷ highs) → IsOperand highs high rest → c ≡ Between v low high → P) →
     ((list : List RawOperand) (others : List TokenKind) → tokens ≡ Keyword KIn ∷ Symbol LeftParen ∷ others → IsListOf IsOperand (Symbol Comma) others list (Symbol RightParen ∷ rest) → c ≡ Among v list → P) → P
@@ -46,7 +46,7 @@ range_found v tokens c rest e by_between by_among =
     let is_list : IsListOf IsOperand (Symbol Comma) others list.0 (Symbol RightParen ∷ rest) = rw (is_close, whole.1) at (operands_found others list.0 list.1 list_found) in
     by_among list.0 others (rw (is_in, is_open) refl) is_list (sym whole.0))))))
 
--- what NULL or NOT NULL says behind an operand and IS
+-- the NULL or NOT NULL after an operand and IS
 null_found : (all tokens : List TokenKind) (v : RawOperand) (c : RawCond) (rest : List TokenKind) → IsOperand all v (Keyword KIs ∷ tokens) → leading_null v tokens ≡ Some (c, rest) → IsPrimary all c rest
 unfolding leading_null
 null_found all tokens v c rest is_operand e =
@@ -130,7 +130,7 @@ operands_shorter : (tokens : List TokenKind) (list : List RawOperand) (rest : Li
 operands_shorter tokens list rest is_list =
     list_shorter leading_operand (after_symbol Comma) IsOperand (Symbol Comma) (λ rest. after_symbol Dot rest ≡ None) operand_complete (λ _. refl) (λ _ _ _ _. refl) operand_shorter tokens list rest is_list
 
--- a condition takes tokens
+-- a condition takes at least one token
 mutual
   pub condition_shorter : (tokens : List TokenKind) (c : RawCond) (rest : List TokenKind) → IsCondition tokens c rest → length rest < length tokens
   condition_shorter tokens c rest (disjunction ds e) = parts_shorter tokens _ rest ds
@@ -193,13 +193,13 @@ primary-no_not tokens c rest (not_among a b e) = no_not tokens _ _ a
 primary-no_not tokens c rest (missing a) = no_not tokens _ _ a
 primary-no_not tokens c rest (present a e) = no_not tokens _ _ a
 
--- what a whole condition is not followed by
+-- what cannot follow a whole condition
 pub record Ends (rest : List TokenKind) : Type 0 where
   pub no_dot : after_symbol Dot rest ≡ None
   pub no_and : after_keyword KAnd rest ≡ None
   pub no_or : after_keyword KOr rest ≡ None
 
--- the condition is found, whole, where nothing behind it goes on with it
+-- the whole condition is found if nothing after it continues it
 mutual
   unfolding leading_test leading_comparison leading_range leading_between leading_among leading_null
 

@@ -1,4 +1,4 @@
--- What is found at the front of a list of tokens stands there.
+-- What is found at the front of a list of tokens is there.
 use Rattle.std.proofs.Common.{◌≡◌, ℕ, Bool, true, List, ◌∷◌, Option, Some, None, refl, bytes_eq, cond}
 use Rattle.std.proofs.lemmas.Option.{cond_some, none-some, some_pair_parts}
 use Rattle.std.proofs.lemmas.Slice.Eq.{bytes_eq-Decides}
@@ -13,18 +13,19 @@ use Rattle.hippo_lexer.specs.declared.kinds.TokenKind.TheVariants.{Word, Keyword
 use Rattle.hippo_spj_reader.specs.Promises.{either}
 use Rattle.hippo_spj_reader.specs.Front.{after_keyword, after_symbol, after_word, same_keyword, same_symbol, leading_name}
 
--- what two found together, one after the other, each of them found
+-- if two parts are found together, one after the other, each of them is found
 pub found_then : {A B P : Type 0} (found : Option A) (next : A → Option B) (y : B) → (found >>= next) ≡ Some y → ((x : A) → found ≡ Some x → next x ≡ Some y → P) → P
 found_then (Some x) next y e then = then x refl e
 found_then None next y e then = absurd (none-some y e)
 
--- which of the two was found
+-- which of two alternatives was found
 pub choice : {A B P : Type 0} (found : Option A) (one : A → Option B) (other y : Option B) → either found one other ≡ y →
     ((x : A) → found ≡ Some x → one x ≡ y → P) → (found ≡ None → other ≡ y → P) → P
 choice (Some x) one other y e first second = first x refl e
 choice None one other y e first second = second refl e
 
--- a first token of some kind that passes the test for what is wanted is that, and the rest stands behind it
+-- if the first token passes the test for what is wanted, it is what is wanted, and the rest follows
+-- it
 first_is : {A : Type 0} (kind : A → TokenKind) (test : Bool) (first wanted : A) (remaining rest : List TokenKind) → (test ≡ true → first ≡ wanted) →
     cond test (Some remaining) None ≡ Some rest → kind first ∷ remaining ≡ kind wanted ∷ rest
 first_is kind test first wanted remaining rest same e =
@@ -50,7 +51,7 @@ pub leading_name-some : (tokens rest : List TokenKind) (name : List ℕ) → lea
 leading_name-some (Word first ∷ remaining) rest name e = let p = some_pair_parts first name remaining rest e in rw (p.0, p.1) refl
 leading_name-some _ rest name e = absurd (none-some _ e)
 
--- the same, over a keyword, a symbol, a word or a name
+-- the same for a keyword, a symbol, a word or a name
 pub keyword_then : {B P : Type 0} (keyword : words.Keyword) (tokens : List TokenKind) (next : List TokenKind → Option B) (y : B) → (after_keyword keyword tokens >>= next) ≡ Some y →
     ((rest : List TokenKind) → tokens ≡ Keyword keyword ∷ rest → next rest ≡ Some y → P) → P
 keyword_then keyword tokens next y e then = found_then (after_keyword keyword tokens) next y e (λ rest found. then rest (after_keyword-some keyword tokens rest found))
@@ -82,7 +83,7 @@ pub word_choice : {B P : Type 0} (word : List ℕ) (tokens : List TokenKind) (on
 word_choice word tokens one other y e first second =
     choice (after_word word tokens) one other y e (λ rest found. first rest (after_word-some word tokens rest found)) second
 
--- what was found is the reading and the rest that are asked for
+-- what was found is the reading and the rest that are wanted
 pub read_as : {X : Type 0} (IsPart : List TokenKind → X → List TokenKind → Type 0) (tokens rest' rest : List TokenKind) (part' part : X) →
     ◌≡◌ {A = Option (X × List TokenKind)} (Some (part', rest')) (Some (part, rest)) → IsPart tokens part' rest' → IsPart tokens part rest
 read_as IsPart tokens rest' rest part' part e is_part =

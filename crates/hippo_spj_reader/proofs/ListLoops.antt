@@ -1,4 +1,4 @@
--- A loop over the parts of a list, part by part.
+-- A loop over the parts of a list.
 use Rattle.std.proofs.Common.{◌≡◌, ℕ, zero, suc, ◌<◌, ◌≤◌, List, [], ◌∷◌, ◌++◌, length, Option, Some, None, refl, sym, ◌∙◌, ap, arith, append_assoc}
 use Rattle.std.proofs.lemmas.List.{length-map}
 use Rattle.hippo_values.specs.Options.{◌>>=◌}
@@ -24,7 +24,7 @@ same_value : {X : Type 0} (one other : X) → Some one ≡ Some other → one �
 same_value one other same = cc
 
 module _ {X : Type 0} (leading_part : List TokenKind → Option (X × List TokenKind)) (after_part : List TokenKind → Option (List TokenKind)) where
-  -- the parts so far and the list that is left make the whole list
+  -- the parts so far and the rest of the list make up the whole list
   pub record Continues (whole : Option (List X × List TokenKind)) (front : List X) (rest : List Token) : Type 0 where
     pub fuel : ℕ
     pub enough : length rest ≤ fuel
@@ -73,7 +73,7 @@ module _ {X : Type 0} (leading_part : List TokenKind → Option (X × List Token
       let same = same_value _ _ added in
       goes_on front longer rest remaining left part.0 so_far next (is ∙ ap (λ (parts : List X × List TokenKind). Some (part.0, parts.1)) same) no_longer shorter (sym (ap (λ (parts : List X × List TokenKind). parts.0) same))
 
-  -- where the next part is added to those so far
+  -- the next part is added to the parts so far
   pub adds : {whole : Option (List X × List TokenKind)} (front longer : List X) (rest remaining left : List Token) →
       Continues whole front rest → Some (kinds remaining) ≡ after_part (kinds rest) →
       with_last_part front (leading_part (kinds remaining)) ≡ Some (longer, kinds left) →
@@ -88,7 +88,7 @@ module _ {X : Type 0} (leading_part : List TokenKind → Option (X × List Token
   breaks_from front zero rest remaining enough shorter same next found = absurd (omega arith)
   breaks_from front (suc fuel) rest remaining enough shorter same next found = sym same ∙ rw (next, found) refl
 
-  -- where no part stands behind what leads to one, there is no list
+  -- if no part follows a separator, there is no list
   pub breaks : {Y : Type 0} {whole : Option (List X × List TokenKind)} (made : List X × List TokenKind → Option Y) (e : SyntaxFault) (front : List X) (rest remaining : List Token) →
       Continues whole front rest → Some (kinds remaining) ≡ after_part (kinds rest) → length remaining < length rest → Fails e (leading_part (kinds remaining)) → Fails e (whole >>= made)
   breaks made fault.TooDeep front rest remaining so_far next shorter found = found

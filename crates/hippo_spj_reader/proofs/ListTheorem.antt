@@ -1,4 +1,4 @@
--- The list that is found is the one of the relation.
+-- The list that is found is the relation's.
 use Rattle.std.proofs.Common.{◌≡◌, ℕ, zero, suc, ◌<◌, List, [], ◌∷◌, length, Option, Some, None, refl, arith}
 use Rattle.std.proofs.lemmas.Option.{none-some, some_pair_parts}
 use Rattle.hippo_lexer.specs.declared.kinds.TokenKind.{TokenKind}
@@ -9,7 +9,7 @@ use Rattle.hippo_spj_reader.proofs.FrontTheorem.{found_then, choice, read_as}
 
 module _ {X : Type 0} (leading_part : List TokenKind → Option (X × List TokenKind)) (after_part : List TokenKind → Option (List TokenKind))
     (IsPart : List TokenKind → X → List TokenKind → Type 0) (separator : TokenKind) where
-  -- what is found is a list: for any relation that has its two rules
+  -- what is found is a list, for any relation that has the two rules
   module _ (AreParts : List TokenKind → List X → List TokenKind → Type 0)
       (part_found : (tokens : List TokenKind) (part : X) (rest : List TokenKind) → leading_part tokens ≡ Some (part, rest) → IsPart tokens part rest)
       (next_found : (tokens remaining : List TokenKind) → after_part tokens ≡ Some remaining → tokens ≡ separator ∷ remaining)
@@ -30,7 +30,7 @@ module _ {X : Type 0} (leading_part : List TokenKind → Option (X × List Token
         let ended = some_pair_parts [] others.0 first.1 others.1 end in
         rw (← ended.0, ← ended.1) (last tokens first.0 first.1 is_part)))))
 
-  -- a list is found: whole, where nothing behind it leads to a further part
+  -- the whole list is found if nothing after it leads to a further part
   module _ (CanFollow : List TokenKind → Type 0)
       (part_complete : (tokens : List TokenKind) (part : X) (rest : List TokenKind) → IsPart tokens part rest → CanFollow rest → leading_part tokens ≡ Some (part, rest))
       (separator_follows : (others : List TokenKind) → CanFollow (separator ∷ others))

@@ -1,4 +1,4 @@
--- The members of a select list that are found are those of the grammar, once the select's form is known.
+-- The members of a select list that are found are the grammar's, once the select's form is known.
 use Rattle.std.proofs.Common.{◌≡◌, suc, ◌<◌, List, [], ◌∷◌, length, map, Option, Some, None, refl, arith}
 use Rattle.std.proofs.lemmas.Option.{none-some, same_Some, some_pair_parts}
 use Rattle.hippo_stmt_ast.specs.declared.statement.RawColumn.{RawColumn}
@@ -31,7 +31,7 @@ pub data IsMember : List TokenKind → Member → List TokenKind → Type 0 wher
   of_max : {c : RawColumn} {tokens rest : List TokenKind} →
       IsColumn tokens c (Symbol RightParen ∷ rest) → IsMember (Keyword KMax ∷ Symbol LeftParen ∷ tokens) (member.Max c) rest
 
--- a star, or members with commas between them
+-- a star, or members separated by commas
 pub data AreMembers : List TokenKind → List Member → List TokenKind → Type 0 where
   star_member : {rest : List TokenKind} → AreMembers (Symbol Star ∷ rest) (member.Item item.All ∷ []) rest
   listed_members : {members : List Member} {tokens rest : List TokenKind} → IsListOf IsMember (Symbol Comma) tokens members rest → AreMembers tokens members rest
@@ -78,7 +78,7 @@ members_found tokens members rest e =
     (λ _ e. listed_members (parts_found leading_member (after_symbol Comma) IsMember (Symbol Comma) (IsListOf IsMember (Symbol Comma)) member_found (after_symbol-some Comma)
     (λ _ _ _ d. last_part d) (λ _ _ _ _ _ d ds. more_parts d ds) (suc (length tokens)) tokens members rest e))
 
--- a list of parts of one kind, each of which is one of another kind
+-- a list of parts of one kind, each of which is also of another kind
 module _ {X Y : Type 0} (IsX : List TokenKind → X → List TokenKind → Type 0) (IsY : List TokenKind → Y → List TokenKind → Type 0) (separator : TokenKind) (f : X → Option Y)
     (turned : (tokens : List TokenKind) (x : X) (y : Y) (rest : List TokenKind) → IsX tokens x rest → f x ≡ Some y → IsY tokens y rest) where
   list_as : (tokens : List TokenKind) (xs : List X) (ys : List Y) (rest : List TokenKind) → IsListOf IsX separator tokens xs rest → each_of f xs ≡ Some ys → IsListOf IsY separator tokens ys rest
@@ -169,7 +169,7 @@ members_complete tokens members rest (listed_members ds) no_dot no_comma =
     (list_complete leading_member (after_symbol Comma) IsMember (Symbol Comma) (λ rest. after_symbol Dot rest ≡ None) member_complete (λ _. refl) (λ _ _ _ _. refl) member_shorter
     tokens members rest ds no_dot no_comma)
 
--- the other way round: a list of the other kind, and each part of it is found again
+-- conversely: a list of the other kind, in which each part is found again
 module _ {X Y : Type 0} (IsX : List TokenKind → X → List TokenKind → Type 0) (IsY : List TokenKind → Y → List TokenKind → Type 0) (separator : TokenKind) (g : Y → X)
     (from : (tokens : List TokenKind) (y : Y) (rest : List TokenKind) → IsY tokens y rest → IsX tokens (g y) rest) where
   list_from : (tokens : List TokenKind) (ys : List Y) (rest : List TokenKind) → IsListOf IsY separator tokens ys rest → IsListOf IsX separator tokens (map g ys) rest

@@ -1,4 +1,4 @@
--- The lists of names and of columns that are found are those of the grammar.
+-- The lists of names and of columns that are found are the grammar's.
 use Rattle.std.proofs.Common.{◌≡◌, ℕ, suc, ◌<◌, List, length, Some, None, refl, arith}
 use Rattle.hippo_lexer.specs.declared.kinds.Symbol.TheVariants.{Comma, Dot}
 use Rattle.hippo_lexer.specs.declared.kinds.TokenKind.{TokenKind}

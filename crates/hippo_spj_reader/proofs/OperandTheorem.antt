@@ -1,4 +1,4 @@
--- The operand that is found is the one of the grammar.
+-- The operand that is found is the grammar's.
 use Rattle.std.proofs.Common.{◌≡◌, ◌<◌, List, ◌∷◌, length, Bool, true, false, if◌then◌else◌, Some, None, refl, ap, arith}
 use Rattle.std.proofs.lemmas.Option.{cond_some, none-some, same_Some, some_pair_parts}
 use denote.Enum.Bare.{same_true}

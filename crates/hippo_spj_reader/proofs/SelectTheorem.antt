@@ -1,4 +1,4 @@
--- The select that is found is the one of the grammar.
+-- The select that is found is the grammar's.
 use Rattle.std.proofs.Common.{◌≡◌, ℕ, zero, suc, ◌<◌, Bool, true, false, List, [], ◌∷◌, ◌++◌, length, map, codes, option_to_list, Option, Some, None, refl, sym, ◌∙◌, arith}
 use Rattle.std.proofs.lemmas.Option.{none-some, same_Some, some_pair_parts}
 use Rattle.hippo_stmt_ast.specs.declared.statement.RawForm.TheVariants.{Plain, Distinct}
@@ -48,7 +48,7 @@ none_found x e = none-some x e
 found_is : {A : Type 0} {found : Option A} {x y : A} → found ≡ Some x → ◌≡◌ {A = Option A} (Some x) (Some y) → found ≡ Some y
 found_is is same = is ∙ same
 
--- one table more, before those that follow it
+-- one more table, before the tables that follow it
 joined_found : (tokens left : List TokenKind) (entry : JoinedTable) → leading_joined tokens ≡ Some (Some (entry, left)) →
     (tables : List (List ℕ)) (conditions : List RawCond) (rest : List TokenKind) → AreJoined left tables conditions rest →
     AreJoined tokens (entry.table ∷ tables) (option_to_list entry.on ++ conditions) rest
@@ -98,7 +98,7 @@ scope_found tokens s rest e =
     let are_joined : AreJoined joined others.0.names others.0.conditions sources.1 = rw whole.1 at (all_joined_found (suc (length joined)) joined others.0 others.1 others_is) in
     rw (is_from, is_name) (read_as IsScope _ _ _ _ _ e (rw (← whole.0) (scope are_joined (where_found sources.1 last.0 last.1 last_is) refl))))))))
 
--- a select up to GROUP
+-- a select as far as GROUP
 data IsDraft : List TokenKind → Draft → List TokenKind → Type 0 where
   each_row : {members : List Member} {s : Scope} {tokens from rest : List TokenKind} →
       AreMembers tokens members from → IsScope from s rest → IsDraft (Keyword KSelect ∷ tokens) (draft_of false members s) rest
@@ -154,24 +154,24 @@ found tokens s rest e =
     (λ remaining is_group e. grouped_found tokens draft.0 remaining rest s (rw is_group at is_draft) e)
     (λ _ e. found_then (ungrouped_select draft.0) _ _ e (λ one one_is e. read_as IsSelect tokens _ _ _ _ e (ungrouped_found tokens draft.0 draft.1 one is_draft one_is))))
 
--- what the tables of FROM and their conditions are not followed by
+-- what cannot follow the tables of FROM and their conditions
 pub record JoinsEnd (rest : List TokenKind) : Type 0 where
   pub condition_ends : Ends rest
   pub no_comma : after_symbol Comma rest ≡ None
   pub no_inner : after_keyword KInner rest ≡ None
   pub no_join : after_keyword KJoin rest ≡ None
 
--- what the tables and the condition of a select are not followed by
+-- what cannot follow the tables and the condition of a select
 pub record ScopeEnds (rest : List TokenKind) : Type 0 where
   pub joins_end : JoinsEnd rest
   pub no_where : after_keyword KWhere rest ≡ None
 
--- what a whole select is not followed by
+-- what cannot follow a whole select
 pub record SelectEnds (rest : List TokenKind) : Type 0 where
   pub scope_ends : ScopeEnds rest
   pub no_group : after_keyword KGroup rest ≡ None
 
--- nothing follows it, or a semicolon
+-- nothing, or a semicolon, may follow it
 pub ends-nothing : SelectEnds []
 ends-nothing = record {
   scope_ends = record {
@@ -190,7 +190,7 @@ ends-semicolon rest = record {
   no_group = refl;
 }
 
--- before GROUP a select's condition has ended
+-- a select's condition ends before GROUP
 scope_ends-group : (rest : List TokenKind) → ScopeEnds (Keyword KGroup ∷ rest)
 scope_ends-group rest = record {
   joins_end = record { condition_ends = record { no_dot = refl; no_and = refl; no_or = refl }; no_comma = refl; no_inner = refl; no_join = refl };
@@ -251,7 +251,7 @@ draft_of_complete once tokens members from s rest are_members is_scope ends =
       scope_complete from s rest is_scope ends,
     ) refl
 
--- the select is found, whole, where nothing behind it goes on with it
+-- the whole select is found if nothing after it continues it
 pub complete : (tokens : List TokenKind) (s : RawSelect) (rest : List TokenKind) → IsSelect tokens s rest → SelectEnds rest → leading_select tokens ≡ Some (s, rest)
 unfolding leading_select leading_draft ungrouped_select leading_grouped
 complete _ _ rest (plain_select {items = items} {in_scope = in_scope} {tokens = tokens} {from = from} are_items is_scope) ends =

@@ -1,4 +1,4 @@
--- The loop over the tables of FROM, table by table.
+-- A loop over the tables of FROM.
 use Rattle.std.proofs.Common.{◌≡◌, ℕ, zero, suc, ◌<◌, List, [], ◌∷◌, ◌++◌, length, Option, Some, None, option_to_list, refl, sym, ◌∙◌, arith, append_assoc}
 use Rattle.std.proofs.lemmas.List.{length-map}
 use Rattle.hippo_values.specs.Options.{◌>>=◌}
@@ -14,18 +14,18 @@ use Rattle.hippo_spj_reader.specs.SelectFinder.{with_first_table, leading_joined
 abbrev Found : Type 0
 Found = Option (Sources × List TokenKind)
 
--- these tables and conditions, and then those
+-- these tables and conditions, followed by those found
 abbrev with_front : List (List ℕ) → List RawCond → Found → Found
 with_front names conditions found = found >>= λ others.
     Some (record { names = names ++ others.0.names; conditions = conditions ++ others.0.conditions }, others.1)
 
--- the tables and conditions so far and those that are left are all of FROM
+-- the tables and conditions so far and the rest make up all of FROM
 pub record Joins (whole : Found) (names : List (List ℕ)) (conditions : List RawCond) (rest : List Token) : Type 0 where
   pub fuel : ℕ
   pub enough : length rest < fuel
   pub same : with_front names conditions (leading_all_joined fuel (kinds rest)) ≡ whole
 
--- the first table begins them
+-- the first table begins the list
 pub begins : (tokens rest : List Token) (first : List ℕ) (empty names : List (List ℕ)) (conditions : List RawCond) →
     leading_name (kinds tokens) ≡ Some (first, kinds rest) → empty ≡ [] → names ≡ empty ++ first ∷ [] → conditions ≡ [] →
     Joins (leading_sources (kinds tokens)) names conditions rest
@@ -68,7 +68,7 @@ ends_from sources zero rest enough same none = absurd (omega arith)
 ends_from sources (suc fuel) rest enough same none =
     sym same ∙ rw none (rw (append-nil sources.names, append-nil sources.conditions) refl)
 
--- where no table follows, they are all of FROM
+-- if no table follows, the list is all of FROM
 pub ends : {whole : Found} (sources : Sources) (rest : List Token) →
     Joins whole sources.names sources.conditions rest → leading_joined (kinds rest) ≡ Some None →
     whole ≡ Some (sources, kinds rest)

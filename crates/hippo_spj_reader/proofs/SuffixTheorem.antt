@@ -1,4 +1,4 @@
--- What follows a part of the grammar is the end of the tokens that it begins.
+-- What follows a part of the grammar is a suffix of the part's tokens.
 use Rattle.std.proofs.Common.{◌≡◌, List, [], ◌∷◌, ◌++◌, Option, refl, ap}
 use Rattle.hippo_values.specs.declared.keywords.Keyword as words
 use Rattle.hippo_values.specs.declared.values.Value.{Value}
@@ -14,7 +14,7 @@ use Rattle.hippo_spj_reader.specs.ConditionGrammar.{RawCond, IsColumn, bare, qua
 use Rattle.hippo_spj_reader.specs.ListGrammar.{IsListOf, last_part, more_parts}
 use Rattle.hippo_spj_reader.specs.SelectGrammar.{IsItem, one_column, all_of_table, AreItems, star, listed_items, AreJoined, no_more, comma_table, join, inner_join, IsWhere, no_where, condition, IsScope, scope, IsOut, column_out, minimum, maximum, IsSelect, plain_select, distinct, grouped_select}
 
--- the rest is what is left of the tokens behind some of them
+-- the rest is what remains after some of the tokens
 pub data IsSuffix (rest : List TokenKind) : List TokenKind → Type 0 where
   all_left : IsSuffix rest rest
   remaining : {first : TokenKind} {tokens : List TokenKind} → IsSuffix rest tokens → IsSuffix rest (first ∷ tokens)
@@ -23,7 +23,7 @@ pub within : {b a c : List TokenKind} → IsSuffix b a → IsSuffix c b → IsSu
 within all_left s = s
 within (remaining r) s = remaining (within r s)
 
--- behind one token more
+-- after one more token
 pub next : {a b : List TokenKind} {first : TokenKind} → IsSuffix (first ∷ b) a → IsSuffix b a
 next s = within s (remaining all_left)
 
@@ -106,7 +106,7 @@ where_suffix (condition c) = remaining (condition_suffix c)
 scope_suffix : {tokens rest : List TokenKind} {s : Scope} → IsScope tokens s rest → IsSuffix rest tokens
 scope_suffix (scope are_joined is_where is_whole) = remaining (remaining (within (joined_suffix are_joined) (where_suffix is_where)))
 
--- what follows a select is the end of its tokens
+-- what follows a select is a suffix of its tokens
 pub select_suffix : {tokens rest : List TokenKind} {s : RawSelect} → IsSelect tokens s rest → IsSuffix rest tokens
 select_suffix (plain_select are_items is_scope) = remaining (within (items_suffix are_items) (scope_suffix is_scope))
 select_suffix (distinct are_items is_scope) = remaining (remaining (within (items_suffix are_items) (scope_suffix is_scope)))

@@ -1,4 +1,4 @@
--- A reader of all of its tokens answers the one reading that the grammar has for them.
+-- A reader of all its tokens gives the only reading that the grammar has for them.
 use Rattle.std.proofs.Common.{◌≡◌, List, [], ◌∷◌, Option, Some, Result, Ok, Err, refl, sym, ◌∙◌, ap}
 use Rattle.std.specs.Result.{IfOk, IfErr}
 use Rattle.std.proofs.lemmas.Option.{none-some, same_Some}

@@ -1,4 +1,4 @@
--- The condition that can be found at the front of a list of tokens, part by part: the longest one.
+-- The longest condition at the front of a list of tokens, part by part.
 use Rattle.std.specs.Prelude.{ℕ, zero, suc, Bool, true, false, ◌∷◌, length, Option, Some, None, if◌then◌else◌}
 use Rattle.hippo_values.specs.declared.truths.CompareOp.{CompareOp}
 use Rattle.hippo_values.specs.declared.truths.CompareOp.TheVariants.{Eq, Ne, Lt, Le, Gt, Ge}
@@ -24,7 +24,7 @@ leading_column tokens = do
     Some (record { table = Some first.0; column = second.0 }, second.1))
       (Some (record { table = None; column = first.0 }, first.1))
 
--- whether a name stands first
+-- whether a name comes first
 abbrev pub begins_with_name : Kinds → Bool
 begins_with_name (Word name ∷ rest) = true
 begins_with_name tokens = false
@@ -48,7 +48,7 @@ abbrev pub leading_operator : Finder CompareOp
 leading_operator (Symbol sign ∷ rest) = operator_of sign >>= λ op. Some (op, rest)
 leading_operator tokens = None
 
--- what a condition says of its first operand
+-- the comparison of an operand with the operand that comes first
 unfoldable pub leading_comparison : RawOperand → CompareOp → Finder RawCond
 leading_comparison left op tokens = do
   right ← leading_operand tokens
@@ -68,7 +68,7 @@ leading_among v tokens = do
   rest ← after_symbol RightParen list.1
   Some (Among v list.0, rest)
 
--- BETWEEN or IN
+-- the BETWEEN or IN that comes first
 unfoldable pub leading_range : RawOperand → Finder RawCond
 leading_range v tokens =
     either (after_keyword KBetween tokens) (leading_between v)
@@ -111,13 +111,13 @@ module _ (deeper : Finder RawCond) where
           v ← leading_operand tokens
           leading_test v.0 v.1)
 
--- NOT and parentheses at most this deep
+-- a negation with at most this many nested NOTs and parentheses
 abbrev pub leading_negation : ℕ → Finder RawCond
 leading_negation zero tokens = None
 leading_negation (suc n) tokens =
     either (after_keyword KNot tokens) (λ remaining. negation (leading_negation n remaining))
     (primary_with (leading_negation n) tokens)
 
--- the longest condition that stands first
+-- the longest condition at the front
 unfoldable pub leading_condition : Finder RawCond
 leading_condition tokens = condition_with (leading_negation (suc (length tokens))) tokens

@@ -1,5 +1,5 @@
--- The grammar of conditions. Each relation says that the tokens begin with such a part, how it
--- reads, and what follows.
+-- The grammar of conditions. Each relation says that the tokens begin with such a part, how the
+-- part reads, and what follows it.
 use Rattle.std.specs.Prelude.{◌≡◌, List, [], ◌∷◌, Some, None}
 use Rattle.hippo_values.specs.declared.names.Name.{Name}
 use Rattle.hippo_values.specs.declared.truths.CompareOp.{CompareOp}
@@ -52,13 +52,13 @@ pub data IsOperator : signs.Symbol → CompareOp → Type 0 where
   greater_sign : IsOperator Greater Gt
   greater_equal : IsOperator GreaterEqual Ge
 
--- several parts of OR make one Any; a single part is itself
+-- several parts of OR form one Any; a single part stays as it is
 abbrev pub any_of : List RawCond → RawCond
 any_of [] = Any []
 any_of (part ∷ []) = part
 any_of (part ∷ other ∷ parts) = Any (part ∷ other ∷ parts)
 
--- several parts of AND make one All; a single part is itself
+-- several parts of AND form one All; a single part stays as it is
 abbrev pub all_of : List RawCond → RawCond
 all_of [] = All []
 all_of (part ∷ []) = part

@@ -1,4 +1,4 @@
--- What stands at the front of a list of tokens.
+-- What can be found at the front of a list of tokens.
 use Rattle.std.specs.Prelude.{ℕ, Bool, List, ◌∷◌, map, Option, Some, None, if◌then◌else◌, slice_range, bytes_eq}
 use denote.Enum.Bare.{sameb}
 use Rattle.hippo_values.specs.declared.names.Name.{Name}
@@ -14,11 +14,11 @@ use Rattle.hippo_lexer.specs.declared.kinds.TokenKind.{TokenKind}
 use Rattle.hippo_lexer.specs.declared.kinds.TokenKind.TheVariants.{Word, Keyword, Number, Quoted, Day, Symbol}
 pub use Rattle.hippo_lexer.specs.Words.{same_symbol}
 
--- what tokens say, one after the other
+-- what tokens say, in order
 abbrev pub Kinds : Type 0
 Kinds = List TokenKind
 
--- what can be found at the front of the tokens, and what follows it
+-- a function that finds a part at the front of the tokens, and what follows it
 abbrev pub Finder : Type 0 → Type 0
 Finder X = Kinds → Option (X × Kinds)
 
@@ -26,30 +26,30 @@ Finder X = Kinds → Option (X × Kinds)
 abbrev pub kinds : List Token → Kinds
 kinds tokens = map (λ token. token.kind) tokens
 
--- what the tokens say from place first to the place before last
+-- what the tokens say from place `first` up to, but not including, place `last`
 abbrev pub kinds_between : List Token → ℕ → ℕ → Kinds
 kinds_between tokens first last = kinds (slice_range tokens first last)
 
 abbrev pub same_keyword : words.Keyword → words.Keyword → Bool
 same_keyword one other = sameb keywords.the_type one other
 
--- what follows the keyword, where it stands first
+-- what follows the keyword, if it comes first
 abbrev pub after_keyword : words.Keyword → Kinds → Option Kinds
 after_keyword keyword (Keyword first ∷ rest) =
     if same_keyword first keyword then Some rest else None
 after_keyword keyword tokens = None
 
--- what follows the symbol, where it stands first
+-- what follows the symbol, if it comes first
 abbrev pub after_symbol : signs.Symbol → Kinds → Option Kinds
 after_symbol symbol (Symbol first ∷ rest) = if same_symbol first symbol then Some rest else None
 after_symbol symbol tokens = None
 
--- what follows the word, a name, where it stands first
+-- what follows the word, a name, if it comes first
 abbrev pub after_word : Txt → Kinds → Option Kinds
 after_word word (Word first ∷ rest) = if bytes_eq first word then Some rest else None
 after_word word tokens = None
 
--- the name that stands first, and what follows it
+-- the name at the front, and what follows it
 abbrev pub leading_name : Finder Name
 leading_name (Word name ∷ rest) = Some (name, rest)
 leading_name tokens = None

@@ -1,11 +1,11 @@
--- The list that can be found at the front of the tokens, part by part: the longest one.
+-- The longest list at the front of the tokens, part by part.
 use Rattle.std.specs.Prelude.{ℕ, zero, suc, List, [], ◌∷◌, ◌++◌, length, Option, Some, None}
 use Rattle.hippo_values.specs.Options.{◌>>=◌}
 use Rattle.hippo_spj_reader.specs.Front.{Kinds, Finder}
 use Rattle.hippo_spj_reader.specs.Promises.{either}
 
 module _ {X : Type 0} (leading_part : Finder X) (after_part : Kinds → Option Kinds) where
-  -- at most this many parts, as long as something leads from one to the next
+  -- up to this many parts, as long as a separator leads to the next
   abbrev pub leading_parts : ℕ → Finder (List X)
   leading_parts zero tokens = None
   leading_parts (suc n) tokens = do
@@ -13,16 +13,16 @@ module _ {X : Type 0} (leading_part : Finder X) (after_part : Kinds → Option K
     others ← either (after_part first.1) (λ remaining. leading_parts n remaining) (Some ([], first.1))
     Some (first.0 ∷ others.0, others.1)
 
-  -- what is left of a list behind one of its parts
+  -- the rest of a list after one of its parts
   abbrev pub further_parts : ℕ → Finder (List X)
   further_parts n tokens = either (after_part tokens)
       (λ remaining. leading_parts n remaining) (Some ([], tokens))
 
-  -- the longest list that stands first
+  -- the longest list at the front
   abbrev pub leading_list : Finder (List X)
   leading_list tokens = leading_parts (suc (length tokens)) tokens
 
--- these parts, and then those
+-- these parts, followed by those found
 abbrev pub with_front_parts : {X : Type 0} → List X → Option (List X × Kinds)
     → Option (List X × Kinds)
 with_front_parts front found = found >>= λ others. Some (front ++ others.0, others.1)

@@ -9,8 +9,7 @@ use Rattle.hippo_spj_reader.specs.Front.{Kinds}
 pub data IsName : Kinds → Name → Kinds → Type 0 where
   name : {n : Name} {rest : Kinds} → IsName (Word n ∷ rest) n rest
 
--- part {separator part}: the tokens begin with such a list, these are its parts, and this follows
--- it
+-- part {separator part}: the tokens begin with such a list, with these parts, and this follows it
 pub data IsListOf {X : Type 0} (IsPart : Kinds → X → Kinds → Type 0) (separator : TokenKind) :
     Kinds → List X → Kinds → Type 0 where
   last_part : {part : X} {tokens rest : Kinds} →

@@ -1,4 +1,4 @@
--- What a reader promises, against what can be found at the front of its tokens.
+-- What a reader promises, in terms of what can be found at the front of its tokens.
 use Rattle.std.specs.Prelude.{◌≡◌, ℕ, ◌<◌, ◌≤◌, List, [], ◌∷◌, ◌++◌, length, slice_range, Option, Some, None, option_map, IfSome, IfOk, IfErr, Result, Ok, Err}
 use Rattle.hippo_values.specs.Options.{◌>>=◌}
 use denote.Ref.{Bor}
@@ -8,62 +8,62 @@ use Rattle.hippo_lexer.specs.declared.kinds.Token.{Token}
 use Rattle.hippo_lexer.specs.Words.{words_check}
 use Rattle.hippo_spj_reader.specs.Front.{Kinds, Finder, kinds}
 
--- the first where it finds something, else the other
+-- the first if it finds something, otherwise the other
 abbrev pub either : {A B : Type 0} → Option A → (A → B) → B → B
 either (Some x) one other = one x
 either None one other = other
 
--- nothing is there to be found, or memory ran out; no reader fails otherwise
+-- there is nothing to find, or out of memory; readers fail for no other reason
 abbrev pub Fails : {Y : Type 0} → SyntaxFault → Option Y → Type 0
 Fails fault.TooDeep found = ⊥
 Fails (fault.Unsupported place) found = ⊥
 Fails fault.BadSyntax found = found ≡ None
 Fails fault.Memory found = Unit {0}
 
--- what was read, seen by view, is what can be found
+-- the result, seen through `view`, is what can be found
 abbrev pub Gives : {X Y : Type 0} → (X → Y) → Result X SyntaxFault → Option Y → Type 0
 Gives view (Ok x) found = found ≡ Some (view x)
 Gives view (Err e) found = Fails e found
 
--- the tokens that are left
+-- the remaining tokens
 abbrev Left : Type 0
 Left = Bor (List Token)
 
--- a part that was read, and what is left behind it
+-- the part that was read, and the tokens after it
 abbrev Read : Type 0 → Type 0
 Read X = Result (X × Left) SyntaxFault
 
--- the part that was read is the one that can be found, and what follows it is left
+-- the part that was read is the one that can be found, and the tokens after it remain
 abbrev pub GivesPart : {X : Type 0} → Read X → Option (X × Kinds) → Type 0
 GivesPart result found = Gives (λ x. (x.0, kinds x.1.now)) result found
 
--- no more is left than there was
+-- no more tokens remain than there were
 abbrev pub LeavesNoMore : {X : Type 0} → List Token → Read X → Type 0
 LeavesNoMore tokens result = IfOk result (λ x. length x.1.now ≤ length tokens)
 
--- a part behind those before it, and what follows it
+-- the parts so far with the part that was found, and what follows it
 abbrev pub with_last_part : {X : Type 0} → List X → Option (X × Kinds) → Option (List X × Kinds)
 with_last_part before found = found >>= λ part. Some (before ++ part.0 ∷ [], part.1)
 
--- the part that was read stands behind those before it, and what follows it is left
+-- the part that was read is appended to the parts so far, and the tokens after it remain
 abbrev pub AddsPart : {X : Type 0} → List X → List X → Result Left SyntaxFault → Option (X × Kinds)
     → Type 0
 AddsPart before parts result found =
     Gives (λ rest. (parts, kinds rest.now)) result (with_last_part before found)
 
--- the part that can be found first is read, and what follows it is left
+-- the part at the front is read, and the tokens after it remain
 pub record Reads {X : Type 0} (leading : Finder X) (tokens : List Token) (result : Read X)
     : Type 0 where
   pub found : GivesPart result (leading (kinds tokens))
   pub no_longer : LeavesNoMore tokens result
 
--- where it stands first, a token or two are passed
+-- the token or two that come first are passed, if they come first
 pub record Passes (after : Kinds → Option Kinds) (tokens : List Token) (result : Option Left)
     : Type 0 where
   pub rest : option_map (λ rest. kinds rest.now) result ≡ after (kinds tokens)
   pub shorter : IfSome result (λ rest. length rest.now < length tokens)
 
--- it has to stand first: a token or two are passed, or there is no reading
+-- the token or two must come first: they are passed, or the read fails
 pub record Expects (after : Kinds → Option Kinds) (tokens : List Token)
     (result : Result Left SyntaxFault) : Type 0 where
   pub rest : Gives (λ rest. kinds rest.now) result (after (kinds tokens))
@@ -73,26 +73,26 @@ abbrev pub part_at_end : {X : Type 0} → X × Kinds → Option X
 part_at_end (x, []) = Some x
 part_at_end (x, first ∷ rest) = None
 
--- what was found, where nothing follows it
+-- what was found, if nothing follows it
 abbrev pub whole_of : {X : Type 0} → Option (X × Kinds) → Option X
 whole_of found = found >>= part_at_end
 
--- BadSyntax comes only where this holds, want of memory at any time, and no other fault at all
+-- BadSyntax comes only if `P` holds; out of memory may always come; no other fault comes
 abbrev pub IsFaultOnlyWhere : Type 0 → SyntaxFault → Type 0
 IsFaultOnlyWhere P fault.TooDeep = ⊥
 IsFaultOnlyWhere P (fault.Unsupported place) = ⊥
 IsFaultOnlyWhere P fault.BadSyntax = P
 IsFaultOnlyWhere P fault.Memory = Unit {0}
 
--- the tokens from place first to the place before last are there, and no word of them is beyond the
--- grammar
+-- the tokens from place `first` up to, but not including, place `last` exist, and pass the checks
+-- of depth and of words
 pub record CanBeRead (tokens : List Token) (first last : ℕ) : Type 0 where
   pub order : first ≤ last
   pub within : last ≤ length tokens
   pub words : words_check (slice_range tokens first last) ≡ Ok tt
 
--- all of the tokens are read, as the one reading that the grammar has for them; BadSyntax only
--- where it has none
+-- all tokens are read, as the only reading that the grammar has for them; BadSyntax only if it has
+-- none
 pub record ReadsAll {X : Type 0} (IsPart : Kinds → X → Kinds → Type 0) (tokens : Kinds)
     (result : Result X SyntaxFault) : Type 0 where
   pub found : IfOk result (λ x. IsPart tokens x [])

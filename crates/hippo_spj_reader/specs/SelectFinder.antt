@@ -1,4 +1,4 @@
--- The select that can be found at the front of a list of tokens, part by part: the longest one.
+-- The longest select at the front of a list of tokens, part by part.
 use Rattle.std.specs.Prelude.{ℕ, zero, suc, Bool, true, false, if◌then◌else◌, codes, List, [], ◌∷◌, ◌++◌, length, option_to_list, Option, Some, None}
 use Rattle.std.specs.List.{flat_map}
 use Rattle.hippo_values.specs.declared.names.Name.{Name}
@@ -39,7 +39,7 @@ leading_item tokens =
     either (leading_whole_table tokens) (λ table. Some (item.AllOf table.0, table.1))
     (leading_column tokens >>= λ c. Some (item.One c.0, c.1))
 
--- ( column ), behind MIN or MAX
+-- "(" column ")", which follows MIN or MAX
 unfoldable pub leading_argument : Finder RawColumn
 leading_argument tokens = do
   inside ← after_symbol LeftParen tokens
@@ -61,19 +61,19 @@ leading_members tokens =
     either (after_symbol Star tokens) (λ rest. Some (member.Item item.All ∷ [], rest))
     (leading_list leading_member (after_symbol Comma) tokens)
 
--- what a member is in a select that is not grouped
+-- the member as an item of a select that is not grouped
 abbrev pub ungrouped_item : Member → Option RawItem
 ungrouped_item (member.Item i) = Some i
 ungrouped_item m = None
 
--- what it is in a grouped one
+-- the member as an item of a grouped select
 abbrev pub out_of : Member → Option RawOut
 out_of (member.Item (item.One c)) = Some (out.Column c)
 out_of (member.Min c) = Some (out.Min c)
 out_of (member.Max c) = Some (out.Max c)
 out_of m = None
 
--- all of them, where each is one
+-- the results for all members, if each has one
 abbrev pub each_of : {X Y : Type 0} → (X → Option Y) → List X → Option (List Y)
 each_of f [] = Some []
 each_of f (x ∷ xs) = do
@@ -81,7 +81,7 @@ each_of f (x ∷ xs) = do
   ys ← each_of f xs
   Some (y ∷ ys)
 
--- behind [INNER] JOIN
+-- what follows [INNER] JOIN, if that comes first
 abbrev pub after_join : Kinds → Option Kinds
 after_join tokens =
     either (after_keyword KInner tokens) (after_keyword KJoin) (after_keyword KJoin tokens)
@@ -100,7 +100,7 @@ leading_joined_on tokens = do
   condition ← leading_condition on
   Some (joined_table table.0 (Some condition.0), condition.1)
 
--- one table more, where something leads to one
+-- one more table, if a comma or a JOIN comes first
 unfoldable pub leading_joined : Kinds → Option (Option (JoinedTable × Kinds))
 leading_joined tokens =
     either (after_symbol Comma tokens) (λ remaining. leading_joined_by_comma remaining >>=
@@ -111,12 +111,12 @@ leading_joined tokens =
 abbrev pub no_sources : Sources
 no_sources = record { names = []; conditions = [] }
 
--- a table before others
+-- a table put before the others
 abbrev pub with_first_table : Name → Option RawCond → Sources → Sources
 with_first_table table on others =
     record { names = table ∷ others.names; conditions = option_to_list on ++ others.conditions }
 
--- the tables and conditions of at most this many joins
+-- the tables and conditions of up to this many joins
 abbrev pub leading_all_joined : ℕ → Finder Sources
 leading_all_joined zero tokens = None
 leading_all_joined (suc n) tokens = leading_joined tokens >>= λ found. either found (λ one. do
@@ -135,14 +135,14 @@ leading_where tokens =
     (λ remaining. leading_condition remaining >>= λ c. Some (Some c.0, c.1))
     (Some (None, tokens))
 
--- the tables, and the parts of the conditions of ON and of that of WHERE
+-- the tables, and the parts of the conditions of ON and WHERE
 abbrev pub whole_scope : Sources → Option RawCond → Scope
 whole_scope sources last = record {
   tables = sources.names;
   parts = flat_map outer_parts (sources.conditions ++ option_to_list last);
 }
 
--- the tables and the parts of the condition, from FROM on
+-- the tables and the parts of the condition, from FROM onwards
 unfoldable pub leading_scope : Finder Scope
 leading_scope tokens = do
   named ← after_keyword KFrom tokens
@@ -154,32 +154,32 @@ leading_scope tokens = do
 abbrev pub draft_of : Bool → List Member → Scope → Draft
 draft_of distinct members scope = record { distinct = distinct; members = members; scope = scope }
 
--- a select behind SELECT or DISTINCT, up to GROUP
+-- a select after SELECT or DISTINCT, as far as GROUP
 unfoldable pub leading_draft_of : Bool → Finder Draft
 leading_draft_of distinct tokens = do
   members ← leading_members tokens
   scope ← leading_scope members.1
   Some (draft_of distinct members.0 scope.0, scope.1)
 
--- a select up to GROUP
+-- a select as far as GROUP
 unfoldable pub leading_draft : Finder Draft
 leading_draft tokens = do
   remaining ← after_keyword KSelect tokens
   either (after_keyword KDistinct remaining) (leading_draft_of true) (leading_draft_of false remaining)
 
--- a select that ends there
+-- a select without GROUP
 unfoldable pub ungrouped_select : Draft → Option RawSelect
 ungrouped_select draft = do
   items ← each_of ungrouped_item draft.members
   Some (select_with items draft.scope (if draft.distinct then Distinct else Plain))
 
--- a select whose groups are those of these columns, and what follows them
+-- a select with the groups of these columns, and what follows them
 abbrev pub select_by : Draft → List RawColumn → Kinds → Option (RawSelect × Kinds)
 select_by draft by rest = do
   outs ← if draft.distinct then None else each_of out_of draft.members
   Some (select_with [] draft.scope (Grouped outs by), rest)
 
--- a select that goes on behind GROUP
+-- the rest of a select after GROUP
 unfoldable pub leading_grouped : Draft → Finder RawSelect
 leading_grouped draft tokens = do
   columns ← after_word (codes "by") tokens
@@ -187,7 +187,7 @@ leading_grouped draft tokens = do
   outs ← if draft.distinct then None else each_of out_of draft.members
   Some (select_with [] draft.scope (Grouped outs by.0), by.1)
 
--- the longest select that stands first
+-- the longest select at the front
 unfoldable pub leading_select : Finder RawSelect
 leading_select tokens = do
   draft ← leading_draft tokens

@@ -1,5 +1,5 @@
--- The grammar of selects. Each relation says that the tokens begin with such a part, how it reads,
--- and what follows it.
+-- The grammar of selects. Each relation says that the tokens begin with such a part, how the part
+-- reads, and what follows it.
 use Rattle.std.specs.Prelude.{◌≡◌, List, [], ◌∷◌, ◌++◌, codes, option_to_list, Option, Some, None}
 use Rattle.std.specs.List.{flat_map}
 use Rattle.hippo_values.specs.declared.names.Name.{Name}
@@ -58,8 +58,7 @@ pub data IsWhere : Kinds → Option RawCond → Kinds → Type 0 where
   condition : {condition : RawCond} {tokens rest : Kinds} →
       IsCondition tokens condition rest → IsWhere (Keyword KWhere ∷ tokens) (Some condition) rest
 
--- the conditions of ON and WHERE together are one All, in which an All among them is dissolved into
--- its parts
+-- the conditions of ON and WHERE form one All; an All among them is replaced by its parts
 abbrev pub whole_condition : List RawCond → RawCond
 whole_condition conditions = All (flat_map outer_parts conditions)
 
@@ -72,7 +71,7 @@ pub data IsScope : Kinds → Scope → Kinds → Type 0 where
       IsScope (Keyword KFrom ∷ Word table ∷ joined)
       (record { tables = table ∷ tables; parts = parts }) rest
 
--- a select with these items and of this form: the parts of its condition are one All
+-- a select with these items and of this form; the parts of its condition form one All
 abbrev pub select_with : List RawItem → Scope → RawForm → RawSelect
 select_with items in_scope form =
     record { items = items; tables = in_scope.tables; cond = All in_scope.parts; form = form }

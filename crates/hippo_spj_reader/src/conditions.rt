@@ -1,4 +1,4 @@
-//! Conditions, operands and columns.
+//! Reads conditions, operands and columns.
 
 ghost use Rattle.std.specs.Prelude.{◌≡◌, ◌≢◌, ℕ, ◌<◌, ◌≤◌, [], ◌∷◌, length, IfOk, IfSome, option_map, MatchResult};
 ghost use Rattle.hippo_spj_reader.specs.Promises.{AddsPart, CanBeRead, Gives, GivesPart, LeavesNoMore, Reads, ReadsAll};
@@ -17,7 +17,8 @@ use hippo_stmt_ast::{RawColumn, RawCond, RawOperand};
 use hippo_values::{Boxed, CompareOp, Sequence};
 use std::alloc::Global;
 
-/// The column that has to stand first, with its table or without, and the tokens behind it.
+/// The column at the front of the tokens, with or without its table, and the tokens after it.
+/// BadSyntax if there is none.
 pub fn column(alloc: Global, tokens: &[Token]) -> Result<(RawColumn, &[Token]), SyntaxFault>
     ensures { Reads leading_column tokens.now result }
 {
@@ -37,7 +38,7 @@ pub fn column(alloc: Global, tokens: &[Token]) -> Result<(RawColumn, &[Token]), 
     Ok((RawColumn { table, column }, rest))
 }
 
-/// The rule of a column.
+/// The grammar rule of a column.
 pub struct ColumnPart;
 
 impl Part for ColumnPart {
@@ -64,7 +65,7 @@ fn column_operand(alloc: Global, column: RawColumn) -> Result<RawOperand, Syntax
     Ok(RawOperand::Column(Boxed::new(alloc, column)?))
 }
 
-/// The operand that has to stand first, and the tokens behind it.
+/// The operand at the front of the tokens, and the tokens after it. BadSyntax if there is none.
 pub fn operand(alloc: Global, tokens: &[Token]) -> Result<(RawOperand, &[Token]), SyntaxFault>
     ensures { Reads leading_operand tokens.now result }
 {
@@ -101,7 +102,7 @@ fn operator(tokens: &[Token]) -> Option<(CompareOp, &[Token])>
     }
 }
 
-// The rule of an operand.
+// The grammar rule of an operand.
 struct OperandPart;
 
 impl Part for OperandPart {
@@ -215,7 +216,7 @@ fn test(
     range(alloc, value, tokens)
 }
 
-// The part of a list that has a single one, else the list again.
+// The only part of a list, or the list back if it does not have exactly one part.
 fn single(parts: Sequence<RawCond>) -> Result<RawCond, Sequence<RawCond>>
     ensures { MatchResult result (λ part. parts ≡ part ∷ [])
         (λ same. (same ≡ parts) × (length parts ≢ 1)) }
@@ -340,14 +341,15 @@ fn disjunction(alloc: Global, tokens: &[Token]) -> Result<(RawCond, &[Token]), S
     Ok((any_of(parts), rest))
 }
 
-/// The condition that has to stand first, as long as it goes on, and the tokens behind it.
+/// The longest condition at the front of the tokens, and the tokens after it. BadSyntax if there is
+/// none.
 pub fn condition(alloc: Global, tokens: &[Token]) -> Result<(RawCond, &[Token]), SyntaxFault>
     ensures { Reads leading_condition tokens.now result }
 {
     disjunction(alloc, tokens)
 }
 
-// The rule of a condition.
+// The grammar rule of a condition.
 struct ConditionPart;
 
 impl Part for ConditionPart {
@@ -362,9 +364,9 @@ impl Part for ConditionPart {
     }
 }
 
-/// The condition that the tokens from place `first` to the place before `last` are; BadSyntax
-/// exactly where they are no condition, but for want of memory. The depth of the recursion is that
-/// of NOT and of parentheses.
+/// The condition that the tokens from place `first` up to, but not including, place `last` form.
+/// BadSyntax exactly if they form no condition; it may also fail when out of memory. The recursion
+/// is as deep as NOT and the parentheses.
 pub fn read_condition(
     alloc: Global,
     t: &Tokens,

@@ -1,4 +1,4 @@
-//! What stands first among the tokens.
+//! Reads single tokens, names and literals at the front of the tokens.
 
 ghost use Rattle.std.specs.Prelude.{◌≡◌, ◌∷◌, ◌<◌, [], length, MatchOption, IfSome};
 ghost use Rattle.hippo_spj_reader.specs.Promises.{Reads, Passes, Expects};
@@ -8,7 +8,7 @@ use hippo_lexer::{Keyword, Symbol, SyntaxFault, Token, TokenKind};
 use hippo_values::{Duplicate, Name, Value};
 use std::alloc::Global;
 
-/// The first token's kind, and the tokens behind it.
+/// The first token's kind, and the tokens after it, or none if there are no tokens.
 pub fn split(tokens: &[Token]) -> Option<(&TokenKind, &[Token])>
     ensures parts { MatchOption result (kinds tokens.now ≡ [])
         (λ parts. kinds tokens.now ≡ parts.0.now ∷ kinds parts.1.now) }
@@ -20,7 +20,7 @@ pub fn split(tokens: &[Token]) -> Option<(&TokenKind, &[Token])>
     Some((&tokens[0].kind, &tokens[1..]))
 }
 
-/// The tokens behind a keyword, where it stands first.
+/// The tokens after a keyword, or none if the keyword does not come first.
 pub fn after_keyword(tokens: &[Token], keyword: Keyword) -> Option<&[Token]>
     ensures { Passes (after_keyword keyword) tokens.now result }
 {
@@ -30,7 +30,7 @@ pub fn after_keyword(tokens: &[Token], keyword: Keyword) -> Option<&[Token]>
     }
 }
 
-/// The tokens behind a symbol, where it stands first.
+/// The tokens after a symbol, or none if the symbol does not come first.
 pub fn after_symbol(tokens: &[Token], symbol: Symbol) -> Option<&[Token]>
     ensures { Passes (after_symbol symbol) tokens.now result }
 {
@@ -40,7 +40,7 @@ pub fn after_symbol(tokens: &[Token], symbol: Symbol) -> Option<&[Token]>
     }
 }
 
-/// The tokens behind a word that is no keyword, where it stands first.
+/// The tokens after a word that is not a keyword, or none if the word does not come first.
 pub fn after_word<'a>(tokens: &'a [Token], word: &str) -> Option<&'a [Token]>
     ensures { Passes (after_word word.now) tokens.now result }
 {
@@ -50,28 +50,28 @@ pub fn after_word<'a>(tokens: &'a [Token], word: &str) -> Option<&'a [Token]>
     }
 }
 
-/// The tokens behind a keyword that has to stand first.
+/// The tokens after a keyword. BadSyntax if the keyword does not come first.
 pub fn expect_keyword(tokens: &[Token], keyword: Keyword) -> Result<&[Token], SyntaxFault>
     ensures { Expects (after_keyword keyword) tokens.now result }
 {
     after_keyword(tokens, keyword).ok_or(SyntaxFault::BadSyntax)
 }
 
-/// The tokens behind a symbol that has to stand first.
+/// The tokens after a symbol. BadSyntax if the symbol does not come first.
 pub fn expect_symbol(tokens: &[Token], symbol: Symbol) -> Result<&[Token], SyntaxFault>
     ensures { Expects (after_symbol symbol) tokens.now result }
 {
     after_symbol(tokens, symbol).ok_or(SyntaxFault::BadSyntax)
 }
 
-/// The tokens behind a word, no keyword, that has to stand first.
+/// The tokens after a word that is not a keyword. BadSyntax if the word does not come first.
 pub fn expect_word<'a>(tokens: &'a [Token], word: &str) -> Result<&'a [Token], SyntaxFault>
     ensures { Expects (after_word word.now) tokens.now result }
 {
     after_word(tokens, word).ok_or(SyntaxFault::BadSyntax)
 }
 
-/// The name that has to stand first, and the tokens behind it.
+/// The name at the front of the tokens, and the tokens after it. BadSyntax if there is none.
 pub fn name(alloc: Global, tokens: &[Token]) -> Result<(Name, &[Token]), SyntaxFault>
     ensures { Reads leading_name tokens.now result }
 {
@@ -81,7 +81,7 @@ pub fn name(alloc: Global, tokens: &[Token]) -> Result<(Name, &[Token]), SyntaxF
     }
 }
 
-/// The literal that has to stand first, and the tokens behind it.
+/// The literal at the front of the tokens, and the tokens after it. BadSyntax if there is none.
 pub fn literal(alloc: Global, tokens: &[Token]) -> Result<(Value, &[Token]), SyntaxFault>
     ensures { Reads leading_literal tokens.now result }
 {

@@ -1,4 +1,4 @@
-//! Reads conditions and selects from the tokens of a statement, and the lists that stand in it.
+//! Reads conditions, selects and the lists in them from the tokens of a statement.
 #![tactic(auto)]
 
 mod conditions;

@@ -1,5 +1,4 @@
-//! The rules of the grammar as types, lists of their parts, and texts that are one part and nothing
-//! more.
+//! Grammar rules as types, lists of parts, and tokens that form one part and nothing more.
 ghost use Rattle.std.specs.Prelude.{◌≡◌, [], ◌∷◌, IfOk};
 ghost use Rattle.hippo_spj_reader.specs.Promises.{Gives, Reads, Passes, whole_of};
 ghost use Rattle.hippo_spj_reader.specs.Front.{kinds};
@@ -14,29 +13,29 @@ use std::alloc::Global;
 pub trait Part {
     ghost use Rattle.hippo_spj_reader.specs.Front.{Finder};
 
-    /// How a part reads.
+    /// The result of reading a part.
     type Reading: Drop;
 
     ghost leading: { Finder Self.Reading };
 
-    /// The part that has to stand first, and the tokens behind it.
+    /// The part at the front of the tokens, and the tokens after it. BadSyntax if there is none.
     fn read(alloc: Global, tokens: &[Token]) -> Result<(Self::Reading, &[Token]), SyntaxFault>
         ensures { Reads leading tokens.now result };
 }
 
-/// What stands between the parts of a list.
+/// The separator between the parts of a list.
 pub trait Separator {
     ghost use Rattle.std.specs.Prelude.{List, Option};
     ghost use Rattle.hippo_lexer.specs.declared.kinds.TokenKind.{TokenKind};
 
     ghost after: { List TokenKind → Option (List TokenKind) };
 
-    /// The tokens behind what leads from a part to the next, where it stands first.
+    /// The tokens after the separator, or none if the separator does not come first.
     fn pass(tokens: &[Token]) -> Option<&[Token]>
         ensures { Passes after tokens.now result };
 }
 
-// The list of one part, with room for a second.
+// A list of one part, with room for a second.
 pub fn only<T: Drop>(alloc: Global, part: T) -> Result<Sequence<T>, Memory>
     ensures { IfOk result (λ parts. parts ≡ part ∷ []) }
 {
@@ -45,7 +44,8 @@ pub fn only<T: Drop>(alloc: Global, part: T) -> Result<Sequence<T>, Memory>
     Ok(parts)
 }
 
-/// The parts of the list that has to stand first, and the tokens behind it.
+/// The parts of the longest list at the front of the tokens, and the tokens after it. BadSyntax if
+/// there is no list.
 pub fn list<P: Part, S: Separator>(
     alloc: Global,
     tokens: &[Token],
@@ -63,7 +63,7 @@ pub fn list<P: Part, S: Separator>(
     Ok((parts, rest))
 }
 
-/// What the tokens are by a rule, where they are one part and nothing more.
+/// The part that all of the tokens form by a rule. BadSyntax if they do not form exactly one part.
 pub fn whole<P: Part>(alloc: Global, tokens: &[Token]) -> Result<P::Reading, SyntaxFault>
     ensures { Gives (λ x. x) result (whole_of (P.leading (kinds tokens.now))) }
 {
@@ -89,7 +89,7 @@ impl Separator for Commas {
     }
 }
 
-/// The rule of a name.
+/// The grammar rule of a name.
 pub struct NamePart;
 
 impl Part for NamePart {

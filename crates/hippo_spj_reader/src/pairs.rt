@@ -1,9 +1,9 @@
-//! What is held while more is read.
+//! Keeps a value while the next part is read.
 ghost use Rattle.std.specs.Prelude.{◌≡◌, MatchResult, Ok, Err};
 
 use hippo_lexer::SyntaxFault;
 
-// A value, and what was read beside it.
+// The value held, paired with what was read next.
 pub fn beside<A: Drop, B: Drop>(
     held: A,
     read: Result<B, SyntaxFault>,

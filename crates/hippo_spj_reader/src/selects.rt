@@ -1,4 +1,4 @@
-//! Selects: their items, their sources and their condition.
+//! Reads selects: their items, their sources and their condition.
 
 ghost use Rattle.std.specs.Prelude.{◌≡◌, [], ◌∷◌, ◌++◌, ◌<◌, ◌≤◌, length, IfOk, IfSome, OnOk, flat_map, option_map, option_to_list, true, false, Some, None, if◌then◌else◌};
 ghost use Rattle.hippo_values.specs.declared.keywords.Keyword.TheVariants.{KDistinct};
@@ -26,7 +26,7 @@ use std::alloc::Global;
 
 type Conditions = Sequence<RawCond>;
 
-// The tokens behind `t.*`, where it stands first.
+// The tokens after `t.*`, or none if that does not come first.
 fn after_whole_table(tokens: &[Token]) -> Option<&[Token]>
     ensures rest { option_map (λ rest. kinds rest.now) result
         ≡ option_map (λ x. x.1) (leading_whole_table (kinds tokens.now)) }
@@ -85,7 +85,7 @@ fn list_member(alloc: Global, tokens: &[Token]) -> Result<(Member, &[Token]), Sy
     Ok((Member::Item(item), rest))
 }
 
-// The rule of a member.
+// The grammar rule of a member.
 struct MemberPart;
 
 impl Part for MemberPart {
@@ -110,7 +110,7 @@ fn members(alloc: Global, tokens: &[Token]) -> Result<(Members, &[Token]), Synta
     list::<MemberPart, Commas>(alloc, tokens)
 }
 
-// What a member of a select list is, once the select's form is known.
+// Turns a member of a select list into its final form, once the select's form is known.
 trait OfMember: Sized + Drop {
     ghost use Rattle.std.specs.Prelude.{Option};
     ghost use Rattle.hippo_spj_reader.specs.declared.selects.Member.{Member};
@@ -159,7 +159,7 @@ fn each<T: OfMember>(alloc: Global, members: Members) -> Result<Sequence<T>, Syn
     Ok(list)
 }
 
-// The tokens behind JOIN or INNER JOIN, where it stands first.
+// The tokens after JOIN or INNER JOIN, or none if neither comes first.
 fn after_join(tokens: &[Token]) -> Option<&[Token]>
     ensures { Passes after_join tokens.now result }
 {
@@ -169,7 +169,7 @@ fn after_join(tokens: &[Token]) -> Option<&[Token]>
     }
 }
 
-// A table of FROM behind the first, and its condition where it has one.
+// A further table of FROM, and its ON condition if it has one.
 #[derive(Drop)]
 struct JoinedTable {
     table: Name,
@@ -194,7 +194,7 @@ fn joined_by_comma(alloc: Global, tokens: &[Token]) -> Result<(JoinedTable, &[To
     Ok((JoinedTable { table, on }, rest))
 }
 
-// The table that a comma or a JOIN adds, where one of them stands first, and the tokens behind it.
+// The table that a comma or a JOIN adds, if one of them comes first, and the tokens after it.
 #[tactic(auto, unfolding(crate::specs::SelectFinder::leading_joined))]
 fn joined(alloc: Global, tokens: &[Token]) -> Result<Option<(JoinedTable, &[Token])>, SyntaxFault>
     ensures found { Gives (λ r. option_map (λ x. (x.0, kinds x.1.now)) r) result
@@ -244,7 +244,7 @@ fn add_parts(list: &mut Conditions, condition: RawCond) -> Result<(), Memory>
     }
 }
 
-// The parts of all conditions, in their order.
+// The parts of all conditions, in order.
 fn all_parts(alloc: Global, conditions: Conditions) -> Result<Conditions, Memory>
     ensures { IfOk result (λ parts. parts ≡ flat_map outer_parts conditions) }
 {
@@ -255,7 +255,7 @@ fn all_parts(alloc: Global, conditions: Conditions) -> Result<Conditions, Memory
     Ok(parts)
 }
 
-// The parts of the conditions of ON. Most selects have none, and nothing is made of these.
+// The parts of the ON conditions. Most selects have none; nothing is allocated for these.
 #[inline(always)]
 fn parts_of_on(alloc: Global, conditions: Conditions) -> Result<Conditions, Memory>
     ensures { IfOk result (λ parts. parts ≡ flat_map outer_parts conditions) }
@@ -266,7 +266,7 @@ fn parts_of_on(alloc: Global, conditions: Conditions) -> Result<Conditions, Memo
     all_parts(alloc, conditions)
 }
 
-// Adds the parts of the last condition, that of WHERE, where there is one.
+// Adds the parts of the WHERE condition, if there is one.
 fn add_last(parts: &mut Conditions, last: Option<RawCond>) -> Result<(), Memory>
     ensures { OnOk result (parts.new ≡ parts.old ++ flat_map outer_parts (option_to_list last)) }
 {
@@ -276,14 +276,14 @@ fn add_last(parts: &mut Conditions, last: Option<RawCond>) -> Result<(), Memory>
     }
 }
 
-/// The conditions of ON and WHERE as one, in which an All among them is dissolved into its parts.
+/// The conditions of ON and WHERE as one. An All among them is replaced by its parts.
 pub fn whole_condition(alloc: Global, conditions: Conditions) -> Result<RawCond, Memory>
     ensures { IfOk result (λ whole. whole ≡ whole_condition conditions) }
 {
     Ok(CondOf::All(all_parts(alloc, conditions)?))
 }
 
-// The tables of FROM, and the conditions of its ONs.
+// The tables of FROM, and the conditions of ON.
 #[derive(Drop)]
 struct Sources {
     names: Names,
@@ -322,7 +322,7 @@ fn from_list(alloc: Global, tokens: &[Token]) -> Result<(Sources, &[Token]), Syn
     Ok((sources, rest))
 }
 
-/// The condition behind WHERE, where that stands first, and the tokens behind it.
+/// The condition of WHERE, or none if WHERE does not come first, and the tokens after it.
 #[tactic(auto, unfolding(crate::specs::SelectFinder::leading_where))]
 pub fn after_where(
     alloc: Global,
@@ -344,7 +344,7 @@ struct Scope {
     parts: Conditions,
 }
 
-// The tables, and the parts of the conditions of ON and of the last one, that of WHERE.
+// The tables, and the parts of the conditions of ON and of `last`, the WHERE condition.
 fn whole_scope(alloc: Global, sources: Sources, last: Option<RawCond>) -> Result<Scope, Memory>
     ensures { IfOk result (λ scope. scope ≡ whole_scope sources last) }
 {
@@ -367,7 +367,7 @@ fn from_clause(alloc: Global, tokens: &[Token]) -> Result<(Scope, &[Token]), Syn
     Ok((whole_scope(alloc, sources, last)?, rest))
 }
 
-// A select up to GROUP.
+// A select as far as GROUP.
 #[derive(Drop)]
 struct Draft {
     distinct: bool,
@@ -395,7 +395,7 @@ fn draft_of(
     ))
 }
 
-// Whether DISTINCT stands first, and the tokens behind it.
+// Whether DISTINCT comes first, and the tokens after it.
 fn after_distinct(tokens: &[Token]) -> (bool, &[Token])
     ensures found { leading_draft_of result.0 (kinds result.1.now)
         ≡ either (after_keyword KDistinct (kinds tokens.now)) (leading_draft_of true)
@@ -462,7 +462,7 @@ fn outs(alloc: Global, distinct: bool, members: Members) -> Result<RawOuts, Synt
     each(alloc, members)
 }
 
-// The select whose groups are those of the columns `by`, and the tokens behind these.
+// The select with the groups of the columns `by`, and the tokens after these.
 fn grouped_by<'a>(
     alloc: Global,
     draft: Draft,
@@ -482,7 +482,7 @@ fn grouped_by<'a>(
     Ok((select_with(Sequence::new(alloc), scope, form), rest))
 }
 
-// The select that goes on behind GROUP, and the tokens behind it.
+// The rest of a select after GROUP, and the tokens after it.
 #[tactic(auto, unfolding(crate::specs::SelectFinder::leading_grouped))]
 fn grouped(
     alloc: Global,
@@ -496,7 +496,8 @@ fn grouped(
     grouped_by(alloc, draft, by, rest)
 }
 
-/// The select that has to stand first, as long as it goes on, and the tokens behind it.
+/// The longest select at the front of the tokens, and the tokens after it. BadSyntax if there is
+/// none.
 #[tactic(auto, unfolding(crate::specs::SelectFinder::leading_select))]
 pub fn select(alloc: Global, tokens: &[Token]) -> Result<(RawSelect, &[Token]), SyntaxFault>
     ensures { Reads leading_select tokens.now result }
@@ -508,7 +509,7 @@ pub fn select(alloc: Global, tokens: &[Token]) -> Result<(RawSelect, &[Token]), 
     Ok((ungrouped(alloc, draft)?, rest))
 }
 
-// The rule of a select.
+// The grammar rule of a select.
 struct SelectPart;
 
 impl Part for SelectPart {
@@ -523,9 +524,9 @@ impl Part for SelectPart {
     }
 }
 
-/// The select that the tokens from place `first` to the place before `last` are; BadSyntax exactly
-/// where they are no select, but for want of memory. The depth of the recursion is that of NOT and
-/// of parentheses.
+/// The select that the tokens from place `first` up to, but not including, place `last` form.
+/// BadSyntax exactly if they form no select; it may also fail when out of memory. The recursion is
+/// as deep as NOT and the parentheses.
 pub fn read_select(
     alloc: Global,
     t: &Tokens,

@@ -26,17 +26,17 @@ no_moment_is_nobodys = refl
 fetches_in_a_session : command_by (Some (makes_request 1 (fetches 2 10))) ≡ make_request (Session 1) (fetches 2 10)
 fetches_in_a_session = refl
 
--- a statement's refusal is its session's
+-- a refused statement speaks for its session
 refused_in_a_session : (text : List ℕ) → state_command (Session 3) text (Err BadSyntax) ≡ wrong (Session 3) BadSyntax
 refused_in_a_session text = refl
 
--- the word that is refused is told in upper case
+-- a refused word is reported in upper case
 words_in_upper_case :
     syntax_refusal (record { kind = kinds.Unsupported (codes "sum"); start = 7; end = 10 } ∷ []) (syntax.Unsupported 0)
     ≡ Unsupported (codes "SUM")
 words_in_upper_case = refl
 
--- a line that ends something takes no memory, one that is refused in a session may
+-- a line that ends something takes no memory; one that is refused in a session may take some
 logout_takes_none : takes_memory (make_request (Session 7) logs_out) ≡ false
 logout_takes_none = refl
 

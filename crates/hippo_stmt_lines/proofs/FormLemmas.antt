@@ -19,7 +19,7 @@ abbrev text_in : Option Form → Txt
 text_in (Some (makes_statement session text)) = text
 text_in _ = []
 
--- what is stated behind a session's number is all that stands there, and a word is in it
+-- the statement is all of the text after the session's number, and has a word
 record IsStated (remaining text : Txt) : Type 0 where
   whole : remaining ≡ text
   filled : words_of text ≢ []

@@ -1,4 +1,4 @@
--- Lines and their forms. Each table is named by what it shows.
+-- Lines and their forms. Each table is named after what it shows.
 use Rattle.std.proofs.Common.{◌≡◌, ℕ, ◌+◌, List, [], ◌∷◌, ◌++◌, map, replicate, Option, Some, None, refl, codes}
 use Rattle.std.specs.Prelude.{⊤}
 use Rattle.hippo_values.specs.Texts.{Txt}
@@ -17,7 +17,7 @@ abbrev AreStatements : List (ℕ × Txt) → Type 0
 AreStatements rows =
     map (λ row. line_form ((48 + row.0) ∷ 32 ∷ row.1)) rows ≡ map (λ row. Some (makes_statement row.0 row.1)) rows
 
--- what is unfolded to compute words and names
+-- what must be unfolded to compute words and names
 unfoldable word_lists : ⊤
 unfolding words_of keywords unsupported_words
 word_lists = tt
@@ -92,7 +92,7 @@ short_words_have_any_case : HaveForms (
 unfolding word_lists
 short_words_have_any_case = refl
 
--- the carriage return that ends a line is gone already; a further one is part of a word
+-- the carriage return that ends a line is already removed; a further one is part of a word
 a_carriage_return_is_no_space : HaveForms (
     (return, None)
     ∷ (codes "1 logout" ++ return, Some (makes_statement 1 (codes "logout" ++ return)))
@@ -139,7 +139,7 @@ a_short_word_wants_its_form : HaveNone (
 unfolding word_lists
 a_short_word_wants_its_form = refl
 
--- a reserved word is no name, nor is one of 64 letters
+-- a reserved word is not a name, nor is a word of 64 letters
 names_are_names : HaveForms (
     (codes "1 login select treatment nurse", None)
     ∷ (codes "1 login ann purpose nurse", None)

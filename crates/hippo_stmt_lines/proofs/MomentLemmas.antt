@@ -7,14 +7,14 @@ use Rattle.hippo_values_text.proofs.WrittenLemmas.{written-found, written-none}
 use Rattle.hippo_stmt_lines.specs.CommandLaws.{MomentsAreRead}
 use Rattle.hippo_stmt_lines.specs.Moments.{moment_in}
 
--- where none is found among all, the text is no moment's
+-- if no moment is found among all, the text writes none
 no_moment : (text : List ℕ) → written_among moment_text first_moment 315537897600 text ≡ None → (second : ℤ) → ¬ (IsMomentText text second)
 no_moment text none = written-none moment_text first_moment last_moment 315537897600 refl text none
 
 found_moment : (text : List ℕ) → IfSome (written_among moment_text first_moment 315537897600 text) (IsMomentText text)
 found_moment text = written-found moment_text first_moment last_moment 315537897600 refl text
 
--- an exact answer is the one that is found
+-- an exact answer is the moment that is found
 agree : (text : List ℕ) (answer found : Option ℤ) → IfSome answer (IsMomentText text) → ((second : ℤ) → IsMomentText text second → answer ≡ Some second) → IfSome found (IsMomentText text) → (found ≡ None → (second : ℤ) → ¬ (IsMomentText text second)) → answer ≡ found
 agree text answer (Some second) some inverse is none = inverse second is
 agree text (Some second) None some inverse is none = absurd (none refl second some)

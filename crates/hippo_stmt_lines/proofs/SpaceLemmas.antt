@@ -1,4 +1,4 @@
--- The words of a text from its front on.
+-- The words of a text, from its front.
 use Rattle.std.proofs.Common.{◌≡◌, ℕ, zero, suc, ◌+◌, ◌-◌, ◌<◌, ◌≤◌, ◌⊎◌, true, false, eqb, List, [], ◌∷◌, length, get_or, Option, Some, None, inl, inr, refl, sym, ap, ◌∙◌, arith, one-add}
 use Rattle.std.specs.Prelude.{nat_lt, IsUtf8, IsCharBoundary}
 use Rattle.std.specs.List.{filter, slice_split, prefix_len, position_or_len, before_first, after_first}
@@ -10,7 +10,7 @@ use Rattle.std.proofs.lemmas.Str.{IsCharBoundary-start, IsCharBoundary-after_asc
 use Rattle.hippo_values.specs.Texts.{is_space}
 use Rattle.hippo_stmt_lines.specs.Words.{is_filled, words_of, around_space, trimmed_text}
 
--- a text may be cut behind spaces
+-- a text may be cut after spaces
 cut_at : (text : List ℕ) (n : ℕ) → IsUtf8 text → n ≤ length text → (0 < n → get_or text (n - 1) 0 < 128) → IsCharBoundary text n
 cut_at text zero utf8 within ascii = IsCharBoundary-start text utf8
 cut_at text (suc n) utf8 within ascii =
@@ -26,7 +26,7 @@ boundary-spaces text utf8 =
     cut_at text (prefix_len is_space text) utf8 (prefix_len-le-length is_space text)
     (λ some. small_space _ (prefix_len_passes is_space text (prefix_len is_space text - 1) 0 (omega arith)))
 
--- the pieces of a text: the one before the first space, and those behind it
+-- the pieces of a text: the one before the first space, and the ones after it
 record Pieces (text : List ℕ) : Type 0 where
   later : List (List ℕ)
   parts : slice_split is_space text ≡ before_first is_space text ∷ later
@@ -54,7 +54,7 @@ pieces (x ∷ xs) = elim (cases_Bool (is_space x)) [
       }
 ]
 
--- the words of a text that begins with no space
+-- the words of a text that does not begin with a space
 words_of-first : (x : ℕ) (xs : List ℕ) → is_space x ≡ false → words_of (x ∷ xs) ≡ before_first is_space (x ∷ xs) ∷ words_of (after_first is_space (x ∷ xs))
 unfolding words_of
 words_of-first x xs other =
@@ -63,7 +63,7 @@ words_of-first x xs other =
     ∙ (ap (λ words. (x ∷ before_first is_space xs) ∷ words) all.words
     ∙ ap (λ first. first ∷ words_of (after_first is_space (x ∷ xs))) (sym (front x xs other))))
 
--- what a text without the spaces at its front is
+-- what a text without its leading spaces is
 abbrev IsTrimmed : List ℕ → Type 0
 IsTrimmed text = (text ≡ []) ⊎ ((x : ℕ) × (xs : List ℕ) × (text ≡ x ∷ xs) × (is_space x ≡ false))
 
@@ -86,7 +86,7 @@ words_of-trimmed_text (x ∷ xs) = elim (cases_Bool (is_space x)) [
     shorter : is_space x ≡ true → trimmed_text (x ∷ xs) ≡ trimmed_text xs
     shorter space = rw (space, one-add) refl
 
--- no word stands in a text of spaces
+-- a text of spaces has no word
 pub words_of-blank : (text : List ℕ) → length (trimmed_text text) ≡ 0 → words_of text ≡ []
 words_of-blank text none = words_of-trimmed_text text ∙ by_form (trimmed_text text) (trimmed_text-is text) none
   where
@@ -94,7 +94,7 @@ words_of-blank text none = words_of-trimmed_text text ∙ by_form (trimmed_text 
     by_form rest (inl empty) none = rw empty (unfold words_of in refl)
     by_form rest (inr some) none = let more : suc (length some.1) ≡ 0 = rw some.2 at none in absurd (omega arith)
 
--- the first word has a space behind it
+-- a space follows the first word
 pub words_of-more : (text word more : List ℕ) → around_space (trimmed_text text) ≡ Some (word, more) → words_of text ≡ word ∷ words_of more
 words_of-more text word more found = words_of-trimmed_text text ∙ by_form (trimmed_text text) (trimmed_text-is text) found
   where

@@ -1,4 +1,4 @@
--- The statement that tokens are, or why they are none.
+-- The statement that tokens form, or why they form none.
 use Rattle.std.proofs.Common.{◌≡◌, ◌⊎◌, inl, inr, List, Option, Some, None, Result, Ok, Err, refl, sym, ap, ◌∙◌}
 use Rattle.std.specs.Prelude.{ℕ, ok_or}
 use Rattle.std.specs.Result.{result_ok}
@@ -27,14 +27,14 @@ no_statement : (tokens : List Token) (one : Option Stmt) → statement_of tokens
 no_statement tokens None is none = refl
 no_statement tokens (Some s) is none = absurd (none s (found tokens s is))
 
--- a refusal by the grammar is the one that is told, or memory is short
+-- the refusal by the grammar is the one that is reported, or out of memory
 pub refused : (tokens : List Token) (fault : SyntaxFault) → IsRefusal tokens fault → OrMemory (statement_by tokens (words_check tokens)) (Err (syntax_refusal tokens fault))
 refused tokens syntax.TooDeep is = inl (rw is refl)
 refused tokens (syntax.Unsupported place) is = inl (rw is refl)
 refused tokens syntax.BadSyntax is = inl (rw is.0 (sym (no_statement tokens (statement_of tokens) refl is.1)))
 refused tokens syntax.Memory is = inr refl
 
--- the refusal that is made is that one, or want of memory
+-- the refusal that is made is that one, or out of memory
 pub told : (tokens : List Token) (fault : SyntaxFault) (made : Refusal) → (made ≡ syntax_refusal tokens fault) ⊎ (made ≡ Memory) → OrMemory (statement_by tokens (words_check tokens)) (Err (syntax_refusal tokens fault)) → OrMemory (statement_by tokens (words_check tokens)) (Err made)
 told tokens fault made (inr short) is = inr (ap Err short)
 told tokens fault made (inl same) (inl is) = inl (ap Err same ∙ is)

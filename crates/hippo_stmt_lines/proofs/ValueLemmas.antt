@@ -21,7 +21,7 @@ filled : (word : List ℕ) → is_filled word ≡ true → 0 < length word
 filled [] h = absurd (both_ways _ refl h)
 filled (first ∷ rest) h = omega arith
 
--- what a parse gives for digits
+-- the result of parsing digits
 pub value-parsed : {E : Type 0} (word : List ℕ) (r : Result ℕ E) → is_numeral word ≡ true → ParsesUnsigned 32 10 word r → result_ok r ≡ then_some (nat_lt (digits_value 10 word) (2 ^ 32)) (digits_value 10 word)
 value-parsed {E = E} word r numeral parses =
     let front = (and_parts (is_filled word && list_all is_ascii_digit word) (not (has_leading_zero word)) numeral).0 in

@@ -28,12 +28,12 @@ use Rattle.hippo_stmt_lines.specs.Moments.{moment_in}
 pub data Command : Type 0 where
   -- an empty line, or a comment
   nothing : Command
-  -- whatever the history, a line that speaks for somebody or nobody is refused
+  -- a line that is refused whatever the history; it may speak for somebody or nobody
   wrong : Speaker → Refusal → Command
   set_clock : Moment → Command
-  -- of who speaks: the request of a short word
+  -- the request that this speaker makes
   make_request : Speaker → Request → Command
-  -- a statement, and the text in which it stands
+  -- a statement, and the text that it is part of
   make_statement : Speaker → Stmt → Txt → Command
 
 -- why a text has no tokens
@@ -51,14 +51,14 @@ refused_word kind = []
 abbrev pub word_at : List Token → ℕ → Txt
 word_at tokens place = option_map_or (λ token. refused_word token.kind) (slice_get tokens place) []
 
--- why tokens are no statement
+-- why tokens do not form a statement
 abbrev pub syntax_refusal : List Token → SyntaxFault → Refusal
 syntax_refusal tokens syntax.TooDeep = TooDeep
 syntax_refusal tokens (syntax.Unsupported place) = Unsupported (word_at tokens place)
 syntax_refusal tokens syntax.BadSyntax = BadSyntax
 syntax_refusal tokens syntax.Memory = Memory
 
--- the statement that tokens are, where their words are not refused
+-- the statement that the tokens form, if they pass the check of words
 abbrev pub statement_by : List Token → Result (Unit {0}) SyntaxFault → Result Stmt Refusal
 statement_by tokens (Ok checked) = ok_or (statement_of tokens) BadSyntax
 statement_by tokens (Err fault) = Err (syntax_refusal tokens fault)
@@ -94,12 +94,11 @@ command_of (text_line text) = command_by (line_form text)
 command_of too_long_line = wrong Nobody LineTooLong
 command_of not_utf8_line = wrong Nobody BadLine
 
--- what is commanded by what a reader hands out: by a line, what it commands; by the end of the
--- input, nothing
+-- what a reader's result commands: a line as it says, the end of the input nothing
 abbrev pub input_command : Option LineText → Command
 input_command line = option_map_or command_of line nothing
 
--- who the line speaks for
+-- for whom the line speaks
 abbrev pub who_commands : Command → Speaker
 who_commands nothing = Nobody
 who_commands (wrong who refusal) = who
@@ -107,7 +106,7 @@ who_commands (set_clock moment) = Nobody
 who_commands (make_request who request) = who
 who_commands (make_statement who stmt text) = who
 
--- a request takes no memory where it ends something
+-- a request that ends something takes no memory
 abbrev pub request_takes_memory : Request → Bool
 request_takes_memory logs_out = false
 request_takes_memory (closes cursor) = false
@@ -115,7 +114,8 @@ request_takes_memory (drops job) = false
 request_takes_memory (unwatches watch) = false
 request_takes_memory request = true
 
--- the other lines that take none are those that say nothing, set the clock, or are nobody's
+-- of the other lines, those that say nothing, set the clock, or are refused when nobody speaks take
+-- no memory
 abbrev pub takes_memory : Command → Bool
 takes_memory nothing = false
 takes_memory (wrong who refusal) = is_somebody who
@@ -123,18 +123,18 @@ takes_memory (set_clock moment) = false
 takes_memory (make_request who request) = request_takes_memory request
 takes_memory (make_statement who stmt text) = true
 
--- reading takes memory for statements alone: such a line is a statement, or a refusal of a
--- session's line
+-- only the reading of a statement takes memory; such a line reads as a statement, or as a refusal
+-- that speaks for somebody
 abbrev pub may_want : Command → Bool
 may_want (wrong who refusal) = is_somebody who
 may_want (make_statement who stmt text) = true
 may_want command = false
 
--- an outcome, or want of memory
+-- the result is the outcome, or out of memory
 abbrev pub OrMemory : {A : Type 0} → Result A Refusal → Result A Refusal → Type 0
 OrMemory outcome result = (result ≡ outcome) ⊎ (result ≡ Err Memory)
 
--- a line commands this, or it is refused for want of memory to read it
+-- a line commands this, or it is refused as out of memory to read it
 abbrev pub IsCommand : Command → Command → Type 0
 IsCommand command found =
     (found ≡ command) ⊎ ((may_want command ≡ true) × (found ≡ wrong (who_commands command) Memory))

@@ -12,7 +12,7 @@ use Rattle.hippo_values.specs.Options.{◌>>=◌}
 use Rattle.hippo_stmt_lines.specs.Words.{words_of, around_space, trimmed_text, only, two, three}
 use Rattle.hippo_stmt_lines.specs.Numbers.{numeral_value}
 
--- the request that a short word and the words behind it make
+-- the request that a short word and its arguments make
 pub data Request : Type 0 where
   logs_in : Name → Name → Name → Request
   logs_out : Request
@@ -44,7 +44,7 @@ abbrev pub logout_of : List Txt → Option Request
 logout_of [] = Some logs_out
 logout_of (word ∷ words) = None
 
--- the number that the one word writes, from 1
+-- the number that the only word writes, from 1
 abbrev pub one_number : ℕ → List Txt → Option ℕ
 one_number most arguments = option_and_then (numeral_value 1 most) (only arguments)
 
@@ -79,7 +79,7 @@ drop_of arguments = option_map drops (one_number job_limit arguments)
 abbrev pub unwatch_of : List Txt → Option Request
 unwatch_of arguments = option_map unwatches (one_number watch_limit arguments)
 
--- load TABLE RECORD: all that stands behind the one space behind TABLE is the record
+-- load TABLE RECORD: the record is everything after the one space that follows TABLE
 abbrev pub load_of : Txt → Option Request
 load_of text = do
   (_, remaining) ← around_space (trimmed_text text)
@@ -87,7 +87,7 @@ load_of text = do
   name ← name_of table
   Some (loads name fields)
 
--- the short words, in whatever case
+-- the short words, in lower case
 abbrev pub short_words : List (Txt × ShortWord)
 short_words =
     (codes "login", Login) ∷ (codes "logout", Logout) ∷ (codes "fetch", Fetch)
@@ -97,7 +97,7 @@ short_words =
 abbrev pub short_word_of : Txt → Option ShortWord
 short_word_of word = lookup (λ known. bytes_eq known (lower_case word)) short_words
 
--- what a text asks for that begins with a short word and has these words behind it
+-- the request that a text makes, given its short word and its arguments
 abbrev pub request_by : ShortWord → Txt → List Txt → Option Request
 request_by Login text arguments = login_of arguments
 request_by Logout text arguments = logout_of arguments
@@ -114,7 +114,7 @@ at_of text = do
   moment ← only (words_of text)
   Some (sets_clock moment)
 
--- the form of a line with a session's number and this text behind it; without a short word the text
+-- the form of a line with a session's number followed by this text; without a short word the text
 -- is a statement
 abbrev pub form_in : ℕ → Txt → Option ShortWord → List Txt → Option Form
 form_in session text (Some short) arguments =
@@ -125,27 +125,27 @@ abbrev pub form_with : ℕ → Txt → List Txt → Option Form
 form_with session text [] = None
 form_with session text (word ∷ arguments) = form_in session text (short_word_of word) arguments
 
--- SESSION, and a text behind it
+-- SESSION, followed by a text
 abbrev pub session_form : Txt → Txt → Option Form
 session_form number text = do
   session ← numeral_value 0 session_limit number
   form_with session text (words_of text)
 
--- it begins with `#`
+-- whether a line begins with `#`
 abbrev pub is_comment : Txt → Bool
 is_comment [] = false
 is_comment (first ∷ rest) = first == 35
 
--- a line of spaces only, or of nothing, or a comment
+-- whether a line is empty, has only spaces, or is a comment
 abbrev pub is_silent : Txt → Bool
 is_silent line = is_comment line || list_all is_space line
 
--- the form of a line by its first word and what stands behind the one space behind it
+-- the form of a line, given its first word and the text after the one space that follows it
 abbrev pub form_by : Txt → Txt → Option Form
 form_by first remaining =
     if bytes_eq (codes "at") (lower_case first) then at_of remaining else session_form first remaining
 
--- the form of a line; in front of the first word no space may stand
+-- the form of a line; no space may come before the first word
 abbrev pub line_form : Txt → Option Form
 line_form line =
     if is_silent line then Some says_nothing

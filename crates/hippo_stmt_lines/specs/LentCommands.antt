@@ -1,4 +1,4 @@
--- What the code's commands say, which borrow their texts from a line.
+-- What the commands of the code mean. They borrow their texts from a line.
 use Rattle.hippo_stmt_lines.specs.LentForms.{request}
 use Rattle.hippo_stmt_lines.specs.Commands as commands
 use Rattle.hippo_stmt_lines.specs.declared.command.Command.{Command}

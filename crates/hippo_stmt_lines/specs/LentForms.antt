@@ -1,4 +1,4 @@
--- What the code's forms say, which borrow their texts from a line.
+-- What the forms of the code mean. They borrow their texts from a line.
 use Rattle.hippo_stmt_lines.specs.Forms.{Request, logs_in, logs_out, fetches, closes, steps, drops, unwatches, loads, Form, says_nothing, sets_clock, makes_request, makes_statement}
 use Rattle.hippo_stmt_lines.specs.declared.forms.RequestForm.{RequestForm}
 use Rattle.hippo_stmt_lines.specs.declared.forms.RequestForm.TheVariants.{Login, Logout, Fetch, Close, Step, Drop, Unwatch, Load}

@@ -7,7 +7,7 @@ use Rattle.hippo_values.specs.Moments.{first_moment}
 use Rattle.hippo_stmt_ast.specs.declared.statement.RawAudit.{RawAudit}
 use Rattle.hippo_typing_catalog.specs.declared.period.Period.{Period}
 
--- the moment that a text writes, among those of the years 0001 to 9999
+-- the moment that a text writes, in the years 0001 to 9999
 unfoldable pub moment_in : Txt → Option Moment
 moment_in text = written_among moment_text first_moment 315537897600 text
 

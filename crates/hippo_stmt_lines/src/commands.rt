@@ -1,4 +1,4 @@
-//! What a line commands.
+//! The reading of a line as a command.
 ghost use Rattle.std.specs.Prelude.{◌≡◌};
 ghost use Rattle.hippo_io.specs.LineTexts.{line_text};
 ghost use Rattle.hippo_stmt_lines.specs.Forms.{line_form};
@@ -69,8 +69,8 @@ fn text_command<'a>(alloc: Global, text: &'a str) -> Command<'a>
     }
 }
 
-/// What a line commands, by the forms of lines and the grammar alone. A statement may be refused
-/// for want of memory instead; nothing else takes memory. The end of the input commands nothing.
+/// What a line commands, by the forms of lines and the grammar alone. A statement may instead be
+/// refused when out of memory; no other line takes memory. The end of the input commands nothing.
 pub fn command_of<'a>(alloc: Global, line: Line<'a>) -> Command<'a>
     ensures { IsCommand (input_command (line_text line.entry)) (command result) }
 {

@@ -1,7 +1,7 @@
 //! The forms of lines.
 use crate::written_name::WrittenName;
 
-/// What a short word behind a session's number asks for, with the words behind it.
+/// A request: the short word after a session's number, with its arguments.
 #[derive(Drop)]
 pub enum RequestForm<'a> {
     /// Open the session.
@@ -12,7 +12,7 @@ pub enum RequestForm<'a> {
     },
     /// Close the session and its cursors.
     Logout,
-    /// Hand out so many further rows of a cursor.
+    /// Return up to `count` further rows of a cursor.
     Fetch {
         cursor: u8,
         count: u32,
@@ -21,7 +21,7 @@ pub enum RequestForm<'a> {
     Close {
         cursor: u8,
     },
-    /// Let a job look at so many further entries.
+    /// Let a job look at up to `count` further entries.
     Step {
         job: u8,
         count: u32,
@@ -34,14 +34,14 @@ pub enum RequestForm<'a> {
     Unwatch {
         watch: u8,
     },
-    /// Insert a row, which stands in a record of CSV.
+    /// Insert a row, given as a CSV record.
     Load {
         table: WrittenName<'a>,
         record: &'a str,
     },
 }
 
-/// The form of a line. Texts are the line's own.
+/// The form of a line. Texts are borrowed from the line.
 #[derive(Drop)]
 pub enum LineForm<'a> {
     /// The line is empty, has only spaces, or begins with `#`.
@@ -50,13 +50,13 @@ pub enum LineForm<'a> {
     At {
         moment: &'a str,
     },
-    /// Do what a short word asks for, in a session or at the console, which is session 0.
+    /// Carry out a request in a session, or at the console, which is session 0.
     Short {
         session: u8,
         request: RequestForm<'a>,
     },
-    /// Carry out a statement in a session or at the console: all that stands behind the one space
-    /// behind its number.
+    /// Carry out a statement in a session or at the console. The statement is everything after the
+    /// one space that follows the session's number.
     Statement {
         session: u8,
         text: &'a str,

@@ -1,4 +1,4 @@
-//! What a line of the input is: its form, and what it commands, whatever the history.
+//! Reads a line of the input: its form, and what it commands, whatever the history.
 #![tactic(auto)]
 
 mod command;

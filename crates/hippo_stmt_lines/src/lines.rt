@@ -1,4 +1,4 @@
-//! The form of a line.
+//! The reading of a line as one of the forms.
 ghost use Rattle.std.specs.Prelude.{◌≡◌, option_map};
 ghost use Rattle.hippo_stmt_lines.specs.Forms.{is_comment, is_silent, at_of, form_with, session_form, line_form};
 ghost use Rattle.hippo_stmt_lines.specs.Words.{words_of};
@@ -33,7 +33,7 @@ fn at_of(text: &str) -> Option<LineForm<'_>>
     Some(LineForm::At { moment })
 }
 
-// The form of a line with a session's number and this text behind it.
+// The form of a line with a session's number followed by this text.
 fn form_with(session: u8, text: &str) -> Option<LineForm<'_>>
     ensures { option_map form result ≡ form_with session text.now (words_of text.now) }
 {
@@ -53,8 +53,8 @@ fn session_form<'a>(number: &str, text: &'a str) -> Option<LineForm<'a>>
     form_with(small_number(number, 0, SESSION_LIMIT)?, text)
 }
 
-/// The form of a line of the input, which is a text without its line feed; none where it has no
-/// form. Words have one space or more between them, and short words are known in whatever case.
+/// The form of a line of the input, given without its line feed, or none if it has no form. Words
+/// are separated by one or more spaces, and short words may be in upper or lower case.
 pub fn line_form(line: &str) -> Option<LineForm<'_>>
     ensures { option_map form result ≡ line_form line.now }
 {

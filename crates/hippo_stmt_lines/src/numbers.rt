@@ -1,4 +1,4 @@
-//! Numbers that words write.
+//! Numbers that words write in digits.
 ghost use Rattle.std.specs.Prelude.{◌≡◌, ◌≤◌, ◌^◌, true, nat_lt, IfSome};
 ghost use Rattle.std.specs.List.{list_all};
 ghost use Rattle.std.specs.Bool.{then_some};
@@ -28,7 +28,7 @@ fn is_numeral(word: &str) -> bool
     !bytes.is_empty() && are_digits(bytes) && !has_leading_zero(bytes)
 }
 
-// The number that digits write; none where it does not fit in 32 bits.
+// The number that digits write, or none if it does not fit in 32 bits.
 fn value_of(word: &str) -> Option<u32>
     requires { is_numeral word.now ≡ true }
     ensures { result ≡ then_some (nat_lt (digits_value 10 word.now) (2 ^ 32))
@@ -37,7 +37,8 @@ fn value_of(word: &str) -> Option<u32>
     word.parse::<u32>().ok()
 }
 
-/// The number that a word writes in digits without leading zeros, where it is within these limits.
+/// The number that a word writes in digits without leading zeros, or none if it is not within these
+/// limits.
 pub fn number(word: &str, least: u32, most: u32) -> Option<u32>
     ensures number { result ≡ numeral_value least most word.now }
     ensures within { IfSome result (λ number. number ≤ most) }
@@ -53,7 +54,7 @@ pub fn number(word: &str, least: u32, most: u32) -> Option<u32>
     }
 }
 
-/// The number of one byte that a word writes, where it is within these two.
+/// The number of one byte that a word writes, or none if it is not within these limits.
 pub fn small_number(word: &str, least: u8, most: u8) -> Option<u8>
     ensures { result ≡ numeral_value least most word.now }
 {

@@ -1,4 +1,4 @@
-//! What a short word asks for, with the words behind it.
+//! The reading of a request: a short word and its arguments.
 ghost use Rattle.std.specs.Prelude.{◌≡◌, option_map};
 ghost use Rattle.hippo_stmt_lines.specs.Words.{words_of};
 ghost use Rattle.hippo_stmt_lines.specs.Forms.{login_of, logout_of, one_number, two_numbers, fetch_of, step_of, load_of, request_by};
@@ -31,7 +31,7 @@ fn logout_of(arguments: &str) -> Option<RequestForm<'_>>
     }
 }
 
-// The number that the one word writes, from 1.
+// The number that the only word writes, from 1.
 fn one_number(arguments: &str, most: u8) -> Option<u8>
     ensures { result ≡ one_number most (words_of arguments.now) }
 {
@@ -71,8 +71,8 @@ fn load_of(text: &str) -> Option<RequestForm<'_>>
     Some(RequestForm::Load { table, record })
 }
 
-/// What a text asks for that begins with a short word and has these words behind it; none where it
-/// lacks the word's form.
+/// The request that a text makes, given its short word, or none if the arguments do not have the
+/// word's form. The short word is the first word of the text.
 pub fn request_by<'a>(
     short: ShortWord,
     text: &'a str,

@@ -1,4 +1,4 @@
-//! The statement that a text is.
+//! The reading of a text as a statement.
 ghost use Rattle.std.specs.Prelude.{◌≡◌, ◌⊎◌, map, Ok as Good, IfOk};
 ghost use Rattle.std.specs.Char.{to_ascii_uppercase};
 ghost use Rattle.hippo_lexer.specs.Words.{words_check};
@@ -69,7 +69,7 @@ fn syntax_refusal(alloc: Global, tokens: &Tokens, fault: SyntaxFault) -> Refusal
     }
 }
 
-// A statement in its box.
+// A statement in a box, or out of memory.
 fn boxed(alloc: Global, statement: Stmt) -> Result<Boxed<Stmt>, Refusal>
     ensures { OrMemory (Good statement) result }
 {
@@ -88,8 +88,8 @@ fn statement_by(alloc: Global, tokens: &Tokens) -> Result<Boxed<Stmt>, Refusal>
     }
 }
 
-/// The statement that a text is, or why it is none: its tokens, their words and the grammar are
-/// looked at in this order.
+/// The statement that a text is, or why it is none. The checks are, in this order: its tokens,
+/// their words, the grammar.
 pub fn statement_in(alloc: Global, text: &str) -> Result<Boxed<Stmt>, Refusal>
     ensures { OrMemory (statement_in text.now) result }
 {

@@ -1,4 +1,4 @@
-//! Words of a text, which have spaces between them.
+//! The words of a text, separated by spaces.
 ghost use Rattle.std.specs.Prelude.{◌≡◌, [], ◌∷◌, option_map, option_copied, MatchOption};
 ghost use Rattle.std.specs.List.{list_all, prefix_len};
 ghost use Rattle.hippo_values.specs.Texts.{is_space};
@@ -10,28 +10,28 @@ fn spaces_len(bytes: &[u8]) -> usize
     bytes.iter().take_while(|byte| **byte == b' ').count()
 }
 
-/// Whether no other byte than spaces stands in a text.
+/// Whether a text has no bytes other than spaces.
 pub fn is_blank(text: &str) -> bool
     ensures { result ≡ list_all is_space text.now }
 {
     text.as_bytes().iter().all(|byte| *byte == b' ')
 }
 
-/// The text without the spaces at its front.
+/// The text without its leading spaces.
 pub fn trimmed(text: &str) -> &str
     ensures { result.now ≡ trimmed_text text.now }
 {
     &text[spaces_len(text.as_bytes())..]
 }
 
-/// What stands before the first space, and what stands behind it.
+/// The parts of a text before and after its first space, or none if it has no space.
 pub fn around_space(text: &str) -> Option<(&str, &str)>
     ensures { option_map (λ parts. (parts.0.now, parts.1.now)) result ≡ around_space text.now }
 {
     text.split_once(' ')
 }
 
-/// The first word of a text, and what stands behind it.
+/// The first word of a text, and the text after it, or none if the text has no word.
 pub fn first_word(text: &str) -> Option<(&str, &str)>
     ensures { MatchOption result (words_of text.now ≡ [])
         (λ parts. words_of text.now ≡ parts.0.now ∷ words_of parts.1.now) }
@@ -46,7 +46,7 @@ pub fn first_word(text: &str) -> Option<(&str, &str)>
     }
 }
 
-/// The word of a text that has one word.
+/// The word of a text that has exactly one word, or none.
 pub fn only_word(text: &str) -> Option<&str>
     ensures { option_copied result ≡ only (words_of text.now) }
 {
@@ -57,7 +57,7 @@ pub fn only_word(text: &str) -> Option<&str>
     }
 }
 
-/// The words of a text that has two words.
+/// The words of a text that has exactly two words, or none.
 pub fn two_words(text: &str) -> Option<(&str, &str)>
     ensures { option_map (λ words. (words.0.now, words.1.now)) result ≡ two (words_of text.now) }
 {
@@ -66,7 +66,7 @@ pub fn two_words(text: &str) -> Option<(&str, &str)>
     Some((first, second))
 }
 
-/// The words of a text that has three words.
+/// The words of a text that has exactly three words, or none.
 pub fn three_words(text: &str) -> Option<(&str, &str, &str)>
     ensures { option_map (λ words. (words.0.now, words.1.now, words.2.now)) result
         ≡ three (words_of text.now) }

@@ -25,7 +25,7 @@ impl<'a> Model for WrittenName<'a> {
 }
 
 impl<'a> WrittenName<'a> {
-    /// The word as a name; none where it is not one.
+    /// The word as a name, or none if it is not one.
     pub(crate) fn from_word(word: &'a str) -> Option<WrittenName<'a>>
         ensures { result ≡ name_of word.now }
     {
@@ -36,7 +36,7 @@ impl<'a> WrittenName<'a> {
         }
     }
 
-    /// The name, which is in lower case, or want of memory.
+    /// The name, in lower case, or out of memory.
     pub fn name(&self, alloc: Global) -> Result<Name, Memory>
         ensures { IfOk result (λ name. name ≡ self.now) }
     {

@@ -1,4 +1,4 @@
--- The statement of the console that is found is the one of the grammar.
+-- The statement of the console that is found is the grammar's.
 use Rattle.std.proofs.Common.{◌≡◌, codes, List, [], ◌∷◌, true, false, Option, Some, None, refl, sym}
 use Rattle.std.proofs.lemmas.Option.{none-some, same_Some, some_pair_parts}
 use Rattle.hippo_model.specs.declared.entry.ItemKind.TheVariants.{OptIn, OptOut}
@@ -24,7 +24,7 @@ use Rattle.hippo_stmt_reader.specs.StatementGrammar.{IsColumnDef, IsSubject, Are
 use Rattle.hippo_stmt_reader.specs.StatementFinder.{end_left, leading_column_def, after_column, leading_names, leading_subject, leading_with_item, leading_retention, leading_number, leading_grant, leading_disclosure, create_table_of, create_purpose_of, create_recipient_of, one_of, create_item_of, create_of, authorization_of, allow_of, revoke_of, choice_of, insert_of, update_of, delete_of, explain_of, audit_statement_of, begin_audit_of, watch_of, console_after, console_by_keyword, console_of}
 use Rattle.hippo_stmt_reader.proofs.PartTheorem.{end_found, end_complete, number_found, column_defs_found, column_defs_complete, names_then, names_whole, subject_found, subject_complete, with_found, with_complete, retention_found, retention_complete, retention-no_with, settings_found, settings_complete, keys_found, keys_complete, literals_found, literals_complete, name_after_then, assigned_then, grant_then, disclosure_then}
 
--- the tokens are a statement of the console up to the end
+-- the tokens form a statement of the console up to the end
 abbrev pub IsRead : List TokenKind → Stmt → Type 0
 IsRead tokens s = (rest : List TokenKind) × IsConsole tokens s rest × IsEnd rest
 
@@ -47,7 +47,7 @@ create_table_found tokens s e =
     let is_subject : IsSubject key.1 subject.0 (Symbol RightParen ∷ rest) = rw is_close at (subject_found key.1 subject.0 subject.1 subject_is) in
     rw (is_table, is_open, ← same_Some _ s e) (rest, create_table are_defs are_names is_subject, end_found rest end is_end))))))))))))
 
--- one of two keywords, each with what it says
+-- the value of whichever of two keywords comes first
 either_keyword_then : {X P : Type 0} (one other : words.Keyword) (a b : X) (tokens : List TokenKind) (x : X) (rest : List TokenKind) →
     either {B = Option (X × List TokenKind)} (after_keyword one tokens) (λ left. Some (a, left)) (after_keyword other tokens >>= λ left. Some (b, left)) ≡ Some (x, rest) →
     (tokens ≡ Keyword one ∷ rest → x ≡ a → P) → (tokens ≡ Keyword other ∷ rest → x ≡ b → P) → P
@@ -201,7 +201,7 @@ console_found tokens s e =
     (λ remaining is_watch e. rw is_watch (watch_found remaining s e))
     (λ _ e. console_by_keyword_found tokens s e))
 
--- what the end of a statement is not
+-- what the end of a statement does not begin with
 pub record Follows (rest : List TokenKind) : Type 0 where
   pub audit_ends : auditing.AuditEnds rest
   pub no_and : after_keyword KAnd rest ≡ None
@@ -246,7 +246,7 @@ console_complete _ _ rest (console_begin_audit {a = a} {tokens = tokens} is_audi
 console_complete _ _ rest (console_watch {a = a} {tokens = tokens} is_audit) end =
     rw (auditing.complete tokens a rest is_audit (end_follows rest end).audit_ends, end_complete rest end) refl
 
--- the tokens begin neither with OPEN nor with SELECT nor with EXTRACT
+-- the tokens begin with none of OPEN, SELECT and EXTRACT
 pub record NoSelect (tokens : List TokenKind) : Type 0 where
   pub no_open : after_keyword KOpen tokens ≡ None
   pub no_select : after_keyword KSelect tokens ≡ None
@@ -255,7 +255,7 @@ pub record NoSelect (tokens : List TokenKind) : Type 0 where
 console_audit-no_select : (tokens : List TokenKind) (a : RawAudit) (rest : List TokenKind) → IsAudit tokens a rest → NoSelect tokens
 console_audit-no_select _ a rest (audits.audit_expression e s cs ts w is) = record { no_open = refl; no_select = refl; no_extract = refl }
 
--- no statement of the console begins so
+-- no statement of the console begins with one of these
 pub console-no_select : (tokens : List TokenKind) (s : Stmt) (rest : List TokenKind) → IsConsole tokens s rest → NoSelect tokens
 console-no_select _ s rest (create_table a b c) = record { no_open = refl; no_select = refl; no_extract = refl }
 console-no_select _ s rest create_purpose = record { no_open = refl; no_select = refl; no_extract = refl }

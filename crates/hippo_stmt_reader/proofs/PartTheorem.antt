@@ -1,4 +1,4 @@
--- The parts of statements that are found are those of the grammar.
+-- The parts of statements that are found are the grammar's.
 use Rattle.std.proofs.Common.{◌≡◌, ℕ, ℤ, pos, suc, ◌<◌, ◌≤◌, nat_lt, nat_le, ◌&&◌, codes, List, [], ◌∷◌, length, Bool, true, false, if◌then◌else◌, Option, Some, None, refl, ap, arith}
 use Rattle.std.proofs.lemmas.Bool.{and_parts, ltb-true, lt-ltb, leb-true, le-leb}
 use Rattle.std.proofs.lemmas.Option.{none-some, same_Some, some_pair_parts, cond_some}
@@ -27,7 +27,7 @@ use Rattle.hippo_stmt_reader.specs.declared.policies.Grantee.{Grantee}
 use Rattle.hippo_stmt_reader.specs.StatementGrammar.{IsColumnKind, integer, text, date, IsColumnDef, nullable, not_null, IsSubject, no_subject, subject, IsWith, no_item, with_item, IsRetention, no_retention, retain, IsAssignment, assignment, AreKeys, AreSettings, AreNames, IsEnd, no_semicolon, semicolon}
 use Rattle.hippo_stmt_reader.specs.StatementFinder.{nothing_left, end_left, column_kind_of, leading_column_kind, leading_column_def, after_column, leading_names, leading_subject, leading_with_item, leading_number, days_of, leading_retention, leading_name_after, leading_assignment, leading_assigned, assignments_of, leading_grant, leading_disclosure}
 
--- a list that is found is one of the grammar, where its parts are and what leads to the next is a separator
+-- a list that is found is the grammar's, if its parts are and its separator is
 list_found : {X : Type 0} (leading : List TokenKind → Option (X × List TokenKind)) (after : List TokenKind → Option (List TokenKind)) (IsPart : List TokenKind → X → List TokenKind → Type 0) (separator : TokenKind) →
     ((tokens : List TokenKind) (part : X) (rest : List TokenKind) → leading tokens ≡ Some (part, rest) → IsPart tokens part rest) →
     ((tokens remaining : List TokenKind) → after tokens ≡ Some remaining → tokens ≡ separator ∷ remaining) →
@@ -178,7 +178,7 @@ unfolding leading_retention
 retention_complete tokens days rest no_retention no_retain = rw no_retain refl
 retention_complete tokens _ rest (retain {days = days} some most) no_retain = rw (days_of-complete days some most) refl
 
--- WITH stands before RETAIN
+-- WITH comes before RETAIN
 pub retention-no_with : (tokens : List TokenKind) (days : Option ℕ) (rest : List TokenKind) → IsRetention tokens days rest → after_keyword KWith rest ≡ None → after_keyword KWith tokens ≡ None
 retention-no_with tokens days rest no_retention no_with = no_with
 retention-no_with _ _ rest (retain some most) no_with = refl
@@ -229,7 +229,7 @@ pub literals_complete : (tokens : List TokenKind) (list : List Value) (rest : Li
 literals_complete tokens list rest ds no_comma =
     list_complete leading_literal (after_symbol Comma) IsLiteral (Symbol Comma) (λ _. Unit {0}) (λ tokens v rest l _. literal_complete tokens v rest l) (λ _. tt) (λ _ _ _ _. refl) literal_shorter tokens list rest ds tt no_comma
 
--- what comes behind a keyword and a name
+-- what follows a keyword and a name
 pub name_after_then : {B P : Type 0} (keyword : words.Keyword) (tokens : List TokenKind) (next : List ℕ × List TokenKind → Option B) (y : B) → (leading_name_after keyword tokens >>= next) ≡ Some y →
     ((name : List ℕ) (rest : List TokenKind) → tokens ≡ Keyword keyword ∷ Word name ∷ rest → next (name, rest) ≡ Some y → P) → P
 name_after_then keyword tokens next y e follow =
@@ -237,7 +237,7 @@ name_after_then keyword tokens next y e follow =
     keyword_then keyword tokens leading_name named named_is (λ remaining is_keyword is_name.
     follow named.0 named.1 (rw (is_keyword, leading_name-some remaining named.1 named.0 is_name) refl) e))
 
--- what comes behind a keyword and assignments
+-- what follows a keyword and assignments
 pub assigned_then : {B P : Type 0} (keyword : words.Keyword) (after : List TokenKind → Option (List TokenKind)) (tokens : List TokenKind) (next : Assignments × List TokenKind → Option B) (y : B) → (leading_assigned keyword after tokens >>= next) ≡ Some y →
     ((remaining : List TokenKind) (list : List (List ℕ × Value)) (rest : List TokenKind) → tokens ≡ Keyword keyword ∷ remaining → leading_list leading_assignment after remaining ≡ Some (list, rest) → next (assignments_of list, rest) ≡ Some y → P) → P
 assigned_then keyword after tokens next y e follow =

@@ -1,4 +1,4 @@
--- The statement that is found is the one of the grammar.
+-- The statement that is found is the grammar's.
 use Rattle.std.proofs.Common.{◌≡◌, ℕ, codes, ◌+◌, ◌-◌, List, [], ◌∷◌, ◌++◌, length, take, drop, Bool, true, false, Option, Some, None, Result, Ok, Err, refl, sym, ◌∙◌, ap, subst, arith, length-append, cond}
 use Rattle.std.proofs.Math.Seq.{drop-append_seam, take-append_seam}
 use Rattle.std.proofs.lemmas.List.{length-map, drop-map, take-append-drop}
@@ -28,7 +28,7 @@ use Rattle.hippo_stmt_reader.specs.StatementFinder.{end_left, placed_select_of, 
 use Rattle.hippo_stmt_reader.proofs.ConsoleTheorem.{console_found, console_complete, console-no_select}
 use Rattle.hippo_stmt_reader.proofs.PartTheorem.{end_found, end_complete}
 
--- the tokens whose kinds are the end of the kinds
+-- the last tokens, whose kinds are a suffix of all kinds
 rest_of : (tokens : List Token) (front rest : List TokenKind) → kinds tokens ≡ front ++ rest → kinds (drop (length tokens - length rest) tokens) ≡ rest
 rest_of tokens front rest e =
     let whole : length (kinds tokens) ≡ length front + length rest = ap length e ∙ length-append front rest in
@@ -109,7 +109,7 @@ complete _ _ (open_select {select = q} {start = start} {end = end} {first = firs
 complete _ _ (extract_select {select = q} {start = start} {end = end} {first = first} {tokens = tokens} is_extract is_placed) =
     rw (is_extract, placed_select_complete tokens q start end is_placed) refl
 
--- what is refused for its words is too deep or unsupported
+-- tokens that are refused for their words are too deep or unsupported
 words_by : (deep : Bool) (place : Option ℕ) (tokens : List Token) (e : SyntaxFault) → words_check tokens ≡ Err e → cond deep (Err fault.TooDeep) (support_of place) ≡ Err e → IsRefusal tokens e
 words_by true place tokens fault.TooDeep words is = words
 words_by deep place tokens (fault.Unsupported at_place) words is = words

@@ -32,19 +32,19 @@ abbrev pub nothing_left : Kinds → Option (Unit {0})
 nothing_left [] = Some tt
 nothing_left (first ∷ rest) = None
 
--- [";"], and then nothing
+-- an optional ";", then nothing
 abbrev pub end_left : Kinds → Option (Unit {0})
 end_left tokens = either (after_symbol Semicolon tokens) nothing_left (nothing_left tokens)
 
--- what was read, where the statement ends behind it
+-- what was read, if the statement ends after it
 abbrev pub with_end : {A : Type 0} → A → Kinds → Option A
 with_end read tokens = end_left tokens >>= λ end. Some read
 
--- a statement of one part, where it ends behind that part
+-- a statement of one part, if the statement ends after that part
 abbrev pub of_part : {A : Type 0} → (A → Stmt) → Option (A × Kinds) → Option Stmt
 of_part statement part = part >>= λ read. with_end (statement read.0) read.1
 
--- one of two keywords, each with what it says
+-- the value of whichever of two keywords comes first
 abbrev pub one_of : {A : Type 0} → words.Keyword → A → words.Keyword → A → Finder A
 one_of first a second b tokens =
     either (after_keyword first tokens) (λ rest. Some (a, rest))
@@ -69,12 +69,12 @@ leading_column_def tokens = do
     Some (record { name = name.0; kind = k.0; not_null = true }, rest))
       (Some (record { name = name.0; kind = k.0; not_null = false }, k.1))
 
--- behind a comma that a further column follows
+-- what follows a comma, if a further column does
 abbrev pub after_column : Kinds → Option (Kinds)
 after_column tokens =
     after_symbol Comma tokens >>= λ remaining. if begins_with_name remaining then Some remaining else None
 
--- a name behind this keyword
+-- the name after this keyword
 abbrev pub leading_name_after : words.Keyword → Finder Name
 leading_name_after keyword tokens = after_keyword keyword tokens >>= leading_name
 
@@ -99,12 +99,12 @@ leading_with_item tokens =
     λ i. Some (Some i.0, i.1))
     (Some (None, tokens))
 
--- the number that stands first
+-- the number at the front
 abbrev pub leading_number : Finder ℤ
 leading_number (Number n ∷ rest) = Some (n, rest)
 leading_number tokens = None
 
--- so many days, from one to the most
+-- a number of days, from 1 to the limit
 abbrev pub days_of : ℤ → Option ℕ
 days_of (pos days) = if nat_lt 0 days && nat_le days retention_limit then Some days else None
 days_of number = None
@@ -127,14 +127,14 @@ leading_assignment tokens = do
 abbrev pub assignments_of : List (Name × Value) → Assignments
 assignments_of list = record { columns = assigned_columns list; values = assigned_values list }
 
--- behind this keyword, the assignments with such a thing between them
+-- the assignments after this keyword, with this separator
 abbrev pub leading_assigned : words.Keyword → (Kinds → Option Kinds) → Finder Assignments
 leading_assigned keyword after tokens = do
   remaining ← after_keyword keyword tokens
   found ← leading_list leading_assignment after remaining
   Some (assignments_of found.0, found.1)
 
--- behind CREATE TABLE
+-- the rest of CREATE TABLE
 unfoldable pub create_table_of : Kinds → Option Stmt
 create_table_of tokens = do
   table ← leading_name tokens
@@ -148,15 +148,15 @@ create_table_of tokens = do
   rest ← after_symbol RightParen subject.1
   with_end (stmt.CreateTable table.0 columns.0 key.0 subject.0) rest
 
--- behind CREATE PURPOSE
+-- the rest of CREATE PURPOSE
 unfoldable pub create_purpose_of : Kinds → Option Stmt
 create_purpose_of tokens = of_part stmt.CreatePurpose (leading_name tokens)
 
--- behind CREATE RECIPIENT
+-- the rest of CREATE RECIPIENT
 unfoldable pub create_recipient_of : Kinds → Option Stmt
 create_recipient_of tokens = of_part stmt.CreateRecipient (leading_name tokens)
 
--- behind CREATE ITEM
+-- the rest of CREATE ITEM
 unfoldable pub create_item_of : Kinds → Option Stmt
 create_item_of tokens = do
   item ← leading_name tokens
@@ -164,7 +164,7 @@ create_item_of tokens = do
   k ← one_of KIn OptIn KOut OptOut remaining
   with_end (stmt.CreateItem item.0 k.0) k.1
 
--- behind CREATE
+-- the rest of CREATE
 unfoldable pub create_of : Kinds → Option Stmt
 create_of tokens =
     either (after_keyword KTable tokens) create_table_of
@@ -181,13 +181,13 @@ leading_grant tokens = do
   recipient ← leading_name remaining
   Some (record { user = user.0; purpose = purpose.0; recipient = recipient.0 }, recipient.1)
 
--- AUTHORIZE, where a grant is given, or DEAUTHORIZE
+-- AUTHORIZE if the grant is given, otherwise DEAUTHORIZE
 abbrev pub grant_statement : Bool → Grantee → Stmt
 grant_statement is_given grant =
     if is_given then stmt.Authorize grant.user grant.purpose grant.recipient
     else stmt.Deauthorize grant.user grant.purpose grant.recipient
 
--- behind AUTHORIZE, where a grant is given, and behind DEAUTHORIZE
+-- the rest of AUTHORIZE if the grant is given, otherwise of DEAUTHORIZE
 unfoldable pub authorization_of : Bool → Kinds → Option Stmt
 authorization_of is_given tokens = of_part (grant_statement is_given) (leading_grant tokens)
 
@@ -204,7 +204,7 @@ leading_disclosure tokens = do
   columns ← leading_names table.1
   Some (disclosure_of purpose.0 recipient.0 table.0 columns.0, columns.1)
 
--- behind ALLOW
+-- the rest of ALLOW
 unfoldable pub allow_of : Kinds → Option Stmt
 allow_of tokens = do
   rule ← leading_disclosure tokens
@@ -213,13 +213,13 @@ allow_of tokens = do
   with_end (stmt.Allow rule.0.purpose rule.0.recipient rule.0.table rule.0.columns item.0 days.0)
       days.1
 
--- behind REVOKE
+-- the rest of REVOKE
 unfoldable pub revoke_of : Kinds → Option Stmt
 revoke_of tokens = do
   rule ← leading_disclosure tokens
   with_end (stmt.Revoke rule.0.purpose rule.0.recipient rule.0.table rule.0.columns) rule.1
 
--- behind CHOICE
+-- the rest of CHOICE
 unfoldable pub choice_of : Kinds → Option Stmt
 choice_of tokens = do
   n ← leading_number tokens
@@ -229,7 +229,7 @@ choice_of tokens = do
   said ← one_of KYes true KNo false b
   with_end (stmt.Choice n.0 item.0 said.0) said.1
 
--- behind INSERT
+-- the rest of INSERT
 unfoldable pub insert_of : Kinds → Option Stmt
 insert_of tokens = do
   a ← after_keyword KInto tokens
@@ -240,7 +240,7 @@ insert_of tokens = do
   rest ← after_symbol RightParen values.1
   with_end (stmt.Insert table.0 values.0) rest
 
--- behind UPDATE
+-- the rest of UPDATE
 unfoldable pub update_of : Kinds → Option Stmt
 update_of tokens = do
   table ← leading_name tokens
@@ -248,30 +248,30 @@ update_of tokens = do
   keys ← leading_assigned KWhere (after_keyword KAnd) set.1
   with_end (stmt.Update table.0 set.0.columns set.0.values keys.0.columns keys.0.values) keys.1
 
--- behind DELETE
+-- the rest of DELETE
 unfoldable pub delete_of : Kinds → Option Stmt
 delete_of tokens = do
   table ← leading_name_after KFrom tokens
   keys ← leading_assigned KWhere (after_keyword KAnd) table.1
   with_end (stmt.Delete table.0 keys.0.columns keys.0.values) keys.1
 
--- behind EXPLAIN
+-- the rest of EXPLAIN
 unfoldable pub explain_of : Kinds → Option Stmt
 explain_of tokens = of_part stmt.Explain (leading_number tokens)
 
 unfoldable pub audit_statement_of : Kinds → Option Stmt
 audit_statement_of tokens = of_part stmt.Audit (leading_audit tokens)
 
--- behind BEGIN
+-- the rest of BEGIN AUDIT, from AUDIT onwards
 unfoldable pub begin_audit_of : Kinds → Option Stmt
 begin_audit_of tokens =
     after_keyword KAudit tokens >>= λ remaining. of_part stmt.BeginAudit (leading_audit remaining)
 
--- behind WATCH
+-- the rest of WATCH
 unfoldable pub watch_of : Kinds → Option Stmt
 watch_of tokens = of_part stmt.Watch (leading_audit tokens)
 
--- a statement of the console that begins with this keyword, behind it
+-- the rest of a statement of the console that begins with this keyword
 unfoldable pub console_after : words.Keyword → Kinds → Option Stmt
 console_after KCreate tokens = create_of tokens
 console_after KAuthorize tokens = authorization_of true tokens
@@ -305,11 +305,11 @@ placed_select_of tokens = do
   end ← end_left found.1
   Some (found.0, first.start, last.end)
 
--- behind OPEN
+-- the rest of OPEN
 unfoldable pub open_of : List Token → Option Stmt
 open_of tokens = placed_select_of tokens >>= λ q. Some (stmt.Ask q.0 q.1 q.2)
 
--- behind EXTRACT
+-- the rest of EXTRACT
 unfoldable pub extract_of : List Token → Option Stmt
 extract_of tokens = placed_select_of tokens >>= λ q. Some (stmt.Extract q.0 q.1 q.2)
 

@@ -1,5 +1,5 @@
--- The grammar of statements. A relation says that the tokens begin with such a part, how it reads,
--- and what follows it.
+-- The grammar of statements. Each relation says that the tokens begin with such a part, how the
+-- part reads, and what follows it.
 use Rattle.std.specs.Prelude.{◌≡◌, ℕ, ◌<◌, ◌≤◌, ℤ, pos, ◌-◌, true, false, List, [], ◌∷◌, ◌++◌, length, map, Option, Some, None, Ok, Err, slice_get, codes}
 use Rattle.hippo_values.specs.declared.names.Name.{Name}
 use Rattle.hippo_values.specs.Limits.{retention_limit}
@@ -54,7 +54,7 @@ pub data IsWith : Kinds → Option Name → Kinds → Type 0 where
   no_item : {rest : Kinds} → IsWith rest None rest
   with_item : {i : Name} {rest : Kinds} → IsWith (Keyword KWith ∷ Word i ∷ rest) (Some i) rest
 
--- [RETAIN n DAYS], from one day to the most
+-- [RETAIN n DAYS], from 1 day to the limit
 pub data IsRetention : Kinds → Option ℕ → Kinds → Type 0 where
   no_retention : {rest : Kinds} → IsRetention rest None rest
   retain : {days : ℕ} {rest : Kinds} → 0 < days → days ≤ retention_limit →
@@ -174,13 +174,13 @@ pub data IsConsole : Kinds → Stmt → Kinds → Type 0 where
   console_watch : {a : RawAudit} {tokens rest : Kinds} → IsAudit tokens a rest →
       IsConsole (Word (codes "watch") ∷ tokens) (stmt.Watch a) rest
 
--- [";"], and then nothing
+-- [";"], then nothing
 pub data IsEnd : Kinds → Type 0 where
   no_semicolon : IsEnd []
   semicolon : IsEnd (Symbol Semicolon ∷ [])
 
--- a select up to the end; its text goes from the first byte of its first token to the last of its
--- last
+-- a select up to the end; its text runs from the first byte of its first token to the last byte of
+-- its last token
 pub data IsPlacedSelect : List Token → RawSelect → ℕ → ℕ → Type 0 where
   placed : {select : RawSelect} {tokens : List Token} {first last : Token} (text rest : List Token)
       →
@@ -204,8 +204,8 @@ pub data IsStatement : List Token → Stmt → Type 0 where
       first.kind ≡ Word (codes "extract") → IsPlacedSelect tokens select start end →
       IsStatement (first ∷ tokens) (stmt.Extract select start end)
 
--- what the words are refused for; else BadSyntax where the tokens are no statement; want of memory
--- at any time where the words are fit to be read
+-- the fault of the words, if they do not pass; if they pass, BadSyntax, only if the tokens form no
+-- statement, or out of memory
 abbrev pub IsRefusal : List Token → SyntaxFault → Type 0
 IsRefusal tokens fault.TooDeep = words_check tokens ≡ Err fault.TooDeep
 IsRefusal tokens (fault.Unsupported place) = words_check tokens ≡ Err (fault.Unsupported place)

@@ -1,4 +1,4 @@
-//! INSERT, UPDATE and DELETE.
+//! Reads INSERT, UPDATE and DELETE.
 ghost use Rattle.std.specs.Prelude.{◌≡◌, ◌<◌, IfOk};
 ghost use Rattle.hippo_spj_reader.specs.Promises.{Gives, Reads};
 ghost use Rattle.hippo_spj_reader.specs.Front.{kinds};
@@ -15,7 +15,7 @@ use hippo_stmt_ast::Stmt;
 use hippo_values::{Memory, Name, Sequence, Value};
 use std::alloc::Global;
 
-// The rule of a literal.
+// The grammar rule of a literal.
 struct LiteralPart;
 
 impl Part for LiteralPart {
@@ -42,7 +42,7 @@ fn assignment(alloc: Global, tokens: &[Token]) -> Result<(Assignment, &[Token]),
     Ok(((column, value), rest))
 }
 
-// The rule of `c = literal`.
+// The grammar rule of `c = literal`.
 struct AssignmentPart;
 
 impl Part for AssignmentPart {
@@ -57,7 +57,7 @@ impl Part for AssignmentPart {
     }
 }
 
-// AND between keys.
+// An AND between the columns of a key.
 struct Ands;
 
 impl Separator for Ands {
@@ -71,7 +71,7 @@ impl Separator for Ands {
     }
 }
 
-// Assignments, as lists of their columns and of their values.
+// Assignments, as a list of their columns and a list of their values.
 #[derive(Drop)]
 struct Assignments {
     columns: Names,
@@ -94,8 +94,8 @@ fn columns_and_values(
     Ok(Assignments { columns, values })
 }
 
-// The columns and the values that are assigned behind the keyword that has to stand first, and the
-// tokens behind them.
+// The columns and values of the assignments after a keyword, and the tokens after them. BadSyntax
+// if the keyword and an assignment do not come first.
 fn assigned<S: Separator>(
     alloc: Global,
     keyword: Keyword,
@@ -108,7 +108,7 @@ fn assigned<S: Separator>(
     Ok((columns_and_values(alloc, assignments)?, rest))
 }
 
-/// The statement that the tokens behind INSERT have to be.
+/// The statement that the tokens after INSERT form. BadSyntax if they form none.
 #[tactic(auto, unfolding(crate::specs::StatementFinder::insert_of))]
 pub fn insert(alloc: Global, tokens: &[Token]) -> Result<Stmt, SyntaxFault>
     ensures { Gives (λ s. s) result (insert_of (kinds tokens.now)) }
@@ -122,7 +122,7 @@ pub fn insert(alloc: Global, tokens: &[Token]) -> Result<Stmt, SyntaxFault>
     with_end(Stmt::Insert { table, values }, rest)
 }
 
-/// The statement that the tokens behind UPDATE have to be.
+/// The statement that the tokens after UPDATE form. BadSyntax if they form none.
 #[tactic(auto, unfolding(crate::specs::StatementFinder::update_of))]
 pub fn update(alloc: Global, tokens: &[Token]) -> Result<Stmt, SyntaxFault>
     ensures { Gives (λ s. s) result (update_of (kinds tokens.now)) }
@@ -142,7 +142,7 @@ pub fn update(alloc: Global, tokens: &[Token]) -> Result<Stmt, SyntaxFault>
     )
 }
 
-/// The statement that the tokens behind DELETE have to be.
+/// The statement that the tokens after DELETE form. BadSyntax if they form none.
 #[tactic(auto, unfolding(crate::specs::StatementFinder::delete_of))]
 pub fn delete(alloc: Global, tokens: &[Token]) -> Result<Stmt, SyntaxFault>
     ensures { Gives (λ s. s) result (delete_of (kinds tokens.now)) }

@@ -1,4 +1,4 @@
-//! Parts that several statements have.
+//! Reads the parts that several statements share.
 ghost use Rattle.std.specs.Prelude.{◌<◌};
 ghost use Rattle.hippo_spj_reader.specs.Promises.{Gives, Reads};
 ghost use Rattle.hippo_spj_reader.specs.Front.{kinds};
@@ -12,7 +12,8 @@ use hippo_spj_reader::{
 use hippo_values::Name;
 use std::alloc::Global;
 
-/// The names in parentheses that have to stand first, and the tokens behind them.
+/// The names in parentheses at the front of the tokens, and the tokens after them. BadSyntax if
+/// there are none.
 #[tactic(auto, unfolding(crate::specs::StatementFinder::leading_names))]
 pub fn names(alloc: Global, tokens: &[Token]) -> Result<(Names, &[Token]), SyntaxFault>
     ensures { Reads leading_names tokens.now result }
@@ -23,7 +24,8 @@ pub fn names(alloc: Global, tokens: &[Token]) -> Result<(Names, &[Token]), Synta
     Ok((names, rest))
 }
 
-/// The name behind the keyword that has to stand first, and the tokens behind it.
+/// The name after a keyword, and the tokens after the name. BadSyntax if the keyword and a name do
+/// not come first.
 pub fn name_after(
     alloc: Global,
     keyword: Keyword,
@@ -35,7 +37,7 @@ pub fn name_after(
     name(alloc, rest)
 }
 
-/// The number that has to stand first, and the tokens behind it.
+/// The number at the front of the tokens, and the tokens after it. BadSyntax if there is none.
 pub fn number(tokens: &[Token]) -> Result<(i64, &[Token]), SyntaxFault>
     ensures { Reads leading_number tokens.now result }
 {
@@ -55,7 +57,7 @@ fn nothing(tokens: &[Token]) -> Result<(), SyntaxFault>
     }
 }
 
-// The end of a statement, with or without a `;` before it.
+// Checks that nothing is left of a statement, or only a `;`.
 fn end(tokens: &[Token]) -> Result<(), SyntaxFault>
     ensures { Gives (λ x. x) result (end_left (kinds tokens.now)) }
 {
@@ -65,8 +67,8 @@ fn end(tokens: &[Token]) -> Result<(), SyntaxFault>
     }
 }
 
-/// What was read, where the statement ends behind it.
-// It is a part of its callers, so that a statement, which is large, is not handed in and out.
+/// What was read, if the statement ends after it; otherwise BadSyntax.
+// Inlined, since a statement is large and would otherwise be copied in and out.
 #[inline(always)]
 pub fn with_end<T: Drop>(read: T, tokens: &[Token]) -> Result<T, SyntaxFault>
     ensures { Gives (λ x. x) result (with_end read (kinds tokens.now)) }

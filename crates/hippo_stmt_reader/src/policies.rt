@@ -1,4 +1,4 @@
-//! AUTHORIZE, DEAUTHORIZE, ALLOW, REVOKE and CHOICE.
+//! Reads AUTHORIZE, DEAUTHORIZE, ALLOW, REVOKE and CHOICE.
 ghost use Rattle.std.specs.Prelude.{◌≡◌, true, false, ◌<◌};
 ghost use Rattle.hippo_values.specs.declared.keywords.Keyword.TheVariants.{KNo, KYes};
 ghost use Rattle.hippo_spj_reader.specs.Promises.{Gives, Reads};
@@ -15,7 +15,7 @@ use hippo_stmt_ast::Stmt;
 use hippo_values::{Name, RETENTION_LIMIT};
 use std::alloc::Global;
 
-// Whom AUTHORIZE and DEAUTHORIZE speak of.
+// The user, purpose and recipient of AUTHORIZE and DEAUTHORIZE.
 #[derive(Drop)]
 struct Grantee {
     user: Name,
@@ -41,7 +41,8 @@ fn authorization(alloc: Global, tokens: &[Token]) -> Result<(Grantee, &[Token]),
     ))
 }
 
-// AUTHORIZE, where the grant is given, or DEAUTHORIZE. It is a part of its caller, as `with_end` is.
+// AUTHORIZE if the grant is given, otherwise DEAUTHORIZE. Inlined for the same reason as
+// `with_end`.
 #[inline(always)]
 fn grant_statement(is_given: bool, grant: Grantee) -> Stmt
     ensures { result ≡ grant_statement is_given grant }
@@ -65,8 +66,8 @@ fn grant_statement(is_given: bool, grant: Grantee) -> Stmt
     }
 }
 
-/// The statement that the tokens behind AUTHORIZE have to be, where a grant is given, or those
-/// behind DEAUTHORIZE.
+/// The statement that the tokens after AUTHORIZE (`is_given`) or DEAUTHORIZE form. BadSyntax if
+/// they form none.
 #[tactic(auto, unfolding(crate::specs::StatementFinder::authorization_of))]
 pub fn grant(alloc: Global, is_given: bool, tokens: &[Token]) -> Result<Stmt, SyntaxFault>
     ensures { Gives (λ s. s) result (authorization_of is_given (kinds tokens.now)) }
@@ -75,7 +76,7 @@ pub fn grant(alloc: Global, is_given: bool, tokens: &[Token]) -> Result<Stmt, Sy
     with_end(grant_statement(is_given, grant), rest)
 }
 
-// What ALLOW and REVOKE speak of.
+// The parts that ALLOW and REVOKE share.
 #[derive(Drop)]
 struct Disclosure {
     purpose: Name,
@@ -136,7 +137,7 @@ fn retention(tokens: &[Token]) -> Result<(Option<u32>, &[Token]), SyntaxFault>
     Ok((Some(days), rest))
 }
 
-/// The statement that the tokens behind ALLOW have to be.
+/// The statement that the tokens after ALLOW form. BadSyntax if they form none.
 #[tactic(auto, unfolding(crate::specs::StatementFinder::allow_of))]
 pub fn allow(alloc: Global, tokens: &[Token]) -> Result<Stmt, SyntaxFault>
     ensures { Gives (λ s. s) result (allow_of (kinds tokens.now)) }
@@ -157,7 +158,7 @@ pub fn allow(alloc: Global, tokens: &[Token]) -> Result<Stmt, SyntaxFault>
     )
 }
 
-/// The statement that the tokens behind REVOKE have to be.
+/// The statement that the tokens after REVOKE form. BadSyntax if they form none.
 #[tactic(auto, unfolding(crate::specs::StatementFinder::revoke_of))]
 pub fn revoke(alloc: Global, tokens: &[Token]) -> Result<Stmt, SyntaxFault>
     ensures { Gives (λ s. s) result (revoke_of (kinds tokens.now)) }
@@ -184,7 +185,7 @@ fn yes_or_no(tokens: &[Token]) -> Result<(bool, &[Token]), SyntaxFault>
     Ok((false, rest))
 }
 
-/// The statement that the tokens behind CHOICE have to be.
+/// The statement that the tokens after CHOICE form. BadSyntax if they form none.
 #[tactic(auto, unfolding(crate::specs::StatementFinder::choice_of))]
 pub fn choice(alloc: Global, tokens: &[Token]) -> Result<Stmt, SyntaxFault>
     ensures { Gives (λ s. s) result (choice_of (kinds tokens.now)) }

@@ -1,4 +1,4 @@
-//! CREATE TABLE, PURPOSE, RECIPIENT and ITEM.
+//! Reads CREATE TABLE, PURPOSE, RECIPIENT and ITEM.
 ghost use Rattle.std.specs.Prelude.{◌≡◌};
 ghost use Rattle.hippo_values.specs.declared.keywords.Keyword.TheVariants.{KIn, KOut};
 ghost use Rattle.hippo_model.specs.declared.entry.ItemKind.TheVariants.{OptIn, OptOut};
@@ -55,7 +55,7 @@ fn column_def(alloc: Global, tokens: &[Token]) -> Result<(Column, &[Token]), Syn
     Ok((column, rest))
 }
 
-// The rule of a column of CREATE TABLE.
+// The grammar rule of a column of CREATE TABLE.
 struct ColumnDefPart;
 
 impl Part for ColumnDefPart {
@@ -70,7 +70,7 @@ impl Part for ColumnDefPart {
     }
 }
 
-// The comma between columns: the one that PRIMARY KEY follows leads to no further column.
+// The comma between columns. A comma before PRIMARY KEY is not one of these.
 struct ColumnCommas;
 
 impl Separator for ColumnCommas {
@@ -159,7 +159,7 @@ fn create_item(alloc: Global, tokens: &[Token]) -> Result<Stmt, SyntaxFault>
     with_end(Stmt::CreateItem { item, kind }, rest)
 }
 
-/// The statement that the tokens behind CREATE have to be.
+/// The statement that the tokens after CREATE form. BadSyntax if they form none.
 #[tactic(auto, unfolding(crate::specs::StatementFinder::create_of))]
 pub fn create(alloc: Global, tokens: &[Token]) -> Result<Stmt, SyntaxFault>
     ensures { Gives (λ s. s) result (create_of (kinds tokens.now)) }

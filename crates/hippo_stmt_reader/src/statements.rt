@@ -1,4 +1,4 @@
-//! Which statement the tokens are.
+//! Reads a statement, whatever its kind.
 ghost use Rattle.std.specs.Prelude.{◌≡◌, ◌<◌, length, is_some, IsTrue, IfOk, IfErr};
 ghost use Rattle.hippo_stmt_ast.specs.declared.statement.Stmt.{Stmt};
 ghost use Rattle.hippo_lexer.specs.Words.{words_check};
@@ -50,7 +50,7 @@ fn explain(tokens: &[Token]) -> Result<Stmt, SyntaxFault>
     with_end(Stmt::Explain(number), rest)
 }
 
-// A statement of the console that begins with this keyword, from the tokens behind it.
+// The statement of the console that begins with this keyword, read from the tokens after it.
 #[inline(never)]
 #[tactic(auto, unfolding(crate::specs::StatementFinder::console_after))]
 fn console_after(alloc: Global, keyword: Keyword, tokens: &[Token]) -> Result<Stmt, SyntaxFault>
@@ -110,7 +110,7 @@ fn begins_with_word(tokens: &[Token], word: &str) -> bool
     after_word(tokens, word).is_some()
 }
 
-// A select and where its text begins and ends.
+// A select, and where its text begins and ends.
 #[derive(Drop)]
 struct PlacedSelect {
     select: RawSelect,
@@ -179,9 +179,9 @@ fn statement(alloc: Global, tokens: &[Token]) -> Result<Stmt, SyntaxFault>
     console(alloc, tokens)
 }
 
-/// The statement that the tokens are, with or without a `;` at its end. TooDeep and Unsupported
-/// come as check_words says, BadSyntax exactly where that finds nothing and the tokens are no
-/// statement, but for want of memory.
+/// The statement that the tokens form, with or without a `;` at the end. TooDeep and Unsupported
+/// come as `check_words` returns them. BadSyntax comes exactly if the words pass and the tokens
+/// form no statement. It may also fail when out of memory.
 pub fn read_statement(alloc: Global, t: &Tokens) -> Result<Stmt, SyntaxFault>
     ensures found { IfOk result (IsStatement t.now) }
     ensures only { IfOk result (λ stmt. (other : Stmt) → IsStatement t.now other → other ≡ stmt) }

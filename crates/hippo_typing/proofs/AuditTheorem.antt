@@ -1,4 +1,4 @@
--- What is judged of an audit expression, group by group, is what its definition judges.
+-- The checks of an audit expression, group by group, agree with its definition.
 use Rattle.std.proofs.Common.{◌≡◌, List, [], ◌++◌, map, sym, ap, subst, ◌∙◌}
 use Rattle.std.specs.Prelude.{unwrap_or}
 use Rattle.std.specs.List.{flat_map}

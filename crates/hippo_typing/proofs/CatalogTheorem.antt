@@ -1,4 +1,4 @@
--- The names of a history, one entry after the other, and what the history says of each.
+-- The names of a history, one entry at a time, and what the history says of each.
 use Rattle.std.proofs.Common.{◌≡◌, ◌+◌, Bool, true, false, cond, List, [], ◌∷◌, ◌++◌, filter_map, length, Option, None, Some, refl, sym, ap, subst, ◌∙◌, arith}
 use Rattle.std.specs.Prelude.{not, ◌&&◌, ◌||◌, ◌==◌, if◌then◌else◌, nat_lt, is_none, bytes_eq, count_by}
 use Rattle.std.specs.Bool.{then_some}
@@ -56,7 +56,7 @@ names_grow history entry =
     let grown : known_at (history ++ entry ∷ []) ≡ with_created (known_at history) entry.act = λ i. record { tables = tables i; purposes = purposes i; recipients = recipients i; items = items i } in
     grown ∙ created_after (known_at history) entry.act
 
--- an asked name and the stored one
+-- comparing two names does not depend on their order
 swapped : (a b : Name) → bytes_eq a b ≡ bytes_eq b a
 swapped a b = nat_list_eq_equiv.symm a b
 
@@ -124,7 +124,7 @@ module _ (meaning : Meaning) (history : History) (entry : Entry) (may : may_foll
       let none : is_acceptable meaning history (Item name kind) ≡ true = subst (λ (a : Act). is_acceptable meaning history a ≡ true) is acceptable in
       ap (item_at history) (sym ((bytes_eq-Decides name item).0 named)) ∙ none_is (item_at history name) none
 
-  -- what has a name after the entry, where the entry says no other thing of a name that is there
+  -- what has a name after an entry, if the entry does not redefine an existing name
   named_after : {A : Type 0} (name : Name) (named : Act → Option (Name × A)) (said : Act → Option A) →
       lookup (bytes_eq name) (filter_map (λ (e : Entry). named e.act) history) ≡ last_word (λ (e : Entry). said e.act) history →
       option_or (last_word (λ (e : Entry). said e.act) history) (lookup (bytes_eq name) (cons_option (named entry.act) [])) ≡ option_or (said entry.act) (last_word (λ (e : Entry). said e.act) history) →
@@ -161,7 +161,7 @@ module _ (meaning : Meaning) (history : History) (names : NamesAreThoseOf histor
   anew (Item item kind) fits = ap is_none (names.items item) ∙ fits
   anew act fits = refl
 
--- an entry that may follow creates nothing whose name is taken
+-- an entry that may follow creates no name that already exists
 pub entries_create_anew : (meaning : Meaning) (history : History) (entry : Entry) → is_valid meaning history ≡ true → may_follow meaning history entry ≡ true → creates_anew (known_at history) entry.act ≡ true
 entries_create_anew meaning history entry valid may =
     anew meaning history (valid_names meaning history valid) entry.act (acceptable meaning history entry may)

@@ -1,4 +1,4 @@
--- What is judged of a select with its columns found is what its definition judges.
+-- The checks of a select with its columns resolved agree with its definition.
 use Rattle.std.proofs.Common.{◌≡◌, ℕ, ◌+◌, ◌≤◌, Bool, true, false, List, [], ◌∷◌, ◌++◌, map, filter_map, length, refl, sym, ap, subst, ◌∙◌, arith}
 use Rattle.std.specs.Prelude.{not, ◌||◌, nat_lt, if◌then◌else◌, unwrap_or}
 use Rattle.std.specs.List.{flat_map, list_any, position_or_len}
@@ -98,7 +98,7 @@ module _ (schemas : List Schema) where
   shown_of by next (Min argument ∷ rest) = ap (λ l. shown.Min next ∷ l) (shown_of by (next + 1) rest)
   shown_of by next (Max argument ∷ rest) = ap (λ l. shown.Max next ∷ l) (shown_of by (next + 1) rest)
 
-  -- what is found of a select with these items, this condition and this form
+  -- the resolved parts of a select with these items, this condition and this form
   abbrev found_with : List RawItem → CondOf Operand → RawForm → FoundSelect
   found_with items cond form = record { list = list_found schemas items form; cond = cond; by = map (with_column schemas) (by_of form) }
 
@@ -116,7 +116,7 @@ module _ (schemas : List Schema) where
       ap (λ (n : ℕ). Grouped (record { keys = n; outs = shown_found (map (with_column schemas) by) n (map (with_out schemas) outs) })) count
       ∙ ap (λ (l : List Out). Grouped (record { keys = length by; outs = l })) (shown_of by (length by) outs)
 
-  -- what is found of a select makes the query that it means over these tables
+  -- the resolved parts of a select make the query that it means over these tables
   pub query_found : (select : RawSelect) → (let found : FoundSelect = select_found schemas select in query_with (head_of select found) found ≡ record { items = listed_columns schemas select.items select.form; tables = select.tables; cond = found.cond; form = form_of schemas select.form })
   query_found select =
       ap (λ (items : List Ref). record { items = items; tables = select.tables; cond = condition_of schemas select.cond; form = form_found select.form (select_found schemas select) }) (items_of_form select.items (condition_of schemas select.cond) select.form)
@@ -134,7 +134,7 @@ module _ (schemas : List Schema) where
   outs_count items forms.Distinct = refl
   outs_count items (forms.Grouped outs by) = length-map outs (with_out schemas)
 
-  -- where no list is too long, the members and the columns of GROUP BY are few
+  -- if no list is too long, the members and the columns of GROUP BY are few
   pub few_found : (select : RawSelect) → head_refused schemas select (select_found schemas select) ≡ [] → length (select_found schemas select).by + length (select_found schemas select).list.outs ≤ 256
   few_found select none =
       let parts : select_parts_refused select ≡ [] = (both_none (groups_found_refused (list_found schemas select.items select.form).outs (map (with_column schemas) (by_of select.form)) ++ kinds_refused schemas (condition_of schemas select.cond) ++ texts_refused (condition_of schemas select.cond)) (select_parts_refused select) none).1 in
@@ -144,7 +144,7 @@ module _ (schemas : List Schema) where
       let few_outs : length (outs_of select.form) ≤ 128 = few item_limit (length (outs_of select.form)) third.1 in
       omega (arith, by_count select.form, outs_count select.items select.form)
 
--- a refusal of a group stands first in all, where nothing is refused before it
+-- a group's refusal is the first of all, if nothing is refused before the group
 module _ (known : KnownNames) (select : RawSelect) (schemas : List Schema) (same : schemas ≡ schemas_of known select.tables)
     (there : flat_map (unknown_table known) select.tables ++ repeated_names select.tables ≡ []) where
   first_of_columns_at : (s : List Schema) → schemas ≡ s → (fault : NameFault) → IsFirstOf (columns_refused schemas select) fault → IsFirstOf (flat_map (unknown_table known) select.tables ++ repeated_names select.tables ++ columns_refused s select) fault

@@ -1,4 +1,4 @@
--- The first refusal of some things, one after the other.
+-- The first refusal of several things, one after the other.
 use Rattle.std.proofs.Common.{List, [], ◌∷◌, ◌≡◌}
 use Rattle.std.specs.List.{flat_map}
 use Rattle.hippo_model.specs.declared.name_fault.NameFault.{NameFault}

@@ -1,4 +1,4 @@
--- What a text means in a history, it means in each that goes on from there.
+-- A text keeps its meaning when entries are added to the history.
 use Rattle.std.proofs.Common.{◌≡◌, ◌∙◌, sym, ◌++◌, Some}
 use Rattle.hippo_values.specs.Texts.{Txt}
 use Rattle.hippo_model.specs.declared.query.Query.{Query}

@@ -1,4 +1,4 @@
--- What is found among the names of a history is found when entries are added.
+-- What is found among the names of a history is still found when entries are added.
 use Rattle.std.proofs.Common.{◌≡◌, Bool, true, false, cond, List, [], ◌∷◌, ◌++◌, map, Option, None, Some, refl, sym, ap, ◌∙◌}
 use Rattle.std.specs.Prelude.{not, ◌||◌, is_none, bytes_eq}
 use Rattle.std.specs.List.{list_any, flat_map, cons_option}
@@ -39,7 +39,7 @@ pub any-append : {A : Type 0} (test : A → Bool) (first second : List A) → li
 any-append test [] second = refl
 any-append test (x ∷ rest) second = ap (λ t. test x || t) (any-append test rest second) ∙ or-assoc (test x) (list_any test rest) (list_any test second)
 
--- names that are those of another list and more
+-- a list of names extends another
 pub record Extends (known more : KnownNames) : Type 0 where
   pub tables : (table : Name) (schema : Schema) → table_of known table ≡ Some schema → table_of more table ≡ Some schema
   pub purposes : (purpose : Name) → has_purpose known purpose ≡ true → has_purpose more purpose ≡ true
@@ -106,7 +106,7 @@ module _ (known more : KnownNames) (extends : Extends known more) where
       let both = both_none (unknown_pair known pair.purpose pair.recipient) (flat_map (λ (p : Pair). unknown_pair known p.purpose p.recipient) rest) none in
       ap (λ l. l ++ flat_map (λ (p : Pair). unknown_pair more p.purpose p.recipient) rest) (pair_lasts pair.purpose pair.recipient both.0) ∙ pairs_last rest both.1
 
-  -- a select's refusals, where those of its tables and its schemas are known
+  -- a select's refusals, given those of its tables, and the schemas
   abbrev select_by : RawSelect → List NameFault → List Schema → List NameFault
   select_by select tables schemas =
       tables ++ repeated_names select.tables ++ columns_refused schemas select ++ groups_refused schemas (outs_of select.form) (by_of select.form)

@@ -27,7 +27,7 @@ use Rattle.hippo_typing_catalog.specs.Selects.{select_refused, query_of}
 use Rattle.hippo_typing.specs.Meanings.{IsSelectText, Means, select_in, query_unless_refused, query_in, meaning_in, meaning}
 use Rattle.hippo_typing.specs.MeaningLaws.{SaysWhatTextsMean, AtMostOneMeaning}
 
--- the select that all tokens are is found
+-- the select that all tokens form is found
 pub whole-IsSelect : (tokens : Kinds) (select : RawSelect) → IsSelect tokens select [] → whole_of (leading_select tokens) ≡ Some select
 whole-IsSelect tokens select reading = rw (complete tokens select [] reading ends-nothing) refl
 
@@ -39,7 +39,7 @@ whole_opened : (tokens : Kinds) (one : Option (RawSelect × Kinds)) (select : Ra
 whole_opened tokens None select is e = absurd (none-some select e)
 whole_opened tokens (Some one) select is e = whole_ended tokens one select is e
 
--- what is found is the select that all tokens are
+-- the select that is found is the one that all tokens form
 pub IsSelect-whole : (tokens : Kinds) (select : RawSelect) → whole_of (leading_select tokens) ≡ Some select → IsSelect tokens select []
 IsSelect-whole tokens select e = whole_opened tokens (leading_select tokens) select refl e
 
@@ -47,7 +47,7 @@ passing : (checked : Result (Unit {0}) SyntaxFault) → is_ok checked ≡ true �
 passing (Ok tt) e = refl
 passing (Err fault) e = absurd cc
 
--- the words pass, and the whole is found
+-- the words pass the check, and the whole select is found
 both : (checked : Result (Unit {0}) SyntaxFault) (whole : Option RawSelect) (select : RawSelect) → (if is_ok checked then whole else None) ≡ Some select → (checked ≡ Ok tt) × (whole ≡ Some select)
 both (Ok tt) whole select e = (refl, e)
 both (Err fault) whole select e = absurd (none-some select e)
@@ -62,7 +62,7 @@ text_read text (Err fault) select cut e = absurd (none-some select e)
 pub IsSelectText-found : (text : Txt) (select : RawSelect) → select_in (outcome_of text) ≡ Some select → IsSelectText text select
 IsSelectText-found text select e = text_read text (outcome_of text) select (outcome-one text).0 e
 
--- the select that a text is, is found
+-- the select of a text is found
 pub found-IsSelectText : (text : Txt) (select : RawSelect) → IsSelectText text select → select_in (outcome_of text) ≡ Some select
 found-IsSelectText text select read =
     let cut : Ok read.tokens ≡ outcome_of text = (outcome-one text).1 (Ok read.tokens) read.cut in
@@ -84,7 +84,7 @@ pub Means-found : (known : KnownNames) (text : Txt) (query : Query) → meaning_
 unfolding meaning_in
 Means-found known text query e = means_opened known text (select_in (outcome_of text)) query refl e
 
--- what a text means is found
+-- the query that a text means is found
 pub found-Means : (known : KnownNames) (text : Txt) (query : Query) → Means known text query → meaning_in known text ≡ Some query
 unfolding meaning_in
 found-Means known text query means =
@@ -97,12 +97,12 @@ pub one_meaning : AtMostOneMeaning
 one_meaning known text one other means also =
     same_Some one other (sym (found-Means known text one means) ∙ found-Means known text other also)
 
--- what is found, is what the text means
+-- the query that is found is what the text means
 pub means_what_is_found : (known : KnownNames) (text : Txt) (found : Option Query) → found ≡ meaning_in known text → IfSome found (λ query. Means known text query)
 means_what_is_found known text None is = tt
 means_what_is_found known text (Some query) is = Means-found known text query (sym is)
 
--- where nothing is found, the text means nothing
+-- if no query is found, the text means none
 pub means_nothing : (known : KnownNames) (text : Txt) (found : Option Query) → found ≡ meaning_in known text → IfNone found ((query : Query) → ¬ Means known text query)
 means_nothing known text None is = λ query means. none-some query (is ∙ found-Means known text query means)
 means_nothing known text (Some query) is = tt
@@ -122,13 +122,13 @@ only_where P syntax.BadSyntax other only = only
 only_where P syntax.Memory other only = absurd (other refl)
 
 module _ (tokens : List Token) (words : words_check tokens ≡ Ok tt) (result : Result RawSelect SyntaxFault) (reads : ReadsAll IsSelect (kinds_between tokens 0 (length tokens)) result) where
-  -- what is read is the select that the tokens are
+  -- the select that is read is the one that the tokens form
   pub select-read : (select : RawSelect) → result ≡ Ok select → select_in (Ok tokens) ≡ Some select
   select-read select is =
       let reading : IsSelect (kinds_between tokens 0 (length tokens)) select [] = MatchResult-at_ok (λ x. IsSelect (kinds_between tokens 0 (length tokens)) x []) (λ fault. Unit {0}) select is reads.found in
       rw (words, whole-IsSelect (kinds tokens) select (rw all_between at reading)) refl
 
-  -- where nothing is read though there was memory, they are none
+  -- if nothing is read though there was memory, the tokens form no select
   pub none-read : (fault : SyntaxFault) → result ≡ Err fault → fault ≢ syntax.Memory → select_in (Ok tokens) ≡ None
   none-read fault is other =
       let between : Kinds = kinds_between tokens 0 (length tokens) in
@@ -140,7 +140,7 @@ pub passed : (checked : Result (Unit {0}) SyntaxFault) → is_err checked ≡ fa
 passed (Ok tt) e = refl
 passed (Err fault) e = absurd cc
 
--- a refused select means nothing
+-- a refused select means no query
 pub query_unless_refused-first : (refusals : List NameFault) (query : Query) (fault : NameFault) → slice_get refusals 0 ≡ Some fault → query_unless_refused refusals query ≡ None
 query_unless_refused-first [] query fault e = absurd (none-some fault e)
 query_unless_refused-first (refusal ∷ more) query fault e = refl

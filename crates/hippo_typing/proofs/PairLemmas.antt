@@ -1,4 +1,4 @@
--- A value and the answer of a check.
+-- A value and the result of a check.
 use Rattle.std.proofs.Common.{◌≡◌, List, [], Ok, Err, ap, subst, ◌∙◌}
 use Rattle.std.specs.Prelude.{Result}
 use Rattle.hippo_model.specs.declared.name_fault.NameFault.{NameFault}

@@ -1,4 +1,4 @@
--- What is found of a select's columns before it is judged.
+-- The columns of a select that are resolved, before it is checked further.
 use Rattle.std.specs.Prelude.{◌+◌, not, List, [], ◌∷◌, ◌++◌, filter_map, flat_map, Option, None, Some, is_some, if◌then◌else◌}
 use Rattle.std.specs.List.{list_any, position_or_len}
 use Rattle.hippo_model.specs.declared.name_fault.NameFault.{NameFault}
@@ -21,7 +21,7 @@ with_column schemas written = (written, column_of schemas written)
 abbrev pub with_out : List Schema → RawOut → RawOut × Ref
 with_out schemas out = (out, column_of schemas (column_in out))
 
--- a member that shows a column itself, with the column
+-- the column of a member that shows a column itself
 abbrev pub plain_found : RawOut × Ref → Option (RawColumn × Ref)
 plain_found (Column written, column) = Some (written, column)
 plain_found (Min argument, column) = None
@@ -32,7 +32,7 @@ argument_found (Column written, column) = None
 argument_found (Min argument, column) = Some column
 argument_found (Max argument, column) = Some column
 
--- a column that is not among others
+-- a column that is not among the others
 abbrev pub lone_found : List (RawColumn × Ref) → RawColumn × Ref → List NameFault
 lone_found others (written, column) =
     fault_if (not (list_any (λ other. same_reference column other.1) others))
@@ -49,7 +49,7 @@ out_found by next (Column written, column) =
 out_found by next (Min argument, column) = shown.Min next
 out_found by next (Max argument, column) = shown.Max next
 
--- where the next argument stands, behind this member
+-- the place of the next argument after this member
 abbrev pub next_place : Place → RawOut × Ref → Place
 next_place next found = if is_some (argument_found found) then next + 1 else next
 

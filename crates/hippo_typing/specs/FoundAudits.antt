@@ -1,4 +1,4 @@
--- An audit expression with its columns found, before it is judged.
+-- An audit expression with its columns resolved, before it is checked further.
 use Rattle.std.specs.Prelude.{List, ◌++◌, map, flat_map, unwrap_or}
 use Rattle.hippo_values.specs.Moments.{first_moment}
 use Rattle.hippo_model.specs.declared.name_fault.NameFault.{NameFault}
@@ -15,7 +15,7 @@ use Rattle.hippo_typing_catalog.specs.AuditExpressions.{audit_parts_refused, per
 use Rattle.hippo_typing.specs.declared.audits.FoundAudit.{FoundAudit}
 use Rattle.hippo_typing.specs.declared.audits.AuditHead.{AuditHead}
 
--- tables that are not there; exempt pairs; tables that stand twice
+-- in order: unknown tables; exempt pairs; repeated tables
 abbrev pub tables_refused : KnownNames → RawAudit → List NameFault
 tables_refused known audit =
     flat_map (unknown_table known) audit.tables
@@ -34,7 +34,7 @@ audit_found schemas audit =
           audit.cond;
     }
 
--- kinds; texts; the number of parts; the period
+-- in order: kinds; texts; the number of parts; the period
 abbrev pub judged_refused : List Schema → RawAudit → CondOf Operand → Period → List NameFault
 judged_refused schemas audit condition period =
     kinds_refused schemas condition ++ texts_refused condition ++ audit_parts_refused audit

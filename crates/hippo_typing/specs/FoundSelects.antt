@@ -1,4 +1,4 @@
--- A select with its columns found, before it is judged.
+-- A select with its columns resolved, before it is checked further.
 use Rattle.std.specs.Prelude.{List, [], ◌++◌, Option, Some, None, unwrap_or, map, filter_map, flat_map, length}
 use Rattle.hippo_model.specs.declared.name_fault.NameFault.{NameFault}
 use Rattle.hippo_model.specs.declared.query.Form.{Form}
@@ -30,13 +30,13 @@ select_found schemas select =
       by = map (with_column schemas) (by_of select.form);
     }
 
--- grouping; kinds; texts; the number of parts
+-- in order: grouping; kinds; texts; the number of parts
 abbrev pub head_refused : List Schema → RawSelect → FoundSelect → List NameFault
 head_refused schemas select found =
     groups_found_refused found.list.outs found.by ++ kinds_refused schemas found.cond
     ++ texts_refused found.cond ++ select_parts_refused select
 
--- the items of a grouped select; those of another one are found with its list
+-- the items of a grouped select; the items of any other select are found with its list
 abbrev pub own_items : RawForm → FoundSelect → Option (List Ref)
 own_items (forms.Grouped outs by) found =
     Some (map (λ column. column.1) found.by ++ filter_map argument_found found.list.outs)

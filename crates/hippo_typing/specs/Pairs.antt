@@ -1,4 +1,4 @@
--- A value and another one, where there is another one.
+-- A value paired with the result of a check.
 use Rattle.std.specs.Prelude.{Result, Ok, Err}
 use Rattle.hippo_model.specs.declared.name_fault.NameFault.{NameFault}
 

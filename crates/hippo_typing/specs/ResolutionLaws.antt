@@ -12,14 +12,14 @@ use Rattle.hippo_typing_catalog.specs.AuditExpressions.{audit_refused, audit_of}
 use Rattle.hippo_typing_catalog.specs.Catalogs.{known_at, known_after, table_of, has_purpose, has_recipient, item_of, creates_anew}
 use Rattle.hippo_typing_catalog.specs.Selects.{select_refused, query_of}
 
--- a select that is not refused after some entries means the same after more
+-- a select that is not refused after some entries means the same query after more entries
 abbrev pub SelectsLast : Type 0
 SelectsLast =
     (history later : History) (select : RawSelect) → select_refused (known_at history) select ≡ []
     → (select_refused (known_at (history ++ later)) select ≡ [])
     × (query_of (known_at (history ++ later)) select ≡ query_of (known_at history) select)
 
--- and so does an audit expression
+-- so does an audit expression
 abbrev pub AuditsLast : Type 0
 AuditsLast =
     (history later : History) (period : Period) (audit : RawAudit)
@@ -28,7 +28,7 @@ AuditsLast =
     × (audit_of (known_at (history ++ later)) period audit
     ≡ audit_of (known_at history) period audit)
 
--- the names of a history are those of the history before its last entry, and what that entry
+-- the names of a history are those of the history before its last entry, with what that entry
 -- creates
 abbrev pub NamesGrow : Type 0
 NamesGrow =
@@ -50,7 +50,7 @@ ValidNames =
     (meaning : Meaning) (history : History) → is_valid meaning history ≡ true
     → NamesAreThoseOf history
 
--- an entry that may follow a valid history creates nothing whose name is taken
+-- an entry that may follow a valid history creates no name that already exists
 abbrev pub EntriesCreateAnew : Type 0
 EntriesCreateAnew =
     (meaning : Meaning) (history : History) (entry : Entry) → is_valid meaning history ≡ true

@@ -25,14 +25,14 @@ use hippo_values::{Duplicate, FROM_LIMIT, ITEM_LIMIT, Moment, PAIR_LIMIT, Txt};
 use hippo_values_text::read_moment;
 use std::alloc::Global;
 
-/// An audit expression's columns, as they are found.
+/// An audit expression with its columns resolved.
 #[derive(Drop)]
 pub struct FoundAudit {
     columns: Refs,
     cond: CondOf<Operand>,
 }
 
-/// What an audit expression has beside its columns and its condition.
+/// The parts of an audit expression other than its columns and its condition.
 #[derive(Drop)]
 pub struct AuditHead {
     from: Moment,
@@ -49,7 +49,7 @@ fn read_end(text: &Txt) -> Option<Moment>
     read_moment(text.as_str())
 }
 
-// The ends of the period, as far as its texts are moments.
+// The ends of the period. An end is none if its text is not a moment.
 fn read_period(audit: &RawAudit) -> Period
     ensures is { IsPeriodOf audit.now result }
     ensures only { (other : PeriodEnds) → IsPeriodOf audit.now other → other ≡ result }
@@ -60,7 +60,7 @@ fn read_period(audit: &RawAudit) -> Period
     }
 }
 
-// The two ends of a period, the end not before the beginning.
+// Checks that a period does not end before it begins.
 fn check_ends(from: Moment, to: Moment) -> Result<(Moment, Moment), NameFault>
     ensures { Resolves (fault_if (goes_back from to) PeriodBack) (from, to) result }
 {
@@ -70,7 +70,8 @@ fn check_ends(from: Moment, to: Moment) -> Result<(Moment, Moment), NameFault>
     Err(NameFault::PeriodBack)
 }
 
-// The two ends, where both texts are moments, the end not before the beginning.
+// The two ends of a period. Both texts must be moments, and the end must not be before the
+// beginning.
 fn check_period(period: &Period) -> Result<(Moment, Moment), NameFault>
     ensures { Resolves (period_refused period.now)
         (unwrap_or period.now.from first_moment, unwrap_or period.now.to first_moment) result }
@@ -89,7 +90,7 @@ fn check_parts(audit: &RawAudit) -> Result<(), NameFault>
     check_count(PAIR_LIMIT, audit.exempt.len())
 }
 
-// The purposes and recipients of exempt pairs have to be there.
+// Checks that the purposes and recipients of exempt pairs exist.
 fn check_pairs(alloc: Global, catalog: &Catalog, pairs: &Pairs) -> Result<(), NameFault>
     ensures { Resolves (flat_map (λ pair. unknown_pair catalog.now.names pair.purpose
         pair.recipient) pairs.now)
@@ -101,7 +102,7 @@ fn check_pairs(alloc: Global, catalog: &Catalog, pairs: &Pairs) -> Result<(), Na
     Ok(())
 }
 
-// The tables of an audit, each of which must be there and stand once, and its exempt pairs.
+// The tables of an audit. Each must exist and be named once. Also checks the exempt pairs.
 fn audit_tables<'a>(
     alloc: Global,
     catalog: &'a Catalog,
@@ -116,7 +117,7 @@ fn audit_tables<'a>(
     Ok(tables)
 }
 
-// An audit with its columns found, each of which has to be one of its tables, and only one.
+// An audit with its columns resolved. Each column must belong to exactly one of the audit's tables.
 fn found_audit(
     alloc: Global,
     tables: &StatementTables<'_>,
@@ -130,7 +131,7 @@ fn found_audit(
     Ok(FoundAudit { columns, cond })
 }
 
-// What an audit has beside its columns and its condition, where it is not refused.
+// The parts of an audit other than its columns and its condition, if it is not refused.
 fn checked_audit(
     alloc: Global,
     tables: &StatementTables<'_>,
@@ -177,7 +178,7 @@ fn audit_of(found: FoundAudit, head: AuditHead, shown: bool) -> Audit
     }
 }
 
-// An audit whose period has been read.
+// Resolves an audit whose period has been read.
 fn resolve_over(
     alloc: Global,
     catalog: &Catalog,
@@ -194,8 +195,8 @@ fn resolve_over(
     Ok(audit_of(found, head, audit.shown))
 }
 
-/// The audit expression that is meant, each of whose columns is found in one table of its FROM
-/// list, or why it is refused. The ends of its period are the moments that its texts write.
+/// The audit that an audit expression means, or why it is refused. Each of its columns is resolved
+/// to one table of the FROM list. The ends of its period are the moments that its texts write.
 pub fn resolve_audit(alloc: Global, catalog: &Catalog, audit: &RawAudit) -> Result<Audit, NameFault>
     ensures period { (period : PeriodEnds) × IsPeriodOf audit.now period }
     ensures resolved { (period : PeriodEnds) → IsPeriodOf audit.now period

@@ -1,4 +1,4 @@
-//! Which column of a statement's tables a written column is.
+//! Which column of a statement's tables a written column names.
 ghost use Rattle.std.specs.Prelude.{◌≡◌, List, ◌++◌, map, flat_map};
 ghost use Rattle.std.specs.Prelude.{unwrap_or, option_copied, option_to_list, MatchResult};
 ghost use Rattle.hippo_model.specs.declared.query.Ref.{Ref as Reference};
@@ -14,7 +14,7 @@ use hippo_typing_catalog::{IndexedTable, StatementTables, column_faults};
 use hippo_values::{Name, Sequence};
 use std::alloc::Global;
 
-/// Whether a column with this table before it, or none, may be one of the table's.
+/// Whether a column with this qualifier, or without one, may belong to the table.
 pub fn may_stand_in(qualifier: Option<&Name>, table: &Name) -> bool
     ensures { result ≡ may_stand_in (option_copied qualifier.entry) table.now }
 {
@@ -24,7 +24,7 @@ pub fn may_stand_in(qualifier: Option<&Name>, table: &Name) -> bool
     }
 }
 
-// The column of the table at a place that a written column may be.
+// The column that a written column may name in the table at a place.
 fn home_in(written: &RawColumn, place: usize, table: &IndexedTable) -> Option<Ref>
     ensures { result ≡ home_in written.now place table.now }
 {
@@ -38,7 +38,7 @@ fn home_in(written: &RawColumn, place: usize, table: &IndexedTable) -> Option<Re
     })
 }
 
-// What has been found, with what is found in one table more; it may be one column only.
+// The column found so far, with the one found in one more table. If both exist, it is ambiguous.
 fn one_home(
     alloc: Global,
     written: &RawColumn,
@@ -69,7 +69,7 @@ fn some_home(alloc: Global, written: &RawColumn, home: Option<Ref>) -> Result<Re
     }
 }
 
-/// The column that a written column is; it has to be one of the statement's tables, and only one.
+/// The column that a written column names. It must belong to exactly one of the statement's tables.
 pub fn found_column(
     alloc: Global,
     tables: &StatementTables<'_>,
@@ -86,8 +86,8 @@ pub fn found_column(
     some_home(alloc, written, home)
 }
 
-/// Written columns with the columns that they are, each of which has to be one of the statement's
-/// tables, and only one.
+/// Written columns, each with the column that it names, which must belong to exactly one of the
+/// statement's tables.
 pub fn found_columns<'a>(
     alloc: Global,
     tables: &StatementTables<'_>,

@@ -1,4 +1,4 @@
-//! A condition with its columns found.
+//! Conditions with their columns resolved.
 ghost use Rattle.std.specs.Prelude.{◌∷◌, [], flat_map, map, if◌then◌else◌};
 ghost use Rattle.hippo_model.specs.declared.query.CondOf.TheVariants.{All, Any, Not, Compare, Between, Among, Missing};
 ghost use Rattle.hippo_typing_catalog.specs.Refusals.{Resolves};
@@ -98,8 +98,8 @@ fn found_missing(
     Ok(CondOf::Missing { value })
 }
 
-/// A condition with its columns found, each of which has to be one of the statement's tables, and
-/// only one.
+/// A condition with its columns resolved. Each must belong to exactly one of the statement's
+/// tables.
 #[cycle(found_condition)]
 pub fn found_condition(
     alloc: Global,
@@ -136,7 +136,7 @@ fn found_parts(
     Ok(found)
 }
 
-// All of the parts, or any of them.
+// An AND or an OR of several parts.
 #[cycle(found_condition)]
 fn found_junction(
     alloc: Global,

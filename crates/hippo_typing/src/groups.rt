@@ -16,7 +16,7 @@ use hippo_typing_catalog::{StatementTables, column_faults};
 use hippo_values::{Memory, Sequence};
 use std::alloc::Global;
 
-// The column that a member shows, or whose least or greatest value.
+// The column that a member shows, or whose least or greatest value it shows.
 fn column_in(out: &RawOut) -> &RawColumn
     ensures { result.now ≡ column_in out.now }
 {
@@ -27,8 +27,8 @@ fn column_in(out: &RawOut) -> &RawColumn
     }
 }
 
-/// The members of a list with their columns, each of which has to be one of the statement's tables,
-/// and only one.
+/// The members of a list with their columns. Each column must belong to exactly one of the
+/// statement's tables.
 pub fn found_outs<'a>(
     alloc: Global,
     tables: &StatementTables<'_>,
@@ -54,7 +54,7 @@ fn same_reference(a: &Ref, b: &Ref) -> bool
     a.table == b.table && a.column == b.column
 }
 
-// The place of a column among others, or their number where it is not among them.
+// The place of a column in a list, or the length of the list if it is not there.
 fn place_among(column: &Ref, others: &FoundColumns<'_>) -> usize
     ensures { result ≡ position_or_len (λ other. same_reference column.now other.1) others.now }
 {
@@ -79,7 +79,7 @@ fn is_among(column: &Ref, others: &FoundColumns<'_>) -> bool
     false
 }
 
-// Refuses a column that is not among others.
+// Refuses a column that is not in the other list.
 fn check_column(
     alloc: Global,
     found: &FoundColumn<'_>,
@@ -93,7 +93,7 @@ fn check_column(
     Err(column_faults::not_grouped(alloc, &found.written.column))
 }
 
-// Refuses columns that are not all among others.
+// Refuses columns that are not all in the other list.
 fn check_among(
     alloc: Global,
     columns: &FoundColumns<'_>,
@@ -107,7 +107,7 @@ fn check_among(
     Ok(())
 }
 
-// A member that shows a column itself, with the column.
+// Adds a member's column, if the member shows the column itself.
 fn push_plain<'a>(columns: &mut FoundColumns<'a>, found: &FoundOut<'a>) -> Result<(), Memory>
     ensures { OnOk result (columns.new ≡ columns.old ++ option_to_list (plain_found found.now)) }
 {
@@ -120,7 +120,7 @@ fn push_plain<'a>(columns: &mut FoundColumns<'a>, found: &FoundOut<'a>) -> Resul
     Ok(())
 }
 
-// The members that show columns themselves.
+// The columns of the members that show a column itself.
 fn plain_columns<'a>(alloc: Global, outs: &FoundOuts<'a>) -> Result<FoundColumns<'a>, Memory>
     ensures { IfOk result (λ columns. columns ≡ filter_map plain_found outs.now) }
 {
@@ -172,7 +172,7 @@ fn push_by(columns: &mut Refs, by: &FoundColumns<'_>) -> Result<(), Memory>
     Ok(())
 }
 
-/// The columns of GROUP BY, and then the arguments.
+/// The columns of GROUP BY, followed by the arguments of MIN and MAX.
 pub fn grouped_items(
     alloc: Global,
     outs: &FoundOuts<'_>,
@@ -187,7 +187,7 @@ pub fn grouped_items(
     Ok(columns)
 }
 
-// What a member shows, where the next argument has this place.
+// What a member shows, if the next argument has this place.
 fn out_found(found: &FoundOut<'_>, by: &FoundColumns<'_>, next: usize) -> Out
     ensures { result ≡ out_found by.now next found.now }
 {
@@ -208,8 +208,8 @@ fn is_argument(found: &FoundOut<'_>) -> bool
     }
 }
 
-/// What the members show, by the places of their columns among the GROUP BY columns and the
-/// arguments behind them.
+/// What the members show: the places of their columns in the columns of GROUP BY, followed by the
+/// arguments.
 pub fn shown_outs(
     alloc: Global,
     outs: &FoundOuts<'_>,

@@ -27,7 +27,7 @@ fn push_table(columns: &mut Refs, place: usize, count: usize) -> Result<(), Memo
     Ok(())
 }
 
-// Adds all columns of the table at a place, if it may stand before the star.
+// Adds all columns of the table at a place, if the star covers it.
 fn push_starred(
     table: &IndexedTable,
     place: usize,
@@ -45,7 +45,7 @@ fn push_starred(
     Ok(())
 }
 
-// Adds all columns of the tables that may stand before the star.
+// Adds all columns of the tables that the star covers.
 fn push_star(
     tables: &StatementTables<'_>,
     qualifier: Option<&Name>,
@@ -71,7 +71,7 @@ fn has_table(tables: &StatementTables<'_>, name: &Name) -> bool
     false
 }
 
-// Adds all columns of a table, which has to be one of the statement's.
+// Adds all columns of a table, which must be one of the statement's.
 fn push_table_star(
     alloc: Global,
     tables: &StatementTables<'_>,
@@ -135,8 +135,8 @@ fn push_item(
     }
 }
 
-/// The columns of the items, in their order, each of which has to be one of the statement's tables,
-/// and only one.
+/// The columns of the items, in their order. Each must belong to exactly one of the statement's
+/// tables.
 pub fn found_items(
     alloc: Global,
     tables: &StatementTables<'_>,

@@ -1,5 +1,4 @@
-//! From selects and audit expressions as they are written to what they mean in a history, or to the
-//! first refusal that holds.
+//! Resolves selects and audit expressions: what they mean in a history, or their first refusal.
 #![tactic(auto)]
 
 mod audits;

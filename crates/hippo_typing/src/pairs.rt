@@ -1,10 +1,10 @@
-//! A value and another one, where there is another one.
+//! A value paired with the result of a check.
 ghost use Rattle.std.specs.Prelude.{◌≡◌};
 ghost use Rattle.hippo_typing.specs.Pairs.{paired};
 
 use hippo_model::NameFault;
 
-/// Two values, where there is a second one.
+/// The pair of two values, or the fault of the second.
 pub fn paired<A: Drop, B: Drop>(first: A, second: Result<B, NameFault>) -> Result<(A, B), NameFault>
     ensures { result ≡ paired first second }
 {

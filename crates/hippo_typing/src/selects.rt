@@ -24,15 +24,15 @@ use hippo_typing_catalog::{Catalog, StatementTables, check_kinds, check_texts};
 use hippo_values::{Duplicate, FROM_LIMIT, ITEM_LIMIT, Memory, Sequence};
 use std::alloc::Global;
 
-/// The columns of a select's list: those of its items or, where it is grouped, its members with
-/// theirs.
+/// The columns of a select's list: the columns of its items or, for a grouped select, its members
+/// with their columns.
 #[derive(Drop)]
 pub struct FoundList<'a> {
     items: Refs,
     outs: FoundOuts<'a>,
 }
 
-/// A select with its columns found.
+/// A select with its columns resolved.
 #[derive(Drop)]
 pub struct FoundSelect<'a> {
     list: FoundList<'a>,
@@ -40,7 +40,8 @@ pub struct FoundSelect<'a> {
     by: FoundColumns<'a>,
 }
 
-/// What a query has beside what was found of its select: its items, too, where it is grouped.
+/// The parts of a query that are added to the resolved select: tables, form and, for a grouped
+/// select, its items.
 #[derive(Drop)]
 pub struct QueryHead {
     own_items: Option<Refs>,
@@ -102,7 +103,7 @@ fn found_list<'a>(
     }
 }
 
-// A select with its columns found, each of which has to be one of its tables, and only one.
+// A select with its columns resolved. Each must belong to exactly one of its tables.
 fn found_select<'a>(
     alloc: Global,
     tables: &StatementTables<'_>,
@@ -137,8 +138,7 @@ fn check_parts(select: &RawSelect) -> Result<(), NameFault>
     check_count(ITEM_LIMIT, by_of(&select.form).len())
 }
 
-// Refuses a select whose columns are found, for what its columns are, its texts or the number of
-// its parts.
+// Checks a select whose columns are resolved: its grouping, kinds, texts and number of parts.
 fn check_select(
     alloc: Global,
     tables: &StatementTables<'_>,
@@ -209,7 +209,7 @@ fn query_head(
     })
 }
 
-// What a query has beside its condition, where the select is not refused.
+// The parts of a query other than its condition, if the select is not refused.
 fn checked_head(
     alloc: Global,
     tables: &StatementTables<'_>,
@@ -242,8 +242,8 @@ fn query(found: FoundSelect<'_>, head: QueryHead) -> Query
     }
 }
 
-/// The query that a select means, each of whose columns is found in one table of its FROM list, or
-/// why it is refused.
+/// The query that a select means, or why it is refused. Each of its columns is resolved to one
+/// table of its FROM list.
 ///
 /// Over `patient (pid, name)` and `visit (vno, pid)`:
 ///

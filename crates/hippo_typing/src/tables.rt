@@ -8,7 +8,7 @@ use hippo_typing_catalog::{Catalog, StatementTables, check_repeats, name_faults}
 use hippo_values::Name;
 use std::alloc::Global;
 
-/// The tables with these names, each of which must be there.
+/// The tables with these names. Each must exist.
 pub fn tables_of<'a>(
     alloc: Global,
     catalog: &'a Catalog,
@@ -27,7 +27,7 @@ pub fn tables_of<'a>(
     Ok(tables)
 }
 
-/// The tables of a FROM list, each of which must be there and stand once.
+/// The tables of a FROM list. Each must exist and be named once.
 pub fn found_tables<'a>(
     alloc: Global,
     catalog: &'a Catalog,

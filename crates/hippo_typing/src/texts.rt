@@ -18,7 +18,7 @@ use hippo_typing_catalog::Catalog;
 use hippo_values::Memory;
 use std::alloc::Global;
 
-// No select was read, but for want of memory.
+// None, as no select was read; or out of memory.
 fn no_select(fault: SyntaxFault) -> Result<Option<RawSelect>, Memory>
     ensures { IfOk result (λ found. (found ≡ None) × (fault ≢ syntax.Memory)) }
 {
@@ -28,7 +28,7 @@ fn no_select(fault: SyntaxFault) -> Result<Option<RawSelect>, Memory>
     }
 }
 
-// The select that tokens are, if they are one.
+// The select that the tokens form, or none.
 fn whole_select(alloc: Global, tokens: &Tokens) -> Result<Option<RawSelect>, Memory>
     ensures { IfOk result (λ found. found ≡ select_in (Ok tokens.now)) }
 {
@@ -41,7 +41,7 @@ fn whole_select(alloc: Global, tokens: &Tokens) -> Result<Option<RawSelect>, Mem
     }
 }
 
-// The select that a text is, if it is one.
+// The select that a text is, or none.
 fn select_in(alloc: Global, text: &str) -> Result<Option<RawSelect>, Memory>
     ensures { IfOk result (λ found. found ≡ select_in (outcome_of text.now)) }
 {
@@ -58,7 +58,7 @@ fn is_memory(fault: &NameFault) -> bool
     matches!(fault, NameFault::Memory)
 }
 
-// A select was refused, but for want of memory.
+// None, as a select was refused; or out of memory.
 fn no_query(fault: NameFault) -> Result<Option<Query>, Memory>
     ensures { IfOk result (λ found. (found ≡ None) × (fault ≢ faults.Memory)) }
 {
@@ -70,7 +70,7 @@ fn no_query(fault: NameFault) -> Result<Option<Query>, Memory>
     Ok(None)
 }
 
-// The query that a select means, if nothing of it is refused.
+// The query that a select means, or none if the select is refused.
 fn query_in(alloc: Global, catalog: &Catalog, select: &RawSelect) -> Result<Option<Query>, Memory>
     ensures { IfOk result (λ found. found ≡ query_in catalog.now.names select.now) }
 {
@@ -80,7 +80,7 @@ fn query_in(alloc: Global, catalog: &Catalog, select: &RawSelect) -> Result<Opti
     }
 }
 
-// The query of a select that nobody needs afterwards: it falls here, in one call.
+// The query of a select that is not needed afterwards. The select is dropped here, in one call.
 fn query_of(alloc: Global, catalog: &Catalog, select: RawSelect) -> Result<Option<Query>, Memory>
     ensures { IfOk result (λ found. found ≡ query_in catalog.now.names select) }
 {
@@ -99,8 +99,9 @@ fn meaning_in(alloc: Global, catalog: &Catalog, text: &str) -> Result<Option<Que
     }
 }
 
-/// The query that a text means where a catalog's names stand: the text is a select by the grammar,
-/// and nothing of it is refused. None exactly where it means none; the error is want of memory.
+/// The query that a text means with a catalog's names: the text must be a select by the grammar,
+/// and nothing of it may be refused. None exactly when the text means no query. The only error is
+/// out of memory.
 pub fn read_meaning(alloc: Global, catalog: &Catalog, text: &str) -> Result<Option<Query>, Memory>
     ensures found { IfOk result (λ found. IfSome found
         (λ query. Means catalog.now.names text.now query)) }
@@ -111,13 +112,13 @@ pub fn read_meaning(alloc: Global, catalog: &Catalog, text: &str) -> Result<Opti
     meaning_in(alloc, catalog, text)
 }
 
-/// A text's meaning after some entries is the query that it means by the grammar and the names that
-/// those entries make known, where it means one.
+/// A text's meaning after some entries is the query that it means by the grammar, with the names
+/// that those entries create, if it means one.
 pub fn meaning_is_that_of_texts()
     ensures { MeaningIsThatOfTexts }
 {}
 
-/// A text has one meaning where some names are known, or none.
+/// With some names known, a text has at most one meaning.
 pub fn at_most_one_meaning()
     ensures { AtMostOneMeaning }
 {}

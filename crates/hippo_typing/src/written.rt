@@ -1,4 +1,4 @@
-//! What is written of a statement's tables, and what it is there.
+//! Parts of a statement, and what they name in its tables.
 ghost use Rattle.std.specs.Prelude.{map, flat_map};
 ghost use Rattle.hippo_typing_catalog.specs.Refusals.{Resolves};
 
@@ -7,26 +7,26 @@ use hippo_typing_catalog::StatementTables;
 use hippo_values::Sequence;
 use std::alloc::Global;
 
-/// What is written of a statement's tables.
+/// A part of a statement that names something in the statement's tables.
 pub trait Written {
     ghost use Rattle.std.specs.Prelude.{List};
     ghost use Rattle.hippo_model.specs.declared.schema.Schema.{Schema};
     ghost use Rattle.hippo_model.specs.declared.name_fault.NameFault.{NameFault as Refused};
     ghost use Rattle.hippo_typing_catalog.specs.Refusals.{Resolves};
 
-    /// What it is.
+    /// The resolved part.
     type Found: Drop;
 
     ghost refused: { List Schema → Self → List Refused };
 
     ghost meant: { List Schema → Self → Self.Found };
 
-    /// What it is in the statement's tables, or its first refusal.
+    /// The part resolved in the statement's tables, or its first refusal.
     fn find(&self, alloc: Global, tables: &StatementTables<'_>) -> Result<Self::Found, NameFault>
         ensures { Resolves (refused tables.now self.now) (meant tables.now self.now) result };
 }
 
-/// What each member of a list is in the statement's tables, or the first refusal.
+/// Each member of a list resolved in the statement's tables, or the first refusal.
 pub fn found_each<W: Written>(
     alloc: Global,
     tables: &StatementTables<'_>,

@@ -1,4 +1,4 @@
--- Audit expressions that are refused for several causes at once.
+-- Audit expressions with several faults at once.
 use Rattle.std.proofs.Common.{◌≡◌, ℤ, pos, true, false, List, [], ◌∷◌, Option, Some, None, refl, codes, replicate}
 use Rattle.std.specs.Prelude.{slice_get}
 use Rattle.hippo_values.specs.declared.names.Name.{Name}
@@ -54,14 +54,15 @@ lasting from to = record { from = from; to = to }
 abbrev first_refusal : Period → RawAudit → Option NameFault
 first_refusal period audit = slice_get (audit_refused known period audit) 0
 
--- of two exempt pairs that are not there, the first one's purpose or recipient comes first; a table comes before both
+-- of two unknown exempt pairs, the first one's purpose or recipient is reported; an unknown table
+-- comes before both
 pairs_in_text_order : first_refusal (lasting None None) (over (patient ∷ patient ∷ []) (pair (codes "care") (codes "aunt") ∷ pair (codes "spam") (codes "nurse") ∷ []) (bare name ∷ []) no_condition) ≡ Some (UnknownRecipient (codes "aunt"))
 pairs_in_text_order = refl
 
 table_before_pairs : first_refusal (lasting None None) (over (codes "nowhere" ∷ []) (pair (codes "spam") (codes "nurse") ∷ []) (bare name ∷ []) no_condition) ≡ Some (UnknownTable (codes "nowhere"))
 table_before_pairs = refl
 
--- a period whose texts are no moments is told behind all names, kinds and parts
+-- a period whose texts are not moments is reported after names, kinds and parts
 columns_before_the_period : first_refusal (lasting None None) (over (patient ∷ []) [] (bare (codes "nothing") ∷ []) no_condition) ≡ Some (UnknownColumn (codes "nothing"))
 columns_before_the_period = refl
 
@@ -77,7 +78,7 @@ no_moment_before_the_order = simp folded_conditions
 end_before_the_beginning : first_refusal (lasting (Some (pos 5)) (Some (pos 4))) (over (patient ∷ []) [] (bare name ∷ []) no_condition) ≡ Some PeriodBack
 end_before_the_beginning = simp folded_conditions
 
--- audited columns may stand twice
+-- audited columns may repeat
 columns_may_repeat : audit_of known (lasting (Some (pos 4)) (Some (pos 5))) (over (patient ∷ []) [] (bare name ∷ bare name ∷ []) no_condition)
     ≡ record {
       from = pos 4;

@@ -1,4 +1,4 @@
--- Changes that are refused for several causes at once, and what some ask for.
+-- Changes with several faults at once, and what some changes ask for.
 use Rattle.std.proofs.Common.{◌≡◌, ℕ, pos, true, false, List, [], ◌∷◌, Option, Some, None, refl, codes, replicate}
 use Rattle.std.specs.Prelude.{slice_get}
 use Rattle.hippo_values.specs.declared.names.Name.{Name}
@@ -45,7 +45,7 @@ patients = record {
   subject = Some 0;
 }
 
--- its key is room, and then site; it has no SUBJECT
+-- its key is room, then site; it has no SUBJECT
 abbrev wards : Schema
 wards = record {
   name = codes "ward";
@@ -71,25 +71,26 @@ answer statement = slice_get (change_refused clinic statement) 0
 abbrev allow : List ℕ → List ℕ → List ℕ → List (List ℕ) → Option Name → Stmt
 allow purpose recipient table columns item = Allow purpose recipient table columns item None
 
--- the table comes before the purpose, though the purpose stands before it
+-- an unknown table is reported before an unknown purpose, though the purpose comes first in the
+-- text
 table_before_purpose : answer (allow (codes "billing") (codes "nurse") (codes "nobody") (name ∷ []) None) ≡ Some (UnknownTable (codes "nobody"))
 table_before_purpose = refl
 
--- purpose, recipient and item in the order of the text
+-- purpose, recipient and item are reported in the order of the text
 purpose_before_recipient : answer (allow (codes "billing") (codes "clerk") patient (name ∷ []) None) ≡ Some (UnknownPurpose (codes "billing"))
 purpose_before_recipient = refl
 
 recipient_before_item : answer (allow (codes "treatment") (codes "clerk") patient (name ∷ []) (Some (codes "mail"))) ≡ Some (UnknownRecipient (codes "clerk"))
 recipient_before_item = refl
 
--- names that are not there come before those that stand twice
+-- unknown names are reported before repeated names
 item_before_repeated_name : answer (allow (codes "treatment") (codes "nurse") patient (codes "x" ∷ codes "x" ∷ []) (Some (codes "mail"))) ≡ Some (UnknownItem (codes "mail"))
 item_before_repeated_name = refl
 
 repeated_name_before_unknown_column : answer (allow (codes "treatment") (codes "nurse") patient (codes "x" ∷ codes "x" ∷ []) None) ≡ Some (RepeatedName (codes "x"))
 repeated_name_before_unknown_column = refl
 
--- the name whose repetition stands first
+-- the name whose repetition comes first is reported
 first_repetition : answer (Revoke (codes "treatment") (codes "nurse") patient (pid ∷ name ∷ name ∷ pid ∷ [])) ≡ Some (RepeatedName name)
 first_repetition = refl
 
@@ -105,7 +106,7 @@ rule = refl
 abbrev create : List ℕ → List Column → List (List ℕ) → Option (List ℕ) → Stmt
 create table columns key subject = CreateTable table columns key subject
 
--- a column list before the key list
+-- a repeated column is reported before a repeated name in the key
 repeated_column : answer (create patient (column pid TextColumn ∷ column pid TextColumn ∷ []) (name ∷ name ∷ []) (Some zip)) ≡ Some (RepeatedName pid)
 repeated_column = refl
 
@@ -118,32 +119,32 @@ key_before_subject = refl
 unknown_subject : answer (create patient (column pid TextColumn ∷ []) (pid ∷ []) (Some zip)) ≡ Some (UnknownColumn zip)
 unknown_subject = refl
 
--- the kind of the SUBJECT comes before the table's name
+-- the kind of the SUBJECT is reported before the table's name
 subject_before_taken_name : answer (create patient (column pid TextColumn ∷ []) (pid ∷ []) (Some pid)) ≡ Some TypeMismatch
 subject_before_taken_name = refl
 
 taken_table : answer (create patient (column pid TextColumn ∷ []) (pid ∷ []) None) ≡ Some (AlreadyThere patient)
 taken_table = refl
 
--- the number of tables comes before the table's name
+-- the number of tables is reported before the table's name
 tables_before_taken_name : slice_get (change_refused full (create patient (column pid TextColumn ∷ []) (pid ∷ []) None)) 0 ≡ Some (TooManyParts 64)
 tables_before_taken_name = refl
 
--- key and subject are NOT NULL though that is not written, and the key has the order of its list
+-- key and subject are NOT NULL though that is not written, and the key keeps the order of its list
 table : wanted_by clinic (create (codes "visit") (column name TextColumn ∷ column pid Integer ∷ column zip Integer ∷ []) (zip ∷ name ∷ []) (Some pid)) ≡ Some (Ready (acts.Create (record { name = codes "visit"; columns = required name TextColumn ∷ required pid Integer ∷ required zip Integer ∷ []; key = 2 ∷ 0 ∷ []; subject = Some 1 })))
 table = refl
 
 count_before_kinds : answer (Insert patient (Text name ∷ [])) ≡ Some (WrongCount 3)
 count_before_kinds = refl
 
--- kinds before NULL, though the NULL stands before
+-- a wrong kind is reported before NULL, though the NULL comes first
 kind_before_null : answer (Insert patient (Null ∷ Null ∷ Text name ∷ [])) ≡ Some TypeMismatch
 kind_before_null = refl
 
 first_null : answer (Insert patient (Int (pos 1) ∷ Null ∷ Null ∷ [])) ≡ Some (NullNotAllowed name)
 first_null = refl
 
--- NULL before a text with a control character
+-- NULL is reported before a text with a control character
 null_before_text : answer (Insert patient (Null ∷ Text (7 ∷ []) ∷ Null ∷ [])) ≡ Some (NullNotAllowed pid)
 null_before_text = refl
 
@@ -162,7 +163,7 @@ repeated_column_before_repeated_key = refl
 repeated_key_before_unknown_column : answer (update (codes "x" ∷ []) (Null ∷ []) (pid ∷ pid ∷ []) (Null ∷ Null ∷ [])) ≡ Some (RepeatedName pid)
 repeated_key_before_unknown_column = refl
 
--- one column may be set and stand in the keys
+-- the same column may be set and be in WHERE
 set_and_key_differ : answer (update (pid ∷ []) (Int (pos 3) ∷ []) (pid ∷ []) (Int (pos 1) ∷ [])) ≡ Some (KeyChanged pid)
 set_and_key_differ = refl
 
@@ -172,14 +173,14 @@ unknown_set_column_first = refl
 unknown_column_before_wrong_key : answer (update (codes "x" ∷ []) (Null ∷ []) (zip ∷ []) (Null ∷ [])) ≡ Some (UnknownColumn (codes "x"))
 unknown_column_before_wrong_key = refl
 
--- keys that are not the key come before a key's column that is set
+-- columns of WHERE that are not the key are reported before a key column that is set
 wrong_key_before_changed_key : answer (update (pid ∷ []) (Int (pos 3) ∷ []) (zip ∷ []) (Int (pos 1) ∷ [])) ≡ Some NotTheKey
 wrong_key_before_changed_key = refl
 
 changed_key_before_kind : answer (update (zip ∷ pid ∷ []) (Text name ∷ Int (pos 3) ∷ []) (pid ∷ []) (Int (pos 1) ∷ [])) ≡ Some (KeyChanged pid)
 changed_key_before_kind = refl
 
--- a kind anywhere in the statement comes before any NULL
+-- a wrong kind anywhere in the statement is reported before any NULL
 kind_of_key_before_null : answer (update (name ∷ []) (Null ∷ []) (pid ∷ []) (Text name ∷ [])) ≡ Some TypeMismatch
 kind_of_key_before_null = refl
 
@@ -192,7 +193,7 @@ null_of_key_before_text = refl
 text_that_is_set : answer (update (name ∷ []) (Text (7 ∷ []) ∷ []) (pid ∷ []) (Int (pos 1) ∷ [])) ≡ Some BadText
 text_that_is_set = refl
 
--- the key has its own order, what is set that of the text
+-- the key has its own order, and the set columns the order of the text
 change : wanted_by clinic (Update (codes "ward") (codes "beds" ∷ []) (Int (pos 2) ∷ []) (codes "site" ∷ codes "room" ∷ []) (Text (codes "b") ∷ Int (pos 1) ∷ [])) ≡ Some (Set (codes "ward") (Int (pos 1) ∷ Text (codes "b") ∷ []) (2 ∷ []) (Int (pos 2) ∷ []))
 change = refl
 
@@ -209,7 +210,7 @@ unknown_table = refl
 taken_purpose : answer (CreatePurpose (codes "treatment")) ≡ Some (AlreadyThere (codes "treatment"))
 taken_purpose = refl
 
--- names of purposes and of tables do not meet
+-- a purpose may have the name of a table
 purpose_named_as_a_table : change_refused clinic (CreatePurpose patient) ≡ []
 purpose_named_as_a_table = refl
 

@@ -1,4 +1,4 @@
--- What each kind of condition compares, by what its parts compare.
+-- What each kind of condition compares, given what its parts compare.
 use Rattle.std.proofs.Common.{◌≡◌, List, [], ◌∷◌, ◌++◌, map, refl, ap, ◌∙◌}
 use Rattle.std.specs.Prelude.{Bool, ◌||◌, false, true}
 use Rattle.std.specs.List.{flat_map, list_any}
@@ -21,7 +21,7 @@ module _ {O : Type 0} where
   gathered_parts gather (first ∷ rest) =
       flat_map-append gather (comparisons first) (flat_map (λ lists. lists) (map comparisons rest)) ∙ ap (λ l. flat_map gather (comparisons first) ++ l) (gathered_parts gather rest)
 
-  -- whether some comparison of a condition passes a test
+  -- whether a comparison of a condition passes a test
   module _ (test : List O → Bool) where
     any-append : (xs ys : List (List O)) → list_any test (xs ++ ys) ≡ (list_any test xs || list_any test ys)
     any-append [] ys = refl

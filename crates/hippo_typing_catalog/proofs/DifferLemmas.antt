@@ -1,4 +1,4 @@
--- What of names is not refused differs.
+-- Names that are not refused as repeated are distinct.
 use Rattle.std.proofs.Common.{◌≡◌, ◌∙◌, Bool, true, false, List, [], ◌∷◌, ◌++◌, refl}
 use Rattle.std.specs.Prelude.{not, bytes_eq}
 use Rattle.std.specs.Cmp.Lexicographic.{nat_list_eq_equiv}
@@ -18,7 +18,7 @@ pub not_refused : (test : Bool) (fault : NameFault) → fault_if test fault ≡ 
 not_refused true fault none = absurd cc
 not_refused false fault none = refl
 
--- what is not among some and one more
+-- a name that is not in a list with one more name
 none_of_two : (before : List Name) (name other : Name) → list_any (bytes_eq other) (before ++ name ∷ []) ≡ false → (list_any (bytes_eq other) before ≡ false) × (bytes_eq other name ≡ false)
 none_of_two [] name other none = (refl, (or_parts (bytes_eq other name) false none).0)
 none_of_two (first ∷ before) name other none =
@@ -46,7 +46,7 @@ differ_after before (name ∷ rest) none =
     let parts = new_of_two before name rest later.0 in
     (and_from _ _ (not_from_false (list_any (bytes_eq name) before) new) parts.1, and_from _ _ (not_from_false (list_any (bytes_eq name) rest) parts.0) later.1)
 
--- names of which none is repeated differ
+-- names without a repetition differ
 pub names_differ : (names : List Name) → repeated_names names ≡ [] → all_differ bytes_eq names ≡ true
 names_differ names none = (differ_after [] names none).1
 
@@ -56,7 +56,7 @@ all_apart same x (other ∷ rest) none =
     let parts = or_parts (same x other) (list_any (same x) rest) none in
     (parts.0, all_apart same x rest parts.1)
 
--- what differs, by a test, is distinct
+-- members that differ by a test are distinct
 pub distinct_so : {A : Type 0} (same : A → A → Bool) (xs : List A) → all_differ same xs ≡ true → IsDistinct same xs
 unfolding IsDistinct
 distinct_so same [] differ = tt

@@ -1,4 +1,4 @@
--- A name that is not there goes behind the others.
+-- A name that does not exist yet is appended.
 use Rattle.std.proofs.Common.{◌≡◌, Bool, true, false, cond, List, [], ◌∷◌, ◌++◌, Some, refl, ap, sym, ◌∙◌}
 use Rattle.std.specs.Prelude.{is_none}
 use Rattle.std.specs.Map.{lookup}

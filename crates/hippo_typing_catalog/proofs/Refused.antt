@@ -1,4 +1,4 @@
--- The first refusal of groups that stand one after the other.
+-- The first refusal of several groups, one after the other.
 use Rattle.std.proofs.Common.{◌≡◌, ℕ, ◌+◌, ◌<◌, List, [], ◌∷◌, ◌++◌, length, get_or, drop, Some, refl, subst}
 use Rattle.std.specs.List.{flat_map}
 use Rattle.hippo_typing_catalog.proofs.ListLemmas.{drop_at_get_or}
@@ -6,7 +6,7 @@ use Rattle.std.proofs.Common.{slice_get}
 use Rattle.hippo_model.specs.declared.name_fault.NameFault.{NameFault}
 use Rattle.hippo_typing_catalog.specs.Refusals.{IsFirstOf}
 
--- the first of some refusals is that of these and more
+-- the first refusal of a list stays the first when more follow
 pub first_with_more : (refusals later : List NameFault) (fault : NameFault) → IsFirstOf refusals fault → IsFirstOf (refusals ++ later) fault
 first_with_more [] later fault first = λ other. absurd (none (first other))
   where
@@ -14,17 +14,17 @@ first_with_more [] later fault first = λ other. absurd (none (first other))
     none e = cc
 first_with_more (refusal ∷ rest) later fault first = first
 
--- where nothing is refused before, the first of what comes is the first of all
+-- if nothing is refused before, the first of the rest is the first of all
 pub first_after : (before refusals : List NameFault) (fault : NameFault) → before ≡ [] → IsFirstOf refusals fault → IsFirstOf (before ++ refusals) fault
 first_after before refusals fault none first = rw none first
 
--- where nothing is refused before an item of a slice, its first refusal is the first of all
+-- if no earlier item of a slice is refused, an item's first refusal is the first of all
 pub first_at_item : {A : Type 0} (refuse : A → List NameFault) (items slice : List A) (i : ℕ) (item : A) (fault : NameFault) → slice ≡ items → i < length slice → item ≡ get_or slice i item → flat_map refuse items ≡ flat_map refuse (drop i items) → IsFirstOf (refuse item) fault → IsFirstOf (flat_map refuse items) fault
 first_at_item {A} refuse items slice i item fault same within read left first =
     let parted : drop i items ≡ item ∷ drop (i + 1) items = subst (λ (l : List A). drop i l ≡ item ∷ drop (i + 1) l) same (drop_at_get_or slice i item within read) in
     rw (left, parted) (first_with_more (refuse item) (flat_map refuse (drop (i + 1) items)) fault first)
 
--- which of three groups tells first
+-- which of three groups gives the first refusal
 module _ (a b c : List NameFault) (fault : NameFault) where
   pub first_of_three : IsFirstOf a fault → IsFirstOf (a ++ b ++ c) fault
   first_of_three first = first_with_more (a ++ b) c fault (first_with_more a b fault first)
@@ -35,7 +35,7 @@ module _ (a b c : List NameFault) (fault : NameFault) where
   pub third_of_three : a ≡ [] → b ≡ [] → IsFirstOf c fault → IsFirstOf (a ++ b ++ c) fault
   third_of_three no_a no_b first = first_after (a ++ b) c fault (rw (no_a, no_b) refl) first
 
--- which of four groups tells first
+-- which of four groups gives the first refusal
 module _ (a b c d : List NameFault) (fault : NameFault) where
   pub first_of_four : IsFirstOf a fault → IsFirstOf (a ++ b ++ c ++ d) fault
   first_of_four first = first_with_more (a ++ b ++ c) d fault (first_of_three a b c fault first)
@@ -49,6 +49,6 @@ module _ (a b c d : List NameFault) (fault : NameFault) where
   pub fourth_of_four : a ≡ [] → b ≡ [] → c ≡ [] → IsFirstOf d fault → IsFirstOf (a ++ b ++ c ++ d) fault
   fourth_of_four no_a no_b no_c first = first_after (a ++ b ++ c) d fault (rw (no_a, no_b, no_c) refl) first
 
--- the first of a group is that of the group with four more behind it
+-- the first refusal of a group stays the first with four more groups after it
 pub with_four : (first a b c d : List NameFault) (fault : NameFault) → IsFirstOf first fault → IsFirstOf (first ++ a ++ b ++ c ++ d) fault
 with_four first a b c d fault is = first_with_more (first ++ a ++ b ++ c) d fault (first_of_four first a b c fault is)

@@ -1,4 +1,4 @@
--- Names that stand twice, one name after the other.
+-- Repeated names, one name at a time.
 use Rattle.std.proofs.Common.{◌≡◌, ℕ, ◌+◌, ◌<◌, true, false, List, [], ◌∷◌, ◌++◌, map, take, drop, length, get_or, Bor, refl, sym, ap, ◌∙◌}
 use Rattle.std.specs.Prelude.{bytes_eq, if◌then◌else◌}
 use Rattle.std.specs.List.{list_any}
@@ -11,7 +11,7 @@ use Rattle.hippo_typing_catalog.proofs.ListLemmas.{drop_at_get_or, list_any-lent
 use Rattle.hippo_typing_catalog.proofs.Refused.{first_with_more}
 
 module _ (names : List Name) (i : ℕ) (name : Name) (within : i < length names) (read : name ≡ get_or names i name) where
-  -- what is refused at a name and behind it
+  -- the refusals at a name and after it
   at_name : repeated_after (take i names) (drop i names) ≡ fault_if (list_any (bytes_eq name) (take i names)) (RepeatedName name) ++ repeated_after (take (i + 1) names) (drop (i + 1) names)
   at_name =
       let more : take i names ++ name ∷ [] ≡ take (i + 1) names = sym (take_more names i name within ∙ ap (λ x. take i names ++ x ∷ []) (sym read)) in

@@ -1,4 +1,4 @@
--- Selects that are refused for several causes at once, and what some mean.
+-- Selects with several faults at once, and what some selects mean.
 use Rattle.std.proofs.Common.{◌≡◌, ℕ, pos, false, List, [], ◌∷◌, Option, Some, None, refl, codes, replicate}
 use Rattle.std.specs.Prelude.{slice_get}
 use Rattle.hippo_values.specs.declared.names.Name.{Name}
@@ -78,7 +78,8 @@ first_refusal select = slice_get (select_refused known select) 0
 abbrev reference : ℕ → ℕ → Ref
 reference table place = record { table = table; column = place }
 
--- SELECT nothing FROM patient, nowhere, nobody, patient: a table that is not there comes first, and of two the first
+-- SELECT nothing FROM patient, nowhere, nobody, patient: an unknown table comes first, and of two
+-- the first one
 unknown_table_first : first_refusal (plain (items.One (bare (codes "nothing")) ∷ []) (patient ∷ codes "nowhere" ∷ codes "nobody" ∷ patient ∷ []) no_condition) ≡ Some (UnknownTable (codes "nowhere"))
 unknown_table_first = refl
 
@@ -90,7 +91,8 @@ repeated_before_columns = refl
 ambiguous : first_refusal (plain (items.One (bare pid) ∷ []) (patient ∷ visit ∷ []) no_condition) ≡ Some (AmbiguousColumn pid)
 ambiguous = refl
 
--- SELECT nowhere.pid FROM patient: a table before a column that is none of the statement's is a column that is not there
+-- SELECT visit.pid FROM patient: a column whose qualifier is not in the statement is an unknown
+-- column
 unknown_qualifier : first_refusal (plain (items.One (of_table visit pid) ∷ []) (patient ∷ []) no_condition) ≡ Some (UnknownColumn (codes "visit.pid"))
 unknown_qualifier = refl
 
@@ -98,7 +100,8 @@ unknown_qualifier = refl
 unknown_star : first_refusal (plain (items.AllOf visit ∷ items.One (bare pid) ∷ []) (patient ∷ []) no_condition) ≡ Some (UnknownColumn (codes "visit.*"))
 unknown_star = refl
 
--- SELECT pid, MIN(day) FROM patient, visit GROUP BY name: a column in two tables comes before one that is not grouped
+-- SELECT pid, MIN(day) FROM patient, visit GROUP BY name: an ambiguous column is reported before
+-- one that is not grouped
 ambiguous_before_groups : first_refusal (grouped (outs.Column (bare pid) ∷ outs.Min (bare day) ∷ []) (bare name ∷ [])) ≡ Some (AmbiguousColumn pid)
 ambiguous_before_groups = refl
 
@@ -114,7 +117,8 @@ grouped_but_not_shown = simp folded_conditions
 kinds_differ : first_refusal (plain (items.One (bare pid) ∷ []) (patient ∷ []) (equal (WrittenColumn (bare pid)) (Literal (Text (codes "x"))))) ≡ Some TypeMismatch
 kinds_differ = simp folded_conditions
 
--- SELECT pid FROM patient WHERE name = 'TAB' AND pid = NULL: NULL has every kind, and a tab may not stand in a text
+-- SELECT pid FROM patient WHERE name = 'TAB' AND pid = NULL: NULL has every kind, and a text may
+-- not contain a tab
 null_has_every_kind : first_refusal (plain (items.One (bare pid) ∷ []) (patient ∷ []) (All (Compare Eq (WrittenColumn (bare name)) (Literal (Text (9 ∷ []))) ∷ Compare Eq (WrittenColumn (bare pid)) (Literal Null) ∷ []))) ≡ Some BadText
 null_has_every_kind = simp folded_conditions
 

@@ -23,12 +23,12 @@ IsMomentIn text moment =
     MatchOption moment ((second : ℤ) → ¬ (IsMomentText text second))
     (λ second. IsMomentText text second)
 
--- the ends of an audit's period are what its texts write
+-- the period's ends are the moments that the audit's texts write
 pub record IsPeriodOf (audit : RawAudit) (period : Period) : Type 0 where
   pub from : IsMomentIn audit.from period.from
   pub to : IsMomentIn audit.to period.to
 
--- four tables, 128 audited columns, 64 exempt pairs
+-- the limits: four tables, 128 audited columns, 64 exempt pairs
 abbrev pub audit_parts_refused : RawAudit → List NameFault
 audit_parts_refused audit =
     too_many from_limit (length audit.tables) ++ too_many item_limit (length audit.columns)
@@ -38,15 +38,15 @@ audit_parts_refused audit =
 abbrev pub goes_back : Moment → Moment → Bool
 goes_back from to = not (int_le from to)
 
--- both texts are moments, the end not before the beginning
+-- both texts must be moments, and the end not before the beginning
 abbrev pub period_refused : Period → List NameFault
 period_refused period =
     fault_if (is_none period.from || is_none period.to) BadMoment
     ++ fault_if (option_map_or (λ from. option_map_or (goes_back from) period.to false) period.from
     false) PeriodBack
 
--- tables that are not there; exempt pairs; tables that stand twice; columns; kinds; texts; the
--- number of parts; the period
+-- in order: unknown tables; exempt pairs; repeated tables; columns; kinds; texts; the number of
+-- parts; the period
 abbrev pub audit_refused : KnownNames → Period → RawAudit → List NameFault
 audit_refused known period audit =
     let schemas = schemas_of known audit.tables in

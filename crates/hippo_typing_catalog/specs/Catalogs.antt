@@ -10,14 +10,14 @@ use Rattle.hippo_model.specs.declared.entry.Act.TheVariants.{Create, Purpose, Re
 use Rattle.hippo_model.specs.declared.entry.ItemKind.{ItemKind}
 use Rattle.hippo_model.specs.Terms.{History}
 
--- the names that statements may use, each with what stands behind it
+-- the names that statements may use, each with its definition
 pub record KnownNames : Type 0 where
   pub tables : List (Name × Schema)
   pub purposes : List Name
   pub recipients : List Name
   pub items : List (Name × ItemKind)
 
--- what an act makes known
+-- the table that an act creates, or the purpose, recipient or item
 abbrev pub table_in : Act → Option (Name × Schema)
 table_in (Create schema) = Some (schema.name, schema)
 table_in act = None
@@ -34,7 +34,7 @@ abbrev pub item_in : Act → Option (Name × ItemKind)
 item_in (Item item kind) = Some (item, kind)
 item_in act = None
 
--- the names that a history makes known
+-- the names that a history creates
 abbrev pub known_at : History → KnownNames
 known_at history =
     record {
@@ -44,7 +44,7 @@ known_at history =
       items = filter_map (λ entry. item_in entry.act) history;
     }
 
--- the names after one act more
+-- the names after one more act
 abbrev pub known_after : KnownNames → Act → KnownNames
 known_after known (Create schema) =
     record known { tables = known.tables ++ (schema.name, schema) ∷ [] }
@@ -72,7 +72,7 @@ item_of known item = lookup (bytes_eq item) known.items
 abbrev pub schemas_of : KnownNames → List Name → List Schema
 schemas_of known tables = filter_map (table_of known) tables
 
--- whether an act creates nothing whose name is taken
+-- whether an act creates no name that already exists
 abbrev pub creates_anew : KnownNames → Act → Bool
 creates_anew known (Create schema) = is_none (table_of known schema.name)
 creates_anew known (Purpose purpose) = not (has_purpose known purpose)

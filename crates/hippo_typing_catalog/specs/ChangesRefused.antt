@@ -1,4 +1,4 @@
--- Why a statement that changes something is refused.
+-- Why a changing statement is refused.
 use Rattle.std.specs.Prelude.{Bool, false, not, ◌&&◌, ◌==◌, List, [], ◌++◌, map, filter_map, flat_map, length, nat_eq, nat_le, slice_get, Option, None, is_some, is_none, option_and_then, option_to_list}
 use Rattle.std.specs.List.{list_any, list_all, zip}
 use Rattle.std.specs.Option.{option_map_or}
@@ -28,21 +28,21 @@ column_named schema name = option_and_then (slice_get schema.columns) (place_of 
 abbrev pub places_named : Schema → List Name → List Place
 places_named schema names = filter_map (place_of schema) names
 
--- the refusals that a table has, or a column, where it is there
+-- the refusals for a table or a column, if it exists
 abbrev pub in_table : KnownNames → Name → (Schema → List NameFault) → List NameFault
 in_table known table refusals = option_map_or refusals (table_of known table) []
 
 abbrev pub in_column : Schema → Name → (Column → List NameFault) → List NameFault
 in_column schema name refusals = option_map_or refusals (column_named schema name) []
 
--- a name that stands where only a new one may
+-- a name that should be new but exists
 abbrev pub known_name_refused : Bool → Name → List NameFault
 known_name_refused is_there name = fault_if is_there (AlreadyThere name)
 
 abbrev pub unknown_item_if_any : KnownNames → Option Name → List NameFault
 unknown_item_if_any known item = flat_map (unknown_item known) (option_to_list item)
 
--- columns that the table lacks
+-- columns that the table does not have
 abbrev pub unknown_columns : Schema → List Name → List NameFault
 unknown_columns schema names =
     flat_map (λ name. fault_if (is_none (place_of schema name)) (UnknownColumn name)) names
@@ -54,17 +54,17 @@ subject_refused schema subject =
     (λ column. fault_if (not (is_integer column.kind)) TypeMismatch))
     (option_to_list subject)
 
--- an item, where the table has no SUBJECT
+-- an item, if the table has no SUBJECT
 abbrev pub rule_item_refused : Option Name → Schema → List NameFault
 rule_item_refused item schema =
     fault_if (is_some item && not (has_subject schema)) (NoSubject schema.name)
 
--- another number of values than the table has columns
+-- a number of values that differs from the number of columns
 abbrev pub count_refused : Schema → List Value → List NameFault
 count_refused schema values =
     fault_if (not (length values == length schema.columns)) (WrongCount (length schema.columns))
 
--- these are the places of the key's columns, each once
+-- whether these are the places of the key's columns, each once
 abbrev pub is_the_key : Schema → List Place → Bool
 is_the_key schema places =
     length places == length schema.key && list_all
@@ -77,13 +77,12 @@ abbrev pub is_of_key : Schema → Name → Bool
 is_of_key schema name =
     option_map_or (λ place. list_any (nat_eq place) schema.key) (place_of schema name) false
 
--- columns of the key that are set
+-- assigned columns of the key
 abbrev pub key_changed : Schema → List Name → List NameFault
 key_changed schema names =
     flat_map (λ name. fault_if (is_of_key schema name) (KeyChanged name)) names
 
--- a value that is not of its column's kind; NULL where the column is NOT NULL; a text that may not
--- stand in a cell
+-- a value not of its column's kind; NULL for a NOT NULL column; a text that a cell may not hold
 abbrev pub kind_refused : Column → Value → List NameFault
 kind_refused column value = fault_if (not (may_have_kind column.kind value)) TypeMismatch
 
@@ -99,7 +98,7 @@ abbrev pub row_refused : (Column → Value → List NameFault) → List Column �
 row_refused refusals columns values =
     flat_map (λ (column, value). refusals column value) (zip columns values)
 
--- those of each value that is assigned to a column by its name
+-- the refusals of each value that is assigned to a column by name
 abbrev pub assigned_refused : (Column → Value → List NameFault) → Schema → List (Name × Value)
     → List NameFault
 assigned_refused refusals schema assigned =
@@ -109,14 +108,14 @@ assigned_refused refusals schema assigned =
 abbrev pub keyless_table : Name → List Column → Schema
 keyless_table table columns = record { name = table; columns = columns; key = []; subject = None }
 
--- the number of a table's columns, and of the tables
+-- too many columns, or too many tables
 abbrev pub sizes_refused : KnownNames → List Column → List NameFault
 sizes_refused known columns =
     too_many column_limit (length columns)
     ++ fault_if (nat_le table_limit (length known.tables)) (TooManyParts table_limit)
 
--- names that stand twice among the columns, or in the key; columns of the key, and the SUBJECT,
--- that are none of the table's; the SUBJECT's kind; the sizes; the table's name
+-- in order: names repeated among the columns, or in the key; key columns, and a SUBJECT, that the
+-- table does not have; the SUBJECT's kind; the sizes; the table's name
 abbrev pub create_refused : KnownNames → Name → List Column → List Name → Option Name
     → List NameFault
 create_refused known table columns key subject =
@@ -125,25 +124,25 @@ create_refused known table columns key subject =
     ++ subject_refused (keyless_table table columns) subject ++ sizes_refused known columns
     ++ known_name_refused (is_some (table_of known table)) table
 
--- a rule's columns that stand twice, or are none of the table's
+-- repeated columns of a rule, and columns that the table does not have
 abbrev pub rule_refused : List Name → Schema → List NameFault
 rule_refused columns schema = repeated_names columns ++ unknown_columns schema columns
 
--- the number of values; their kinds; NULL; texts
+-- in order: the number of values; their kinds; NULL; texts
 abbrev pub insert_refused : List Value → Schema → List NameFault
 insert_refused values schema =
     count_refused schema values ++ row_refused kind_refused schema.columns values
     ++ row_refused null_refused schema.columns values
     ++ row_refused text_refused schema.columns values
 
--- the kinds of values that are assigned; NULL; texts
+-- in order: the kinds of the assigned values; NULL; texts
 abbrev pub assignments_refused : Schema → List (Name × Value) → List NameFault
 assignments_refused schema assigned =
     assigned_refused kind_refused schema assigned ++ assigned_refused null_refused schema assigned
     ++ assigned_refused text_refused schema assigned
 
--- columns that stand twice, or are none of the table's; keys that are not the key; columns of the
--- key that are set; what is assigned
+-- in order: repeated columns, or columns that the table does not have; columns of WHERE that are
+-- not the key; assigned key columns; the assigned values
 abbrev pub update_refused : List Name → List Value → List Name → List Value → Schema
     → List NameFault
 update_refused columns values keys key_values schema =
@@ -156,7 +155,7 @@ delete_refused keys values schema =
     repeated_names keys ++ unknown_columns schema keys ++ key_refused schema keys
     ++ assignments_refused schema (zip keys values)
 
--- the refusals of a statement that changes something; each other one has none of its own
+-- the refusals of a changing statement; any other statement has none
 abbrev pub change_refused : KnownNames → Stmt → List NameFault
 change_refused known (CreateTable table columns key subject) =
     create_refused known table columns key subject

@@ -1,4 +1,4 @@
--- What a statement that changes something asks for, whether it is refused or not.
+-- What a changing statement asks for, whether or not it is refused.
 use Rattle.std.specs.Prelude.{◌≡◌, Bool, true, false, ◌||◌, List, [], map, filter_map, nat_eq, Option, Some, None, option_map, option_and_then, Result, MatchResult, bytes_eq}
 use Rattle.std.specs.List.{list_any, zip}
 use Rattle.std.specs.Map.{lookup}
@@ -20,7 +20,7 @@ use Rattle.hippo_typing_catalog.specs.WrittenColumns.{place_of}
 use Rattle.hippo_typing_catalog.specs.ChangesRefused.{places_named, keyless_table}
 use Rattle.hippo_typing_catalog.specs.Refusals.{IsFirstOf}
 
--- a column of the key, and the SUBJECT, is NOT NULL whether that is written or not
+-- the columns of the key and the SUBJECT are NOT NULL, whether or not that is written
 abbrev pub with_not_null : List Name → Option Name → Column → Column
 with_not_null key subject column =
     let is_column : Name → Bool = λ name. bytes_eq name column.name in
@@ -44,7 +44,7 @@ abbrev pub key_written : Schema → List Name → List Value → Key
 key_written schema names values =
     filter_map (λ place. lookup (nat_eq place) (zip (places_named schema names) values)) schema.key
 
--- what a statement asks for, where its table is there; one that changes nothing asks for nothing
+-- what a statement asks for, if its table exists; a statement that changes nothing asks for nothing
 abbrev pub wanted_by : KnownNames → Stmt → Option Wanted
 wanted_by known (CreateTable table columns key subject) =
     Some (Ready (acts.Create (table_made table columns key subject)))
@@ -73,13 +73,13 @@ wanted_by known (Delete table keys values) =
     option_map (λ schema. Remove table (key_written schema keys values)) (table_of known table)
 wanted_by known statement = None
 
--- nothing is refused and this is asked for, or the fault is the first refusal, or want of memory
+-- nothing is refused and the result is this; or the result is the first refusal, or out of memory
 abbrev pub Grants : List NameFault → Option Wanted → Result Wanted NameFault → Type 0
 Grants refusals wanted result =
     MatchResult result (λ made. (refusals ≡ []) × (wanted ≡ Some made))
     (λ fault. IsFirstOf refusals fault)
 
--- EXPLAIN, audits and selects change nothing
+-- whether a statement changes something; EXPLAIN, audits and selects do not
 abbrev pub changes_something : Stmt → Bool
 changes_something (Explain number) = false
 changes_something (Audit audit) = false

@@ -5,7 +5,7 @@ use Rattle.hippo_values.specs.declared.names.Name.{Name}
 use Rattle.hippo_model.specs.declared.schema.Column.{Column}
 use Rattle.hippo_model.specs.Terms.{Place}
 
--- at each name stands the place of the column with this name
+-- the index holds the place of each column under its name
 abbrev pub IsIndexOf : {S : Type 0} → List Column → IndexMap Name Place S → Type 0
 IsIndexOf columns places =
     (name : Name) → get bytes_eq places name ≡ position (λ known. bytes_eq name known.name) columns

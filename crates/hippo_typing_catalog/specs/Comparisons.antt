@@ -16,7 +16,7 @@ use Rattle.hippo_typing_catalog.specs.Kinds.{kind_of, same_kind, is_bad_text}
 use Rattle.hippo_typing_catalog.specs.Refusals.{fault_if}
 use Rattle.hippo_typing_catalog.specs.WrittenColumns.{column_refused, column_of, column_at}
 
--- the operands that a condition compares with one another, where those of its parts are known
+-- the lists of operands that a condition compares, given those of its parts
 abbrev pub comparisons_layer : {O : Type 0} → CondOf-F O (List (List O)) → List (List O)
 comparisons_layer (All parts) = flat_map (λ lists. lists) parts
 comparisons_layer (Any parts) = flat_map (λ lists. lists) parts
@@ -26,8 +26,8 @@ comparisons_layer (Between operand low high) = (operand ∷ low ∷ high ∷ [])
 comparisons_layer (Among operand list) = (operand ∷ list) ∷ []
 comparisons_layer (Missing operand) = (operand ∷ []) ∷ []
 
--- the operands that a condition compares with one another, in text order; the operand of IS NULL
--- stands alone
+-- the lists of operands that a condition compares with one another, in text order; the operand of
+-- IS NULL is a list of its own
 abbrev pub comparisons : {O : Type 0} → CondOf O → List (List O)
 comparisons {O} condition = fold-CondOf O (List (List O)) comparisons_layer condition
 
@@ -35,7 +35,7 @@ abbrev pub operand_refused : List Schema → RawOperand → List NameFault
 operand_refused schemas (WrittenColumn written) = column_refused schemas written
 operand_refused schemas (WrittenLiteral value) = []
 
--- the columns of a condition that are none of the statement's, or more than one
+-- columns of a condition that no table of the statement has, or several have
 abbrev pub operands_refused : List Schema → CondOf RawOperand → List NameFault
 operands_refused schemas condition =
     flat_map (flat_map (operand_refused schemas)) (comparisons condition)
@@ -44,11 +44,11 @@ abbrev pub operand_of : List Schema → RawOperand → Operand
 operand_of schemas (WrittenColumn written) = ColumnOperand (column_of schemas written)
 operand_of schemas (WrittenLiteral value) = Literal value
 
--- a condition with its columns found
+-- a condition with its columns resolved
 abbrev pub condition_of : List Schema → CondOf RawOperand → CondOf Operand
 condition_of schemas condition = changed_operands (operand_of schemas) condition
 
--- NULL has no kind
+-- the kind of an operand; NULL has none
 abbrev pub operand_kind : List Schema → Operand → Option ColumnKind
 operand_kind schemas (ColumnOperand reference) =
     option_map (λ column. column.kind) (column_at schemas reference)
@@ -58,7 +58,7 @@ abbrev pub are_alike : List ColumnKind → Bool
 are_alike [] = true
 are_alike (first ∷ rest) = list_all (same_kind first) rest
 
--- operands that are compared have one kind, where they have any
+-- whether compared operands have different kinds, ignoring those without a kind
 abbrev pub mixes_kinds : List Schema → List Operand → Bool
 mixes_kinds schemas compared = not (are_alike (filter_map (operand_kind schemas) compared))
 

@@ -1,4 +1,4 @@
--- The kinds of values, and texts that may not stand in a statement.
+-- The kinds of values, and texts that a statement may not contain.
 use Rattle.std.specs.Prelude.{Bool, false, not, ◌||◌, Option, None, Some}
 use denote.Enum.Bare.{sameb}
 use Rattle.hippo_values.specs.Texts.{keeps_text_rule}
@@ -10,7 +10,7 @@ use Rattle.hippo_model.specs.declared.schema.ColumnKind.TheVariants.{Integer, Te
 use Rattle.hippo_model.specs.Conditions.{is_null}
 use Rattle.hippo_model.specs.Values.{has_kind}
 
--- NULL has no kind
+-- the kind of a value; NULL has none
 abbrev pub kind_of : Value → Option ColumnKind
 kind_of Null = None
 kind_of (Int number) = Some Integer
@@ -20,7 +20,7 @@ kind_of (Day day) = Some Date
 abbrev pub same_kind : ColumnKind → ColumnKind → Bool
 same_kind kind other = sameb column_kinds.the_type kind other
 
--- NULL is of each kind
+-- whether a value may have a kind; NULL may have each
 abbrev pub may_have_kind : ColumnKind → Value → Bool
 may_have_kind kind value = is_null value || has_kind kind value
 

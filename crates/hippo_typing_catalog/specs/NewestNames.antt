@@ -1,4 +1,4 @@
--- What a catalog knows of the entry that was added last.
+-- What a catalog knows of the entry added last.
 use Rattle.std.specs.Prelude.{◌≡◌, ◌-◌, Bool, true, false, List, length, take}
 use Rattle.hippo_model.specs.declared.entry.Act.{Act}
 use Rattle.hippo_model.specs.declared.entry.Act.TheVariants.{Create, Purpose, Recipient, Item}
@@ -27,7 +27,7 @@ creates_nothing act = true
 abbrev pub all_but_last : {A : Type 0} → List A → List A
 all_but_last members = take (length members - 1) members
 
--- the names without the newest of its kind
+-- the names without the newest one of its kind
 abbrev pub known_before : Newest → KnownNames → KnownNames
 known_before newest.Nothing known = known
 known_before newest.Table known = record known { tables = all_but_last known.tables }

@@ -36,13 +36,13 @@ abbrev pub by_of : RawForm → List RawColumn
 by_of (forms.Grouped outs by) = by
 by_of form = []
 
--- the column that a member shows, or whose least or greatest value
+-- the column that a list member shows, or whose least or greatest value it shows
 abbrev pub column_in : RawOut → RawColumn
 column_in (Column written) = written
 column_in (Min argument) = argument
 column_in (Max argument) = argument
 
--- a member that shows a column itself
+-- the column, if the member shows the column itself
 abbrev pub plain_column : RawOut → Option RawColumn
 plain_column (Column written) = Some written
 plain_column out = None
@@ -51,7 +51,7 @@ abbrev pub argument_in : RawOut → Option RawColumn
 argument_in (Column written) = None
 argument_in out = Some (column_in out)
 
--- `t.*` of a table that is none of the statement's
+-- `t.*` of a table that is not in the statement
 abbrev pub star_refused : List Schema → Name → List NameFault
 star_refused schemas table =
     fault_if (not (list_any (λ schema. bytes_eq table schema.name) schemas))
@@ -62,13 +62,13 @@ item_refused schemas All = []
 item_refused schemas (AllOf table) = star_refused schemas table
 item_refused schemas (One written) = column_refused schemas written
 
--- of the list's columns, those that are none of the statement's, or more than one
+-- columns of the list that no table of the statement has, or several have
 abbrev pub list_refused : List Schema → List RawItem → RawForm → List NameFault
 list_refused schemas items (forms.Grouped outs by) =
     flat_map (λ out. column_refused schemas (column_in out)) outs
 list_refused schemas items form = flat_map (item_refused schemas) items
 
--- those of the list, of ON and WHERE, and of GROUP BY
+-- the refusals for the columns of the list, of ON and WHERE, and of GROUP BY
 abbrev pub columns_refused : List Schema → RawSelect → List NameFault
 columns_refused schemas select =
     list_refused schemas select.items select.form ++ operands_refused schemas select.cond
@@ -77,27 +77,27 @@ columns_refused schemas select =
 abbrev pub same_reference : Ref → Ref → Bool
 same_reference a b = a.table == b.table && a.column == b.column
 
--- a column that is not among others
+-- a column that is not among the others
 abbrev pub lone_column : List Schema → List RawColumn → RawColumn → List NameFault
 lone_column schemas others written =
     fault_if (not (list_any (same_reference (column_of schemas written))
     (map (column_of schemas) others)))
     (NotGrouped written.column)
 
--- the list's columns and those of GROUP BY are the same
+-- the list's columns must be those of GROUP BY, and the other way round
 abbrev pub groups_refused : List Schema → List RawOut → List RawColumn → List NameFault
 groups_refused schemas outs by =
     flat_map (lone_column schemas by) (filter_map plain_column outs)
     ++ flat_map (lone_column schemas (filter_map plain_column outs)) by
 
--- four tables, and 128 members of each list
+-- the limits: four tables, and 128 members of each list
 abbrev pub select_parts_refused : RawSelect → List NameFault
 select_parts_refused select =
     too_many from_limit (length select.tables) ++ too_many item_limit (length select.items)
     ++ too_many item_limit (length (outs_of select.form))
     ++ too_many item_limit (length (by_of select.form))
 
--- tables that are not there, or stand twice; columns; grouping; kinds; texts; the number of parts
+-- in order: unknown tables; repeated tables; columns; grouping; kinds; texts; the number of parts
 abbrev pub select_refused : KnownNames → RawSelect → List NameFault
 select_refused known select =
     let schemas = schemas_of known select.tables in
@@ -113,7 +113,7 @@ table_columns place schema =
     map (λ column. record { table = place; column = column })
     (range_with_len 0 (length schema.columns))
 
--- those of the tables that may stand before the star
+-- the columns of the tables that a star covers
 abbrev pub star_columns : List Schema → Option Name → List Ref
 star_columns schemas qualifier =
     flat_map (λ (place, schema). if may_stand_in qualifier schema.name
@@ -146,7 +146,7 @@ form_of schemas (forms.Grouped outs by) =
           (length by) outs;
     })
 
--- the columns of the list; of a grouped select those of GROUP BY, and then the arguments
+-- the columns of the list; for a grouped select those of GROUP BY, then the arguments
 abbrev pub listed_columns : List Schema → List RawItem → RawForm → List Ref
 listed_columns schemas items (forms.Grouped outs by) =
     map (column_of schemas) by ++ map (column_of schemas) (filter_map argument_in outs)

@@ -1,4 +1,4 @@
--- Which column of a statement's tables a written column is.
+-- Which column of a statement's tables a written column names.
 use Rattle.std.specs.Prelude.{Bool, true, List, [], ◌∷◌, ◌++◌, filter_map, position, slice_get, codes, Option, None, Some, option_map, option_and_then, unwrap_or, if◌then◌else◌, bytes_eq}
 use Rattle.std.specs.List.{enumerate_from}
 use Rattle.std.specs.Option.{option_map_or}
@@ -16,29 +16,29 @@ use Rattle.hippo_model.specs.Terms.{Place}
 abbrev pub place_of : Schema → Name → Option Place
 place_of schema column = position (λ known. bytes_eq column known.name) schema.columns
 
--- a column as it is written: with its table and a point before it, or without
+-- a column as it is written: qualified by its table and a dot, or unqualified
 abbrev pub column_text : RawColumn → Txt
 column_text written =
     option_map_or (λ table. table ++ codes "." ++ written.column) written.table written.column
 
--- whether a column with this table before it, or none, may be one of the table's
+-- whether a column with this qualifier, or without one, may belong to the table
 abbrev pub may_stand_in : Option Name → Name → Bool
 may_stand_in None table = true
 may_stand_in (Some qualifier) table = bytes_eq qualifier table
 
--- the column of one of the statement's tables that a written column may be
+-- the column of this table that a written column may name
 abbrev pub home_in : RawColumn → Place → Schema → Option Ref
 home_in written place schema =
     if may_stand_in written.table schema.name
     then option_map (λ column. record { table = place; column = column })
     (place_of schema written.column) else None
 
--- the columns of the statement's tables that a written column may be
+-- the columns of the statement's tables that a written column may name
 abbrev pub homes : List Schema → RawColumn → List Ref
 homes schemas written =
     filter_map (λ (place, schema). home_in written place schema) (enumerate_from 0 schemas)
 
--- it has to be one, and only one
+-- there must be exactly one
 abbrev pub homes_refused : RawColumn → List Ref → List NameFault
 homes_refused written [] = UnknownColumn (column_text written) ∷ []
 homes_refused written (home ∷ []) = []
@@ -47,12 +47,12 @@ homes_refused written (home ∷ other ∷ rest) = AmbiguousColumn written.column
 abbrev pub column_refused : List Schema → RawColumn → List NameFault
 column_refused schemas written = homes_refused written (homes schemas written)
 
--- the column that a written column is
+-- the column that a written column names
 abbrev pub column_of : List Schema → RawColumn → Ref
 column_of schemas written =
     unwrap_or (slice_get (homes schemas written) 0) (record { table = 0; column = 0 })
 
--- a column of a statement's tables, as its schema has it
+-- a column of a statement's tables, from its schema
 abbrev pub column_at : List Schema → Ref → Option Column
 column_at schemas reference =
     option_and_then (λ schema. slice_get schema.columns reference.column)

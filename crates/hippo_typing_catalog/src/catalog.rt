@@ -1,4 +1,4 @@
-//! The names of a history.
+//! The names that a history has created.
 ghost use Rattle.std.specs.Prelude.{◌≡◌, ◌∷◌, [], ◌++◌, true, IsOk, OnOk, OnErr};
 ghost use Rattle.std.specs.Prelude.{is_none, option_copied, option_map, slice_get, length, bytes_eq};
 ghost use Rattle.indexmap.specs.IndexMap.{get};
@@ -16,7 +16,7 @@ use hippo_values::{Duplicate, Memory, Name};
 use indexmap::{IndexMap, IndexSet};
 use std::alloc::Global;
 
-/// What the entry that was added last creates.
+/// The kind of name that the entry added last created.
 #[derive(Clone, Copy, PartialEq, Eq)]
 pub enum Newest {
     Nothing,
@@ -33,7 +33,7 @@ pub struct Catalog {
     newest: Newest,
 }
 
-// Puts a new name behind the others.
+// Appends a new name.
 #[tactic(auto, using(crate::proofs::NewNames::new_entries))]
 fn put<V: Drop>(entries: &mut IndexMap<Name, V>, name: Name, value: V) -> Result<(), Memory>
     requires { is_none (get bytes_eq entries.old name) ≡ true }
@@ -45,7 +45,7 @@ fn put<V: Drop>(entries: &mut IndexMap<Name, V>, name: Name, value: V) -> Result
 }
 
 impl Catalog {
-    /// The catalog of the empty history; takes no memory.
+    /// The catalog of the empty history. Takes no memory.
     pub fn new(alloc: Global) -> Catalog
         ensures { result.names ≡ known_at [] }
     {
@@ -61,7 +61,7 @@ impl Catalog {
         }
     }
 
-    /// The schema of a table, if there is one of this name.
+    /// The schema of the table with this name, or none.
     pub fn table(&self, table: &Name) -> Option<&Schema>
         ensures { option_copied result ≡ table_of self.now.names table.now }
     {
@@ -71,7 +71,7 @@ impl Catalog {
         }
     }
 
-    /// A table with the index of its columns, if there is one of this name.
+    /// The table with this name, with the index of its columns, or none.
     pub fn indexed_table(&self, table: &Name) -> Option<&IndexedTable>
         ensures { option_copied result ≡ table_of self.now.names table.now }
     {
@@ -90,7 +90,7 @@ impl Catalog {
         self.names.recipients.contains(recipient)
     }
 
-    /// How silence on an item is read, if there is one of this name.
+    /// How silence on the item with this name is read, or none if there is no such item.
     pub fn item(&self, item: &Name) -> Option<ItemKind>
         ensures { result ≡ item_of self.now.names item.now }
     {
@@ -104,7 +104,7 @@ impl Catalog {
         self.names.tables.len()
     }
 
-    /// The table that was created as the one with this place among all, counted from 0.
+    /// The table at this place in the order of creation, counted from 0.
     pub fn table_at(&self, place: usize) -> Option<&Schema>
         ensures { option_copied result ≡ option_map
             (λ named. named.1) (slice_get self.now.names.tables place) }
@@ -182,9 +182,9 @@ impl Catalog {
         Ok(())
     }
 
-    /// Takes in the entry that comes next, which must create nothing that is there: the catalog
-    /// then stands for the history with the entry behind. It is unchanged where memory is short,
-    /// which it never is for a Delete.
+    /// Adds the next entry, which must not create a name that already exists: the catalog then
+    /// stands for the history with this entry. Fails only when out of memory, and the catalog is
+    /// then unchanged. It never runs out of memory for a Delete.
     pub fn add(&mut self, alloc: Global, entry: &Entry) -> Result<(), Memory>
         requires { creates_anew self.old.names entry.now.act ≡ true }
         ensures names { OnOk result (self.new.names ≡ known_after self.old.names entry.now.act) }
@@ -232,7 +232,7 @@ impl Catalog {
         self.names.items.truncate(count.saturating_sub(1));
     }
 
-    // Takes out what the entry that was added last creates.
+    // Removes what the entry added last created.
     fn drop_newest(&mut self)
         ensures { self.new.names ≡ known_before self.old.newest self.old.names }
     {
@@ -245,8 +245,8 @@ impl Catalog {
         }
     }
 
-    /// Takes back the entry that was added last: the catalog then stands for the history before it.
-    /// Takes no memory. The last call that changed the catalog must have added an entry.
+    /// Removes the entry added last: the catalog then stands for the history before it. Takes no
+    /// memory. The last call that changed the catalog must have added an entry.
     pub fn take_back(&mut self)
         ensures { (known : KnownNames) (act : HistoryAct) → RemembersNames self.old.newest act
             → self.old.names ≡ known_after known act → self.new.names ≡ known }

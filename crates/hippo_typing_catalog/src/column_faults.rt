@@ -1,5 +1,4 @@
-//! Faults that name a column; where the name cannot be copied for want of memory, the fault is
-//! that.
+//! Faults that name a column. If there is no memory to copy the name, the fault is out of memory.
 ghost use Rattle.std.specs.Prelude.{◌≡◌, ◌∷◌, [], ◌++◌, codes, IfOk};
 ghost use Rattle.hippo_model.specs.declared.name_fault.NameFault.TheVariants as faults;
 ghost use Rattle.hippo_typing_catalog.specs.Refusals.{IsFirstOf};
@@ -11,7 +10,7 @@ use hippo_stmt_ast::RawColumn;
 use hippo_values::{Memory, Name, Txt};
 use std::alloc::Global;
 
-// A column as it is written: with its table and a point before it, or without.
+// A column as it is written: qualified by its table and a dot, or unqualified.
 fn column_text(alloc: Global, written: &RawColumn) -> Result<Txt, Memory>
     ensures { IfOk result (λ text. text ≡ column_text written.now) }
 {
@@ -21,7 +20,7 @@ fn column_text(alloc: Global, written: &RawColumn) -> Result<Txt, Memory>
     }
 }
 
-// A text with a table and a point before it.
+// A text qualified by a table and a dot.
 fn qualified(alloc: Global, table: &Name, text: &str) -> Result<Txt, Memory>
     ensures { IfOk result (λ made. made ≡ table.now ++ codes "." ++ text.now) }
 {
@@ -31,7 +30,7 @@ fn qualified(alloc: Global, table: &Name, text: &str) -> Result<Txt, Memory>
     Ok(made)
 }
 
-/// No table of the statement has a column like this.
+/// The fault that no table of the statement has this column.
 pub fn unknown_column(alloc: Global, written: &RawColumn) -> NameFault
     ensures { IsFirstOf (faults.UnknownColumn (column_text written.now) ∷ []) result }
 {
@@ -41,7 +40,7 @@ pub fn unknown_column(alloc: Global, written: &RawColumn) -> NameFault
     }
 }
 
-/// The one table of a change has no column of this name.
+/// The fault that the one table of a change has no column of this name.
 pub fn no_such_column(alloc: Global, column: &Name) -> NameFault
     ensures { IsFirstOf (faults.UnknownColumn column.now ∷ []) result }
 {
@@ -59,7 +58,7 @@ fn star_text(alloc: Global, table: &Name) -> Result<Txt, Memory>
     Ok(made)
 }
 
-/// All columns of a table that the statement has not.
+/// The fault of `t.*` for a table that is not in the statement.
 pub fn unknown_star(alloc: Global, table: &Name) -> NameFault
     ensures { IsFirstOf (faults.UnknownColumn (table.now ++ codes ".*") ∷ []) result }
 {
@@ -69,7 +68,7 @@ pub fn unknown_star(alloc: Global, table: &Name) -> NameFault
     }
 }
 
-/// Several tables of the statement have the column.
+/// The fault that several tables of the statement have this column.
 pub fn ambiguous_column(alloc: Global, column: &Name) -> NameFault
     ensures { IsFirstOf (faults.AmbiguousColumn column.now ∷ []) result }
 {
@@ -79,7 +78,7 @@ pub fn ambiguous_column(alloc: Global, column: &Name) -> NameFault
     }
 }
 
-/// The column is selected and not in GROUP BY, or the other way round.
+/// The fault of a column that is selected and not in GROUP BY, or the other way round.
 pub fn not_grouped(alloc: Global, column: &Name) -> NameFault
     ensures { IsFirstOf (faults.NotGrouped column.now ∷ []) result }
 {
@@ -89,7 +88,7 @@ pub fn not_grouped(alloc: Global, column: &Name) -> NameFault
     }
 }
 
-/// NULL is given to a column that is NOT NULL.
+/// The fault that NULL is given to a NOT NULL column.
 pub fn null_not_allowed(alloc: Global, column: &Name) -> NameFault
     ensures { IsFirstOf (faults.NullNotAllowed column.now ∷ []) result }
 {
@@ -99,7 +98,7 @@ pub fn null_not_allowed(alloc: Global, column: &Name) -> NameFault
     }
 }
 
-/// A column of the key is to be changed.
+/// The fault that a column of the key is changed.
 pub fn key_changed(alloc: Global, column: &Name) -> NameFault
     ensures { IsFirstOf (faults.KeyChanged column.now ∷ []) result }
 {

@@ -13,10 +13,10 @@ use indexmap::IndexMap;
 use std::alloc::Global;
 use std::marker::Model;
 
-// Up to how many columns a walk over them takes less time than their index.
+// Up to this many columns, scan: that is faster than the index.
 const FEW_COLUMNS: usize = 8;
 
-/// A table's schema, whose columns are found by their names without a long walk over them.
+/// A table's schema whose columns are found by their names without a long scan.
 #[derive(Drop)]
 pub struct IndexedTable {
     schema: Schema,
@@ -37,7 +37,7 @@ impl Model for IndexedTable {
 /// The tables of a statement, in the order of FROM.
 pub type StatementTables<'a> = Lent<'a, IndexedTable>;
 
-// Adds a column's place, unless one of its name has one.
+// Adds a column's place, unless the index already has the column's name.
 fn add_place(
     alloc: Global,
     places: &mut IndexMap<Name, usize>,
@@ -54,7 +54,7 @@ fn add_place(
     Ok(())
 }
 
-// The place of each column, the first where two have one name.
+// The place of each column; the first place if two columns have the same name.
 fn places_of(alloc: Global, columns: &[Column]) -> Result<IndexMap<Name, usize>, Memory>
     ensures { IfOk result (λ places. IsIndexOf columns.now places) }
 {
@@ -65,7 +65,7 @@ fn places_of(alloc: Global, columns: &[Column]) -> Result<IndexMap<Name, usize>,
     Ok(places)
 }
 
-// The place of the column with this name, by a walk.
+// The place of the column with this name, found by a scan.
 fn place_among(columns: &[Column], name: &Name) -> Option<usize>
     ensures { result ≡ position (λ known. bytes_eq name.now known.name) columns.now }
 {

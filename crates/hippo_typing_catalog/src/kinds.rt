@@ -1,4 +1,4 @@
-//! Whether operands that are compared have one kind.
+//! Checks that compared operands have the same kind.
 ghost use Rattle.std.specs.Prelude.{◌≡◌, ◌∷◌, [], ◌++◌, option_map, option_to_list};
 ghost use Rattle.std.specs.List.{list_any};
 ghost use Rattle.hippo_typing_catalog.specs.Refusals.{Resolves};
@@ -46,7 +46,7 @@ fn same_kind(a: ColumnKind, b: ColumnKind) -> bool
     a == b
 }
 
-// Whether the first kind of some operands and that of one more are the same, where there are both.
+// Whether two kinds are the same; true if one of them is missing.
 fn agree(first: Option<ColumnKind>, kind: Option<ColumnKind>) -> bool
     ensures { result ≡ are_alike (option_to_list first ++ option_to_list kind) }
 {

@@ -1,4 +1,4 @@
-//! Purposes and recipients that have to be known.
+//! Checks that purposes and recipients exist.
 ghost use Rattle.hippo_typing_catalog.specs.Refusals.{Resolves, unknown_purpose, unknown_recipient, unknown_pair};
 
 use crate::catalog::Catalog;
@@ -25,7 +25,7 @@ fn check_recipient(alloc: Global, catalog: &Catalog, recipient: &Name) -> Result
     Err(name_faults::unknown_recipient(alloc, recipient))
 }
 
-/// A purpose and a recipient have to be there.
+/// Checks that a purpose and a recipient exist.
 pub fn check_pair(
     alloc: Global,
     catalog: &Catalog,

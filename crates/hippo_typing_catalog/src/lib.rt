@@ -1,5 +1,5 @@
-//! The names that statements may use and, in `specs/`, why a statement is refused and what it
-//! means.
+//! The names that statements may use. The definitions in `specs/` say why a statement is refused
+//! and what it means.
 #![tactic(auto)]
 
 mod catalog;

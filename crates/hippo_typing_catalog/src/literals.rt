@@ -1,4 +1,4 @@
-//! Whether the texts of a condition may stand in a cell.
+//! Checks that a cell could hold the texts of a condition.
 ghost use Rattle.std.specs.Prelude.{◌≡◌};
 ghost use Rattle.std.specs.List.{list_any};
 ghost use Rattle.hippo_typing_catalog.specs.Refusals.{Resolves};
@@ -8,7 +8,7 @@ ghost use Rattle.hippo_typing_catalog.specs.Comparisons.{comparisons, has_bad_te
 use hippo_model::{CondOf, NameFault, Operand, Operands};
 use hippo_values::{Sequence, Value, keeps_text_rule};
 
-/// Whether a value is a text that may not stand in a cell.
+/// Whether a value is a text that a cell may not hold.
 pub fn is_bad_text(value: &Value) -> bool
     ensures { result ≡ is_bad_text value.now }
 {
@@ -38,7 +38,7 @@ fn any_has_bad_text(list: &Operands) -> bool
     false
 }
 
-// Whether a literal of a condition is such a text.
+// Whether a literal of a condition is a text that a cell may not hold.
 #[cycle(is_badly_written)]
 #[tactic(auto, using(crate::proofs::ComparedOperands::any_comparison))]
 fn is_badly_written(condition: &CondOf<Operand>) -> bool
@@ -70,7 +70,7 @@ fn any_is_badly_written(parts: &Sequence<CondOf<Operand>>) -> bool
     false
 }
 
-/// Refuses a condition with a text that may not stand in a cell.
+/// Refuses a condition with a text that a cell may not hold.
 pub fn check_texts(condition: &CondOf<Operand>) -> Result<(), NameFault>
     ensures { Resolves (texts_refused condition.now) tt result }
 {

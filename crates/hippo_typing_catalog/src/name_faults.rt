@@ -1,5 +1,4 @@
-//! Faults that name no column; where the name cannot be copied for want of memory, the fault is
-//! that.
+//! Faults that name no column. If there is no memory to copy the name, the fault is out of memory.
 ghost use Rattle.std.specs.Prelude.{◌≡◌, ◌∷◌, [], IfOk};
 ghost use Rattle.hippo_model.specs.declared.name_fault.NameFault.TheVariants as faults;
 ghost use Rattle.hippo_typing_catalog.specs.Refusals.{IsFirstOf};
@@ -16,7 +15,7 @@ pub fn boxed_name(alloc: Global, name: &Name) -> Result<Boxed<Name>, Memory>
     Boxed::new(alloc, name)
 }
 
-/// There is no table of this name.
+/// The fault that there is no table of this name.
 pub fn unknown_table(alloc: Global, table: &Name) -> NameFault
     ensures { IsFirstOf (faults.UnknownTable table.now ∷ []) result }
 {
@@ -26,7 +25,7 @@ pub fn unknown_table(alloc: Global, table: &Name) -> NameFault
     }
 }
 
-/// There is no purpose of this name.
+/// The fault that there is no purpose of this name.
 pub fn unknown_purpose(alloc: Global, purpose: &Name) -> NameFault
     ensures { IsFirstOf (faults.UnknownPurpose purpose.now ∷ []) result }
 {
@@ -36,7 +35,7 @@ pub fn unknown_purpose(alloc: Global, purpose: &Name) -> NameFault
     }
 }
 
-/// There is no recipient of this name.
+/// The fault that there is no recipient of this name.
 pub fn unknown_recipient(alloc: Global, recipient: &Name) -> NameFault
     ensures { IsFirstOf (faults.UnknownRecipient recipient.now ∷ []) result }
 {
@@ -46,7 +45,7 @@ pub fn unknown_recipient(alloc: Global, recipient: &Name) -> NameFault
     }
 }
 
-/// There is no item of this name.
+/// The fault that there is no item of this name.
 pub fn unknown_item(alloc: Global, item: &Name) -> NameFault
     ensures { IsFirstOf (faults.UnknownItem item.now ∷ []) result }
 {
@@ -56,7 +55,7 @@ pub fn unknown_item(alloc: Global, item: &Name) -> NameFault
     }
 }
 
-/// What is to be created is there.
+/// The fault that a name to be created already exists.
 pub fn already_there(alloc: Global, name: &Name) -> NameFault
     ensures { IsFirstOf (faults.AlreadyThere name.now ∷ []) result }
 {
@@ -66,7 +65,7 @@ pub fn already_there(alloc: Global, name: &Name) -> NameFault
     }
 }
 
-/// The name stands twice in a list.
+/// The fault that a name appears twice in a list.
 pub fn repeated_name(alloc: Global, name: &Name) -> NameFault
     ensures { IsFirstOf (faults.RepeatedName name.now ∷ []) result }
 {
@@ -76,7 +75,7 @@ pub fn repeated_name(alloc: Global, name: &Name) -> NameFault
     }
 }
 
-/// The table has no SUBJECT.
+/// The fault that a table has no SUBJECT.
 pub fn no_subject(alloc: Global, table: &Name) -> NameFault
     ensures { IsFirstOf (faults.NoSubject table.now ∷ []) result }
 {

@@ -1,4 +1,4 @@
-//! The names that statements may use, each kind in a space of its own.
+//! The names that statements may use, each kind in its own namespace.
 
 use crate::indexed_table::IndexedTable;
 use hippo_model::ItemKind;

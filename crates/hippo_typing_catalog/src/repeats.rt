@@ -1,4 +1,4 @@
-//! Names that stand twice.
+//! Checks for names that appear twice.
 ghost use Rattle.std.specs.Prelude.{◌≡◌, bytes_eq};
 ghost use Rattle.std.specs.List.{list_any};
 ghost use Rattle.hippo_typing_catalog.specs.Refusals.{Resolves, repeated_names};
@@ -9,11 +9,10 @@ use hippo_values::Name;
 use indexmap::IndexSet;
 use std::alloc::Global;
 
-// Up to how many names each is compared with those before it, which takes less time than a set of
-// them.
+// Up to this many names, compare each with those before it: that is faster than a set.
 const FEW_NAMES: usize = 8;
 
-// Refuses a name that stands twice among several.
+// Refuses a name that appears twice, for any number of names.
 fn check_several(alloc: Global, names: &[Name]) -> Result<(), NameFault>
     ensures { Resolves (repeated_names names.now) tt result }
 {
@@ -33,7 +32,7 @@ fn stands_among(names: &[Name], name: &Name) -> bool
     names.iter().any(|known| *name == *known)
 }
 
-// Refuses a name that stands twice among few.
+// Refuses a name that appears twice, for few names.
 fn check_few(alloc: Global, names: &[Name]) -> Result<(), NameFault>
     ensures { Resolves (repeated_names names.now) tt result }
 {
@@ -45,7 +44,7 @@ fn check_few(alloc: Global, names: &[Name]) -> Result<(), NameFault>
     Ok(())
 }
 
-/// Refuses a name that stands twice.
+/// Refuses a list in which a name appears twice.
 pub fn check_repeats(alloc: Global, names: &[Name]) -> Result<(), NameFault>
     ensures { Resolves (repeated_names names.now) tt result }
 {

@@ -13,7 +13,7 @@ use Rattle.hippo_typing_catalog.specs.ChangesWanted.{wanted_by, Grants}
 use Rattle.hippo_typing_catalog.specs.Refusals.{unknown_table, unknown_pair}
 use Rattle.hippo_typing_changes.specs.Checking.{Checks, ChecksRule, rule_names_refused}
 
--- where no item is named, none is refused
+-- without an item, none is refused
 no_item : (refusals : List NameFault) (found : Option Schema) → refusals ++ option_map_or (rule_item_refused None) found [] ≡ refusals
 no_item refusals None = append-nil refusals
 no_item refusals (Some schema) = append-nil refusals

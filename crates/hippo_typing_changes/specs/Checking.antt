@@ -1,4 +1,4 @@
--- What a check of a statement answers, and parts of what it refuses.
+-- The results of the checks of a statement, and parts of their refusals.
 use Rattle.std.specs.Prelude.{ℕ, Bool, Result, List, [], ◌++◌, map, Option, Some, None, option_map, option_to_list, option_and_then, if◌then◌else◌}
 use Rattle.hippo_values.specs.declared.names.Name.{Name}
 use Rattle.hippo_model.specs.declared.entry.Act.{Act}
@@ -22,7 +22,7 @@ abbrev pub Checks : KnownNames → Stmt → Result Wanted NameFault → Type 0
 Checks known statement result =
     Grants (change_refused known statement) (wanted_by known statement) result
 
--- AUTHORIZE, where a grant is given, or DEAUTHORIZE
+-- AUTHORIZE if the grant is given, otherwise DEAUTHORIZE
 abbrev pub grant_act : Bool → Name → Name → Name → Act
 grant_act is_given user purpose recipient =
     if is_given then acts.Authorize user purpose recipient
@@ -34,13 +34,13 @@ ChecksGrant known is_given user purpose recipient result =
     Grants (unknown_pair known purpose recipient)
     (Some (Ready (grant_act is_given user purpose recipient))) result
 
--- ALLOW, where columns are shown, or REVOKE
+-- ALLOW if the columns are shown, otherwise REVOKE
 abbrev pub rule_act : Bool → Name → Name → Name → List Place → Option Name → Option ℕ → Act
 rule_act is_shown purpose recipient table columns item days =
     if is_shown then acts.Allow purpose recipient table columns item days
     else acts.Revoke purpose recipient table columns
 
--- the names in a rule: those of its table and of its pair, its item, its columns
+-- the names in a rule: its table, its purpose and recipient, its item, its columns
 abbrev pub rule_names_refused : KnownNames → Name → Name → Name → List Name → Option Name
     → List NameFault
 rule_names_refused known purpose recipient table columns item =
@@ -56,21 +56,22 @@ ChecksRule known is_shown purpose recipient table columns item days result =
     (option_map (λ schema. Ready (rule_act is_shown purpose recipient table
     (places_named schema columns) item days)) (table_of known table)) result
 
--- the names in CREATE TABLE: columns that stand twice, keys that do, and keys and a SUBJECT that
--- are no columns
+-- the names in CREATE TABLE: repeated columns, repeated key columns, and key columns or a SUBJECT
+-- that are not columns
 abbrev pub draft_refused : List Column → List Name → Option Name → List NameFault
 draft_refused columns key subject =
     repeated_names (map (λ column. column.name) columns) ++ repeated_names key
     ++ unknown_columns (keyless_table [] columns) (key ++ option_to_list subject)
 
--- where the key's columns stand among those of CREATE TABLE, and the SUBJECT
+-- the places of the key's columns and of the SUBJECT among the columns of CREATE TABLE
 abbrev pub draft_places : List Column → List Name → Option Name → KeyPlaces
 draft_places columns key subject = record {
   key = places_named (keyless_table [] columns) key;
   subject = option_and_then (place_of (keyless_table [] columns)) subject;
 }
 
--- the names in UPDATE: columns that stand twice, keys that do, and names that are no columns
+-- the names in UPDATE: repeated columns of SET, repeated columns of WHERE, and names that are not
+-- columns
 abbrev pub names_refused : List Name → List Name → Schema → List NameFault
 names_refused columns keys schema =
     repeated_names columns ++ repeated_names keys ++ unknown_columns schema (columns ++ keys)

@@ -1,4 +1,4 @@
-//! What a statement that changes something asks for, or why it is refused.
+//! What a changing statement asks for, or why it is refused.
 ghost use Rattle.std.specs.Prelude.{◌≡◌, false, Err};
 ghost use Rattle.hippo_model.specs.declared.name_fault.NameFault.TheVariants as faults;
 ghost use Rattle.hippo_stmt_ast.specs.declared.statement.Stmt.TheVariants.{CreatePurpose, CreateRecipient, CreateItem, Choice, Insert};
@@ -18,7 +18,7 @@ use hippo_typing_catalog::{Catalog, check_pair};
 use hippo_values::{Duplicate, Name};
 use std::alloc::Global;
 
-// A name that has to be new.
+// A name that must be new.
 fn new_name(alloc: Global, is_there: bool, name: &Name) -> Result<Name, NameFault>
     ensures { Resolves (known_name_refused is_there name.now) name.now result }
 {
@@ -43,7 +43,7 @@ fn grant_act(is_given: bool, user: Name, purpose: Name, recipient: Name) -> Act
     }
 }
 
-// AUTHORIZE, where the grant is given, and DEAUTHORIZE.
+// Checks an AUTHORIZE (`is_given`) or a DEAUTHORIZE.
 fn check_grant(
     alloc: Global,
     catalog: &Catalog,
@@ -121,10 +121,10 @@ fn check_new_item(
     Ok(Wanted::Ready(Act::Item { item, kind }))
 }
 
-/// What a statement that changes something asks for, or the first refusal that holds: its names and
-/// types are right where a catalog's names stand. What it does may still wait for the rows that are
-/// there. A statement that changes nothing is answered with want of memory; of one that does, any
-/// error else is its first refusal.
+/// What a changing statement asks for, or its first refusal. The check covers names and types,
+/// against the catalog's names; the existing rows may still not allow the change. For a statement
+/// that changes nothing, the result is out of memory. For one that does, any other error is its
+/// first refusal.
 pub fn check_change(alloc: Global, catalog: &Catalog, statement: &Stmt) -> Result<Wanted, NameFault>
     ensures answer { Grants (change_refused catalog.now.names statement.now)
         (wanted_by catalog.now.names statement.now) result }

@@ -18,7 +18,7 @@ pub trait NamedColumns {
     ghost use Rattle.hippo_model.specs.declared.schema.Schema.{Schema as TableSchema};
     ghost use Rattle.hippo_typing_catalog.specs.WrittenColumns.{place_of};
 
-    // a table that has these columns
+    // a table with these columns
     ghost table: { Self → TableSchema };
 
     fn place(&self, name: &Name) -> Option<usize>
@@ -65,7 +65,7 @@ pub fn places<T: NamedColumns>(
     Ok(places)
 }
 
-/// The places of named columns, where each is named once.
+/// The places of named columns. Each must be named only once.
 pub fn distinct_places(
     alloc: Global,
     table: &IndexedTable,
@@ -78,7 +78,7 @@ pub fn distinct_places(
     places(alloc, table, names)
 }
 
-/// The place of a column, where one is named.
+/// The place of a column, if one is named.
 pub fn place_if_any<T: NamedColumns>(
     alloc: Global,
     table: &T,
@@ -96,7 +96,7 @@ pub fn place_if_any<T: NamedColumns>(
     }
 }
 
-/// The column with a name, if there is one.
+/// The column with a name, or none.
 pub fn column_named<'a>(table: &'a IndexedTable, name: &Name) -> Option<&'a Column>
     ensures { option_copied result ≡ column_named table.now name.now }
 {
@@ -122,7 +122,7 @@ fn is_the_key(schema: &Schema, places: &[usize]) -> bool
     places.len() == schema.key.len() && has_each(places, schema.key.as_slice())
 }
 
-/// The places of a table's columns have to be those of its key, each once.
+/// Checks that these are the places of the key's columns, each once.
 pub fn check_key(schema: &Schema, places: &[usize]) -> Result<(), NameFault>
     ensures { Resolves (fault_if (not (is_the_key schema.now places.now)) NotTheKey) tt result }
 {
@@ -141,7 +141,7 @@ fn is_of_key(table: &IndexedTable, name: &Name) -> bool
     }
 }
 
-/// None of the columns may be one of the key.
+/// Checks that none of the columns belongs to the key.
 pub fn check_key_stays(alloc: Global, table: &IndexedTable, names: &[Name]) -> Result<(), NameFault>
     ensures { Resolves (key_changed table.now names.now) tt result }
 {
@@ -153,7 +153,7 @@ pub fn check_key_stays(alloc: Global, table: &IndexedTable, names: &[Name]) -> R
     Ok(())
 }
 
-// The value that is given for a place, if one is.
+// The value that is given for a place, or none.
 fn value_at<'a>(place: usize, places: &[usize], values: &'a [Value]) -> Option<&'a Value>
     ensures { option_copied result ≡ lookup (nat_eq place) (zip places.now values.now) }
 {

@@ -17,7 +17,7 @@ use hippo_typing_catalog::{Catalog, IndexedTable, check_repeats};
 use hippo_values::{Duplicate, Memory, Name, Value};
 use std::alloc::Global;
 
-// The places of what is set, and of the columns of WHERE.
+// The places of the columns of SET, and of those of WHERE.
 #[derive(Drop)]
 struct UpdatePlaces {
     set: Places,
@@ -54,7 +54,7 @@ fn named_places(
     both_places(alloc, table, set, key)
 }
 
-// The places of the columns of SET and of WHERE, where those of WHERE are the key's.
+// The places of the columns of SET and of WHERE, if those of WHERE are the key.
 fn keyed_places(
     alloc: Global,
     table: &IndexedTable,
@@ -121,7 +121,7 @@ fn set(
     })
 }
 
-/// UPDATE: columns that are not the key's, and all those of the key.
+/// Checks an UPDATE: SET must name no column of the key, and WHERE must name all of them.
 pub fn check_update(
     alloc: Global,
     catalog: &Catalog,
@@ -147,7 +147,7 @@ pub fn check_update(
     Ok(set(alloc, table, found.schema(), places, values, key_values)?)
 }
 
-// The places of the key's columns, each named once.
+// The places of the key's columns. Each must be named once.
 fn key_places(alloc: Global, table: &IndexedTable, key: &[Name]) -> Result<Places, NameFault>
     ensures { Resolves (rule_refused key.now table.now ++ key_refused table.now key.now)
         (places_named table.now key.now) result }
@@ -185,7 +185,7 @@ fn remove(
     Ok(Wanted::Remove { table, key })
 }
 
-/// DELETE: all columns of the key.
+/// Checks a DELETE: WHERE must name all columns of the key.
 pub fn check_delete(
     alloc: Global,
     catalog: &Catalog,

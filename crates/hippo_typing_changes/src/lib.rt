@@ -1,4 +1,4 @@
-//! From statements that change something to what they ask for, or to the first refusal that holds.
+//! Turns changing statements into what they ask for, or finds their first refusal.
 #![tactic(auto)]
 
 mod changes;

@@ -1,4 +1,4 @@
-//! The names in a change: which have to be known, and which have to be new.
+//! The names in a change: some must exist, some must be new.
 ghost use Rattle.std.specs.Prelude.{◌≡◌, Some, IfOk, IfErr};
 ghost use Rattle.hippo_typing_catalog.specs.Catalogs.{table_of};
 ghost use Rattle.hippo_typing_catalog.specs.Refusals.{IsFirstOf, Resolves, unknown_table, unknown_item};
@@ -9,7 +9,7 @@ use hippo_typing_catalog::{Catalog, IndexedTable, name_faults};
 use hippo_values::Name;
 use std::alloc::Global;
 
-/// The table with this name.
+/// The table with this name, or the fault that there is none.
 pub fn known_table<'a>(
     alloc: Global,
     catalog: &'a Catalog,
@@ -24,7 +24,7 @@ pub fn known_table<'a>(
     }
 }
 
-/// An item has to be there.
+/// Checks that an item exists.
 pub fn check_item(alloc: Global, catalog: &Catalog, item: &Name) -> Result<(), NameFault>
     ensures { Resolves (unknown_item catalog.now.names item.now) tt result }
 {
@@ -34,7 +34,7 @@ pub fn check_item(alloc: Global, catalog: &Catalog, item: &Name) -> Result<(), N
     }
 }
 
-/// Refuses an item that is not there, where one is named.
+/// Checks that an item exists, if one is named.
 pub fn check_item_if_any(
     alloc: Global,
     catalog: &Catalog,
@@ -48,7 +48,7 @@ pub fn check_item_if_any(
     }
 }
 
-/// A name must not be there.
+/// Checks that a name does not exist yet.
 pub fn check_new(alloc: Global, is_there: bool, name: &Name) -> Result<(), NameFault>
     ensures { Resolves (known_name_refused is_there name.now) tt result }
 {

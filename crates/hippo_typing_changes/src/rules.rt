@@ -12,7 +12,7 @@ use hippo_typing_catalog::{Catalog, check_pair, name_faults};
 use hippo_values::{Duplicate, Memory, Name};
 use std::alloc::Global;
 
-// An item wants a table with SUBJECT.
+// Checks that a rule with an item is for a table with a SUBJECT.
 fn check_subject(alloc: Global, schema: &Schema, item: &Option<Name>) -> Result<(), NameFault>
     ensures { Resolves (rule_item_refused item.now schema.now) tt result }
 {
@@ -62,7 +62,7 @@ fn rule_act(
     })
 }
 
-/// ALLOW, where the columns are shown, and REVOKE, which names no item.
+/// Checks an ALLOW (`is_shown`) or a REVOKE, which names no item.
 pub fn check_rule(
     alloc: Global,
     catalog: &Catalog,
@@ -88,7 +88,7 @@ pub fn check_rule(
     Ok(Wanted::Ready(act))
 }
 
-/// REVOKE: the columns that a rule no longer shows.
+/// Checks a REVOKE, for columns that a rule no longer shows.
 pub fn check_revoke(
     alloc: Global,
     catalog: &Catalog,

@@ -77,7 +77,7 @@ fn key_places(
     Ok(KeyPlaces { key, subject })
 }
 
-// What CREATE TABLE says of a table, beside its name.
+// What CREATE TABLE says of a table, without its name.
 #[derive(Clone, Copy)]
 struct Draft<'a> {
     columns: &'a Columns,
@@ -85,7 +85,7 @@ struct Draft<'a> {
     subject: &'a Option<Name>,
 }
 
-// Its names: the columns differ, and so do those of the key, which has to be among them.
+// Checks the names: the columns must differ, and the key's columns must differ and be among them.
 fn named_places(alloc: Global, draft: Draft) -> Result<KeyPlaces, NameFault>
     ensures { Resolves (draft_refused draft.entry.columns.now draft.entry.key.now
         draft.entry.subject.now)
@@ -96,7 +96,7 @@ fn named_places(alloc: Global, draft: Draft) -> Result<KeyPlaces, NameFault>
     key_places(alloc, draft.columns, draft.key, draft.subject)
 }
 
-// Its names, and the SUBJECT's kind.
+// Checks the names and the kind of the SUBJECT.
 fn fitting_places(alloc: Global, draft: Draft) -> Result<KeyPlaces, NameFault>
     ensures { Resolves (draft_refused draft.entry.columns.now draft.entry.key.now
         draft.entry.subject.now
@@ -186,7 +186,7 @@ fn columns_made(
     Ok(made)
 }
 
-/// CREATE TABLE: its columns, its key and its SUBJECT.
+/// Checks a CREATE TABLE: its columns, its key and its SUBJECT.
 pub fn check_create_table(
     alloc: Global,
     catalog: &Catalog,

@@ -31,7 +31,7 @@ fn is_null(value: &Value) -> bool
     matches!(value, Value::Null)
 }
 
-/// What a value is refused for by its column.
+/// A check of one value against its column.
 pub trait ValueCheck {
     ghost use Rattle.std.specs.Prelude.{List};
     ghost use Rattle.hippo_values.specs.declared.values.Value.{Value as CellValue};
@@ -45,7 +45,7 @@ pub trait ValueCheck {
         ensures { Resolves (refusals column.now value.now) tt result };
 }
 
-/// It has to be of its column's kind.
+/// The value must be of its column's kind.
 pub struct KindCheck;
 
 impl ValueCheck for KindCheck {
@@ -61,7 +61,7 @@ impl ValueCheck for KindCheck {
     }
 }
 
-/// It must not be NULL where its column is NOT NULL.
+/// The value must not be NULL if its column is NOT NULL.
 pub struct NullCheck;
 
 impl ValueCheck for NullCheck {
@@ -77,7 +77,7 @@ impl ValueCheck for NullCheck {
     }
 }
 
-/// It must be no text that is too long or has a control character.
+/// The value must not be a text that is too long or has a control character.
 pub struct TextCheck;
 
 impl ValueCheck for TextCheck {
@@ -146,7 +146,7 @@ fn check_count(schema: &Schema, values: &[Value]) -> Result<(), NameFault>
     Err(NameFault::WrongCount(count as u64))
 }
 
-/// The values of a new row.
+/// Checks the values of a new row.
 pub fn check_new_row(alloc: Global, schema: &Schema, values: &[Value]) -> Result<(), NameFault>
     ensures { Resolves (insert_refused values.now schema.now) tt result }
 {
@@ -178,7 +178,7 @@ fn check_both<C: ValueCheck>(
     check_assigned::<C>(alloc, table, other.names, other.values)
 }
 
-/// The values of two lists of assignments.
+/// Checks the values of two lists of assignments.
 pub fn check_assignments(
     alloc: Global,
     table: &IndexedTable,

@@ -1,4 +1,4 @@
--- What the checks let a question ask may follow.
+-- A question that passes its checks may follow the history.
 use Rattle.std.proofs.Common.{◌≡◌, ℕ, true, List, length, ap, ◌∙◌, arith}
 use Rattle.std.specs.Prelude.{is_some, slice_range, IsUtf8}
 use Rattle.std.proofs.lemmas.Bool.{and_from, le-leb}
@@ -20,7 +20,7 @@ use Rattle.hippo_typing_laws.proofs.FitActs.{IsFit, fit_follows}
 
 module _ (history : History) (user purpose recipient : Name) (text : Txt) (select : RawSelect) (start end : ℕ)
     (may : PassesChecks history user purpose recipient text select start end) where
-  -- its text has some bytes, no more than a line, and is UTF-8
+  -- its text is not empty, is no longer than a line, and is UTF-8
   text_kept : question_is_keepable (slice_range text start end) ≡ true
   text_kept =
       let some = may.reads.some in
@@ -30,7 +30,7 @@ module _ (history : History) (user purpose recipient : Name) (text : Txt) (selec
       and_from _ _ (le-leb 1 (length (slice_range text start end)) (omega arith))
       (and_from _ _ (le-leb (length (slice_range text start end)) line_limit may.short) (is_utf8-from_IsUtf8 (slice_range text start end) utf8))
 
-  -- and means a query
+  -- its text means a query
   text_means : is_some (meaning history (slice_range text start end)) ≡ true
   text_means =
       ap is_some (may.reads.meant (known_at history))
@@ -42,7 +42,7 @@ module _ (history : History) (user purpose recipient : Name) (text : Txt) (selec
     acceptable = and_from _ _ (ap is_authorized may.authorized) text_means;
   }
 
--- what the checks let a question ask may follow
+-- a question that passes its checks may follow the history
 pub questions_may_follow : QuestionsMayFollow
 questions_may_follow history moment user purpose recipient text select start end room may =
     fit_follows meaning history moment _ room (asked_fits history user purpose recipient text select start end may)

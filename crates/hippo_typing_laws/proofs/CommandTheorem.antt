@@ -1,4 +1,4 @@
--- The statement that a line commands: where it stands, and how it reads.
+-- The statement that a line commands: where it begins, and how it reads.
 use Rattle.std.proofs.Common.{◌≡◌, ℕ, ◌+◌, ◌<◌, Bool, true, false, List, [], ◌∷◌, length, get_or, Option, Some, None, Result, Ok, Err, option_map, if◌then◌else◌, codes, bytes_eq, refl, ap, subst, ◌∙◌, arith}
 use Rattle.std.specs.Prelude.{IsUtf8, nat_lt, ok_or}
 use Rattle.std.specs.Bool.{then_some}
@@ -72,7 +72,7 @@ after_first_word session first remaining text found = by_at (bytes_eq (codes "at
     by_at true e = by_moment (only (words_of remaining)) e
     by_at false e = after_session session first remaining text e
 
--- a statement stands behind the first space of its line
+-- a statement begins after the first space of its line
 record IsRestOf (line text : Txt) : Type 0 where
   some : position_or_len is_space line < length line
   rest : after_first is_space line ≡ text
@@ -89,7 +89,7 @@ line_states line text session found = by_silence (is_silent line) found
     by_silence true e = let other : Some says_nothing ≡ Some (makes_statement session text) = e in absurd cc
     by_silence false e = by_space (nat_lt (position_or_len is_space line) (length line)) refl e
 
--- what stands behind a space of a line of UTF-8 is UTF-8
+-- in a UTF-8 line, the text after a space is UTF-8
 text_utf8 : (line text : Txt) → IsUtf8 line → IsRestOf line text → IsUtf8 text
 text_utf8 line text utf8 is =
     let place : ℕ = position_or_len is_space line in
@@ -127,7 +127,7 @@ by_form line (Some (sets_clock moment)) who statement text form is = by_moment l
 by_form line (Some (makes_request number request)) who statement text form is = absurd cc
 by_form line (Some (makes_statement number remaining)) who statement text form is = by_statement line number remaining who statement text (statement_in remaining) form refl is
 
--- the tokens of a text, and the statement that they are
+-- the tokens of a text, and the statement that they form
 record IsRead (text : Txt) (statement : Stmt) : Type 0 where
   tokens : List Token
   cut : outcome_of text ≡ Ok tokens
@@ -146,7 +146,7 @@ by_outcome : (text : Txt) (statement : Stmt) (outcome : Result (List Token) LexF
 by_outcome text statement (Ok tokens) cut is = by_words text tokens statement (words_check tokens) cut refl is
 by_outcome text statement (Err fault) cut is = absurd cc
 
--- the statement that a line commands is written, and a question reads by itself
+-- the statement that a line commands is well formed, and a question in it can be read on its own
 pub commands_are_written : CommandsAreWritten
 commands_are_written line who statement text utf8 commands =
     let commanded = by_form line (line_form line) who statement text refl commands in

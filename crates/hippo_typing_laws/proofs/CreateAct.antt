@@ -1,4 +1,4 @@
--- What the checks say of a table that is created.
+-- What the checks guarantee of a table that is created.
 use Rattle.std.proofs.Common.{◌≡◌, ℕ, ◌<◌, ◌≤◌, Bool, true, false, ◌&&◌, List, [], ◌∷◌, ◌++◌, map, length, Option, Some, None, refl, sym, ap, subst, ◌∙◌, arith}
 use Rattle.std.specs.Prelude.{is_none, is_some, not, ◌||◌, nat_lt, nat_le, nat_eq, slice_get, option_map, option_and_then, option_to_list, bytes_eq}
 use Rattle.std.specs.Cmp.Lexicographic.{nat_list_eq_equiv}
@@ -30,7 +30,7 @@ use Rattle.hippo_typing_laws.proofs.PlaceLemmas.{found_at, parted, length-places
 use Rattle.hippo_typing_laws.proofs.RefusalLemmas.{none_of_both, not_refused, absent}
 
 module _ (table : Name) (columns : List Column) (key : List Name) (subject : Option Name) where
-  -- the names of columns stay as they are written
+  -- the columns keep their names
   names_stay : (some : List Column) → map (λ (column : Column). column.name) (map (with_not_null key subject) some) ≡ map (λ (column : Column). column.name) some
   names_stay [] = refl
   names_stay (column ∷ rest) = ap (λ (l : List Name). column.name ∷ l) (names_stay rest)
@@ -79,7 +79,7 @@ subject_so table columns key (Some name) known kind =
     passed_so true none = refl
     passed_so false none = absurd cc
 
--- and stands among the columns
+-- the SUBJECT is one of the columns
 subject_within : (table : Name) (columns : List Column) (subject : Option Name) → length columns ≤ 64 → subject_is_keepable (option_and_then (place_of (keyless_table table columns)) subject) ≡ true
 subject_within table columns None few = refl
 subject_within table columns (Some name) few =

@@ -1,4 +1,4 @@
--- Acts that can be kept and are acceptable make entries that may follow.
+-- Acts that can be stored and are acceptable make entries that may follow.
 use Rattle.std.proofs.Common.{◌≡◌, ◌+◌, true, Ok, refl, ap, ◌∙◌, length}
 use Rattle.std.proofs.lemmas.Bool.{and_from, eq-eqb}
 use Rattle.hippo_values.specs.declared.moments.Moment.{Moment}
@@ -11,12 +11,12 @@ use Rattle.hippo_model.specs.Validity.{is_acceptable, may_follow}
 use Rattle.hippo_tables.specs.Finished.{finished_act}
 use Rattle.hippo_typing_laws.specs.FollowingLaws.{following_entry, HasRoomAt}
 
--- an act that can be kept and may follow
+-- an act can be stored and may follow
 pub record IsFit (meaning : Meaning) (history : History) (act : Act) : Type 0 where
   pub keepable : act_is_keepable act ≡ true
   pub acceptable : is_acceptable meaning history act ≡ true
 
--- the act that waits for no row is the act that it comes to
+-- an act that needs no existing row is the act that is made
 pub at_once : (history : History) (made act : Act) (wanted : Wanted) → Ready made ≡ wanted → finished_act history wanted ≡ Ok act → made ≡ act
 at_once history made act wanted is comes =
     let same : finished_act history (Ready made) ≡ Ok act = ap (finished_act history) is ∙ comes in cc

@@ -1,4 +1,4 @@
--- Tokens whose words are fit to be read, and a part of them.
+-- Tokens that pass the checks of depth and of words, and a part of them.
 use Rattle.std.proofs.Common.{◌≡◌, ℕ, suc, ◌+◌, ◌≤◌, ◌<◌, true, false, Bool, cond, ◌||◌, List, [], ◌∷◌, ◌++◌, length, take, Option, Some, None, Result, Ok, Err, refl, sym, ap, ◌∙◌, inl, inr, arith, zero-add}
 use Rattle.std.specs.Prelude.{count_by, position, nat_lt, if◌then◌else◌}
 use Rattle.std.specs.List.{list_any, position_or_len, range_with_len}
@@ -21,7 +21,7 @@ pub record AreFit (said : Kinds) : Type 0 where
   pub few : count_by negates said ≤ 64
   pub supported : list_any is_unsupported said ≡ false
 
--- Tests of tokens are tests of what they say.
+-- A count of tokens is a count of what they say.
 count-kinds : (test : TokenKind → Bool) (tokens : List Token) → token_count test tokens ≡ count_by test (kinds tokens)
 count-kinds test [] = refl
 count-kinds test (token ∷ tokens) =
@@ -35,7 +35,7 @@ any-kinds test (token ∷ tokens) = ap (λ b. test token.kind || b) (any-kinds t
 front-kinds : (test : TokenKind → Bool) (n : ℕ) (tokens : List Token) → token_count test (take n tokens) ≡ count_by test (take n (kinds tokens))
 front-kinds test n tokens = count-kinds test (take n tokens) ∙ ap (count_by test) (sym (take-map (λ (token : Token). token.kind) n tokens))
 
--- No place is found where none passes.
+-- If no member passes the test, no place is found.
 past_all : {X : Type 0} (test : X → Bool) (xs : List X) → length xs ≤ position_or_len test xs → list_any test xs ≡ false
 past_all test [] past = refl
 past_all test (x ∷ xs) past = elim (cases_Bool (test x)) [
@@ -58,7 +58,7 @@ none-position test xs none = past_all test xs (ltb-false _ _ (not_there (nat_lt 
 position-none : {X : Type 0} (test : X → Bool) (xs : List X) → list_any test xs ≡ false → position test xs ≡ None
 position-none test xs none = rw (le-ltb _ _ (all_past test xs none)) refl
 
--- What a check says that is passed.
+-- The result of the check of words, by its tests.
 abbrev Checked : Bool → Bool → Option ℕ → Result (Unit {0}) SyntaxFault
 Checked steep negated place = if steep || negated then Err TooDeep else support_of place
 
@@ -74,7 +74,7 @@ none_steep tokens n small none = elim (cases_Bool (is_steep (take n tokens))) [
   | inr level ↦ level
 ]
 
--- the words of tokens pass where they are fit
+-- tokens that pass the check of words are fit
 pub fit-words : (tokens : List Token) → words_check tokens ≡ Ok tt → AreFit (kinds tokens)
 unfolding words_check
 fit-words tokens words =
@@ -98,7 +98,7 @@ words-fit tokens fit =
     let supported : position (λ (token : Token). is_unsupported token.kind) tokens ≡ None = position-none (λ (token : Token). is_unsupported token.kind) tokens (any-kinds is_unsupported tokens ∙ fit.supported) in
     rw (level, few, supported) refl
 
--- A part is fit where the whole is, if no `)` stands before it.
+-- A part is fit if the whole is and no `)` comes before the part.
 take-remaining : (skipped others : Kinds) (n : ℕ) → take (length skipped + n) (skipped ++ others) ≡ skipped ++ take n others
 take-remaining [] others n = ap (λ k. take k others) (zero-add n)
 take-remaining (kind ∷ skipped) others n =

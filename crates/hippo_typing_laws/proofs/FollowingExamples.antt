@@ -1,4 +1,4 @@
--- What may follow, at small histories.
+-- What may follow, in small histories.
 use Rattle.std.proofs.Common.{◌≡◌, [], ◌∷◌, codes, Some, None, true, false, refl, pos}
 use Rattle.std.specs.Prelude.{⊤}
 use Rattle.hippo_values.specs.Names.{keywords, unsupported_words}
@@ -15,7 +15,7 @@ use Rattle.hippo_typing_laws.specs.FollowingLaws.{following_entry, HasRoomAt, Co
 use Rattle.hippo_typing_laws.specs.Written.{is_written}
 use Rattle.hippo_typing_laws.proofs.FollowingTheorem.{changes_may_follow}
 
--- which words are reserved is unfolded
+-- unfolds the list of reserved words
 unfoldable reading : ⊤
 unfolding keywords unsupported_words
 reading = tt
@@ -43,11 +43,11 @@ makes_patients : ComesTo [] patients (acts.Create patient)
 unfolding reading
 makes_patients = record { written = refl; unrefused = refl; wanted = Ready (acts.Create patient); wants = refl; comes = refl }
 
--- so its entry may come first
+-- so its entry may be the first
 patients_may_follow : (meaning : Meaning) → may_follow meaning [] (following_entry [] (pos 0) (acts.Create patient)) ≡ true
 patients_may_follow meaning = changes_may_follow meaning [] (pos 0) patients (acts.Create patient) refl at_first makes_patients
 
--- a rule without columns, and one for no day, are not written
+-- a rule without columns, or for no day, is not well formed
 without_columns : is_written (stmt.Revoke (codes "treatment") (codes "nurse") (codes "patient") []) ≡ false
 unfolding reading
 without_columns = refl

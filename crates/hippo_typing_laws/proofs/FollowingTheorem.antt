@@ -1,4 +1,4 @@
--- What the checks let pass may follow.
+-- What passes the checks may follow the history.
 use Rattle.std.proofs.Common.{◌≡◌, ℕ, true, ◌&&◌, List, [], ◌++◌, length, Option, Some, None, Ok, Err, refl, sym, ap, subst, ◌∙◌, arith}
 use Rattle.std.specs.Prelude.{is_none, is_some, not, option_map, option_and_then, unwrap_or, bytes_eq}
 use Rattle.std.specs.Cmp.Lexicographic.{nat_list_eq_equiv}
@@ -43,7 +43,7 @@ use Rattle.hippo_typing_laws.proofs.RefusalLemmas.{none_of_both, mapped, refused
 use Rattle.hippo_typing_laws.proofs.RowActs.{row_kept, row_typed, inserted_fits, written_typed, first_unrefused, written_fits, key_stays, key_of-fits, key_of-kept}
 use Rattle.hippo_typing_laws.proofs.RuleActs.{few_columns, few_key, columns_there, columns_kept, days_kept, table_so, item_there}
 
--- a statement's one act, which waits for no row
+-- a statement's only act, which needs no existing row
 ready_act : (meaning : Meaning) (history : History) (made act : Act) (wanted : Wanted) → ◌≡◌ {A = Option Wanted} (Some (Ready made)) (Some wanted) → finished_act history wanted ≡ Ok act → IsFit meaning history made → IsFit meaning history act
 ready_act meaning history made act wanted is comes fit =
     let same : Ready made ≡ wanted = cc in
@@ -53,7 +53,7 @@ no_number : {A : Type 0} (found : Option ℕ) (made act : A) → option_map_or (
 no_number None made act e = (refl, cc)
 no_number (Some number) made act e = absurd cc
 
--- the row that is there, and the act that it makes
+-- the existing row, and the act that it makes
 record IsLive (made : Row → Act) (found : Option Row) (act : Act) : Type 0 where
   row : Row
   is : found ≡ Some row
@@ -67,7 +67,7 @@ not_live : (found : Option Row) (number : Row → ℕ) → option_map number fou
 not_live None number e = refl
 not_live (Some row) number e = absurd cc
 
--- of two lists of names, the first's columns are known
+-- of two lists of names, the columns of the first are known
 first_known : (schema : Schema) (columns keys : List Name) → unknown_columns schema (columns ++ keys) ≡ [] → unknown_columns schema columns ≡ []
 first_known schema columns keys none =
     (none_of_both (unknown_columns schema columns) (unknown_columns schema keys)
@@ -226,7 +226,7 @@ module _ (meaning : Meaning) (history : History) (valid : is_valid meaning histo
       delete_fits table (key_written from.from keys values) from.from act there spelled (ap (finished_act history) from.gives ∙ comes)
   by_statement statement wanted act spelled none wants comes = absurd cc
 
--- what the checks let pass may follow
+-- a changing statement that passes its checks may follow the history
 pub changes_may_follow : ChangesMayFollow
 changes_may_follow meaning history moment statement act valid room comes =
     fit_follows meaning history moment act room (by_statement meaning history valid statement comes.wanted act comes.written comes.unrefused comes.wants comes.comes)

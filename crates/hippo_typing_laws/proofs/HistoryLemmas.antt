@@ -1,4 +1,5 @@
--- What a valid history says of its schemas and rows: who said it, and what was tested when it was said.
+-- What a valid history says of its schemas and rows: which entry says it, and what was tested at
+-- that entry.
 use Rattle.std.proofs.Common.{◌≡◌, Bool, true, false, ◌&&◌, [], ◌∷◌, ◌++◌, Option, Some, None, refl, sym, ap, subst, ◌∙◌, append_assoc, length, ◌+◌}
 use Rattle.std.specs.Prelude.{option_and_then, bytes_eq, not, ◌==◌, nat_lt}
 use Rattle.std.specs.Bool.{then_some}
@@ -23,7 +24,7 @@ use Rattle.hippo_tables.proofs.StandingLemmas.{schema_at-named}
 use Rattle.hippo_typing.proofs.CatalogTheorem.{valid_names}
 use Rattle.hippo_typing.proofs.LastingNames.{extends_later}
 
--- the entry that says the last word, between those before it and those behind it
+-- the entry that says the last word, with the entries before and after it
 pub record IsSaid {A : Type 0} (word : Entry → Option A) (history : History) (what : A) : Type 0 where
   pub front : History
   pub entry : Entry
@@ -45,7 +46,7 @@ then_some_parts : {A : Type 0} (test : Bool) (x y : A) → then_some test x ≡ 
 then_some_parts true x y e = (refl, cc)
 then_some_parts false x y e = absurd cc
 
--- what passes a test is there
+-- a value exists and passes a test
 pub record Passes {A : Type 0} (test : A → Bool) (found : Option A) : Type 0 where
   pub what : A
   pub is : found ≡ Some what
@@ -55,13 +56,13 @@ pub passes_so : {A : Type 0} (test : A → Bool) (found : Option A) → option_m
 passes_so test None passes = absurd cc
 passes_so test (Some x) passes = record { what = x; is = refl; fits = passes }
 
--- a table that is created has this act
+-- the act that creates a table
 created_by : (table : Name) (schema : Schema) (act : Act) → schema_created table act ≡ Some schema → act ≡ Create schema
 created_by table schema (Create made) is = ap Create (then_some_parts (bytes_eq made.name table) made schema is).1
 created_by table schema act is = absurd cc
 
 module _ (meaning : Meaning) where
-  -- each entry of a valid history may follow those before it
+  -- each entry of a valid history may follow the entries before it
   pub followed : (front : History) (entry : Entry) (later : History) → is_valid meaning (front ++ entry ∷ later) ≡ true → may_follow meaning front entry ≡ true
   followed front entry later valid =
       let first : is_valid meaning (front ++ entry ∷ []) ≡ true = front_is_valid meaning (front ++ entry ∷ []) later (ap (is_valid meaning) (append_assoc front (entry ∷ []) later) ∙ valid) in
@@ -84,7 +85,7 @@ module _ (meaning : Meaning) where
       let there = valid_names meaning (front ++ later) valid in
       sym (there.tables table) ∙ (extends_later front later).tables table schema (here.tables table ∙ found)
 
-  -- a schema can be kept and is well formed
+  -- a schema can be stored and is well formed
   pub schema_kept : (history : History) (table : Name) (schema : Schema) → is_valid meaning history ≡ true → schema_at history table ≡ Some schema → (schema_is_keepable schema ≡ true) × (is_well_formed schema ≡ true)
   schema_kept history table schema valid found =
       let said = said_where (λ (entry : Entry). schema_created table entry.act) history schema found in
@@ -94,7 +95,7 @@ module _ (meaning : Meaning) where
       let fits : is_acceptable meaning said.front (Create schema) ≡ true = subst (λ (act : Act). is_acceptable meaning said.front act ≡ true) act (acceptable said.front said.entry may) in
       (kept, (and_parts _ (is_well_formed schema) fits).1)
 
--- a row that fits its table, and can be kept
+-- a row fits its table and can be stored
 pub record IsKept (schema : Schema) (row : Row) : Type 0 where
   pub fits : row_fits schema row ≡ true
   pub keepable : cells_are_keepable row ≡ true
@@ -136,7 +137,7 @@ module _ (meaning : Meaning) (front : History) (schema : Schema) (key row : Row)
 same_name : (a b : Name) → bytes_eq a b ≡ true → a ≡ b
 same_name a b same = (bytes_eq-Decides a b).0 same
 
--- each row of a valid history fits its table, and can be kept
+-- each row of a valid history fits its table and can be stored
 pub rows_fit : (meaning : Meaning) (history : History) (table : Name) (schema : Schema) (key row : Row) → is_valid meaning history ≡ true → schema_at history table ≡ Some schema → row_at schema history key ≡ Some row → IsKept schema row
 rows_fit meaning history table schema key row valid found live =
     let word : Entry → Option (Option Row) = λ entry. then_some (names_key schema key entry.act) (row_left entry.act) in

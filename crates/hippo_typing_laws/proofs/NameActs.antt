@@ -1,4 +1,4 @@
--- What the checks say of the names of a statement that changes something.
+-- What the checks guarantee of the names of a changing statement.
 use Rattle.std.proofs.Common.{◌≡◌, true, [], sym, ap, ◌∙◌}
 use Rattle.std.specs.Prelude.{is_none, is_some, not}
 use Rattle.std.proofs.lemmas.Bool.{and_from, not_from_false}

@@ -41,7 +41,7 @@ found_in schema name (first ∷ rest) place same found =
 pub found_at : (schema : Schema) (name : Name) (place : Place) → place_of schema name ≡ Some place → IsColumnAt schema name place
 found_at schema name place found = found_in schema name schema.columns place refl found
 
--- the first name's place, and the others' columns
+-- the place of the first name, and the columns of the others
 pub record IsParted (schema : Schema) (name : Name) (rest : List Name) : Type 0 where
   pub place : Place
   pub found : place_of schema name ≡ Some place
@@ -71,7 +71,7 @@ places_within schema (name ∷ rest) =
       | Some place ↦ λ e. and_from _ _ (lt-ltb place (length schema.columns) (found_at schema name place e).within) (places_within schema rest)
     ] refl
 
--- one place is that of one name
+-- one place belongs to one name only
 one_name : (schema : Schema) (name other : Name) (place : Place) → place_of schema name ≡ Some place → place_of schema other ≡ Some place → bytes_eq name other ≡ true
 one_name schema name other place is too =
     let first = found_at schema name place is in
@@ -96,7 +96,7 @@ other_places schema name place is (other ∷ rest) none =
           false≢true (sym parts.0 ∙ twice))) later
     ] refl
 
--- the places of names that differ, differ
+-- the places of different names differ
 pub places_differ : (schema : Schema) (names : List Name) → all_differ bytes_eq names ≡ true → all_differ nat_eq (places_named schema names) ≡ true
 places_differ schema [] differ = refl
 places_differ schema (name ∷ rest) differ =
@@ -116,11 +116,11 @@ below count (place ∷ rest) all other among =
       | false ↦ λ different among. below count rest parts.1 other among
     ] refl among
 
--- places that differ are no more than there are columns
+-- there are no more different places than columns
 pub no_more_than : (count : ℕ) (places : List Place) → all_differ nat_eq places ≡ true → list_all (λ (place : Place). nat_lt place count) places ≡ true → length places ≤ count
 no_more_than count places differ all = length-le_from_distinct_below places count (distinct_so nat_eq places differ) (below count places all)
 
--- places below some number are below a greater one
+-- places below a number are below any greater number
 pub below_more : (count limit : ℕ) (places : List Place) → count ≤ limit → list_all (λ (place : Place). nat_lt place count) places ≡ true → list_all (λ (place : Place). nat_lt place limit) places ≡ true
 below_more count limit [] more all = refl
 below_more count limit (place ∷ rest) more all =

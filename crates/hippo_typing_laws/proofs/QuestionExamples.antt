@@ -1,4 +1,4 @@
--- Questions by their texts.
+-- Examples of questions, by their texts.
 use Rattle.std.proofs.Common.{◌≡◌, ℕ, List, [], ◌∷◌, codes, Option, Some, None, Result, Ok, Err, refl}
 use Rattle.std.specs.Prelude.{⊤, slice_range, option_and_then}
 use Rattle.hippo_values.specs.Names.{keywords, unsupported_words}
@@ -23,12 +23,12 @@ use Rattle.hippo_stmt_reader.specs.StatementFinder.{placed_select_of, open_of, e
 use Rattle.hippo_typing.specs.Meanings.{select_in}
 use Rattle.hippo_typing_laws.specs.ReadingLaws.{select_place}
 
--- what a text asks
+-- the question that a text asks
 abbrev asked_in : Result (List Token) LexFault → Option (RawSelect × ℕ × ℕ)
 asked_in (Ok tokens) = option_and_then select_place (statement_of tokens)
 asked_in (Err fault) = None
 
--- what is unfolded to read a text
+-- what must be unfolded to read a text
 unfoldable reading : ⊤
 unfolding keywords unsupported_words sign_table sign_of number_of number_first closing quoted_first date_first word_first sign_first token_first tokens_from outcome_of words_check leading_comparison leading_test leading_condition leading_item leading_member leading_members leading_joined leading_sources leading_where leading_scope leading_draft_of leading_draft ungrouped_select leading_select placed_select_of open_of extract_of select_of statement_of word_of
 reading = tt

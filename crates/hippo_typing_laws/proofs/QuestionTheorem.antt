@@ -1,4 +1,4 @@
--- The text of a question reads by itself.
+-- The text of a question can be read on its own.
 use Rattle.std.proofs.Common.{◌≡◌, ℕ, suc, ◌+◌, ◌-◌, ◌<◌, ◌≤◌, List, [], ◌∷◌, ◌++◌, length, get_or, drop, Option, Some, None, Ok, refl, sym, ap, subst, ◌∙◌, arith}
 use Rattle.std.specs.Prelude.{count_by, slice_get, slice_range, IsUtf8, IsCharBoundary}
 use Rattle.std.proofs.lemmas.List.Elements.{All-get_or}
@@ -27,7 +27,7 @@ use Rattle.hippo_typing_laws.proofs.TextParts.{end_from, front_of, end_of, moved
 use Rattle.hippo_typing_laws.proofs.FitWords.{AreFit, fit-words, words-fit, fit-part}
 use Rattle.hippo_typing_laws.proofs.SelectFronts.{takes-select}
 
--- what stands between two places of a text is, by itself, the text of this select
+-- the part between two places of a text is, on its own, the text of this select
 pub record HasPart (text : Txt) (select : RawSelect) (start end : ℕ) : Type 0 where
   pub some : start < end
   pub within : end ≤ length text
@@ -37,7 +37,7 @@ pub record HasPart (text : Txt) (select : RawSelect) (start end : ℕ) : Type 0 
   pub words : words_check tokens ≡ Ok tt
   pub reading : IsSelect (kinds tokens) select []
 
--- tokens want bytes
+-- tokens need bytes
 no_tokens : (place : ℕ) (first : Token) (tokens : List Token) → IsCut place [] (Ok (first ∷ tokens)) → ⊥
 unfolding tokens_from
 no_tokens place first tokens is_cut = let none = cut-is place [] (Ok (first ∷ tokens)) is_cut in cc
@@ -53,7 +53,7 @@ last_end place first (next ∷ tokens) last is =
     let count : length (first ∷ next ∷ tokens) - 1 ≡ suc (length (next ∷ tokens) - 1) = omega arith in
     last_end first.end next tokens last (rw count at is)
 
--- what stands between the bytes before and those behind
+-- the part between the bytes before it and the bytes after it
 between : (text before part remaining : List ℕ) (start end : ℕ) → text ≡ before ++ (part ++ remaining) → 0 + length before ≡ start → start + length part ≡ end → slice_range text start end ≡ part
 between text before part remaining start end parts from to =
     let dropped : drop start text ≡ part ++ remaining = rw parts (drop_at before (part ++ remaining) start (omega arith)) in
@@ -160,12 +160,12 @@ part_read text select start end part =
       meant = part_means (slice_range text start end) select found;
     }
 
--- the text of a question reads by itself as the question
+-- the text of a question can be read on its own as the question
 pub read_by_themselves : QuestionsReadByThemselves
 read_by_themselves text select start end question =
     part_read text select start end (statement_reads text question.tokens question.statement select start end question.cut question.words question.reading question.asks)
 
--- and so does that of a question that the readers find
+-- so can the text of a question that the readers find
 pub found_read_by_themselves : FoundQuestionsReadByThemselves
 found_read_by_themselves text tokens statement select start end cut words found asks =
     let is_cut : IsOutcome text (Ok tokens) = rw cut at (outcome-one text).0 in

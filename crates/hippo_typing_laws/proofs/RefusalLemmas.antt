@@ -1,4 +1,4 @@
--- What holds where nothing is refused.
+-- What holds if nothing is refused.
 use Rattle.std.proofs.Common.{◌≡◌, Bool, true, false, List, [], ◌∷◌, ◌++◌, Option, Some, None, refl, ap, sym, ◌∙◌}
 use Rattle.std.specs.Prelude.{is_none, is_some, not, option_map}
 use Rattle.std.specs.Option.{option_map_or}
@@ -18,7 +18,7 @@ pub absent : {A : Type 0} (found : Option A) (fault : NameFault) → fault_if (i
 absent (Some x) fault none = absurd cc
 absent None fault none = refl
 
--- what a look-up that is there was mapped from
+-- what a mapped look-up that found something was mapped from
 pub record IsFrom {A B : Type 0} (f : A → B) (found : Option A) (made : B) : Type 0 where
   pub from : A
   pub is : found ≡ Some from
@@ -28,6 +28,6 @@ pub mapped : {A B : Type 0} (f : A → B) (found : Option A) (made : B) → opti
 mapped f None made e = absurd cc
 mapped f (Some x) made e = record { from = x; is = refl; gives = cc }
 
--- what is refused of something that is there
+-- the refusals for something that exists
 pub refused_there : {A : Type 0} (refusals : A → List NameFault) (found : Option A) (x : A) → found ≡ Some x → option_map_or refusals found [] ≡ [] → refusals x ≡ []
 refused_there {A} refusals found x is none = sym (ap (λ (o : Option A). option_map_or refusals o []) is) ∙ none

@@ -1,4 +1,4 @@
--- What the checks say of a row that is inserted, updated or deleted.
+-- What the checks guarantee of a row that is inserted, updated or deleted.
 use Rattle.std.proofs.Common.{◌≡◌, zero, suc, ◌≤◌, true, false, List, [], ◌∷◌, ◌++◌, length, Option, Some, None, refl, sym, ap, subst, ◌∙◌, arith}
 use Rattle.std.specs.Prelude.{◌==◌, nat_le, nat_eq, filter_map, slice_get, slice_set, option_and_then}
 use Rattle.std.specs.Cmp.Lexicographic.{pointwise}
@@ -31,7 +31,7 @@ use Rattle.hippo_typing_laws.specs.Written.{is_typed}
 use Rattle.hippo_typing_laws.proofs.PlaceLemmas.{found_at, parted}
 use Rattle.hippo_typing_laws.proofs.RefusalLemmas.{none_of_both, not_refused, passed}
 
--- nothing is refused of a value in a column
+-- a value is not refused for a column
 pub record IsUnrefused (column : Column) (value : Value) : Type 0 where
   pub kind : kind_refused column value ≡ []
   pub null : null_refused column value ≡ []
@@ -43,7 +43,7 @@ value_fits column (Text text) u = and_from _ _ (passed (has_kind column.kind (Te
 value_fits column (Int number) u = passed (has_kind column.kind (Int number)) TypeMismatch u.kind
 value_fits column (Day day) u = passed (has_kind column.kind (Day day)) TypeMismatch u.kind
 
--- a value that fits, of its type, can be kept
+-- a value that fits its column and its type can be stored
 value_kept : (column : Column) (value : Value) → fits column value ≡ true → is_typed value ≡ true → value_is_keepable value ≡ true
 value_kept column Null fit typed = refl
 value_kept column (Int number) fit typed = typed
@@ -52,7 +52,7 @@ value_kept column (Text text) fit typed =
     and_from _ _ (and_parts (nat_le (length text) text_limit) (list_all is_plain text) rule).0 typed
 value_kept column (Day day) fit typed = typed
 
--- a value that can be kept is of its type
+-- a value that can be stored fits its type
 value_typed : (value : Value) → value_is_keepable value ≡ true → is_typed value ≡ true
 value_typed Null kept = refl
 value_typed (Int number) kept = kept
@@ -69,7 +69,7 @@ typed_kept (column ∷ columns) (value ∷ row) fit typed =
     let later = typed_kept columns row fits_here.1 types.1 in
     (and_from _ _ (value_kept column value fits_here.0 types.0) later.0, ap suc later.1)
 
--- a row that fits a table of at most 64 columns can be kept
+-- a row that fits a table of at most 64 columns can be stored
 pub row_kept : (schema : Schema) (row : Row) → length schema.columns ≤ 64 → row_fits schema row ≡ true → list_all is_typed row ≡ true → cells_are_keepable row ≡ true
 row_kept schema row few fit typed =
     let kept = typed_kept schema.columns row fit typed in
@@ -81,7 +81,7 @@ row_typed (value ∷ row) kept =
     let parts = and_parts (value_is_keepable value) (list_all value_is_keepable row) kept in
     and_from _ _ (value_typed value parts.0) (row_typed row parts.1)
 
--- the values of a row that is inserted fit
+-- the values of an inserted row fit
 values_fit : (columns : List Column) (values : Row) → length values ≡ length columns
     → row_refused kind_refused columns values ≡ [] → row_refused null_refused columns values ≡ [] → row_refused text_refused columns values ≡ [] → pointwise fits columns values ≡ true
 values_fit [] [] count kinds nulls texts = refl
@@ -121,7 +121,7 @@ typed-set (first ∷ row) (suc place) value typed all =
     let parts = and_parts (is_typed first) (list_all is_typed row) all in
     and_from _ _ parts.0 (typed-set row place value typed parts.1)
 
--- a row with values written in it is of its types
+-- a row with values written into it fits its types
 pub written_typed : (places : List Place) (values : List Value) (row : Row) → list_all is_typed values ≡ true → list_all is_typed row ≡ true → list_all is_typed (written_row places values row) ≡ true
 written_typed [] values row types all = all
 written_typed (place ∷ places) [] row types all = all
@@ -130,7 +130,7 @@ written_typed (place ∷ places) (value ∷ values) row types all =
     written_typed places values (slice_set row place value) parts.1 (typed-set row place value parts.0 all)
 
 module _ (schema : Schema) where
-  -- nothing is refused of values that are assigned
+  -- assigned values are not refused
   pub record AreUnrefused (assigned : List (Name × Value)) : Type 0 where
     pub kinds : assigned_refused kind_refused schema assigned ≡ []
     pub nulls : assigned_refused null_refused schema assigned ≡ []
@@ -142,7 +142,7 @@ module _ (schema : Schema) where
       let is : column_named schema name ≡ Some column = ap (option_and_then (slice_get schema.columns)) found ∙ at in
       sym (ap (λ (c : Option Column). option_map_or (λ column. refusals column value) c []) is) ∙ none
 
-  -- a row fits when values are written that fit
+  -- a row still fits when values that fit are written into it
   pub written_fits : (names : List Name) (values : List Value) (row : Row) → unknown_columns schema names ≡ [] → AreUnrefused (zip names values) → row_fits schema row ≡ true → row_fits schema (written_row (places_named schema names) values row) ≡ true
   written_fits [] values row known u fit = fit
   written_fits (name ∷ names) [] row known u fit =
@@ -163,7 +163,7 @@ module _ (schema : Schema) where
       subst (λ (found : Option Place). row_fits schema (written_row (cons_option found (places_named schema names)) (value ∷ values) row) ≡ true) (sym first.found)
       (written_fits names values (slice_set row first.place value) first.known (record { kinds = kinds.1; nulls = nulls.1; texts = texts.1 }) set)
 
-  -- of assignments and keys, nothing is refused of the assignments
+  -- if assignments and keys together are not refused, the assignments are not
   pub first_unrefused : (assigned keys : List (Name × Value)) → assignments_refused schema (assigned ++ keys) ≡ [] → AreUnrefused assigned
   first_unrefused assigned keys none =
       let all : List (Name × Value) = assigned ++ keys in
@@ -185,7 +185,7 @@ module _ (schema : Schema) where
       let later = cell-set key place value row parts.1 in
       λ i. here i ∷ later i
 
-  -- a row's key stays where no column of the key is written
+  -- a row keeps its key if no key column is written
   pub key_stays : (names : List Name) (values : List Value) (row : Row) → unknown_columns schema names ≡ [] → key_changed schema names ≡ [] → key_of schema.key (written_row (places_named schema names) values row) ≡ key_of schema.key row
   key_stays [] values row known unchanged = refl
   key_stays (name ∷ names) [] row known unchanged =
@@ -209,7 +209,7 @@ pointwise-at (one ∷ columns) (value ∷ row) zero column fit at =
 pointwise-at (one ∷ columns) (value ∷ row) (suc place) column fit at =
     pointwise-at columns row place column (and_parts (fits one value) (pointwise fits columns row) fit).1 at
 
--- the key of a row that fits, fits
+-- the key of a row that fits also fits
 pub key_of-fits : (schema : Schema) (row : Row) → row_fits schema row ≡ true → (key : List Place) → list_all (column_passes key_column_fits schema) key ≡ true → pointwise fits (filter_map (slice_get schema.columns) key) (key_of key row) ≡ true
 key_of-fits schema row fit [] all = refl
 key_of-fits schema row fit (place ∷ key) all =
@@ -224,7 +224,7 @@ cell_kept [] place all = refl
 cell_kept (value ∷ row) zero all = (and_parts (value_is_keepable value) (list_all value_is_keepable row) all).0
 cell_kept (value ∷ row) (suc place) all = cell_kept row place (and_parts (value_is_keepable value) (list_all value_is_keepable row) all).1
 
--- and can be kept
+-- and can be stored
 pub key_of-kept : (row : Row) → list_all value_is_keepable row ≡ true → (key : List Place) → list_all value_is_keepable (key_of key row) ≡ true
 key_of-kept row all [] = refl
 key_of-kept row all (place ∷ key) = and_from _ _ (cell_kept row place all) (key_of-kept row all key)

@@ -1,4 +1,4 @@
--- What the checks say of a rule.
+-- What the checks guarantee of a rule.
 use Rattle.std.proofs.Common.{◌≡◌, ℕ, ◌≤◌, Bool, true, false, ◌&&◌, List, [], length, Option, Some, None, refl, ap, ◌∙◌, arith}
 use Rattle.std.specs.Prelude.{not, nat_le, nat_eq}
 use Rattle.std.specs.List.{list_all}
@@ -23,7 +23,7 @@ use Rattle.hippo_typing_catalog.proofs.DifferLemmas.{names_differ}
 use Rattle.hippo_typing_laws.proofs.PlaceLemmas.{length-places, places_within, places_differ, no_more_than, below_more}
 use Rattle.hippo_typing_laws.proofs.RefusalLemmas.{none_of_both}
 
--- a table that can be kept has at most 64 columns
+-- a table that can be stored has at most 64 columns
 pub few_columns : (schema : Schema) → schema_is_keepable schema ≡ true → length schema.columns ≤ 64
 few_columns schema kept =
     let keyed = (and_parts (is_folded_name schema.name && columns_are_keepable schema.columns && key_is_keepable schema.key) (subject_is_keepable schema.subject) kept).0 in
@@ -32,7 +32,7 @@ few_columns schema kept =
     let short = (and_parts (is_short schema.columns) (list_all (λ (column : Column). is_folded_name column.name) schema.columns) columns).0 in
     leb-true (length schema.columns) 64 (and_parts (nat_le 1 (length schema.columns)) (nat_le (length schema.columns) column_limit) short).1
 
--- and as many columns of its key
+-- and at most 64 key columns
 pub few_key : (schema : Schema) → schema_is_keepable schema ≡ true → length schema.key ≤ 64
 few_key schema kept =
     let keyed = (and_parts (is_folded_name schema.name && columns_are_keepable schema.columns && key_is_keepable schema.key) (subject_is_keepable schema.subject) kept).0 in
@@ -59,7 +59,7 @@ module _ (schema : Schema) (columns : List Name) (none : rule_refused columns sc
       let count = no_more_than (length schema.columns) (places_named schema columns) differ (places_within schema columns) in
       and_from _ _ (lt-ltb (length (places_named schema columns)) 256 (omega arith)) (below_more (length schema.columns) 256 (places_named schema columns) (omega arith) (places_within schema columns))
 
--- days within their limits have room
+-- days within their limits can be stored
 pub days_kept : (days : Option ℕ) → days_fit days ≡ true → days_are_keepable days ≡ true
 days_kept None fit = refl
 days_kept (Some days) fit =
@@ -67,7 +67,7 @@ days_kept (Some days) fit =
     lt-ltb days 4294967296 (omega arith)
 
 module _ (history : History) (names : NamesAreThoseOf history) (table : Name) (schema : Schema) (found : schema_at history table ≡ Some schema) where
-  -- what a table's schema passes
+  -- a test that a table's schema passes
   pub table_so : (test : Schema → Bool) → test schema ≡ true → table_passes history test table ≡ true
   table_so test passes = ap (λ (found : Option Schema). option_map_or test found false) found ∙ passes
 

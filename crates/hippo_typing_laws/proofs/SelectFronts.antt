@@ -1,4 +1,5 @@
--- A part of the grammar takes a front of the tokens, and stays that part whatever follows this front.
+-- A part of the grammar takes a front of the tokens, and is the same part whatever follows this
+-- front.
 use Rattle.std.proofs.Common.{◌≡◌, List, [], ◌∷◌, ◌++◌, Option, codes, refl, sym, ap, subst, ◌∙◌}
 use Rattle.std.proofs.lemmas.List.{append_assoc}
 use Rattle.hippo_values.specs.declared.values.Value.{Value}
@@ -18,17 +19,17 @@ use Rattle.hippo_spj_reader.specs.Front.{Kinds}
 use Rattle.hippo_spj_reader.specs.ListGrammar.{IsListOf, last_part, more_parts}
 use Rattle.hippo_spj_reader.specs.SelectGrammar.{IsItem, one_column, all_of_table, AreItems, star, listed_items, AreJoined, no_more, comma_table, join, inner_join, IsWhere, no_where, condition, IsScope, scope, IsOut, column_out, minimum, maximum, IsSelect, plain_select, distinct, grouped_select}
 
--- the part takes a front of the tokens, whatever follows
+-- a part of the grammar takes a front of the tokens, whatever follows
 pub record TakesFront (IsPart : Kinds → Kinds → Type 0) (tokens rest : Kinds) : Type 0 where
   pub front : Kinds
   pub parts : tokens ≡ front ++ rest
   pub again : (other : Kinds) → IsPart (front ++ other) other
 
--- these tokens alone are the part
+-- these tokens on their own are the part
 alone : {IsPart : Kinds → Kinds → Type 0} (front : Kinds) {rest : Kinds} → ((other : Kinds) → IsPart (front ++ other) other) → TakesFront IsPart (front ++ rest) rest
 alone front again = record { front = front; parts = refl; again = again }
 
--- tokens before a part, and tokens behind it, are taken with it
+-- tokens before and after a part are taken with it
 around : {IsPart IsWhole : Kinds → Kinds → Type 0} (before remaining : Kinds) {tokens rest : Kinds} →
     TakesFront IsPart tokens (remaining ++ rest) → ((tokens other : Kinds) → IsPart tokens (remaining ++ other) → IsWhole (before ++ tokens) other) → TakesFront IsWhole (before ++ tokens) rest
 around {IsWhole = IsWhole} before remaining {tokens = tokens} {rest = rest} part whole =
@@ -40,7 +41,7 @@ around {IsWhole = IsWhole} before remaining {tokens = tokens} {rest = rest} part
       again = λ other. subst (λ (k : Kinds). IsWhole k other) (grouped_by other) (whole (part.front ++ (remaining ++ other)) other (part.again (remaining ++ other)));
     }
 
--- a part, some tokens, and a second part behind them
+-- a part, some tokens, and then a second part
 both : {IsPart IsNext IsWhole : Kinds → Kinds → Type 0} (middle : Kinds) {tokens others rest : Kinds} →
     TakesFront IsPart tokens (middle ++ others) → TakesFront IsNext others rest →
     ((tokens others other : Kinds) → IsPart tokens (middle ++ others) → IsNext others other → IsWhole tokens other) → TakesFront IsWhole tokens rest
@@ -54,7 +55,7 @@ both {IsWhole = IsWhole} middle {tokens = tokens} {others = others} {rest = rest
           (whole (part.front ++ (middle ++ (next.front ++ other))) (next.front ++ other) other (part.again (middle ++ (next.front ++ other))) (next.again other));
     }
 
--- the two, and what the first of them is followed by
+-- two parts, and what follows the first of them
 abbrev Follow : (Kinds → Kinds → Type 0) → Kinds → (Kinds → Kinds → Type 0) → Kinds → Kinds → Type 0
 Follow IsPart middle IsNext tokens rest = (others : Kinds) × IsPart tokens (middle ++ others) × IsNext others rest
 
@@ -152,7 +153,7 @@ takes-scope : {tokens rest : Kinds} {s : _} → IsScope tokens s rest → Takes 
 takes-scope (scope {table = t} are_joined is_where is_whole) =
     around (Keyword KFrom ∷ Word t ∷ []) [] (followed [] (takes-joined are_joined) (takes-where is_where)) (λ tokens other sources. scope sources.1 sources.2 is_whole)
 
--- a select takes a front of the tokens, and stays that select whatever follows
+-- a select takes a front of the tokens, and is the same select whatever follows
 pub takes-select : {tokens rest : Kinds} {s : RawSelect} → IsSelect tokens s rest → Takes IsSelect s tokens rest
 takes-select (plain_select are_items is_scope) =
     around (Keyword KSelect ∷ []) [] (followed [] (takes-items are_items) (takes-scope is_scope)) (λ tokens other parts. plain_select parts.1 parts.2)

@@ -1,4 +1,4 @@
--- What comes of a part of a text.
+-- The tokens of a part of a text.
 use Rattle.std.proofs.Common.{◌≡◌, ℕ, ◌+◌, true, false, Bool, List, [], ◌∷◌, ◌++◌, length, Result, Ok, Err, refl, sym, ap, subst, ◌∙◌, inl, inr, arith}
 use Rattle.std.specs.List.{list_all}
 use Rattle.std.proofs.lemmas.Bool.{and_parts, and_from, both_ways}
@@ -18,7 +18,7 @@ use Rattle.hippo_spj_reader.specs.Front.{kinds}
 abbrev Outcome : Type 0
 Outcome = Result (List Token) LexFault
 
--- What does not begin so, does not where less of it stands there.
+-- Bytes that do not begin in some way still do not when fewer bytes follow.
 begins-less : (test : ℕ → Bool) (front remaining : List ℕ) → begins_with test (front ++ remaining) ≡ false → begins_with test front ≡ false
 begins-less test [] remaining ends = refl
 begins-less test (byte ∷ front) remaining ends = ends
@@ -29,7 +29,7 @@ whole-less word front remaining whole = record { form = whole.form; ends = begin
 longest-less : (text front remaining : List ℕ) → IsLongestSign text (front ++ remaining) → IsLongestSign text front
 longest-less text front remaining longest = λ byte more is. longest byte (more ++ remaining) (ap (λ (b : List ℕ). b ++ remaining) is)
 
--- A quoted text behind blanks.
+-- A quoted text after blanks.
 abbrev QuotedThere : List ℕ → List ℕ → Type 0
 QuotedThere bytes blanks = (text : List ℕ) × (rest : List ℕ) × IsQuotedAfter bytes blanks text rest
 
@@ -69,7 +69,7 @@ no_blank bytes text rest kind byte more h cut parts blank =
     let same : begins.first ≡ byte = first_is begins.first byte (begins.tail ++ rest) more (ap (λ (b : List ℕ). b ++ rest) (sym begins.parts) ∙ (sym cut ∙ parts)) in
     both_ways _ begins.blank (ap is_blank same ∙ blank)
 
--- where a quote stands first behind blanks of a text that has tokens, a quoted text stands there
+-- if a quote comes first after the blanks of a text that has tokens, a quoted text is there
 quote_opens : (place : ℕ) (bytes : List ℕ) (outcome : Outcome) (tokens : List Token) (blanks more : List ℕ) → IsCut place bytes outcome → outcome ≡ Ok tokens → list_all is_blank blanks ≡ true → bytes ≡ blanks ++ 39 ∷ more → QuotedThere bytes blanks
 quote_opens place bytes outcome tokens [] more (at_end _) ok gap parts = absurd cc
 quote_opens place bytes outcome tokens (blank ∷ blanks) more (at_end _) ok gap parts = absurd cc
@@ -85,7 +85,7 @@ quote_opens place bytes outcome tokens (blank ∷ blanks) more (at_token _ _ tex
     absurd (no_blank bytes text rest kind blank (blanks ++ 39 ∷ more) h cut parts (and_parts (is_blank blank) (list_all is_blank blanks) gap).0)
 quote_opens place bytes outcome tokens blanks more (at_fault _ _ fault h) ok gap parts = absurd cc
 
--- the word DATE has no quoted text behind it where less stands there
+-- if the word DATE has no quoted text after it, it has none when fewer bytes follow
 alone-less : (place : ℕ) (tokens : List Token) (front remaining : List ℕ) → IsCut place (front ++ remaining) (Ok tokens) → ((blanks text more : List ℕ) → ¬ (IsQuotedAfter (front ++ remaining) blanks text more)) → (blanks text more : List ℕ) → ¬ (IsQuotedAfter front blanks text more)
 alone-less place tokens front remaining is_cut alone = λ blanks text more there.
     let rest : List ℕ = doubled_quotes text ++ 39 ∷ [] ++ more ++ remaining in
@@ -93,7 +93,7 @@ alone-less place tokens front remaining is_cut alone = λ blanks text more there
     let opens = quote_opens place (front ++ remaining) (Ok tokens) tokens blanks rest is_cut refl there.gap parts in
     alone blanks opens.0 opens.1 opens.2
 
--- A token stays a token where less stands behind it, which has tokens.
+-- A token stays a token when fewer bytes follow, if those have tokens.
 day_less : (word remaining blanks text front rest : List ℕ) → OpensDay word remaining blanks text (front ++ rest) → OpensDay word (blanks ++ (quoted_text text ++ front)) blanks text front
 day_less word remaining blanks text front rest opens =
     let quotation = opens.quotation in
@@ -118,12 +118,12 @@ token-less place tokens text remaining front rest kind (a_day _ word after blank
     a_day text word (blanks ++ (quoted_text said ++ front)) blanks said front day (day_less word after blanks said front rest opens_there) is_day spelled
 token-less place tokens text remaining front rest kind (a_sign _ _ sign h longest) parts is_cut = a_sign text front sign h (longest-less text front rest (rw (← parts) longest))
 
--- where the last of some tokens ends, from a place on
+-- where the last of some tokens ends; the place itself if there are none
 abbrev pub end_from : ℕ → List Token → ℕ
 end_from place [] = place
 end_from place (token ∷ tokens) = end_from token.end tokens
 
--- a text has a front that has just the first tokens and ends with them
+-- a text has a front that has exactly the first tokens and ends with them
 pub record HasFront (place : ℕ) (bytes : List ℕ) (tokens : List Token) : Type 0 where
   pub front : List ℕ
   pub rest : List ℕ
@@ -131,7 +131,7 @@ pub record HasFront (place : ℕ) (bytes : List ℕ) (tokens : List Token) : Typ
   pub size : place + length front ≡ end_from place tokens
   pub cut : IsCut place front (Ok tokens)
 
--- a text has an end that begins with a token and has the tokens from it on
+-- a text has an end that begins with a token and has the tokens from there on
 pub record HasEnd (place : ℕ) (bytes : List ℕ) (first : Token) (tokens : List Token) : Type 0 where
   pub front : List ℕ
   pub rest : List ℕ
@@ -139,7 +139,7 @@ pub record HasEnd (place : ℕ) (bytes : List ℕ) (first : Token) (tokens : Lis
   pub size : place + length front ≡ first.start
   pub cut : IsCut first.start rest (Ok (first ∷ tokens))
 
--- The first of the tokens, and the others.
+-- The first of the tokens, and the other tokens.
 abbrev Later : Token → Outcome → List Token → Type 0
 Later token later tokens = (others : List Token) × (later ≡ Ok others) × (tokens ≡ token ∷ others)
 
@@ -229,7 +229,7 @@ end_of place bytes outcome (one ∷ skipped) first tokens (at_token _ _ text res
 end_of place bytes outcome [] first tokens (at_fault _ _ fault h) ok = absurd cc
 end_of place bytes outcome (one ∷ skipped) first tokens (at_fault _ _ fault h) ok = absurd cc
 
--- Wherever a text stands, its tokens say the same.
+-- The tokens of a text say the same wherever the text begins.
 abbrev CutAt : ℕ → List ℕ → List Token → Type 0
 CutAt place bytes tokens = (others : List Token) × IsCut place bytes (Ok others) × (kinds others ≡ kinds tokens)
 

@@ -1,4 +1,4 @@
--- The tokens of a text are typed: what each says is as its type has it.
+-- The tokens of a text fit their types.
 use Rattle.std.proofs.Common.{◌≡◌, ℕ, zero, suc, ◌+◌, ◌-◌, ◌<◌, ◌≤◌, true, false, List, [], ◌∷◌, ◌++◌, length, get_or, Result, Ok, Err, IfOk, refl, sym, subst, append_assoc, length-append, arith, ℤ}
 use Rattle.std.specs.Prelude.{IsUtf8, IsCharBoundary, if◌then◌else◌}
 use Rattle.std.specs.List.{list_all}
@@ -22,21 +22,21 @@ use Rattle.hippo_typing_laws.specs.Written.{kind_is_typed}
 use Rattle.hippo_typing_laws.specs.WrittenLaws.{TokensAreTyped}
 use Rattle.hippo_typing_laws.proofs.FoldedNames.{folded_so}
 
--- both parts of a text that may be cut there
+-- both parts of a text that is cut at a character boundary
 two_parts : (front rest : List ℕ) → IsUtf8 (front ++ rest) → IsCharBoundary (front ++ rest) (length front) → IsUtf8 front × IsUtf8 rest
 two_parts front rest utf8 bound = (
   subst (λ (bytes : List ℕ). IsUtf8 bytes) (take_at front rest (length front) refl) (IsUtf8-take (front ++ rest) (length front) utf8 bound),
   subst (λ (bytes : List ℕ). IsUtf8 bytes) (drop_at front rest (length front) refl) (IsUtf8-drop (front ++ rest) (length front) utf8 bound),
 )
 
--- a text may be cut before a byte of ASCII
+-- a text may be cut before an ASCII byte
 pub before_ascii : (front : List ℕ) (byte : ℕ) (rest : List ℕ) → byte < 128 → IsUtf8 (front ++ byte ∷ rest) → IsUtf8 front × IsUtf8 (byte ∷ rest)
 before_ascii front byte rest small utf8 =
     let within : length front < length (front ++ byte ∷ rest) = simp length-append (omega arith) in
     let there : get_or (front ++ byte ∷ rest) (length front) 0 < 128 = rw (get_or_at front byte rest 0 (length front) refl) small in
     two_parts front (byte ∷ rest) utf8 (IsCharBoundary-before_ascii (front ++ byte ∷ rest) (length front) within there)
 
--- and behind one
+-- and after one
 pub after_ascii : (byte : ℕ) (rest : List ℕ) → byte < 128 → IsUtf8 (byte ∷ rest) → IsUtf8 rest
 after_ascii byte rest small utf8 =
     let within : 0 < length (byte ∷ rest) = omega arith in
@@ -49,7 +49,7 @@ a_quote = IsUtf8-from_ascii (39 ∷ []) small
     small zero = omega arith
     small (suc i) = omega arith
 
--- a text whose quotes are doubled is UTF-8 only where the text is
+-- if a text with doubled quotes is UTF-8, the text itself is UTF-8
 undoubled : (front text : List ℕ) → IsUtf8 (front ++ doubled_quotes text) → IsUtf8 (front ++ text)
 undoubled front [] utf8 = utf8
 undoubled front (byte ∷ text) utf8 =
@@ -101,7 +101,7 @@ cut_typed place bytes outcome utf8 (at_token _ _ said rest kind later _ h is_cut
     one_more (record { kind = kind; start = place; end = place + length said }) later outcome (kind_typed said rest kind parts.0 h) (cut_typed (place + length said) rest later parts.1 is_cut) first
 cut_typed place bytes outcome utf8 (at_fault _ _ fault h) = tt
 
--- the tokens of a text are typed
+-- the tokens of a text fit their types
 pub tokens_are_typed : TokensAreTyped
 tokens_are_typed text tokens utf8 found =
     let is_cut : IsOutcome text (Ok tokens) = rw found at (outcome-one text).0 in

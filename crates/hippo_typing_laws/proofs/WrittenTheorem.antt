@@ -1,4 +1,4 @@
--- What the grammar finds over typed tokens is written.
+-- What the grammar finds in tokens that fit their types is well formed.
 use Rattle.std.proofs.Common.{◌≡◌, ℕ, Bool, true, false, ◌&&◌, List, [], ◌∷◌, length, Option, refl, sym, subst, arith}
 use Rattle.std.specs.List.{list_all}
 use Rattle.std.proofs.lemmas.Bool.{and_parts, and_from, le-leb}
@@ -26,7 +26,7 @@ use Rattle.hippo_typing_laws.specs.WrittenLaws.{StatementsAreWritten}
 abbrev are_typed : Kinds → Bool
 are_typed tokens = list_all kind_is_typed tokens
 
--- the members of a list fit, there is one, and what follows is typed
+-- the members of a list fit, there is at least one, and the tokens after it fit their types
 record IsFitList {X : Type 0} (fit : X → Bool) (members : List X) (rest : Kinds) : Type 0 where
   fits : list_all fit members ≡ true
   some : has_members members ≡ true
@@ -133,6 +133,6 @@ statement_written tokens _ typed (statements.select is_placed) = refl
 statement_written _ _ typed (open_select is_open is_placed) = refl
 statement_written _ _ typed (extract_select is_extract is_placed) = refl
 
--- what the grammar finds over typed tokens is written
+-- what the grammar finds in tokens that fit their types is well formed
 pub statements_are_written : StatementsAreWritten
 statements_are_written tokens statement typed found = statement_written tokens statement typed (statement_theorem.found tokens statement found)

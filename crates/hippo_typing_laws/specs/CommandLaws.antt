@@ -1,4 +1,4 @@
--- What holds of the statements that lines command.
+-- Laws on the statements that lines command.
 use Rattle.std.specs.Prelude.{◌≡◌, ℕ, ◌<◌, true, length, IsUtf8, Some}
 use Rattle.hippo_values.specs.Texts.{Txt}
 use Rattle.hippo_io.specs.Lines.{text_line}
@@ -9,8 +9,8 @@ use Rattle.hippo_typing_laws.specs.ReadingLaws.{select_place, ReadsByItself}
 use Rattle.hippo_stmt_lines.specs.Commands.{make_statement, command_of}
 use Rattle.hippo_typing_laws.specs.Written.{is_written}
 
--- a statement is written and stands in a text of UTF-8, which is shorter than its line; a question
--- reads by itself in it
+-- a statement is well formed and is part of a UTF-8 text that is shorter than its line; a question
+-- in it can be read on its own
 pub record StandsInLine (line : Txt) (statement : Stmt) (text : Txt) : Type 0 where
   pub written : is_written statement ≡ true
   pub utf8 : IsUtf8 text
@@ -19,7 +19,7 @@ pub record StandsInLine (line : Txt) (statement : Stmt) (text : Txt) : Type 0 wh
       → select_place statement ≡ Some (select, start, end)
       → ReadsByItself text select start end
 
--- the statement that a line commands is so
+-- this holds of every statement that a line commands
 abbrev pub CommandsAreWritten : Type 0
 CommandsAreWritten =
     (line : Txt) (who : Speaker) (statement : Stmt) (text : Txt) → IsUtf8 line

@@ -14,17 +14,17 @@ use Rattle.hippo_typing_catalog.specs.ChangesWanted.{wanted_by}
 use Rattle.hippo_tables.specs.Finished.{finished_act}
 use Rattle.hippo_typing_laws.specs.Written.{is_written}
 
--- the entry of an act that comes next
+-- the next entry of a history, with this act
 abbrev pub following_entry : History → Moment → Act → Entry
 following_entry history moment act = record { seq = length history + 1; moment = moment; act = act }
 
--- the next number has 64 bits, and the moment is one of the calendar's and not before the last
+-- the next number has 64 bits, and the moment lies in the calendar and is not before the last one
 pub record HasRoomAt (history : History) (moment : Moment) : Type 0 where
   pub number : nat_lt (length history + 1) 18446744073709551616 ≡ true
   pub moment_fits : is_moment moment ≡ true
   pub order : keeps_order history moment ≡ true
 
--- a statement that the checks let pass after a history, and the act that it comes to
+-- a statement passes its checks after a history and makes this act
 pub record ComesTo (history : History) (statement : Stmt) (act : Act) : Type 0 where
   pub written : is_written statement ≡ true
   pub unrefused : change_refused (known_at history) statement ≡ []
@@ -32,7 +32,7 @@ pub record ComesTo (history : History) (statement : Stmt) (act : Act) : Type 0 w
   pub wants : wanted_by (known_at history) statement ≡ Some wanted
   pub comes : finished_act history wanted ≡ Ok act
 
--- the entry of a statement that the checks let pass may follow the history
+-- the entry of a statement that passes its checks may follow the history
 abbrev pub ChangesMayFollow : Type 0
 ChangesMayFollow =
     (meaning : Meaning) (history : History) (moment : Moment) (statement : Stmt) (act : Act)

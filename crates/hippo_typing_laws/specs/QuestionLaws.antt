@@ -1,4 +1,4 @@
--- What may follow a history where a question is asked.
+-- Laws on the questions that may follow a history.
 use Rattle.std.specs.Prelude.{◌≡◌, ℕ, ◌≤◌, true, [], length, slice_range, IsUtf8}
 use Rattle.hippo_values.specs.Limits.{line_limit}
 use Rattle.hippo_values.specs.Texts.{Txt}
@@ -17,9 +17,9 @@ use Rattle.hippo_typing_laws.specs.ReadingLaws.{ReadsByItself}
 use Rattle.hippo_typing_laws.specs.FollowingLaws.{following_entry, HasRoomAt}
 use Rattle.hippo_typing_laws.specs.Written.{names_fit}
 
--- a question that the checks let pass: it stands between two places of a text, is no longer than a
--- line and reads by itself as this select, of which nothing is refused; and its user may ask for
--- its purpose and recipient
+-- a question passes its checks: it lies between two places of a text, is no longer than a line,
+-- read on its own is this select, and is not refused; and its user may ask for its purpose and
+-- recipient
 pub record PassesChecks (history : History) (user purpose recipient : Name) (text : Txt)
     (select : RawSelect)
     (start end : ℕ) : Type 0 where
@@ -30,7 +30,7 @@ pub record PassesChecks (history : History) (user purpose recipient : Name) (tex
   pub names : names_fit user purpose recipient ≡ true
   pub authorized : authorized_at history user purpose recipient ≡ Yes
 
--- the entry of a question that the checks let pass may follow the history
+-- the entry of a question that passes its checks may follow the history
 abbrev pub QuestionsMayFollow : Type 0
 QuestionsMayFollow =
     (history : History) (moment : Moment) (user purpose recipient : Name) (text : Txt)

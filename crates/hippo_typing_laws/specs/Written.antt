@@ -1,4 +1,4 @@
--- What grammar and types say of a statement, before its names are looked up.
+-- What grammar and types guarantee of a statement, before its names are looked up.
 use Rattle.std.specs.Prelude.{Bool, true, ◌&&◌, List, length, nat_le}
 use Rattle.std.specs.List.{list_all}
 use Rattle.std.specs.Str.{is_utf8}
@@ -14,15 +14,16 @@ use Rattle.hippo_stmt_ast.specs.declared.statement.Stmt.TheVariants.{CreateTable
 use Rattle.hippo_model.specs.Keepable.{is_folded_name, item_is_keepable}
 use Rattle.hippo_model.specs.Validity.{days_fit}
 
--- a value as its type has it: a number of 64 bits, a text of UTF-8, a day of the years 0001 to 9999
+-- a value fits its type: a number has 64 bits, a text is UTF-8, a day lies in the years 0001 to
+-- 9999
 abbrev pub is_typed : Value → Bool
 is_typed Null = true
 is_typed (Int number) = is_signed_number number
 is_typed (Text text) = is_utf8 text
 is_typed (Day day) = is_day day
 
--- what a token says, as its type has it: a name in lower case, and a number, a text and a day as
--- values are
+-- what a token says fits its type: a name is in lower case, and a number, a text or a day fits as a
+-- value does
 abbrev pub kind_is_typed : TokenKind → Bool
 kind_is_typed (Word name) = is_folded_name name
 kind_is_typed (Number number) = is_signed_number number
@@ -30,11 +31,12 @@ kind_is_typed (Quoted text) = is_utf8 text
 kind_is_typed (DayToken day) = is_day day
 kind_is_typed kind = true
 
--- a list that the grammar finds has a member
+-- the grammar gives each list at least one member
 abbrev pub has_members : {A : Type 0} → List A → Bool
 has_members members = nat_le 1 (length members)
 
--- who asks, or is named by a rule, and what for
+-- three names are in lower case: a user, a purpose and a recipient, or a purpose, a recipient and a
+-- table
 abbrev pub names_fit : Name → Name → Name → Bool
 names_fit first second third = is_folded_name first && is_folded_name second && is_folded_name third
 
@@ -42,9 +44,8 @@ abbrev pub columns_written : List Column → Bool
 columns_written columns =
     has_members columns && list_all (λ column. is_folded_name column.name) columns
 
--- a statement that changes something is as grammar and types say: its names are names in lower
--- case, its lists have members, its values are those of their types, and its days are within their
--- limits
+-- a changing statement is well formed: its names are in lower case, its lists have members, its
+-- values fit their types, and its days are within their limits
 abbrev pub is_written : Stmt → Bool
 is_written (CreateTable table columns key subject) =
     is_folded_name table && columns_written columns && has_members key

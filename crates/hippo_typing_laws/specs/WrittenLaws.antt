@@ -9,13 +9,13 @@ use Rattle.hippo_spj_reader.specs.Front.{kinds}
 use Rattle.hippo_stmt_reader.specs.StatementFinder.{statement_of}
 use Rattle.hippo_typing_laws.specs.Written.{kind_is_typed, is_written}
 
--- a statement that is found over tokens whose kinds are typed is written
+-- a statement found in tokens that fit their types is well formed
 abbrev pub StatementsAreWritten : Type 0
 StatementsAreWritten =
     (tokens : List Token) (statement : Stmt) → list_all kind_is_typed (kinds tokens) ≡ true
     → statement_of tokens ≡ Some statement → is_written statement ≡ true
 
--- the tokens of a text say what their types allow
+-- the tokens of a text fit their types
 abbrev pub TokensAreTyped : Type 0
 TokensAreTyped =
     (text : Txt) (tokens : List Token) → IsUtf8 text → outcome_of text ≡ Ok tokens

@@ -1,5 +1,5 @@
-//! Laws on how texts are read and on what may follow a history: each is the contract of a function
-//! that does nothing. And what types say of values.
+//! Laws on how texts are read, on what may follow a history, and on what the types of moments and
+//! names guarantee. Each law is the contract of a function that does nothing.
 #![tactic(auto)]
 
 pub mod follow;

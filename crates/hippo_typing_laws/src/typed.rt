@@ -1,18 +1,18 @@
-//! What their types say of a moment and of a name: nothing of them is looked at.
+//! What the types of moments and names guarantee. These functions look at no value.
 ghost use Rattle.std.specs.Prelude.{◌≡◌, true};
 ghost use Rattle.hippo_values.specs.Moments.{is_moment};
 ghost use Rattle.hippo_model.specs.Keepable.{is_folded_name};
 
 use hippo_values::{Moment, Name};
 
-/// By its type a moment is one of the years 0001 to 9999.
+/// The type of a moment guarantees that it lies in the years 0001 to 9999.
 pub fn moment_fits(moment: Moment)
     ensures { is_moment moment ≡ true }
 {
     let _seconds = moment.seconds();
 }
 
-/// By its type a name is in lower case.
+/// The type of a name guarantees that it is in lower case.
 pub fn name_fits(name: &Name)
     ensures { is_folded_name name.now ≡ true }
 {

@@ -1,4 +1,5 @@
--- What is found is the audit expression of the grammar, and each audit expression of the grammar is found.
+-- What is found is the grammar's audit expression, and each audit expression of the grammar is
+-- found.
 use Rattle.std.proofs.Common.{[]}
 use Rattle.hippo_spj_reader.specs.Front.{kinds_between}
 use Rattle.hippo_spj_reader.proofs.WholeTheorem.{reads_all}

@@ -1,4 +1,4 @@
--- What is found of a select is what it means in a history.
+-- The meaning of a select that is found is its meaning in a history.
 use Rattle.std.proofs.Common.{◌≡◌, ◌⊎◌, Ok, Err, subst}
 use Rattle.hippo_report.specs.declared.refusal.Refusal.TheVariants.{Memory}
 use Rattle.hippo_typing_catalog.specs.Catalogs.{KnownNames, known_at}

@@ -1,4 +1,5 @@
--- The console's audit is the one that is meant, of each history that the state stands for.
+-- The console's audit is the one that the expression means, in every history that the state stands
+-- for.
 use Rattle.std.proofs.lemmas.Result.{IfOk-weaker}
 use Rattle.hippo_engine_checks.proofs.AuditLemmas.{audit_found, audit_stands}
 use Rattle.hippo_engine_checks.proofs.audits.audit_in.Goals as goal

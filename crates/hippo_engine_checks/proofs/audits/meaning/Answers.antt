@@ -1,4 +1,4 @@
--- What is found of an audit expression is what it means.
+-- The meaning of an audit expression that is found is its meaning.
 use Rattle.std.proofs.Common.{◌≡◌, []}
 use Rattle.hippo_typing_catalog.specs.AuditExpressions.{audit_refused, audit_of}
 use Rattle.hippo_stmt_lines.specs.Moments.{period_in}

@@ -1,4 +1,4 @@
--- Names and types are refused.
+-- The names and types are refused.
 use Rattle.std.proofs.Common.{subst}
 use Rattle.hippo_typing_catalog.specs.Catalogs.{KnownNames, known_at}
 use Rattle.hippo_typing_catalog.specs.ChangesRefused.{change_refused}

@@ -1,4 +1,4 @@
--- The entry that is found may follow.
+-- The entry that is found may follow the history.
 use Rattle.hippo_engine_checks.proofs.FollowingLemmas.{change_follows}
 use Rattle.hippo_engine_checks.proofs.changes.entry_of_change.Goals as goal
 

@@ -1,4 +1,4 @@
--- A job stands there, or the refusal is short.
+-- The job exists, or the refusal is short.
 use Rattle.std.proofs.Common.{◌≡◌, ◌<◌, ◌∙◌, ◌^◌, Err, arith, sym, subst, ℕ}
 use Rattle.hippo_report.specs.declared.refusal.Refusal.TheVariants.{NoJob}
 use Rattle.hippo_report.specs.declared.speaker.Speaker.TheVariants.{Console}

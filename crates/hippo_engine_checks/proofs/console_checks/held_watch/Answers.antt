@@ -1,4 +1,4 @@
--- A watch stands there, or the refusal is short.
+-- The watch exists, or the refusal is short.
 use Rattle.std.proofs.Common.{◌≡◌, ◌<◌, ◌∙◌, ◌^◌, Err, arith, sym, subst, ℕ}
 use Rattle.hippo_report.specs.declared.refusal.Refusal.TheVariants.{NoWatch}
 use Rattle.hippo_report.specs.declared.speaker.Speaker.TheVariants.{Console}

@@ -1,4 +1,4 @@
--- The clock is set, or that is refused.
+-- The clock is set, or the line is refused.
 use Rattle.hippo_stmt_lines.specs.Commands as commands
 use Rattle.hippo_engine_checks.proofs.FindingLemmas.{judges_found}
 use Rattle.hippo_engine_checks.proofs.judging.judge.Goals as goal

@@ -1,4 +1,4 @@
--- The values that are left.
+-- The values not yet visited.
 use Rattle.std.proofs.Common.{◌≡◌, drop}
 use Rattle.std.specs.List.{list_all}
 use Rattle.hippo_typing_laws.specs.Written.{is_typed}

@@ -1,4 +1,4 @@
--- A moment before the clock is refused, which is short.
+-- A moment before the clock is refused, with a short refusal.
 use Rattle.std.proofs.Common.{Ok, sym, subst, ap, ◌∙◌}
 use Rattle.std.specs.Prelude.{Bool}
 use Rattle.hippo_values.specs.Results.{◌>>=◌}

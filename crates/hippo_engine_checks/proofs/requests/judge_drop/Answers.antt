@@ -1,4 +1,4 @@
--- A job that stands there ends, or it is refused.
+-- An existing job ends, or the line is refused.
 use Rattle.std.proofs.Common.{rules}
 use Rattle.hippo_engine_checks.proofs.FindingLemmas.{may_drop, refused_drop}
 use Rattle.hippo_engine_checks.proofs.requests.judge_drop.Goals as goal

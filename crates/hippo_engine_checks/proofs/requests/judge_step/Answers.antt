@@ -1,4 +1,4 @@
--- A job that stands there may be looked at, or it is refused.
+-- An existing job takes a step, or the line is refused.
 use Rattle.std.proofs.Common.{rules}
 use Rattle.hippo_engine_checks.proofs.FindingLemmas.{may_step, refused_step}
 use Rattle.hippo_engine_checks.proofs.requests.judge_step.Goals as goal

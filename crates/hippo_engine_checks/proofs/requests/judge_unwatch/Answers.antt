@@ -1,4 +1,4 @@
--- A watch that stands there ends, or it is refused.
+-- An existing watch ends, or the line is refused.
 use Rattle.std.proofs.Common.{rules}
 use Rattle.hippo_engine_checks.proofs.FindingLemmas.{refused_unwatch}
 use Rattle.hippo_engine_checks.proofs.requests.judge_unwatch.Goals as goal

@@ -1,5 +1,5 @@
--- Nobody is refused what sessions ask for, as the console is, and what the console asks for, as
--- sessions are.
+-- If nobody speaks, a request for sessions is refused as to the console, and a request for the
+-- console as to a session.
 use Rattle.std.proofs.Common.{sym, ◌∙◌}
 use Rattle.hippo_stmt_lines.specs.LentForms.{request}
 use Rattle.hippo_engine_checks.proofs.RequestLemmas.{no_session, no_console}

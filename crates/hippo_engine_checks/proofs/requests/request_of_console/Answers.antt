@@ -1,4 +1,4 @@
--- What sessions alone ask for is refused to the console.
+-- A request that only sessions may make is refused to the console.
 use Rattle.std.proofs.Common.{refl}
 use Rattle.hippo_report.specs.declared.speaker.Speaker.TheVariants.{Console}
 use Rattle.hippo_engine_checks.proofs.RequestLemmas.{sessions_only}

@@ -1,4 +1,4 @@
--- What the console alone asks for is refused to a session.
+-- A request that only the console may make is refused to a session.
 use Rattle.std.proofs.Common.{refl, arith}
 use Rattle.hippo_report.specs.declared.speaker.Speaker.TheVariants.{Session}
 use Rattle.hippo_engine_checks.proofs.RequestLemmas.{console_only}

@@ -1,4 +1,5 @@
--- Nobody is refused a question, as the console is, and all else, as sessions are.
+-- If nobody speaks, a question is refused as to the console, and any other statement as to a
+-- session.
 use Rattle.std.proofs.Common.{refl}
 use Rattle.hippo_report.specs.declared.speaker.Speaker.TheVariants.{Nobody}
 use Rattle.hippo_engine_checks.proofs.FindingLemmas.{console_only, sessions_only}

@@ -1,4 +1,4 @@
--- The first part begins the list; each further part is the next of it.
+-- The first part begins the list; each further part is its next one.
 use Rattle.std.proofs.Common.{◌≡◌, ℕ, zero, suc, ◌<◌, ◌≤◌, [], length, None, Some, Result, List, Bor, refl, arith, sym}
 use Rattle.std.proofs.lemmas.Result.{err_from_is_err_and}
 use Rattle.hippo_lexer.specs.declared.faults.SyntaxFault.{SyntaxFault}
@@ -49,7 +49,7 @@ disjunction-returns-in_err-rest-clause-found t c n enough =
     rw (p.1, p.2) (breaks (conjunction_with (leading_negation n)) (after_keyword KOr) (λ parts. Some (any_of parts.0, parts.1)) _ c.loop-remaining.parts c.loop-remaining.rest.now c.in-Some.remaining.now
     (c.loop-remaining.invariant.so_far n enough) c.in-Some.ensures.rest c.in-Some.ensures.shorter (no_part _ c.loop-remaining.parts _ (c.in_err-rest.ensures.found n (omega (arith, c.in-Some.ensures.shorter)))))
 
--- where no NOT stands first, a negation is a primary
+-- if NOT does not come first, a negation is a primary
 plain : (result : Result (RawCond × Bor (List Token)) SyntaxFault) (tokens : List Token) (n : ℕ) → length tokens < n → None ≡ after_keyword KNot (kinds tokens) →
     ((m : ℕ) → length tokens ≤ m → Gives (λ x. (x.0, kinds x.1.now)) result (primary_with (leading_negation m) (kinds tokens))) →
     Gives (λ x. (x.0, kinds x.1.now)) result (leading_negation n (kinds tokens))

@@ -1,5 +1,5 @@
--- Each reader of the cycle takes what is read by the next after it; the parts so far and the list that is left make the
--- whole list.
+-- Each reader of the cycle continues with the next reader's result; the parts so far and the rest
+-- of the list make up the whole list.
 use Rattle.std.proofs.Common.{ℕ, ◌+◌, ◌*◌, ◌<◌, ◌≤◌, length}
 use Rattle.hippo_values.specs.declared.keywords.Keyword.TheVariants.{KAnd, KOr}
 use Rattle.hippo_spj_reader.specs.Front.{kinds, after_keyword}

@@ -1,4 +1,4 @@
--- NOT and parentheses are no deeper than there are tokens.
+-- NOT and parentheses are nested no deeper than the number of tokens.
 use Rattle.std.proofs.Common.{suc, length, arith}
 use Rattle.std.proofs.lemmas.List.{length-map}
 use Rattle.hippo_lexer.specs.declared.kinds.Token.{Token}

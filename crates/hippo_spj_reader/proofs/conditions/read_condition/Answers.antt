@@ -1,4 +1,4 @@
--- What is found is the condition of the grammar, and each condition of the grammar is found.
+-- What is found is the grammar's condition, and each condition of the grammar is found.
 use Rattle.std.proofs.Common.{[], refl}
 use Rattle.hippo_spj_reader.specs.ConditionGrammar.{IsCondition}
 use Rattle.hippo_spj_reader.specs.ConditionFinder.{leading_condition}

@@ -1,4 +1,4 @@
--- The first part begins the list; each further part is the next of it.
+-- The first part begins the list; each further part is its next one.
 use Rattle.std.proofs.Common.{arith}
 use Rattle.hippo_spj_reader.proofs.ListLoops.{begins, goes_on}
 use Rattle.hippo_spj_reader.proofs.lists.list.Goals as goal

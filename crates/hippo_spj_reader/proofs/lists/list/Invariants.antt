@@ -1,4 +1,4 @@
--- The parts so far and the list that is left make the whole list.
+-- The parts so far and the rest of the list make up the whole list.
 use Rattle.std.proofs.Common.{◌≤◌, length}
 use Rattle.hippo_spj_reader.specs.Front.{kinds}
 use Rattle.hippo_spj_reader.specs.ListFinder.{leading_list}

@@ -1,4 +1,4 @@
--- The parts so far and those of the conditions that are left make the whole list.
+-- The parts so far and those of the remaining conditions make up the whole list.
 use Rattle.std.proofs.Common.{◌≡◌, ◌++◌}
 use Rattle.std.specs.List.{flat_map}
 use Rattle.std.specs.Vec.Iter.{into_iter_items}

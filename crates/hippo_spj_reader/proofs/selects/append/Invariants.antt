@@ -1,4 +1,4 @@
--- What was added and what is left make the whole list.
+-- The added members and the remaining ones make up the whole list.
 use Rattle.std.proofs.Common.{◌≡◌, ◌++◌}
 use Rattle.std.specs.Vec.Iter.{into_iter_items}
 use Rattle.hippo_spj_reader.proofs.selects.append.Given as goal

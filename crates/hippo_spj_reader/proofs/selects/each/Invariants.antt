@@ -1,4 +1,4 @@
--- What was made and what is left make the whole list.
+-- The results so far and the remaining ones make up the whole list.
 use Rattle.std.proofs.Common.{◌≡◌, ◌++◌, Some}
 use Rattle.std.specs.Vec.Iter.{into_iter_items}
 use Rattle.hippo_values.specs.Options.{◌>>=◌}

@@ -1,4 +1,4 @@
--- Each table is the next of those that are left.
+-- Each table is the next of the remaining ones.
 use Rattle.std.proofs.Common.{◌<◌, [], length, refl, arith}
 use Rattle.hippo_spj_reader.proofs.SourceLoops.{begins, goes_on, ends}
 use Rattle.hippo_spj_reader.proofs.selects.from_list.Goals as goal

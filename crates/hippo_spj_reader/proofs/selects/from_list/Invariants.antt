@@ -1,4 +1,4 @@
--- The tables and conditions so far and those that are left are all of FROM.
+-- The tables and conditions so far and the remaining ones make up all of FROM.
 use Rattle.std.proofs.Common.{◌≤◌, length}
 use Rattle.hippo_spj_reader.specs.Front.{kinds}
 use Rattle.hippo_spj_reader.specs.SelectFinder.{leading_sources}

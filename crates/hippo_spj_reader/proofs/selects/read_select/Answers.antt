@@ -1,4 +1,4 @@
--- What is found is the select of the grammar, and each select of the grammar is found.
+-- What is found is the grammar's select, and each select of the grammar is found.
 use Rattle.std.proofs.Common.{[]}
 use Rattle.hippo_spj_reader.specs.SelectGrammar.{IsSelect}
 use Rattle.hippo_spj_reader.specs.SelectFinder.{leading_select}

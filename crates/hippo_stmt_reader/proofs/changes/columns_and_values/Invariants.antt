@@ -1,4 +1,4 @@
--- What was taken apart and what is left make the whole lists.
+-- The members split off and the remaining ones make up the whole lists.
 use Rattle.std.proofs.Common.{◌≡◌, ◌++◌}
 use Rattle.std.specs.Vec.Iter.{into_iter_items}
 use Rattle.hippo_stmt_reader.specs.StatementGrammar.{assigned_columns, assigned_values}

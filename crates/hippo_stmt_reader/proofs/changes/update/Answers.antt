@@ -1,4 +1,4 @@
--- The parts stand one behind the other, or the first that does not stand there is missing.
+-- The parts come one after the other, or the first missing part fails the read.
 use Rattle.std.proofs.lemmas.Result.{err_from_is_err_and}
 use Rattle.hippo_values.specs.declared.keywords.Keyword.TheVariants.{KAnd, KSet, KWhere}
 use Rattle.hippo_lexer.specs.declared.kinds.Symbol.TheVariants.{Comma}

@@ -1,4 +1,4 @@
--- What is found is the statement of the grammar, and each statement of the grammar is found.
+-- What is found is the grammar's statement, and each statement of the grammar is found.
 use Rattle.std.proofs.Common.{sym}
 use Rattle.std.proofs.lemmas.Result.{err_from_is_err_and}
 use Rattle.hippo_stmt_reader.proofs.StatementTheorem.{words_refused, read_found, read_only, read_errors}

@@ -9,11 +9,11 @@ use Rattle.hippo_typing_catalog.specs.WrittenColumns.{home_in, homes, homes_refu
 use Rattle.hippo_typing_catalog.proofs.ListLemmas.{filter_map_at_item}
 use Rattle.hippo_typing.proofs.columns.found_column.Goals as goal
 
--- what a column may be in the tables from a place on
+-- what a column may name in the tables from a place on
 abbrev homes_from : RawColumn → List Schema → ℕ → List Ref
 homes_from written tables place = filter_map (λ (place, schema). home_in written place schema) (enumerate_from place (drop place tables))
 
--- what was found before a table, what is found in it and what may stand behind it are all that a column may be
+-- the columns found before a table, in it and after it are all that a column may name
 one_more : (written : RawColumn) (tables : List Schema) (place : ℕ) (schema : Schema) (home : Option Ref) → slice_get tables place ≡ Some schema →
     option_to_list home ++ homes_from written tables place ≡ homes tables written →
     option_to_list home ++ option_to_list (home_in written place schema) ++ homes_from written tables (place + 1) ≡ homes tables written

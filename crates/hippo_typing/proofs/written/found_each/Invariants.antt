@@ -1,4 +1,4 @@
--- What is left of the refusals, and of what is found, stands behind what has been found.
+-- The rest of the refusals, and of the results, follows what has been found.
 use Rattle.std.proofs.Common.{◌≡◌, ◌++◌, map, drop}
 use Rattle.std.specs.List.{flat_map}
 use Rattle.hippo_typing.proofs.written.found_each.Given as goal

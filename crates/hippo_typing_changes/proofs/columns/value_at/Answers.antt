@@ -1,4 +1,4 @@
--- The pairs ended where the shorter list did.
+-- The pairs end with the shorter list.
 use Rattle.std.proofs.Common.{nat_eq, length, sym, ap, ◌∙◌, rules}
 use Rattle.std.specs.Map.{lookup}
 use Rattle.std.proofs.lemmas.Slice.Zip.{zip_end}

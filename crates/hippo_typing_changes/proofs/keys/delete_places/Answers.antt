@@ -1,4 +1,4 @@
--- What is assigned is refused behind groups in which nothing is refused.
+-- The assigned values are refused after groups without refusals.
 use Rattle.std.proofs.Common.{◌++◌}
 use Rattle.std.specs.List.{zip}
 use Rattle.std.proofs.lemmas.Result.{err_from_is_err_and}

@@ -1,4 +1,4 @@
--- Columns that are not the key's are refused behind groups in which nothing is refused.
+-- Columns that are not the key's are refused after groups without refusals.
 use Rattle.std.proofs.lemmas.Result.{err_from_is_err_and}
 use Rattle.hippo_typing_catalog.specs.ChangesRefused.{rule_refused, key_refused}
 use Rattle.hippo_typing_catalog.proofs.Refused.{first_with_more}

@@ -1,4 +1,4 @@
--- Columns that are not the key's are refused behind groups in which nothing is refused.
+-- Columns that are not the key's are refused after groups without refusals.
 use Rattle.std.proofs.Common.{ap}
 use Rattle.std.proofs.lemmas.Result.{err_from_is_err_and}
 use Rattle.hippo_typing_changes.specs.declared.keys.UpdatePlaces.{UpdatePlaces}

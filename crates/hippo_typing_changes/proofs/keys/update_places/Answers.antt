@@ -1,4 +1,4 @@
--- Columns of the key that are set are refused behind groups in which nothing is refused, and before what is assigned.
+-- Assigned key columns are refused after groups without refusals, and before the assigned values.
 use Rattle.std.proofs.Common.{◌++◌}
 use Rattle.std.specs.List.{zip}
 use Rattle.std.proofs.lemmas.Result.{err_from_is_err_and}

@@ -1,4 +1,4 @@
--- The groups are told one after the other, each where nothing is refused before it.
+-- The groups are checked one after the other, each after groups without refusals.
 use Rattle.std.proofs.lemmas.Result.{err_from_is_err_and}
 use Rattle.hippo_typing_catalog.specs.Refusals.{unknown_table, unknown_pair}
 use Rattle.hippo_typing_catalog.specs.ChangesRefused.{in_table, unknown_item_if_any, rule_refused, rule_item_refused}

@@ -1,4 +1,4 @@
--- The sizes are judged behind groups in which nothing is refused, and before the table's name.
+-- The sizes are checked after groups without refusals, and before the table's name.
 use Rattle.std.proofs.Common.{◌++◌}
 use Rattle.std.specs.Prelude.{is_some}
 use Rattle.std.proofs.lemmas.Result.{err_from_is_err_and}

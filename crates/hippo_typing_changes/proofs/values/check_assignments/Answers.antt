@@ -1,4 +1,4 @@
--- Of three groups, the first in which something is refused tells, where nothing is refused before it.
+-- Of three groups, the first one with a refusal gives the result.
 use Rattle.std.proofs.Common.{◌++◌}
 use Rattle.std.specs.List.{zip}
 use Rattle.std.proofs.lemmas.Result.{err_from_is_err_and}

@@ -1,4 +1,4 @@
--- Of four groups, the first in which something is refused tells, where nothing is refused before it.
+-- Of four groups, the first one with a refusal gives the result.
 use Rattle.std.proofs.lemmas.Result.{err_from_is_err_and}
 use Rattle.hippo_typing_catalog.specs.ChangesRefused.{count_refused, row_refused, kind_refused, null_refused, text_refused}
 use Rattle.hippo_typing_catalog.proofs.Refused.{first_with_more, first_of_three, first_of_four}
