@@ -73,7 +73,7 @@ fn is_in_time(combo: &Combo<'_>, column: &Ref, after: &Option<i64>) -> bool
     }
 }
 
-// Whether the patient with this number agrees to an item. False when there is no such patient.
+// Whether the patient with this number agrees to an item. False when there is no number.
 fn agrees<C: ChoiceView>(choices: &C, subject: Option<&Value>, item: &Name, opt_in: bool) -> bool
     ensures { let number = number_in (or_null (option_copied subject.entry)) in
         result ≡ agrees_by (C.choices choices.now) number item.now opt_in }
