@@ -59,7 +59,7 @@ impl DifferentRows {
         Ok(())
     }
 
-    // Inserts the row at hand without a lookup before. A new row keeps its own memory.
+    // Inserts the row at hand without a lookup before. A new row is moved into the set, not copied.
     fn put(&mut self, alloc: Global) -> Result<(), Memory>
         ensures { (found : List ShownRow) → self.old.rows.keys ≡ different_rows found
             → OnOk result (self.new.rows.keys ≡ different_rows (found ++ self.old.at_hand ∷ [])) }
@@ -70,7 +70,7 @@ impl DifferentRows {
         Ok(())
     }
 
-    // Inserts the row at hand if it is new. A new row keeps its own memory.
+    // Inserts the row at hand if it is new. It is then moved into the set, not copied.
     fn add(&mut self, alloc: Global) -> Result<(), Memory>
         ensures { (found : List ShownRow) → self.old.rows.keys ≡ different_rows found
             → OnOk result (self.new.rows.keys ≡ different_rows (found ++ self.old.at_hand ∷ [])) }

@@ -53,9 +53,9 @@ pub(crate) fn side_of<'s, C: ChoiceView>(
 /// than 100,000 rows.
 ///
 /// The query's outermost AND decides how the rows of a table are found. They are looked up when
-/// literals, or columns of tables before it in the plan, fix the table's key or the value of a
-/// column with a secondary order. When the AND contains another equality of columns of two tables,
-/// only rows with equal values are read.
+/// literals, or columns of tables before it in the plan, fix the table's key, or the value of a
+/// column that the table is ordered by. When the AND contains another equality of columns of two
+/// tables, only rows with equal values are read.
 ///
 /// The time is proportional to the size of the tables whose rows are not looked up, and to the
 /// number of matches. The memory is proportional to these tables and the answer.

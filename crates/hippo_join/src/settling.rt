@@ -149,8 +149,8 @@ pub fn few_places<C: ChoiceView>(
 
 /// Whether some qualifying combination has the chosen rows and shows each cell of `seen`. The
 /// tables whose rows are not chosen are joined after the others, in the given order of all tables.
-/// A row is looked up when the rows before it fix its key, or the value of a column with a
-/// secondary order. Leaves the slots unchanged, unless out of memory.
+/// A row is looked up when the rows before it fix its key, or the value of a column that its table
+/// is ordered by. Leaves the slots unchanged, unless out of memory.
 pub fn has_joined<C: ChoiceView>(
     side: &Side<'_, C>,
     alloc: Global,

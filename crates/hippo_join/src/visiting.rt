@@ -65,8 +65,8 @@ fn visit_all<C: ChoiceView, V: Visitor>(
 ///
 /// The tables are joined in the order of FROM. The query's outermost AND decides how the rows of a
 /// table are found. They are looked up when literals, or columns of tables before it, fix the
-/// table's key or the value of a column with a secondary order. When the AND contains another
-/// equality of columns of two tables, only rows with equal values are read. The memory is
+/// table's key, or the value of a column that the table is ordered by. When the AND contains
+/// another equality of columns of two tables, only rows with equal values are read. The memory is
 /// proportional to the tables whose rows are not looked up, apart from what the visitor allocates.
 /// It does not depend on the number of qualifying combinations.
 pub fn walk_joined<C: ChoiceView, V: Visitor>(

@@ -1,4 +1,4 @@
--- Lookup of rows through a secondary order.
+-- Lookup of rows by a column that their table is ordered by.
 use Rattle.std.proofs.Common.{◌≡◌, ◌<◌, true, false, List, length, sym, subst, Option, Some, None}
 use Rattle.std.specs.Prelude.{slice_get, replicate, IfOk, IfSome, Result}
 use Rattle.std.specs.List.{Contains}

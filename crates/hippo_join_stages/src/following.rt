@@ -16,7 +16,7 @@ use hippo_values::Memory;
 use std::alloc::Global;
 
 /// Candidate places of a stage: a part of its materialised places, a range found by a key lookup,
-/// or places found through a secondary order.
+/// or places found through an order of another column.
 #[derive(Drop)]
 pub enum Following<'s> {
     Listed(&'s [usize]),

@@ -93,7 +93,7 @@ impl<'a, C: ChoiceView> Side<'a, C> {
 
     // The places of a table's rows that can be in a qualifying combination, with no other row
     // chosen. When literals fix the row's key or its first values, or bound the next one, or
-    // restrict a column with a secondary order, the rows are found by binary search. They are
+    // restrict a column that the table is ordered by, the rows are found by binary search. They are
     // tested before they are materialised. The exception is a query of one table with few rows:
     // there the scan tests the whole condition at once.
     fn reached_places(

@@ -1,4 +1,5 @@
-//! Lookup of rows through a secondary order, by bounds or by a list of values.
+//! Lookup of rows by a column that their table is ordered by, by bounds or by a list of values. A
+//! table is ordered by the first column of its key and by each column with a secondary order.
 ghost use Rattle.std.specs.Prelude.{◌<◌, IfOk, IfSome, length, None};
 ghost use Rattle.hippo_join_stages.specs.Stages.{Reaches, ReachesFrom};
 ghost use Rattle.hippo_join_stages.specs.declared.following.Following.TheVariants.{Searched};
@@ -16,7 +17,7 @@ use std::alloc::Global;
 // At or below this many rows, scan.
 const FEW: usize = 16;
 
-// A row found through a secondary order costs as much as scanning this many rows.
+// A row found through an order costs as much as scanning this many rows.
 pub(crate) const WALKED: usize = 4;
 
 // An access path to a table's rows: the bounds of a column, or the list of values that restricts
@@ -27,8 +28,8 @@ enum Access {
     List(usize),
 }
 
-// Whether there are too many rows to scan, when a row found through a secondary order costs as much
-// as scanning `walked` rows.
+// Whether there are too many rows to scan, when a row found through an order costs as much as
+// scanning `walked` rows.
 fn is_long(rows: usize, walked: usize) -> bool
     requires { 0 < walked }
 {
@@ -74,15 +75,16 @@ impl<'a, C: ChoiceView> Side<'a, C> {
         self.told_value(column, slots).is_some() && self.told_value(column, &[]).is_none()
     }
 
-    // Whether the chosen rows, not literals, fix the value of a column that has a secondary order.
+    // Whether the chosen rows, not literals, fix the value of a column that its table is ordered
+    // by.
     fn finds_by(&self, column: Ref, slots: &[Option<usize>]) -> bool
         requires { column.table < length self.now.sets.now }
     {
         self.sets.get(column.table).is_ordered_by(column.column) && self.is_joined(column, slots)
     }
 
-    // Whether the chosen rows, not literals, fix the value of some column of a table that has a
-    // secondary order.
+    // Whether the chosen rows, not literals, fix the value of some column that a table is ordered
+    // by.
     fn is_found(&self, table: usize, slots: &[Option<usize>]) -> bool
         requires { table < length self.now.sets.now }
     {
@@ -96,7 +98,7 @@ impl<'a, C: ChoiceView> Side<'a, C> {
         false
     }
 
-    // Whether lookups through a secondary order, by values of the chosen rows, cost less than
+    // Whether lookups through an order of the table, by values of the chosen rows, cost less than
     // materialising the table. `before` is about the number of combinations of chosen rows.
     pub(crate) fn finds_few(&self, table: usize, slots: &[Option<usize>], before: usize) -> bool
         requires { table < length self.now.sets.now }
@@ -104,8 +106,8 @@ impl<'a, C: ChoiceView> Side<'a, C> {
         before < self.sets.get(table).len() / FEW && self.is_found(table, slots)
     }
 
-    // The number of a table's rows within the bounds of a column, if it has bounds and a secondary
-    // order.
+    // The number of a table's rows within the bounds of a column, if it has bounds and the table is
+    // ordered by it.
     fn count_bounded(&self, table: usize, column: usize, slots: &[Option<usize>]) -> Option<usize>
         requires { table < length self.now.sets.now }
     {
@@ -116,8 +118,8 @@ impl<'a, C: ChoiceView> Side<'a, C> {
         self.sets.get(table).count_within(column, Some(low), high)
     }
 
-    // The number of a table's rows that match the list of a column, if it has a list and a
-    // secondary order.
+    // The number of a table's rows that match the list of a column, if it has a list and the table
+    // is ordered by it.
     fn count_of_list(&self, table: usize, column: usize) -> Option<usize>
         requires { table < length self.now.sets.now }
     {
@@ -235,9 +237,8 @@ impl<'a, C: ChoiceView> Side<'a, C> {
         }
     }
 
-    /// The candidate places of a table, given the chosen rows: by key, or through the secondary
-    /// order that finds the fewest rows. A row found through a secondary order counts as much as
-    /// scanning `walked` rows.
+    /// The candidate places of a table, given the chosen rows: by key, or by the column that finds
+    /// the fewest rows. A row found through an order counts as much as scanning `walked` rows.
     pub fn candidates<'s>(
         &self,
         alloc: Global,

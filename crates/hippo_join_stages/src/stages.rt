@@ -14,8 +14,9 @@ pub struct Stage {
     pub tie: Option<Tie>,
     /// Whether the rows are looked up or scanned for each combination of the rows chosen before,
     /// and not materialised. They are looked up when the chosen rows fix the first value of the key
-    /// or of a column with a secondary order, or when the whole key is fixed. The only table of a
-    /// query is looked up too. A first table is scanned if none of its rows can be tested before.
+    /// or the value of a column that the table is ordered by, or when the whole key is fixed. The
+    /// only table of a query is looked up too. A first table is scanned if none of its rows can be
+    /// tested before.
     pub is_searched: bool,
     /// The estimated number of rows for each combination of the rows chosen before.
     pub rows: usize,
