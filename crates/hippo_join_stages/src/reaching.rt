@@ -158,10 +158,10 @@ impl<'a, C: ChoiceView> Side<'a, C> {
             || self.finds_few(table, slots, before)
     }
 
-    // Whether all rows of a table are scanned without being materialised. That is so when about one
-    // combination of rows comes before, since the candidates are computed again for each
-    // combination; when no tie restricts them; and when nothing can be tested on the table alone.
-    // `before` is about the number of combinations before.
+    // Whether all rows of a table are scanned without being materialised. That is so when all of
+    // these hold: at most one combination of rows is expected before (`before` is an estimate),
+    // since the candidates are computed again for each; no tie restricts the candidates; and
+    // nothing can be tested on the table alone.
     fn walks_all(
         &self,
         table: usize,
