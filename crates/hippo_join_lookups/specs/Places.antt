@@ -50,7 +50,8 @@ are_there (set ∷ sets) (slot ∷ slots) =
 abbrev pub places_of : List KeyedRows → List (List Place)
 places_of sets = product (map (λ set. range_with_len 0 (length set.rows)) sets)
 
--- whether a combination of rows qualifies for a query
+-- whether a combination of rows qualifies for a query: its guards are shown and its condition is
+-- true
 unfoldable pub stays : Choices → Masked → Combination → Bool
 stays choices query rows = is_guarded choices query rows && masked_passes choices query rows
 
