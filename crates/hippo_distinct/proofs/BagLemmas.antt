@@ -1,4 +1,4 @@
--- How many members of a list pass a test, where lists are compared as bags.
+-- The number of members of a list that pass a test, for lists compared as bags.
 use Rattle.std.proofs.Common.{◌≡◌, ℕ, ◌+◌, ◌<◌, ◌≤◌, arith, Bool, true, false, not, cond, ◌&&◌, ◌||◌, List, [], ◌∷◌, ◌++◌, map, refl, sym, ap, ◌∙◌}
 use Rattle.std.specs.Prelude.{filter, ◌==◌}
 use Rattle.std.specs.List.{list_all}
@@ -24,11 +24,11 @@ occurrences-count : (row : ShownRow) (rows : List ShownRow) → occurrences row 
 occurrences-count row [] = refl
 occurrences-count row (first ∷ rows) = counted row first rows ∙ ap (λ (rest : ℕ). one_if (same_row row first) + rest) (occurrences-count row rows)
 
--- two lists in which each row stands as often
+-- two lists contain each row the same number of times
 abbrev pub AreSame : List ShownRow → List ShownRow → Type 0
 AreSame some others = (row : ShownRow) → count (same_row row) some ≡ count (same_row row) others
 
--- a list without the first that equals a row
+-- a list without the first member that equals a row
 abbrev erased : ShownRow → List ShownRow → List ShownRow
 erased row [] = []
 erased row (first ∷ rows) = cond (same_row row first) rows (first ∷ erased row rows)
@@ -43,7 +43,7 @@ count-erased : (test : Test) (row : ShownRow) (rows : List ShownRow) → 0 < cou
 count-erased test row [] some = omega (arith, some)
 count-erased test row (first ∷ rows) some = erased_one test row first (same_row row first) rows (erased row rows) refl (count-erased test row rows) some
 
--- as many pass a test in the one as in the other
+-- the same number of members pass a test in both lists
 pub count-same : (some others : List ShownRow) → AreSame some others → (test : Test) → count test some ≡ count test others
 count-same [] [] same test = refl
 count-same [] (other ∷ others) same test =
@@ -57,7 +57,7 @@ count-same (row ∷ rows) others same test =
     let rest : AreSame rows (erased row others) = λ other. let all = same other in let out = count-erased (same_row other) row others there in omega (arith, all, out) in
     ap (λ (more : ℕ). one_if (test row) + more) (count-same rows (erased row others) rest test) ∙ sym (count-erased test row others there)
 
--- what passes a test that all members pass
+-- a member passes a test that all members pass
 pub at_member : (test : Test) (rows : List ShownRow) → list_all test rows ≡ true → (row : ShownRow) → is_among rows row ≡ true → test row ≡ true
 at_member test [] all row among = absurd cc
 at_member test (first ∷ rows) all row among =
@@ -113,14 +113,14 @@ count-none : (rows : List ShownRow) → count (λ row. false) rows ≡ 0
 count-none [] = refl
 count-none (row ∷ rows) = let rest = count-none rows in omega (arith, rest)
 
--- tests that agree where another test passes
+-- tests that agree when another test passes
 pub count-agree : (p q passes : Test) → ((row : ShownRow) → passes row ≡ true → p row ≡ q row) → (rows : List ShownRow) → list_all passes rows ≡ true → count p rows ≡ count q rows
 count-agree p q passes agree [] all = refl
 count-agree p q passes agree (row ∷ rows) all =
     let both = and_parts (passes row) (list_all passes rows) all in
     λ i. one_if (agree row both.0 i) + count-agree p q passes agree rows both.1 i
 
--- where a test implies another, and as many pass, the other implies it
+-- if a test implies another, and the same number pass both, the other implies it
 abbrev pub implied : Test → Test → Test
 implied p q row = not (q row) || p row
 
@@ -160,6 +160,6 @@ module _ (some all : List ShownRow) (within : list_all (is_among all) some ≡ t
       ∙ sym (λ i. count (λ other. shared_with row other (same_row row other) refl i) (different_rows all))
       ∙ sym (count-filter (same_row row) (is_among some) (different_rows all))
 
-  -- the different ones of some rows, counted among those of all
+  -- the different rows, counted among those of all
   pub count-different_rows : (test : Test) → count test (different_rows some) ≡ count (λ row. is_among some row && test row) (different_rows all)
   count-different_rows test = count-same (different_rows some) (filter (is_among some) (different_rows all)) same-different_rows test ∙ count-filter test (is_among some) (different_rows all)

@@ -1,4 +1,4 @@
--- The least and the greatest of values, when some are taken out.
+-- The least and the greatest values, after some values are removed.
 use Rattle.std.proofs.Common.{◌≡◌, Bool, true, false, not, cond, ◌&&◌, ◌||◌, List, [], ◌∷◌, map, refl, sym, ap, ◌∙◌}
 use Rattle.std.specs.Prelude.{filter, slice_index_or}
 use Rattle.std.specs.Ordering.{is_eq, is_le, ordering_reverse}
@@ -64,7 +64,7 @@ pub record IsLower (below : Value → Value → Bool) (lower : Value → Value �
   pub right : (a b : Value) → below (lower a b) b ≡ true
   pub both : (a b c : Value) → below c a ≡ true → below c b ≡ true → below c (lower a b) ≡ true
 
--- greater values stand below
+-- for the maximum, greater values come first
 abbrev pub below_for_max : Value → Value → Bool
 below_for_max a b = is_upto b a
 
@@ -102,7 +102,7 @@ null_exact (Int number) e = absurd cc
 null_exact (Text text) e = absurd cc
 null_exact (Day day) e = absurd cc
 
--- all values stand below null
+-- for the minimum, all values come before null
 abbrev pub below_for_min : Value → Value → Bool
 below_for_min a b = is_null b || (not (is_null a) && is_upto a b)
 
@@ -171,7 +171,7 @@ lesser_is_lower = record {
     both_by a b c true first second = first
     both_by a b c false first second = second
 
--- the lowest of values; null where there are none
+-- the lowest of some values; null if there are none
 abbrev lowest : (Value → Value → Value) → List Value → Value
 lowest lower [] = Null
 lowest lower (first ∷ rest) = lower first (lowest lower rest)

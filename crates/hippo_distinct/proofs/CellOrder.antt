@@ -1,4 +1,4 @@
--- Rows are equal in their order where they are the same; the order is total.
+-- Rows compare equal exactly when they are the same; the order is total.
 use Rattle.std.proofs.Common.{◌≡◌, ◌&&◌, [], ◌∷◌, refl, sym, ◌∙◌}
 use Rattle.std.specs.Ordering.{is_eq, ordering_reverse, ordering_then}
 use Rattle.std.specs.declared.cmp.Ordering.{Ordering}
@@ -29,7 +29,7 @@ then_equal Less rest = refl
 then_equal Equal rest = refl
 then_equal Greater rest = refl
 
--- rows are equal in their order where they are the same
+-- rows compare equal exactly when they are the same
 pub order_same : (a b : ShownRow) → is_eq (row_order a b) ≡ same_row a b
 order_same [] [] = refl
 order_same [] (b ∷ bs) = refl

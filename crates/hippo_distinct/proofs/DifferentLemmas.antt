@@ -1,4 +1,4 @@
--- The different rows, one row more.
+-- The different rows, one more row.
 use Rattle.std.proofs.Common.{◌≡◌, append_assoc, Bool, true, false, not, cond, ◌||◌, List, [], ◌∷◌, ◌++◌, refl, sym, ap, ◌∙◌}
 use Rattle.std.specs.Prelude.{filter}
 use Rattle.std.specs.Ordering.{is_eq, ordering_then}
@@ -59,7 +59,7 @@ same_cell-exact (Denied a) (Shown b) same = absurd cc
 pub same_row-exact : (a b : ShownRow) → same_row a b ≡ true → a ≡ b
 same_row-exact a b same = (slice_eq-Decides (λ one other. (same_cell-exact one other, λ is. ap (same_cell one) (sym is) ∙ same_cell-refl one)) a b true (sym same)).0 refl
 
--- the different rows of a front come first
+-- the different rows of the beginning of a list come first
 pub different_rows-append : (more rows : List ShownRow) → (rest : List ShownRow) × (different_rows (rows ++ more) ≡ different_rows rows ++ rest)
 different_rows-append [] rows = ([], ap different_rows (append-nil rows) ∙ sym (append-nil (different_rows rows)))
 different_rows-append (row ∷ more) rows =

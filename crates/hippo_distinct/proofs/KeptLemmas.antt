@@ -1,4 +1,4 @@
--- Different rows that are kept, one row more.
+-- Different rows that are kept, one more row.
 use Rattle.std.proofs.Common.{◌≡◌, ℕ, zero, suc, Some, Bool, true, false, cond, not, ◌&&◌, List, [], ◌∷◌, ◌++◌, refl, sym, ap, ◌∙◌}
 use Rattle.std.specs.Prelude.{Option, slice_get, unwrap_or}
 use Rattle.std.specs.List.{list_any, list_all}
@@ -27,7 +27,7 @@ same_row-sym a b = by (same_row a b) (same_row b a) refl refl
     by true false e f = ap (λ (row : ShownRow). same_row row b) (same_row-exact a b e) ∙ ap (same_row b) (sym (same_row-exact a b e))
     by false true e f = ap (λ (row : ShownRow). same_row row b) (sym (same_row-exact b a f)) ∙ ap (same_row b) (same_row-exact b a f)
 
--- rows are equal where they are the same
+-- rows are equal when they are the same
 abbrev pub row_eq : ShownRow → ShownRow → Bool
 row_eq = pointwise (derived.ghosts).eq
 
@@ -50,19 +50,19 @@ not_not false = refl
 any-not-all : (test : ShownRow → Bool) (rows : List ShownRow) → list_any test rows ≡ not (list_all (λ row. not (test row)) rows)
 any-not-all test rows = sym (λ i. list_any (λ row. not_not (test row) i) rows) ∙ sym (not_all (λ row. not (test row)) rows)
 
--- some of the different rows pass a test where some of all do
+-- some of the different rows pass a test exactly when some of all rows do
 pub any-different_rows : (test : ShownRow → Bool) (rows : List ShownRow) → list_any test (different_rows rows) ≡ list_any test rows
 any-different_rows test rows = any-not-all test (different_rows rows) ∙ ap not (all_different (λ row. not (test row)) rows) ∙ sym (any-not-all test rows)
 
--- a row stands among the different rows where it stands among all
+-- a row is among the different rows exactly when it is among all
 pub stands-different_rows : (row : ShownRow) (rows : List ShownRow) → stands_in row (different_rows rows) ≡ stands_in row rows
 stands-different_rows row rows = any-different_rows (λ other. same_row other row) rows
 
--- what a set asks is whether a row stands among its own
+-- a set's lookup asks whether a row is among its own
 pub asks-stands_in : (row : ShownRow) (rows : List ShownRow) → list_any (row_eq row) rows ≡ stands_in row rows
 asks-stands_in row rows = λ i. list_any (λ other. (row_eq-same row other ∙ same_row-sym row other) i) rows
 
--- the different rows with one row more are those with the row put in
+-- the different rows with one more row are those with the row inserted
 pub put_in : (kept found : List ShownRow) (row : ShownRow) → kept ≡ different_rows found → insert_key row_eq kept row ≡ different_rows (found ++ row ∷ [])
 put_in kept found row are =
     ap (λ (rows : List ShownRow). insert_key row_eq rows row) are
@@ -74,7 +74,7 @@ put_in kept found row are =
     by true = sym (append-nil (different_rows found))
     by false = refl
 
--- a row that stands there adds none
+-- a row that is among them adds none
 pub there_already : (kept found : List ShownRow) (row : ShownRow) → kept ≡ different_rows found → list_any (row_eq row) kept ≡ true → kept ≡ different_rows (found ++ row ∷ [])
 there_already kept found row are there = sym (ap (λ (test : Bool). cond test kept (kept ++ row ∷ [])) there) ∙ put_in kept found row are
 
@@ -83,6 +83,6 @@ any-at_place test [] place row at passes = cc
 any-at_place test (first ∷ rows) zero row at passes = or_left (test first) (list_any test rows) (ap (λ (found : Option ShownRow). test (unwrap_or found first)) at ∙ passes)
 any-at_place test (first ∷ rows) (suc place) row at passes = or_right (test first) (list_any test rows) (any-at_place test rows place row at passes)
 
--- a row that stands at some place adds none
+-- a row at some place adds none
 pub stands_at : (kept found : List ShownRow) (place : ℕ) (row : ShownRow) → kept ≡ different_rows found → slice_get kept place ≡ Some row → kept ≡ different_rows (found ++ row ∷ [])
 stands_at kept found place row are at = there_already kept found row are (any-at_place (row_eq row) kept place row at (row_eq-same row row ∙ same_row-refl row))

@@ -1,4 +1,4 @@
--- Which groups go, or have another row, when combinations are taken out.
+-- Which groups disappear, or have another row, when combinations are removed.
 use Rattle.std.proofs.Common.{◌≡◌, Bool, true, false, not, cond, ◌&&◌, ◌||◌, List, [], ◌∷◌, map, refl, sym, ap, ◌∙◌}
 use Rattle.std.specs.Prelude.{filter, take}
 use Rattle.std.specs.List.{list_any, list_all}
@@ -18,11 +18,11 @@ use Rattle.hippo_distinct.proofs.NeededRows.{is_among, all_different, not_all, a
 use Rattle.hippo_distinct.proofs.BagLemmas.{Test, count, count-same, implied, same-from_bag, bag-from_same, count-map, count-agree, count-different_rows, all_implied, at_member, all_members}
 use Rattle.hippo_distinct.proofs.BestValues.{below_for_min, below_for_max, lesser_is_lower, greater_is_lower, least_below, greatest_below}
 
--- rows of keys, where more members give a row that is below
+-- rows of keys, where more members give a lower row
 module _ (below : ShownRow → ShownRow → Bool) (now before : ShownRow → ShownRow) (itself : (key : ShownRow) → below (before key) (before key) ≡ true)
     (sinks : (key row : ShownRow) → below (now key) row ≡ true → below (before key) row ≡ true)
     (exact : (key : ShownRow) → below (now key) (before key) ≡ true → now key ≡ before key) (some all : List ShownRow) (within : list_all (is_among all) some ≡ true) where
-  -- whether a key is still there, with the same row
+  -- whether a key still exists with the same row
   abbrev stays : ShownRow → Bool
   stays key = is_among some key && same_row (now key) (before key)
 
@@ -35,7 +35,7 @@ module _ (below : ShownRow → ShownRow → Bool) (now before : ShownRow → Sho
   counts_now : (test : Test) → count test rows_now ≡ count (λ key. is_among some key && test (now key)) (different_rows all)
   counts_now test = count-map test now (different_rows some) ∙ count-different_rows some all within (λ key. test (now key))
 
-  -- as many rows are below one
+  -- the same number of rows are below one
   stays-from_bag : same_bag rows_now rows_before ≡ true → list_all stays (different_rows all) ≡ true
   stays-from_bag bag = all_members stays (different_rows all) each
     where
@@ -78,13 +78,13 @@ module _ (below : ShownRow → ShownRow → Bool) (now before : ShownRow → Sho
   not_stays true same = refl
   not_stays false same = refl
 
-  -- the rows become another bag exactly where some key is not there any more, or has another row
+  -- the rows become another bag exactly when some key no longer exists, or has another row
   pub changes_of_keys : not (same_bag rows_now rows_before) ≡ list_any (λ key. not (is_among some key) || not (same_row (now key) (before key))) all
   changes_of_keys =
       ap not (both_ways (same_bag rows_now rows_before) (list_all stays (different_rows all)) stays-from_bag bag-from_stays ∙ all_different stays all) ∙ not_all stays all
       ∙ λ i. list_any (λ key. not_stays (is_among some key) (same_row (now key) (before key)) i) all
 
--- whether the least and the greatest values of a row stand below those of another
+-- whether the least and the greatest values of a row are below those of another
 abbrev below_cell : Out → Cell → Cell → Bool
 below_cell (Column place) a b = true
 below_cell (Min place) a b = below_for_min (value_in a) (value_in b)
@@ -127,7 +127,7 @@ row_exact f g each (out ∷ outs) e =
     let both = and_parts (below_cell out (f out) (g out)) (below_row outs (map f outs) (map g outs)) e in
     λ i. each out both.0 i ∷ row_exact f g each outs both.1 i
 
--- a group's row, and that of some of its members
+-- a group's row, and the row of some of its members
 module _ {C : Type 0} (row_of : C → ShownRow) (keeps : C → Bool) (key : ShownRow) where
   abbrev cell_of : List C → Out → Cell
   cell_of group = group_cell key (map row_of group)
@@ -150,7 +150,7 @@ module _ {C : Type 0} (row_of : C → ShownRow) (passes is_out : C → Bool) (sh
   abbrev key_of : C → ShownRow
   key_of c = take shape.keys (row_of c)
 
-  -- whether a combination counts, and is of a group
+  -- whether a combination satisfies the condition and is in a group
   abbrev is_of : ShownRow → C → Bool
   is_of key c = passes c && same_row key (key_of c)
 
@@ -236,7 +236,8 @@ module _ {C : Type 0} (row_of : C → ShownRow) (passes is_out : C → Bool) (sh
         let cell : Out → Cell = cell_of row_of is_left key (filter (is_of key) combinations) in
         row_below cell cell (λ out. cell_itself out (cell out)) shape.outs
 
-    -- the rows of the groups become another bag exactly where some group goes, or has another row
+    -- the rows of the groups become another bag exactly when some group disappears, or has another
+    -- row
     pub needs_what_changes_groups : not (same_bag (grouped_rows shape (left row_of passes is_out combinations)) (grouped_rows shape (answered row_of passes is_out combinations)))
         ≡ list_any changes (keys_of (answered row_of passes is_out combinations))
     needs_what_changes_groups =

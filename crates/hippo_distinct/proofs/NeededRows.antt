@@ -1,4 +1,4 @@
--- Which of the different rows of an answer go when combinations are taken out.
+-- Which of the different rows of an answer disappear when combinations are removed.
 use Rattle.std.proofs.Common.{◌≡◌, ℕ, ◌+◌, Bool, true, false, not, cond, ◌&&◌, ◌||◌, List, [], ◌∷◌, ◌++◌, map, refl, sym, ap, ◌∙◌, zero-add}
 use Rattle.std.specs.Prelude.{filter, ◌==◌}
 use Rattle.std.specs.List.{list_any, list_all}
@@ -28,7 +28,7 @@ list_all-mono p q then (row ∷ rows) all =
     let both = and_parts (p row) (list_all p rows) all in
     and_from (q row) (list_all q rows) (then row both.0) (list_all-mono p q then rows both.1)
 
--- a row that is the first one changes nothing where the first one passes
+-- a copy of the first row changes nothing if the first row passes
 one_dropped : (p : ShownRow → Bool) (first row : ShownRow) (same : Bool) → same_row first row ≡ same → p first ≡ true → (some rest : List ShownRow) → list_all p some ≡ list_all p rest
     → list_all p (cond (not same) (row ∷ some) some) ≡ (p row && list_all p rest)
 one_dropped p first row true same passes some rest e = e ∙ ap (λ (test : Bool). test && list_all p rest) (sym (ap p (sym (same_row-exact first row same)) ∙ passes))
@@ -38,7 +38,7 @@ all_others : (p : ShownRow → Bool) (first : ShownRow) → p first ≡ true →
 all_others p first passes [] = refl
 all_others p first passes (row ∷ rows) = one_dropped p first row (same_row first row) refl passes (others first rows) rows (all_others p first passes rows)
 
--- the different rows pass a test where all rows do
+-- the different rows pass a test exactly when all rows do
 pub all_different : (p : ShownRow → Bool) (rows : List ShownRow) → list_all p (different_rows rows) ≡ list_all p rows
 all_different p [] = refl
 all_different p (first ∷ rows) = by (p first) refl ∙ ap (λ (rest : Bool). p first && rest) (all_different p rows)
@@ -50,7 +50,7 @@ all_different p (first ∷ rows) = by (p first) refl ∙ ap (λ (rest : Bool). p
 pub counted : (row first : ShownRow) (rest : List ShownRow) → occurrences row (first ∷ rest) ≡ one_if (same_row row first) + occurrences row rest
 counted row first rest = sum_by-cons (λ other. cond (same_row row other) 1 0) first rest
 
--- a row does not stand among those that differ from it
+-- a row is not among those that differ from it
 none_left : (row first : ShownRow) (same : Bool) → same_row row first ≡ same → (some : List ShownRow) → occurrences row some ≡ 0 → occurrences row (cond (not same) (first ∷ some) some) ≡ 0
 none_left row first true same some e = e
 none_left row first false same some e = counted row first some ∙ ap (λ (test : Bool). one_if test + occurrences row some) same ∙ ap (λ (count : ℕ). 0 + count) e
@@ -71,7 +71,7 @@ as_often_in_others : (row first : ShownRow) → same_row row first ≡ false →
 as_often_in_others row first apart [] = refl
 as_often_in_others row first apart (one ∷ rows) = one_kept row first one (same_row first one) refl apart (others first rows) rows (as_often_in_others row first apart rows)
 
--- a row stands among the different rows once, or not at all
+-- a row is among the different rows once, or not at all
 pub once : (row : ShownRow) (rows : List ShownRow) → occurrences row (different_rows rows) ≡ one_if (is_among rows row)
 once row [] = refl
 once row (first ∷ rows) = counted row first (others first (different_rows rows)) ∙ by (same_row row first) refl (once row rows)
@@ -91,7 +91,7 @@ all_among (first ∷ rows) =
     and_from _ _ (or_left (same_row first first) (is_among rows first) (same_row-refl first))
     (list_all-mono (is_among rows) (is_among (first ∷ rows)) (λ row among. or_right (same_row row first) (is_among rows row) among) rows (all_among rows))
 
--- where each row is among all, it is as often in some and in all exactly where it is among some
+-- if each row is among all: it is equally often in some and in all exactly when it is among some
 abbrev as_often : List ShownRow → List ShownRow → ShownRow → Bool
 as_often some all row = one_if (is_among some row) == one_if (is_among all row)
 
@@ -105,7 +105,7 @@ as_often_within some all (row ∷ rows) among =
     let both = and_parts (is_among all row) (list_all (is_among all) rows) among in
     λ i. bit_of_true (is_among some row) (is_among all row) both.0 i && as_often_within some all rows both.1 i
 
--- the different rows of some and of all are one bag exactly where each of all is among some
+-- the different rows of some and of all are one bag exactly when each of all is among some
 same_where_all_are_left : (some all : List ShownRow) → list_all (is_among all) some ≡ true → same_bag (different_rows some) (different_rows all) ≡ list_all (is_among some) all
 same_where_all_are_left some all within =
     (λ i. list_all (λ row. once row some i == once row all i) (different_rows some ++ different_rows all))
@@ -133,7 +133,7 @@ module _ {C : Type 0} (row_of : C → ShownRow) (passes is_out : C → Bool) whe
   abbrev pub left : List C → List ShownRow
   left combinations = answered (filter (λ c. not (is_out c)) combinations)
 
-  -- whether a row comes from combinations that are taken out alone
+  -- whether a row comes only from combinations that are removed
   abbrev pub alone : List C → ShownRow → Bool
   alone combinations row = list_all (λ c. not (passes c && same_row row (row_of c)) || is_out c) combinations
 
@@ -151,7 +151,7 @@ module _ {C : Type 0} (row_of : C → ShownRow) (passes is_out : C → Bool) whe
   alone_with_one false true true first row rows e = ap (λ (test : Bool). not (test || is_among rows row)) (sym e)
   alone_with_one false true false first row rows e = ap (λ (test : Bool). not (test || is_among rows row)) (sym e)
 
-  -- a row comes from them alone where it is not among those that are left
+  -- a row comes only from them exactly when it is not among the remaining rows
   pub alone_is : (row : ShownRow) (combinations : List C) → alone combinations row ≡ not (is_among (left combinations) row)
   alone_is row [] = refl
   alone_is row (c ∷ rest) =
@@ -159,7 +159,7 @@ module _ {C : Type 0} (row_of : C → ShownRow) (passes is_out : C → Bool) whe
       ∙ alone_with_one (is_out c) (passes c) (same_row row (row_of c)) (row_of c) row (left rest) refl
       ∙ ap (λ (rows : List ShownRow). not (is_among rows row)) (sym (left-cons c rest))
 
-  -- what is left is among all
+  -- the remaining rows are among all
   within_one : (out pass : Bool) (first : ShownRow) (some all : List ShownRow) → list_all (is_among all) some ≡ true
       → list_all (is_among (cond pass (first ∷ all) all)) (cond (not out) (cond pass (first ∷ some) some) some) ≡ true
   within_one true true first some all within = list_all-mono (is_among all) (is_among (first ∷ all)) (λ row among. or_right (same_row row first) (is_among all row) among) some within
@@ -175,7 +175,8 @@ module _ {C : Type 0} (row_of : C → ShownRow) (passes is_out : C → Bool) whe
       let step = within_one (is_out c) (passes c) (row_of c) (left rest) (answered rest) (left_within rest) in
       (λ i. list_all (is_among (either (map row_of) (passes c) (c ∷ filter passes rest) (filter passes rest) i)) (left-cons c rest i)) ∙ step
 
-  -- the different rows become another bag exactly where some row comes from what is taken out alone
+  -- the different rows become another bag exactly when some row comes only from removed
+  -- combinations
   pub needs_what_comes_alone : (combinations : List C) → not (same_bag (different_rows (left combinations)) (different_rows (answered combinations))) ≡ list_any (alone combinations) (answered combinations)
   needs_what_comes_alone combinations =
       ap not (same_where_all_are_left (left combinations) (answered combinations) (left_within combinations))

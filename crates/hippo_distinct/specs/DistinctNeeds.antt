@@ -1,4 +1,4 @@
--- The law on what a distinct query needs.
+-- The law on what a DISTINCT query needs.
 use Rattle.std.specs.Prelude.{◌≡◌, Bool, not, ◌&&◌, ◌||◌, List}
 use Rattle.std.specs.List.{list_any, list_all}
 use Rattle.hippo_model.specs.declared.audit.SharedRow.{SharedRow}
@@ -15,14 +15,14 @@ abbrev pub makes : Query → ShownRow → List ShownRow → Bool
 makes query row combination =
     passes query.cond combination && same_row row (selected_cells query.items combination)
 
--- whether a row comes from combinations with a virtual tuple alone
+-- whether a row comes only from combinations with a virtual tuple
 abbrev pub comes_alone : History → Query → List SharedRow → List (List ShownRow) → ShownRow → Bool
 comes_alone history query tuple combinations row =
     list_all (λ rows. not (makes query row rows) || has_tuple history query.tables tuple rows)
     combinations
 
--- a distinct query needs a virtual tuple where some row comes from combinations with the tuple
--- alone
+-- a DISTINCT query needs a virtual tuple exactly when some row comes only from combinations with
+-- the tuple
 abbrev pub DistinctQueryNeeds : Type 0
 DistinctQueryNeeds =
     (history : History) (context : Context) (query : Query) (tuple : List SharedRow)

@@ -1,4 +1,4 @@
-//! Whether a row is the one that a combination of rows makes.
+//! Compares a row with the one that a combination of rows makes.
 ghost use Rattle.std.specs.Prelude.{◌≡◌, map, IsTrue};
 ghost use Rattle.hippo_model.specs.Masking.{masked_cell};
 ghost use Rattle.hippo_eval.specs.LentCells.{lent_cell};
@@ -7,7 +7,7 @@ use hippo_eval::{LentCell, cell};
 use hippo_model::{Cell, CellRow, ChoiceView, Combo, Expr};
 use hippo_values::Value;
 
-// Whether a cell is the one that is lent.
+// Whether a cell equals a borrowed one.
 #[inline(always)]
 fn is_cell(kept: &Cell, lent: &LentCell<'_>) -> bool
     ensures { IsTrue result → kept.now ≡ lent_cell lent.now }
@@ -19,7 +19,7 @@ fn is_cell(kept: &Cell, lent: &LentCell<'_>) -> bool
     }
 }
 
-// Whether a cell is the one that an item stands for in a combination of rows.
+// Whether a cell is the value of an item in a combination of rows.
 #[inline(always)]
 fn is_item<C: ChoiceView>(kept: &Cell, item: &Expr, combo: &Combo<'_>, choices: &C) -> bool
     ensures { IsTrue result → kept.now ≡ masked_cell (C.choices choices.now) combo.now item.now }
@@ -27,7 +27,7 @@ fn is_item<C: ChoiceView>(kept: &Cell, item: &Expr, combo: &Combo<'_>, choices: 
     is_cell(kept, &cell(item, combo, choices))
 }
 
-/// Whether a row has the cells that items stand for in a combination of rows.
+/// Whether the cells of a row are the values of the items in a combination of rows.
 pub(crate) fn is_row<C: ChoiceView>(
     row: &CellRow,
     items: &[Expr],

@@ -1,4 +1,5 @@
-//! The different rows of a query's answer, as a walk over the combinations that count finds them.
+//! DISTINCT: the different rows of a query's answer, found by a walk over the qualifying
+//! combinations.
 ghost use Rattle.std.specs.Prelude.{◌≡◌, [], ◌∷◌, ◌++◌, List, map, IsTrue, IfOk, OnOk};
 ghost use Rattle.hippo_model.specs.Terms.{ShownRow};
 ghost use Rattle.hippo_model.specs.Forms.{different_rows};
@@ -17,10 +18,10 @@ use indexmap::IndexSet;
 use std::alloc::Global;
 use std::mem;
 
-// The different rows that were found. The rest is for speed alone. Where the last row that was put
-// in was new, the next is put in with no look before whether it is there, and so is hashed once.
-// Otherwise a row that stands where it is guessed to stand is not made, and another that was found
-// before is made in the memory of the row at hand and takes no other.
+// The different rows found so far, in `rows`. The other fields are for speed alone. If the last row
+// inserted was new, the next one is inserted without a lookup before, so it is hashed once.
+// Otherwise, a row that is at its guessed place is not built. A row found before at another place
+// is built in the memory of `at_hand` and allocates none.
 #[derive(Drop)]
 struct DifferentRows {
     rows: IndexSet<CellRow>,
@@ -30,7 +31,7 @@ struct DifferentRows {
 }
 
 impl DifferentRows {
-    // Whether the row that a combination makes stands where it is guessed to stand.
+    // Whether the row that a combination makes is at its guessed place.
     #[inline(always)]
     fn is_guessed<C: ChoiceView>(&self, items: &[Expr], combo: &Combo<'_>, choices: &C) -> bool
         ensures { (found : List ShownRow) → self.now.rows.keys ≡ different_rows found
@@ -46,7 +47,7 @@ impl DifferentRows {
         }
     }
 
-    // Keeps a guess that the row at hand stands behind all others.
+    // Guesses that the row at hand will be appended.
     #[inline(always)]
     fn expect_last(&mut self, alloc: Global) -> Result<(), Memory>
         ensures { OnOk result ((self.new.rows.keys ≡ self.old.rows.keys)
@@ -58,8 +59,7 @@ impl DifferentRows {
         Ok(())
     }
 
-    // Takes in the row at hand, with no look before whether it is there; in its own memory where it
-    // is new.
+    // Inserts the row at hand without a lookup before. A new row is moved into the set, not copied.
     fn put(&mut self, alloc: Global) -> Result<(), Memory>
         ensures { (found : List ShownRow) → self.old.rows.keys ≡ different_rows found
             → OnOk result (self.new.rows.keys ≡ different_rows (found ++ self.old.at_hand ∷ [])) }
@@ -70,7 +70,7 @@ impl DifferentRows {
         Ok(())
     }
 
-    // Takes in the row at hand, in its own memory where it is new.
+    // Inserts the row at hand if it is new. It is then moved into the set, not copied.
     fn add(&mut self, alloc: Global) -> Result<(), Memory>
         ensures { (found : List ShownRow) → self.old.rows.keys ≡ different_rows found
             → OnOk result (self.new.rows.keys ≡ different_rows (found ++ self.old.at_hand ∷ [])) }
@@ -142,9 +142,10 @@ impl Gatherer for Different {
     }
 }
 
-/// The different rows of a query's answer (SQL's DISTINCT), each at the place of its first, over
-/// unmasked rows and patients' choices: two cells are equal where they are the same value shown, or
-/// denied by the same rule. TooManyRows exactly where there are more than 100,000 different rows.
+/// The different rows of a query's answer (SQL's DISTINCT), each at the place of its first
+/// occurrence, over unmasked rows and patients' choices. Two cells are equal if they show the same
+/// value, or if the same rule denies both. Returns TooManyRows exactly when there are more than
+/// 100,000 different rows.
 pub fn distinct<C: ChoiceView>(
     alloc: Global,
     query: &Masked,

@@ -1,27 +1,28 @@
-//! Guesses where a row stands among others, for speed alone: nothing is promised of them, so a row
-//! that is guessed is compared.
+//! Guesses for the places of rows among others, for speed alone. A guess may be wrong, so the row
+//! at a guessed place is compared.
 
 use hippo_eval::cell;
 use hippo_model::{Cell, CellRow, ChoiceView, Combo, Expr};
 use hippo_values::{Memory, Value};
 use std::alloc::Global;
 
-// The whole part of 2 to the 64th over the golden ratio (Knuth, The Art of Computer Programming,
-// volume 3, section 6.4): by it, numbers that lie close together are spread over high bits.
+// The integer part of 2 to the 64th over the golden ratio (Knuth, The Art of Computer Programming,
+// volume 3, section 6.4). Multiplying by it spreads numbers that are close together over the high
+// bits.
 const MULTIPLIER: u64 = 0x9e37_79b9_7f4a_7c15;
 
-// So many bytes of a text are looked at.
+// At most this many bytes of a text are hashed.
 const TEXT_FRONT: usize = 24;
 
-// So many guesses are kept at first, so many times as many each time that there are more than half
-// as many rows, and so many at most.
+// At first there are `FEW` guesses. Whenever there are more rows than half the guesses, their
+// number is multiplied by `GROWTH`, up to `MOST`.
 const FEW: usize = 256;
 
 const GROWTH: usize = 8;
 
 const MOST: usize = 131_072;
 
-// What is guessed of a row with a mark of which none was seen.
+// The guess for a mark that was not seen.
 const NOWHERE: u32 = u32::MAX;
 
 fn mixed(mark: u64, number: u64) -> u64 {
@@ -51,8 +52,9 @@ fn mixed_item<C: ChoiceView>(mark: u64, item: &Expr, combo: &Combo<'_>, choices:
     mixed_value(mark, cell(item, combo, choices).value())
 }
 
-/// A number that equal rows have in common, and few others: of the row that items stand for in a
-/// combination of rows. None where a rule masks one of them, since its cell is dear to find.
+/// A hash of the row that items make in a combination of rows: equal rows have the same one, and
+/// few others share it. None if a rule masks one of the items, since its cell is expensive to
+/// compute.
 #[inline(always)]
 pub(crate) fn mark_of<C: ChoiceView>(
     items: &[Expr],
@@ -69,7 +71,7 @@ pub(crate) fn mark_of<C: ChoiceView>(
     Some(mark)
 }
 
-/// The number that `mark_of` gives for items that make a row, where no rule masks one of them.
+/// The number that `mark_of` gives for the items that make this row, if no rule masks one of them.
 pub(crate) fn mark_of_row(row: &CellRow) -> u64 {
     let mut mark = 0;
     for cell in row.as_slice() {
@@ -81,14 +83,14 @@ pub(crate) fn mark_of_row(row: &CellRow) -> u64 {
     mark
 }
 
-/// The places of rows, by their marks.
+/// The guessed places of rows, by their marks.
 #[derive(Drop)]
 pub(crate) struct Guesses {
     places: Vec<u32>,
 }
 
 impl Guesses {
-    /// No guess; takes no memory.
+    /// No guesses. Allocates no memory.
     pub(crate) fn new(alloc: Global) -> Guesses {
         Guesses {
             places: Vec::new(alloc),
@@ -99,13 +101,13 @@ impl Guesses {
         (mark >> 32) as usize & self.places.len().saturating_sub(1)
     }
 
-    /// Where the row with a mark may stand.
+    /// The place where the row with a mark may be.
     #[inline(always)]
     pub(crate) fn place(&self, mark: u64) -> usize {
         *self.places.get(self.slot(mark)).unwrap_or(&NOWHERE) as usize
     }
 
-    /// Keeps the place of the row with a mark.
+    /// Stores the place of the row with a mark.
     pub(crate) fn keep(&mut self, mark: u64, place: usize) {
         let slot = self.slot(mark);
         if slot < self.places.len() {
@@ -113,7 +115,7 @@ impl Guesses {
         }
     }
 
-    /// Keeps more guesses where they are few beside these rows.
+    /// Makes room for more guesses if they are few compared to these rows.
     #[inline(always)]
     pub(crate) fn grow(&mut self, alloc: Global, rows: &[CellRow]) -> Result<(), Memory> {
         if rows.len() <= self.places.len() / 2 || self.places.len() >= MOST {

@@ -1,4 +1,4 @@
-//! Queries that answer equal rows once.
+//! DISTINCT queries: equal rows are answered once.
 #![tactic(auto)]
 
 mod comparing;

@@ -1,4 +1,4 @@
--- What a query makes of some combinations and of more.
+-- The rows of a query for some combinations, and for more.
 use Rattle.std.proofs.Common.{◌≡◌, ℕ, ◌<◌, ◌≤◌, Bool, true, false, cond, ◌&&◌, List, [], ◌∷◌, ◌++◌, map, length, refl, sym, ap, subst, ◌∙◌, append_assoc, arith}
 use Rattle.std.specs.Prelude.{Result, Ok, Err}
 use Rattle.std.proofs.lemmas.List.{map-append, append-nil}
@@ -38,12 +38,12 @@ module _ (choices : Choices) (query : Masked) where
   pub masked_rows-same : (these : List Combination) (combination : Combination) → counts combination ≡ false → masked_rows choices query (these ++ combination ∷ []) ≡ masked_rows choices query these
   masked_rows-same these combination is = ap made (making_rows-same these combination is)
 
-  -- what a visitor keeps of those that count, one combination more
+  -- what a visitor keeps of the qualifying combinations, one combination more
   module _ {S : Type 0} (keeps : List Combination → S → Type 0) (before : List Combination) (combination : Combination) (state : S) where
     abbrev keeps_those : List Combination → S → Type 0
     keeps_those combinations rows = keeps (making_rows choices query combinations) rows
 
-    -- one that counts
+    -- a combination that qualifies
     pub tested-counts : counts combination ≡ true → (result : Result Onward Memory) → KeptAfter keeps result (making_rows choices query before) (combination ∷ []) state → KeptAfter keeps_those result before (combination ∷ []) state
     tested-counts is (Ok More) kept = subst (λ (some : List Combination). keeps some state) (sym (making_rows-push before combination is)) kept
     tested-counts is (Ok Enough) kept = λ later.
@@ -56,9 +56,9 @@ module _ (choices : Choices) (query : Masked) where
     pub tested-same : counts combination ≡ false → keeps_those before state → keeps_those (before ++ combination ∷ []) state
     tested-same is kept = subst (λ (some : List Combination). keeps some state) (sym (making_rows-same before combination is)) kept
 
-  -- what is gathered of the rows, some combinations more
+  -- what is gathered, some combinations more
   module _ {R : Type 0} (Holds : List ShownRow → R → Type 0) (answer : List ShownRow → List ShownRow) (limit : ℕ) (before : List Combination) (rows : R) (are : IsGathered Holds answer limit (made before) rows) where
-    -- they are too many already
+    -- there are too many already
     pub gathered-enough : (some more : List Combination) → limit < length (answer are.front) → IsGathered Holds answer limit (made (before ++ some ++ more)) rows
     gathered-enough some more many = record {
       front = are.front;
@@ -83,11 +83,11 @@ module _ (choices : Choices) (query : Masked) where
       whole = λ still. refl;
     }
 
--- nothing is gathered of no rows
+-- no rows: nothing is gathered
 pub gathered-none : {R : Type 0} (Holds : List ShownRow → R → Type 0) (answer : List ShownRow → List ShownRow) (limit : ℕ) (rows : R) → Holds [] rows → IsGathered Holds answer limit [] rows
 gathered-none Holds answer limit rows none = record { front = []; later = []; is = refl; holds = none; whole = λ few. refl }
 
--- the rows that are finished are all that are answered, or too many
+-- the finished rows are the whole answer, or too many
 pub answered-whole : {R : Type 0} (Holds : List ShownRow → R → Type 0) (answer : List ShownRow → List ShownRow) (limit : ℕ) (found : List ShownRow) (rows : R) (are : IsGathered Holds answer limit found rows) (answered : List ShownRow) → IsFinished answer are.front answered
     → (length answered ≤ limit → answered ≡ answer found) × (limit < length answered → limit < length (answer found))
 answered-whole Holds answer limit found rows are answered finished = (

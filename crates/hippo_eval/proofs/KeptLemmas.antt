@@ -1,4 +1,4 @@
--- What is kept of combinations, by what is kept of those that begin with one row more.
+-- What is kept of combinations, from what is kept of those that begin with one more row.
 use Rattle.std.proofs.Common.{◌≡◌, ℕ, ◌+◌, List, [], ◌∷◌, ◌++◌, take, drop, sym, ap, subst, ◌∙◌, append_assoc, Option, Some, None, option_map, Ok, slice_get}
 use Rattle.std.specs.List.{flat_map}
 use Rattle.std.proofs.lemmas.List.{append-nil, map-id}
@@ -31,13 +31,13 @@ module _ {S : Type 0} (keeps : List Combination → S → Type 0) where
     abbrev with_row : List Combination
     with_row = combinations_after (front ++ row ∷ []) rest
 
-    -- all that begin with a row were visited
+    -- all that begin with a row have been visited
     pub kept_more : (onward : Onward) → KeptAfter keeps (Ok onward) (before ++ up_to i) with_row state → keeps (before ++ up_to (i + 1)) state
     kept_more onward kept =
         let all : before ++ up_to i ++ with_row ≡ before ++ up_to (i + 1) = append_assoc before (up_to i) with_row ∙ ap (λ (some : List Combination). before ++ some) (sym (one_row_more front rest rows i row e)) in
         subst (λ (some : List Combination). keeps some state) all (kept_whole onward (before ++ up_to i) with_row state kept)
 
-    -- what is kept holds whatever follows
+    -- the state holds, whatever follows
     pub kept_enough : KeptAfter keeps (Ok Enough) (before ++ up_to i) with_row state → (later : List Combination) → keeps (before ++ combinations_after front (flat_map (beginning rest) rows) ++ later) state
     kept_enough kept later =
         let joined : before ++ up_to i ++ with_row ++ (those_after ++ later) ≡ before ++ (up_to i ++ with_row ++ those_after) ++ later = simp append_assoc in
@@ -50,7 +50,7 @@ pub born_row : (kept : Option BornRow) (row : Row) (born : Moment) → option_ma
 born_row None row born a b = absurd cc
 born_row (Some kept) row born a b = λ i. Some (record { row = same_Some kept.row row a i; born = same_Some kept.born born b i })
 
--- the combinations of a table's rows with those of the tables behind it
+-- the combinations of a table's rows with those of the tables that follow
 pub product_at : (sets : List KeyedRows) (place : ℕ) (set : KeyedRows) → slice_get sets place ≡ Some set
     → product (rows_of (drop place sets)) ≡ flat_map (beginning (product (rows_of (drop (place + 1) sets)))) set.rows
 product_at sets place set e = ap (λ (some : List KeyedRows). product (rows_of some)) (drop_at sets place set e)

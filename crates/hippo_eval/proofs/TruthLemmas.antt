@@ -1,4 +1,4 @@
--- The least and the greatest of truths, one part more.
+-- The least and the greatest truth, one part more.
 use Rattle.std.proofs.Common.{◌≡◌, ℕ, ◌+◌, ◌<◌, Bool, true, false, List, map, drop, get_or, length, refl, sym, ap, ◌∙◌}
 use Rattle.std.proofs.lemmas.List.{at_drop_more}
 use Rattle.hippo_values.specs.declared.truths.Truth.{Truth}
@@ -32,7 +32,7 @@ module _ {X : Type 0} (f : X → Truth) (parts : List X) (i : ℕ) (part : X) (s
   either_more true = least_more
   either_more false = greatest_more
 
-  -- the truth of the parts up to one more, and where it is settled
+  -- the truth of the parts so far with one more, and when it is settled
   module _ (all : Bool) (now whole : Truth) (is_now : now ≡ truth_of_both all so_far (f part)) (before : truth_of_both all so_far (truth_of_all all (map f (drop i parts))) ≡ whole) where
     pub part_more : truth_of_both all now (truth_of_all all (map f (drop (i + 1) parts))) ≡ whole
     part_more = ap (λ (truth : Truth). truth_of_both all truth (truth_of_all all (map f (drop (i + 1) parts)))) is_now ∙ either_more all ∙ before

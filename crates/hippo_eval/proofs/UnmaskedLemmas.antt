@@ -1,4 +1,4 @@
--- What stands for an audit's operand has the operand's value over rows with every cell shown.
+-- The expression of an audit's operand has the operand's value over rows with every cell shown.
 use Rattle.std.proofs.Common.{◌≡◌, ℕ, [], map, get_or, refl, sym, ap, ◌∙◌, Option, Some, None, option_map, unwrap_or, slice_get}
 use Rattle.std.specs.Option.{option_map_or}
 use Rattle.std.proofs.lemmas.Option.{slice_get-map, unwrap_or-slice_get}

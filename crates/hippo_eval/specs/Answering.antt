@@ -1,4 +1,4 @@
--- What is answered, and when an answer has too many rows.
+-- Which rows a query answers, and when an answer has too many rows.
 use Rattle.std.specs.Prelude.{◌≡◌, ℕ, ◌<◌, ◌≤◌, ◌&&◌, List, length, map, filter, Result, Ok, Err}
 use Rattle.hippo_model.specs.declared.query.Masked.{Masked}
 use Rattle.hippo_model.specs.Terms.{Combination, ShownRow}
@@ -6,7 +6,7 @@ use Rattle.hippo_model.specs.Masking.{Choices, is_guarded, masked_passes, masked
 use Rattle.hippo_eval.specs.declared.answers.EvalFault.{EvalFault}
 use Rattle.hippo_eval.specs.declared.answers.EvalFault.TheVariants.{TooManyRows, Memory}
 
--- the combinations of which a query makes a row
+-- the combinations that qualify: each guard is shown, and the condition is true
 abbrev pub making_rows : Choices → Masked → List Combination → List Combination
 making_rows choices query combinations =
     filter (λ rows. is_guarded choices query rows && masked_passes choices query rows) combinations
@@ -16,7 +16,7 @@ abbrev pub masked_rows : Choices → Masked → List Combination → List ShownR
 masked_rows choices query combinations =
     map (masked_items choices query) (making_rows choices query combinations)
 
--- what is answered where these are the rows: them, or that they are too many; or want of memory
+-- the result for these rows: the rows, TooManyRows, or out of memory
 abbrev pub IsAnswered : ℕ → List ShownRow → Result (List ShownRow) EvalFault → Type 0
 IsAnswered limit rows (Ok answer) = (answer ≡ rows) × (length rows ≤ limit)
 IsAnswered limit rows (Err TooManyRows) = limit < length rows

@@ -2,8 +2,7 @@
 use Rattle.std.specs.Prelude.{◌≡◌, ℕ, ◌≤◌, List, [], ◌++◌, length}
 use Rattle.hippo_model.specs.Terms.{ShownRow}
 
--- the first rows of those that were found are gathered; all of them, unless more than a limit are
--- answered
+-- the first of the rows found are gathered; all of them, unless the answer exceeds a limit
 pub record IsGathered {R : Type 0} (Holds : List ShownRow → R → Type 0)
     (answer : List ShownRow → List ShownRow)
     (limit : ℕ) (found : List ShownRow) (rows : R) : Type 0 where
@@ -13,8 +12,7 @@ pub record IsGathered {R : Type 0} (Holds : List ShownRow → R → Type 0)
   pub holds : Holds front rows
   pub whole : length (answer front) ≤ limit → later ≡ []
 
--- rows are those that are answered where these are found; with more that are found, they do not get
--- fewer
+-- these rows are the answer for the rows found; finding more rows does not make it shorter
 pub record IsFinished (answer : List ShownRow → List ShownRow) (found rows : List ShownRow)
     : Type 0 where
   pub rows_are : rows ≡ answer found

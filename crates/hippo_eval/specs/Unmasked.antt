@@ -9,7 +9,7 @@ use Rattle.hippo_model.specs.declared.query.Operand.TheVariants.{Column, Literal
 use Rattle.hippo_model.specs.Terms.{Combination, ShownRow}
 use Rattle.hippo_model.specs.Conditions.{changed_operands}
 
--- what stands for an operand where no cell is masked
+-- the expression of an operand when no cell is masked
 abbrev pub unmasked_operand : Operand → Expr
 unmasked_operand (Column column) = exprs.Keep column
 unmasked_operand (Literal value) = exprs.Literal value

@@ -1,4 +1,4 @@
--- All combinations of rows, one after the other.
+-- All combinations of one row of each table.
 use Rattle.std.specs.Prelude.{List, ◌++◌, map, Result, Ok, Err}
 use Rattle.hippo_values.specs.declared.memory.Memory.{Memory}
 use Rattle.hippo_model.specs.declared.born_row.BornRow.{BornRow}
@@ -11,12 +11,12 @@ use Rattle.hippo_eval.specs.declared.walks.Onward.TheVariants.{More, Enough}
 abbrev pub rows_of : List KeyedRows → List (List BornRow)
 rows_of sets = map (λ set. set.rows) sets
 
--- combinations with these rows in front of each
+-- each combination, with these rows put first
 abbrev pub combinations_after : Combination → List Combination → List Combination
 combinations_after front combinations = map (λ others. front ++ others) combinations
 
--- what a state keeps, after combinations that were visited before, of some more; where a visitor
--- has enough, what it keeps of them holds with whatever follows them
+-- the state after some more combinations, given those visited before; when a visitor has enough,
+-- its state also holds for whatever follows them
 abbrev pub KeptAfter : {S : Type 0} → (List Combination → S → Type 0) → Result Onward Memory
     → List Combination → List Combination → S → Type 0
 KeptAfter keeps (Ok More) before these state = keeps (before ++ these) state

@@ -1,4 +1,4 @@
-//! The answer of a query, as a walk over all combinations of rows finds it.
+//! Evaluates a query by a walk over all combinations of rows.
 ghost use Rattle.std.specs.Prelude.{◌≡◌};
 ghost use Rattle.hippo_model.specs.Masking.{masked_answer};
 ghost use Rattle.hippo_eval.specs.declared.answers.EvalFault.TheVariants as evaluating;
@@ -32,7 +32,7 @@ impl From<Memory> for EvalFault {
     }
 }
 
-/// Gathers each row.
+/// Gathers each row, duplicates included.
 #[derive(Drop)]
 pub struct Every;
 
@@ -69,7 +69,7 @@ impl Gatherer for Every {
     }
 }
 
-// Tests each combination, and tells a visitor of those that count.
+// Tests each combination and passes those that qualify to a visitor.
 #[derive(Drop)]
 struct Tester<'a, C, V> {
     query: &'a Masked,
@@ -99,10 +99,10 @@ impl<'a, C: ChoiceView, V: Visitor> Visitor for Tester<'a, C, V> {
     }
 }
 
-/// The answer of a query with the policy written into it, over unmasked rows and patients' choices:
-/// the items of the combinations whose guards are shown and whose condition is true, in the order
-/// of the product, the first table slowest; equal rows stay. TooManyRows exactly where it has more
-/// than 100,000 rows.
+/// Evaluates a query, with the policy written into it, over unmasked rows and the patients'
+/// choices. The answer has the items of each combination whose guards are shown and whose condition
+/// is true. The rows are in the order of the product, where the first table varies slowest. Equal
+/// rows are kept. Returns TooManyRows exactly when the answer has more than 100,000 rows.
 pub fn evaluate<C: ChoiceView>(
     alloc: Global,
     query: &Masked,

@@ -13,7 +13,7 @@ fn literal(alloc: Global, value: &Value) -> Result<Expr, Memory>
     Ok(Expr::Literal(value.copy(alloc)?))
 }
 
-// No cell is masked: a column is kept, and a literal stands for itself.
+// Masks no cell: a column is kept, and a literal is itself.
 struct Unmasked;
 
 impl Change<Operand, Expr> for Unmasked {
@@ -29,8 +29,8 @@ impl Change<Operand, Expr> for Unmasked {
     }
 }
 
-/// A condition over columns and literals as one over expressions, for `test`: each column is kept,
-/// each literal stands for itself.
+/// Turns a condition over columns and literals into one over expressions, for `test`. Each column
+/// is kept, and each literal is itself.
 pub fn unmasked_condition(
     alloc: Global,
     condition: &CondOf<Operand>,

@@ -1,4 +1,4 @@
-//! What an expression stands for in a combination of rows.
+//! The value of an expression in a combination of rows.
 ghost use Rattle.std.specs.Prelude.{◌≡◌, true, option_map, option_copied, slice_get, IfOk, IfSome};
 ghost use Rattle.std.specs.Option.{option_map_or};
 ghost use Rattle.hippo_model.specs.Verdicts.{number_in};
@@ -12,10 +12,10 @@ use hippo_model::{Cell, Cells, ChoiceView, Combo, Expr, Ref};
 use hippo_values::{Duplicate, Memory, Name, Value};
 use std::alloc::Global;
 
-/// A cell whose value stands elsewhere.
+/// A cell whose value is borrowed.
 #[derive(Clone, Copy)]
 pub enum LentCell<'a> {
-    /// A value; null where none stands there.
+    /// A value; None means null.
     Shown(Option<&'a Value>),
     /// Denied by the rule with this entry number.
     Denied(u64),
@@ -33,7 +33,7 @@ fn row_at<'a>(combo: &'a Combo<'_>, place: usize) -> Option<&'a Cells>
     }
 }
 
-/// The value in a column of a combination of rows; none past its end.
+/// The value in a column of a combination of rows; None past its end.
 #[inline(always)]
 pub fn raw_value<'a>(combo: &'a Combo<'_>, column: &Ref) -> Option<&'a Value>
     ensures { or_null (option_copied result) ≡ raw_value combo.now column.now }
@@ -44,7 +44,7 @@ pub fn raw_value<'a>(combo: &'a Combo<'_>, column: &Ref) -> Option<&'a Value>
     }
 }
 
-// The value that an expression stands for, where no rule masks it and a value stands there.
+// The value of an expression, when no rule masks it and there is a value.
 #[inline(always)]
 pub(crate) fn plain_value<'a>(expr: &'a Expr, combo: &'a Combo<'_>) -> Option<&'a Value>
     ensures { (choices : Choices) → IfSome result (λ value.
@@ -57,7 +57,7 @@ pub(crate) fn plain_value<'a>(expr: &'a Expr, combo: &'a Combo<'_>) -> Option<&'
     }
 }
 
-// Whether the row of a column was born later than a second.
+// Whether the row of a column was born after the given second.
 fn is_younger(combo: &Combo<'_>, column: &Ref, after: &i64) -> bool
     ensures { result ≡ is_younger combo.now column.now after.now }
 {
@@ -73,7 +73,7 @@ fn is_in_time(combo: &Combo<'_>, column: &Ref, after: &Option<i64>) -> bool
     }
 }
 
-// Whether the patient with this number agrees to an item; nobody is no patient.
+// Whether the patient with this number agrees to an item. False when there is no number.
 fn agrees<C: ChoiceView>(choices: &C, subject: Option<&Value>, item: &Name, opt_in: bool) -> bool
     ensures { let number = number_in (or_null (option_copied subject.entry)) in
         result ≡ agrees_by (C.choices choices.now) number item.now opt_in }
@@ -94,7 +94,7 @@ fn shown_if<'a>(test: bool, value: Option<&'a Value>, rule: u64) -> LentCell<'a>
     }
 }
 
-// The cell of any expression. It stays a call, so that `cell` lends what no rule masks in few
+// The cell of any expression. Not inlined, so that `cell` returns an unmasked value in few
 // instructions.
 #[inline(never)]
 pub(crate) fn cell_by_rule<'a, C: ChoiceView>(
@@ -131,7 +131,7 @@ pub(crate) fn cell_by_rule<'a, C: ChoiceView>(
     }
 }
 
-/// The cell that an expression stands for in a combination of rows, with its value lent.
+/// The cell of an expression in a combination of rows, with a borrowed value.
 #[inline(always)]
 pub fn cell<'a, C: ChoiceView>(expr: &'a Expr, combo: &'a Combo<'_>, choices: &C) -> LentCell<'a>
     ensures { lent_cell result ≡ masked_cell (C.choices choices.now) combo.now expr.now }
@@ -144,8 +144,8 @@ pub fn cell<'a, C: ChoiceView>(expr: &'a Expr, combo: &'a Combo<'_>, choices: &C
 }
 
 impl<'a> LentCell<'a> {
-    /// The value that a comparison sees; none, for null, where the cell is denied or no value
-    /// stands there.
+    /// The value that a comparison reads. None, for null, when the cell is denied or there is no
+    /// value.
     #[inline(always)]
     pub fn value(&self) -> Option<&'a Value>
         ensures { or_null (option_copied result) ≡ value_in (lent_cell self.now) }
@@ -166,7 +166,7 @@ impl<'a> LentCell<'a> {
         }
     }
 
-    /// The cell, with a value of its own.
+    /// An owned copy of the cell.
     pub fn copy(&self, alloc: Global) -> Result<Cell, Memory>
         ensures { IfOk result (λ made. made ≡ lent_cell self.now) }
     {

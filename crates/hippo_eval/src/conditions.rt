@@ -30,7 +30,7 @@ fn is_true(truth: Truth) -> bool
     matches!(truth, Truth::True)
 }
 
-// What a comparison of two numbers says.
+// The result of a comparison of two numbers.
 #[inline(always)]
 fn compared_numbers(op: CompareOp, left: &i64, right: &i64) -> Truth
     ensures { result ≡ comparison op (Int left.now) (Int right.now) }
@@ -42,7 +42,7 @@ fn compared_numbers(op: CompareOp, left: &i64, right: &i64) -> Truth
     }
 }
 
-// What a comparison of two values says. Numbers, which most conditions compare, take no call.
+// The result of a comparison of two values. Numbers, the usual case, are compared without a call.
 #[inline(always)]
 fn compared_values(op: CompareOp, left: &Value, right: &Value) -> Truth
     ensures { result ≡ comparison op left.now right.now }
@@ -53,7 +53,7 @@ fn compared_values(op: CompareOp, left: &Value, right: &Value) -> Truth
     }
 }
 
-// What a comparison of two cells says, where a denied one counts as null.
+// The result of a comparison of two cells. A denied cell counts as null.
 fn compared(op: CompareOp, left: &LentCell<'_>, right: &LentCell<'_>) -> Truth
     ensures { result ≡ comparison op (value_in (lent_cell left.now))
         (value_in (lent_cell right.now)) }
@@ -62,8 +62,8 @@ fn compared(op: CompareOp, left: &LentCell<'_>, right: &LentCell<'_>) -> Truth
     compared_values(op, left, right.value().unwrap_or(&Value::Null))
 }
 
-// What a comparison of a cell with an expression says. It stays a call, so that `compared_exprs`
-// compares what no rule masks in few instructions.
+// The result of a comparison of a cell with an expression. Not inlined, so that `compared_exprs`
+// compares unmasked values in few instructions.
 #[inline(never)]
 fn compared_with<C: ChoiceView>(
     op: CompareOp,
@@ -78,7 +78,7 @@ fn compared_with<C: ChoiceView>(
     compared(op, left, &cell(right, combo, choices))
 }
 
-// What a comparison of two expressions says.
+// The result of a comparison of two expressions.
 #[inline(always)]
 fn compared_exprs<C: ChoiceView>(
     op: CompareOp,
@@ -144,7 +144,7 @@ fn is_missing<C: ChoiceView>(value: &Expr, combo: &Combo<'_>, choices: &C) -> Tr
     }
 }
 
-// As `test`, which stays a call; a comparison takes none.
+// The same as `test`, which is not inlined, but a comparison is evaluated without a call.
 #[inline(always)]
 #[cycle(truth)]
 pub(crate) fn part_truth<C: ChoiceView>(
@@ -160,7 +160,7 @@ pub(crate) fn part_truth<C: ChoiceView>(
     }
 }
 
-// The least of two truths where all are wanted, else the greatest.
+// The lesser of two truths for All, the greater for Any.
 #[inline(always)]
 fn truth_of_both(all: bool, left: Truth, right: Truth) -> Truth
     ensures { result ≡ truth_of_both all left right }
@@ -172,7 +172,7 @@ fn truth_of_both(all: bool, left: Truth, right: Truth) -> Truth
     }
 }
 
-// The truth of no parts.
+// The truth of an empty list of parts.
 #[inline(always)]
 fn truth_of_none(all: bool) -> Truth
     ensures { result ≡ truth_of_all all [] }
@@ -180,7 +180,7 @@ fn truth_of_none(all: bool) -> Truth
     if all { Truth::True } else { Truth::False }
 }
 
-// Whether no further part changes this truth.
+// Whether no further part can change this truth.
 #[inline(always)]
 fn is_settled(all: bool, truth: Truth) -> bool
     ensures { IsTrue result → (other : _) → truth_of_both all truth other ≡ truth }
@@ -188,7 +188,7 @@ fn is_settled(all: bool, truth: Truth) -> bool
     if all { is_false(truth) } else { is_true(truth) }
 }
 
-// The least of the parts' truths where all are wanted, else the greatest.
+// The least of the parts' truths for All, the greatest for Any.
 #[inline(always)]
 #[cycle(truth)]
 fn truth_of_all<C: ChoiceView>(
@@ -210,8 +210,8 @@ fn truth_of_all<C: ChoiceView>(
     so_far
 }
 
-/// SQL's truth of a condition in a combination of rows, where each expression has the value of the
-/// cell that it stands for, and a denied cell counts as null. Takes no memory.
+/// The truth of a condition in a combination of rows, by SQL's three-valued logic. Each expression
+/// has the value of its cell, and a denied cell counts as null. Allocates no memory.
 #[cycle(truth)]
 pub fn test<C: ChoiceView>(cond: &CondOf<Expr>, combo: &Combo<'_>, choices: &C) -> Truth
     ensures { result ≡ masked_truth (C.choices choices.now) combo.now cond.now }

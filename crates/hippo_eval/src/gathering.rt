@@ -1,5 +1,5 @@
-//! The rows of an answer, gathered while the combinations that count are visited, and one at most
-//! beyond a limit.
+//! Gathers the rows of an answer while the qualifying combinations are visited. It gathers at most
+//! one row more than a limit.
 ghost use Rattle.std.specs.Prelude.{◌≡◌, ◌<◌, ◌≤◌, List, length};
 ghost use Rattle.hippo_model.specs.Terms.{ShownRow};
 ghost use Rattle.hippo_eval.specs.Answering.{IsAnswered};
@@ -10,8 +10,8 @@ use hippo_model::{Answer, ChoiceView, Combo, Masked};
 use hippo_values::Memory;
 use std::alloc::Global;
 
-/// How the rows that combinations make for an answer are gathered, one after the other. What
-/// gathers them makes each row itself, and so may use the memory of another.
+/// Gathers the rows of an answer, one qualifying combination after the other. A gatherer makes each
+/// row itself, so it can reuse the memory of another row.
 pub trait Gatherer {
     ghost use Rattle.std.specs.Prelude.{◌≡◌, [], ◌∷◌, ◌++◌, List, IfOk, OnOk, length};
     ghost use Rattle.hippo_model.specs.Terms.{ShownRow};
@@ -21,21 +21,21 @@ pub trait Gatherer {
     /// What is gathered.
     type Rows: Drop;
 
-    /// Whether this is what is gathered of rows that were found, in this order.
+    /// Whether this is the result of gathering these rows, in this order.
     ghost Holds: { Self → List ShownRow → Self.Rows → Type 0 };
 
-    /// What is answered where these rows are found.
+    /// The answer when these rows are found.
     ghost answer: { Self → List ShownRow → List ShownRow };
 
     fn start(&self, alloc: Global) -> Self::Rows
         ensures { Holds self.now [] result };
 
-    /// How many rows are answered so far.
+    /// The number of rows in the answer so far.
     fn len(&self, rows: &Self::Rows) -> usize
         ensures { (found : List ShownRow) → Holds self.now found rows.now
             → result ≡ length (answer self.now found) };
 
-    /// Takes in one row more, that which a combination of rows makes.
+    /// Adds one row: the one that a combination of rows makes.
     fn add<C: ChoiceView>(
         &self,
         alloc: Global,
@@ -49,13 +49,13 @@ pub trait Gatherer {
             (found ++ masked_items (C.choices choices.now) query.now combo.now ∷ [])
             rows.new) };
 
-    /// The rows that are answered. Where more are found, they do not get fewer.
+    /// The rows of the answer. Finding more rows never makes the answer shorter.
     fn finish(&self, alloc: Global, rows: Self::Rows) -> Result<Answer, Memory>
         ensures { (found : List ShownRow) → Holds self.now found rows
             → IfOk result (IsFinished (answer self.now) found) };
 }
 
-/// Gathers the rows of combinations that count, and one at most beyond the limit.
+/// Gathers the rows of qualifying combinations, at most one row more than the limit.
 #[derive(Drop)]
 pub struct RowFinder<'a, C, G> {
     pub query: &'a Masked,
@@ -91,7 +91,7 @@ impl<'a, C: ChoiceView, G: Gatherer> Visitor for RowFinder<'a, C, G> {
     }
 }
 
-// These rows as an answer, unless they are more than the limit.
+// These rows as an answer, or TooManyRows if they exceed the limit.
 fn limited(rows: Answer, limit: usize) -> Result<Answer, EvalFault>
     ensures { (whole : List ShownRow) → (length rows ≤ limit → rows ≡ whole)
         → (limit < length rows → limit < length whole)
@@ -110,8 +110,8 @@ impl<'a, C, G: Gatherer> RowFinder<'a, C, G> {
     ghost use Rattle.hippo_eval.specs.Answering.{IsAnswered};
     ghost use Rattle.hippo_eval.specs.Gathering.{IsGathered};
 
-    /// What is answered of the rows that are gathered. TooManyRows exactly where it is more than
-    /// the limit.
+    /// The answer of the gathered rows. Returns TooManyRows exactly when the answer exceeds the
+    /// limit.
     pub fn answered(&self, alloc: Global, rows: G::Rows) -> Result<Answer, EvalFault>
         ensures { (found : List ShownRow) → IsGathered (G.Holds self.now.gatherer.now)
             (G.answer self.now.gatherer.now)

@@ -1,5 +1,5 @@
-//! What a query with the policy written into it answers, over unmasked rows: its definition,
-//! carried out.
+//! Evaluates a query, with the policy written into it, over unmasked rows. This is the definition,
+//! executed directly.
 #![tactic(auto)]
 
 mod answers;

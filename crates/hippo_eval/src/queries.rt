@@ -1,4 +1,4 @@
-//! The guards, the condition and the items of a query in one combination of rows.
+//! The guards, the condition and the items of a query, evaluated in one combination of rows.
 ghost use Rattle.std.specs.Prelude.{◌≡◌, ◌&&◌, map, IfOk, OnOk};
 ghost use Rattle.hippo_model.specs.Conditions.{is_true};
 ghost use Rattle.hippo_model.specs.Masking.{masked_cell, is_shown_cell, is_guarded, masked_passes, masked_items};
@@ -9,8 +9,8 @@ use hippo_model::{CellRow, ChoiceView, Combo, Expr, Masked};
 use hippo_values::{Memory, Sequence, Truth};
 use std::alloc::Global;
 
-/// Whether the cell is shown that an expression stands for in a combination of rows. Takes no look
-/// at the rows where the expression alone says it.
+/// Whether the cell of an expression is shown in a combination of rows. Does not read the rows when
+/// the expression alone decides.
 #[inline(always)]
 pub fn is_shown<C: ChoiceView>(expr: &Expr, combo: &Combo<'_>, choices: &C) -> bool
     ensures { result ≡ is_shown_cell (masked_cell (C.choices choices.now) combo.now expr.now) }
@@ -42,8 +42,8 @@ fn is_true(truth: Truth) -> bool
     matches!(truth, Truth::True)
 }
 
-/// Whether a combination of rows makes a row of a query's answer: each guard is shown, and the
-/// condition is true. Takes no memory.
+/// Whether a combination of rows qualifies: each guard is shown, and the condition is true.
+/// Allocates no memory.
 pub fn passes<C: ChoiceView>(query: &Masked, combo: &Combo<'_>, choices: &C) -> bool
     ensures { result ≡ (is_guarded (C.choices choices.now) query.now combo.now
         && masked_passes (C.choices choices.now) query.now combo.now) }
@@ -51,8 +51,8 @@ pub fn passes<C: ChoiceView>(query: &Masked, combo: &Combo<'_>, choices: &C) -> 
     is_guarded(query, combo, choices) && is_true(part_truth(&query.cond, combo, choices))
 }
 
-/// Puts the cells that items stand for in a combination of rows in the place of a row's own. They
-/// take the row's memory: where it has room, only long texts take more.
+/// Replaces the cells of a row by the cells of some items in a combination of rows. Reuses the
+/// row's memory: when it has room, only long texts allocate.
 pub fn refill<C: ChoiceView>(
     alloc: Global,
     items: &[Expr],
@@ -70,7 +70,7 @@ pub fn refill<C: ChoiceView>(
     Ok(())
 }
 
-/// The row of a query's answer that a combination of rows makes.
+/// The row of the query's answer that a combination of rows makes.
 pub fn project<C: ChoiceView>(
     alloc: Global,
     query: &Masked,

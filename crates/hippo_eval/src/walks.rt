@@ -1,4 +1,4 @@
-//! All combinations of one row of each table, one after the other.
+//! Walks all combinations of one row of each table.
 ghost use Rattle.std.specs.Prelude.{◌≡◌, [], ◌∷◌, ◌++◌, List, drop, OnOk};
 ghost use Rattle.hippo_model.specs.Terms.{Combination};
 ghost use Rattle.hippo_model.specs.Answers.{product};
@@ -13,22 +13,21 @@ use std::alloc::Global;
 #[derive(Clone, Copy)]
 pub enum Onward {
     More,
-    /// What is kept already holds whatever combinations follow.
+    /// The state already holds, whatever combinations follow.
     Enough,
 }
 
-/// What is told of combinations of rows, one after the other, and keeps something of them in a
-/// state.
+/// Visits combinations of rows, one after the other, and keeps a result in a state.
 pub trait Visitor {
     ghost use Rattle.std.specs.Prelude.{List};
     ghost use Rattle.hippo_model.specs.Terms.{Combination};
 
     type State;
 
-    /// Whether a state is what is kept of these combinations, visited in this order.
+    /// Whether a state is the result of visiting these combinations in this order.
     ghost Keeps: { Self → List Combination → Self.State → Type 0 };
 
-    /// Takes one combination more into the state.
+    /// Adds one combination to the state.
     fn visit(
         &self,
         alloc: Global,
@@ -39,7 +38,7 @@ pub trait Visitor {
             → KeptAfter (Keeps self.now) result before (combo.now ∷ []) state.new };
 }
 
-// Visits the combinations that begin with these rows, one of each table before a place.
+// Visits the combinations that begin with these rows, one row of each table before a place.
 fn walk_from<'a, V: Visitor>(
     alloc: Global,
     sets: &Sets<'a>,
@@ -68,9 +67,9 @@ fn walk_from<'a, V: Visitor>(
     Ok(Onward::More)
 }
 
-/// Visits each combination of one row of each table, in the order of the product, the first table
-/// slowest, until the visitor has enough. Takes memory for one combination only, beside what the
-/// visitor takes.
+/// Visits each combination of one row of each table until the visitor has enough. The combinations
+/// are in the order of the product, where the first table varies slowest. Allocates memory for one
+/// combination only, apart from what the visitor allocates.
 pub fn walk<V: Visitor>(
     alloc: Global,
     sets: &Sets<'_>,

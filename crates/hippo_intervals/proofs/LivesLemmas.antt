@@ -1,4 +1,4 @@
--- Rows that are brought forward, and what fits a history when it grows.
+-- Rows that move forward, and what still fits a history when it grows.
 use Rattle.std.proofs.Common.{◌≡◌, ◌∙◌, sym, ap, refl, arith, subst, ℕ, ◌+◌, ◌≤◌, true, [], ◌∷◌, ◌++◌, length, take, drop, Some, Result, length-append}
 use Rattle.std.proofs.lemmas.List.{take-append-drop}
 use Rattle.std.proofs.lemmas.List.Elements.{filter-append}
@@ -13,11 +13,11 @@ use Rattle.hippo_backlog.specs.Backlogs.{is_version_of, versions_of, HeldVersion
 use Rattle.hippo_backlog.proofs.SnapshotLemmas.{AreAt-first, AreAt-grown, rows_at, handed_is}
 use Rattle.hippo_intervals.specs.Living.{HeldLives, no_lives, taken_by, LivesFit, LivesAreThoseOf, Advances}
 
--- new ones fit each history in which the table has this schema
+-- new lives fit each history in which the table has this schema
 pub LivesFit-first : (meaning : Meaning) (schema : Schema) (history : History) → is_valid meaning history ≡ true → schema_at history schema.name ≡ Some schema → LivesFit (no_lives schema) history
 LivesFit-first meaning schema history valid created = AreAt-first schema meaning history valid created
 
--- what fits a history fits it with one entry more
+-- lives that fit a history fit it with one more entry
 pub LivesFit-grown : (meaning : Meaning) (lives : HeldLives) (history : History) (entry : Entry) → is_valid meaning (history ++ entry ∷ []) ≡ true → LivesFit lives history → LivesFit lives (history ++ entry ∷ [])
 LivesFit-grown meaning lives history entry valid fits = AreAt-grown lives.schema meaning history entry lives.versions valid fits
 
@@ -28,7 +28,7 @@ LivesAreThoseOf-fits meaning lives history valid fits = record {
   taken_is = handed_is lives.schema meaning history lives.versions valid fits;
 }
 
--- each version of the table is taken in, or is behind the number that is reached
+-- each version of the table is taken in, or is after the number reached
 pub taken_and_unread : (meaning : Meaning) (lives : HeldLives) (history : History) → is_valid meaning history ≡ true → LivesFit lives history → taken_by lives + length (versions_of lives.schema.name (drop lives.versions.ahead.reached history)) ≡ length (versions_of lives.schema.name history)
 taken_and_unread meaning lives history valid fits =
     let reached = lives.versions.ahead.reached in
@@ -60,7 +60,7 @@ Advances-brings schema number end result old new before after steps_old steps_ne
       undamaged = brings.undamaged;
     }
 
--- the same, by what each part is
+-- the same, by the parts
 pub advances_by : {A : Type 0} (inside old : HeldLives) → inside ≡ old → (number end : ℕ) (result : Result A ReadFault) (new : HeldVersions) (before after : KeeperState) (steps_old steps_new : ℕ) → old.versions.place ≤ number → BringsUp inside.schema number end result inside.versions new before after steps_old steps_new → Advances number end result old (record { schema = inside.schema; versions = new }) before after steps_old steps_new
 advances_by inside old same number end result new before after steps_old steps_new within brings =
     subst (λ (held : HeldLives). Advances number end result held (record { schema = inside.schema; versions = new }) before after steps_old steps_new) same

@@ -1,4 +1,4 @@
--- The rows of a table as they live at a place in the history, and how they are brought forward.
+-- The rows of a table that are live at a place in the history, and how the place moves forward.
 use Rattle.std.specs.Prelude.{◌≡◌, ◌≢◌, true, false, ℕ, ◌+◌, ◌≤◌, ◌++◌, length, take, Result, Err, OnOk}
 use Rattle.hippo_model.specs.declared.schema.Schema.{Schema}
 use Rattle.hippo_model.specs.Terms.{History, Meaning}
@@ -18,25 +18,25 @@ pub record HeldLives : Type 0 where
 abbrev pub no_lives : Schema → HeldLives
 no_lives schema = record { schema = schema; versions = no_versions schema.key }
 
--- how many versions were handed over and taken in, those that wait included
+-- the number of versions that were read and taken in, including those that wait
 abbrev pub taken_by : HeldLives → ℕ
 taken_by lives = lives.versions.ahead.handed
 
 -- the schema is that of the table in a history; the rows are those of its versions up to the place;
--- of the others those up to the number that is reached wait
+-- later versions, up to the number reached, wait
 abbrev pub LivesFit : HeldLives → History → Type 0
 LivesFit lives history = AreAt lives.schema history lives.versions
 
--- what fits a history has its rows at its place, and has taken each version once up to the number
--- that is reached
+-- lives that fit a history have its rows at their place, and have taken in each version up to the
+-- number reached once
 pub record LivesAreThoseOf (lives : HeldLives) (history : History) : Type 0 where
   pub fits : LivesFit lives history
   pub rows : lives.versions.rows ≡ kept_at lives.schema (take lives.versions.place history)
   pub taken_is : taken_by lives
       ≡ length (versions_of lives.schema.name (take lives.versions.ahead.reached history))
 
--- the rows are brought forward to a number, and what is read is a step each and is read once; or to
--- a place before it
+-- the rows move forward to a number, or on an error to a place before it; each version is read once
+-- and counts as a step
 pub record Advances {A : Type 0} (number end : ℕ) (result : Result A ReadFault)
     (old new : HeldLives)
     (before after : KeeperState) (steps_old steps_new : ℕ) : Type 0 where

@@ -1,4 +1,4 @@
-//! The rows of a table as they were, brought forward over the history with each version read once.
+//! The former rows of a table, advanced over the history while each version is read once.
 #![tactic(auto)]
 
 mod lives;

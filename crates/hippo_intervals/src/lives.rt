@@ -1,4 +1,4 @@
-//! The rows of a table that live at a place in the history.
+//! The rows of a table that are live at a place in the history.
 ghost use Rattle.std.specs.Prelude.{◌≡◌, ◌≤◌, true, IfOk};
 ghost use Rattle.hippo_keeper.specs.Keeping.{IsReady};
 ghost use Rattle.hippo_intervals.specs.Living.{no_lives, taken_by, Advances};
@@ -12,12 +12,12 @@ use std::alloc::Global;
 use std::marker::Model;
 use std::sync::ledger::Ledger;
 
-/// The rows of a table as they lived at a place in the history: after the entries up to that
-/// number.
+/// The rows of a table that are live at a place in the history, that is, after the entries up to
+/// that number.
 ///
-/// A version lives from its own entry to the one before the next version of its key; a delete ends
-/// a row and begins none. The place only moves forward. Versions that were read beyond it wait, so
-/// each is read once.
+/// A version is live from its own entry to the entry before the next version of its key. A delete
+/// ends a row and begins none. The place only moves forward. Versions that were read beyond the
+/// place wait, so each version is read once.
 #[derive(Drop)]
 pub struct Lives {
     schema: Schema,
@@ -57,43 +57,44 @@ impl Lives {
         &self.schema
     }
 
-    /// After how many entries the rows are as they stand: 0 at first.
+    /// The number of entries after which these are the rows; 0 at first.
     pub fn place(&self) -> u64
         ensures { result ≡ self.now.versions.place }
     {
         self.versions.place()
     }
 
-    /// The rows that live at the place, with their births.
+    /// The rows that are live at the place, with their births.
     pub fn rows(&self) -> &RowSet
         ensures { result.now ≡ self.now.versions.rows }
     {
         self.versions.rows()
     }
 
-    /// Keeps, from now on, an order of the rows by a column, so that rows are found by it; they
-    /// stay what they are.
+    /// Creates a secondary order of the rows by a column, and maintains it from now on, so that
+    /// rows can be looked up by the column. The rows stay the same.
     pub fn order_by(&mut self, alloc: Global, column: usize)
         ensures { self.new ≡ self.old }
     {
         self.versions.order_by(alloc, column);
     }
 
-    /// How many versions were handed over and taken in: those whose rows have ended and those that
-    /// wait included.
+    /// The number of versions that were read and taken in, including those whose rows have ended
+    /// and those that wait.
     pub fn taken(&self) -> u64
         ensures { result ≡ taken_by self.now }
     {
         self.versions.handed()
     }
 
-    /// Moves the place forward to a number. `end` says how long the history is that is kept:
-    /// nothing is asked for behind it.
+    /// Moves the place forward to a number. `end` is the length of the kept history: nothing after
+    /// it is requested.
     ///
-    /// Ok: the rows are those after the first `number` entries. Where it fails, the place lies
-    /// between. `Keeper` comes only where the keeper's count of faults rose, and `Damaged` with the
-    /// number of an entry that was handed over and does not fit: never where the keeper tells a
-    /// valid history. Steps and `taken` rise by the same.
+    /// On Ok, the rows are those after the first `number` entries. On an error, the place is
+    /// somewhere between the old one and `number`. `Keeper` is returned only if the keeper's count
+    /// of faults rose. `Damaged` is returned with the number of an entry that was read and does not
+    /// fit, and never if the store's contents are known to be a valid history. The steps and
+    /// `taken` rise by the same number.
     pub fn advance<P: Keeper, L: Ledger>(
         &mut self,
         keeper: &mut P,

@@ -1,4 +1,4 @@
--- Whether some combination counts that has the rows that are chosen.
+-- Whether some qualifying combination has the chosen rows.
 use Rattle.std.proofs.Common.{◌≡◌, zero, suc, Bool, true, false, ◌||◌, List, [], ◌∷◌, ◌++◌, map, refl, sym, ap, ◌∙◌, Option, Some, None, get_or, unwrap_or}
 use Rattle.std.specs.Prelude.{slice_set, Ok}
 use Rattle.std.specs.List.{list_any}
@@ -25,7 +25,7 @@ pub decided : (fact : Type 0) (answer : Bool) → (answer ≡ true → fact) →
 decided fact true so not = so refl
 decided fact false so not = not refl
 
--- where no stage is left, each row is chosen
+-- when no stage is left, each row is chosen
 pub all-chosen_rows : (slots : List (Option Place)) (places : List Place) → Covers [] slots → places ≡ map (λ slot. unwrap_or slot 0) slots → slots ≡ map Some places
 all-chosen_rows slots places covers is = whole-chosen_rows slots (covered-whole slots covers) ∙ ap (map Some) (sym is)
 
@@ -33,7 +33,7 @@ pub fits-itself : (places : List Place) → Fits (map Some places) places
 fits-itself [] = tt
 fits-itself (place ∷ places) = (refl, fits-itself places)
 
--- a place that is not chosen any more
+-- a place that is no longer chosen
 pub Fits-unset : (slots : List (Option Place)) (places : List Place) (table place : Place) → is_chosen slots table ≡ false → Fits (slice_set slots table (Some place)) places → Fits slots places
 Fits-unset [] places table place unchosen fits = fits
 Fits-unset (slot ∷ slots) [] zero place unchosen fits = absurd fits
@@ -43,7 +43,7 @@ Fits-unset (Some fixed ∷ slots) (first ∷ places) zero place unchosen fits = 
 Fits-unset (None ∷ slots) (first ∷ places) (suc table) place unchosen fits = Fits-unset slots places table place unchosen fits
 Fits-unset (Some fixed ∷ slots) (first ∷ places) (suc table) place unchosen fits = (fits.0, Fits-unset slots places table place unchosen fits.1)
 
--- whether some of those that were visited pass a test
+-- whether some visited combination passes a test
 pub any-of : (test : List Place → Bool) (some : List (List Place)) → list_any test some ≡ true → (places : List Place) × (has_places places some ≡ true) × (test places ≡ true)
 any-of test some any =
     let one = Any-from_list_any test some any in
@@ -59,7 +59,7 @@ any-has test some places has passes =
     let at : get_or some one.0 one.1 ≡ one.1 = one.3 in
     list_any_at test some one.0 one.1 one.2 (ap test (at ∙ sym (same_places places one.1 one.4)) ∙ passes)
 
--- what is found among all that count and have the rows that are chosen
+-- what is found among all qualifying combinations with the chosen rows
 pub one-found : (choices : Choices) (query : Masked) (seen : List Expr) (sets : List KeyedRows) (slots : List (Option Place)) (in_order : Bool) (all : List (List Place)) (found : Bool) → AreAll (Completes choices query sets slots) in_order all
     → found ≡ list_any (λ places. are_shown choices seen (chosen_rows sets places)) all → Decides (HasOne choices query seen sets slots) (Ok found)
 one-found choices query seen sets slots in_order all found are is =
@@ -67,7 +67,7 @@ one-found choices query seen sets slots in_order all found are is =
     (λ yes. let one = any-of (λ places. are_shown choices seen (chosen_rows sets places)) all (sym is ∙ yes) in let counts = are.sound one.0 one.1 in record { places = one.0; fits = counts.0; counts = counts.1; shows = one.2 })
     (λ not_so one. false≢true (sym not_so ∙ is ∙ any-has (λ places. are_shown choices seen (chosen_rows sets places)) all one.places (are.whole one.places (one.fits, one.counts)) one.shows))
 
--- one more that was visited, which passes or does not
+-- one more visited combination, which passes or does not
 module _ (test : List Place → Bool) (before : List (List Place)) (places : List Place) where
   pub any-there : (later : List (List Place)) → test places ≡ true → true ≡ list_any test (before ++ places ∷ [] ++ later)
   any-there later passes = sym (list_any-append test (before ++ places ∷ []) later ∙ ap (λ b. b || list_any test later) (list_any-append test before (places ∷ []) ∙ last (list_any test before) (test places) passes))

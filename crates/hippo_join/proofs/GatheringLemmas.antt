@@ -1,4 +1,4 @@
--- The rows of the combinations that count.
+-- The rows of the qualifying combinations.
 use Rattle.std.proofs.Common.{◌≡◌, map, length, refl, sym, ap, ◌∙◌}
 use Rattle.std.proofs.lemmas.List.{length-map}
 use Rattle.hippo_model.specs.declared.query.Masked.{Masked}
@@ -10,7 +10,7 @@ use Rattle.hippo_join_lookups.specs.Places.{stays}
 use Rattle.hippo_join_stages.specs.Visiting.{counting}
 use Rattle.std.specs.Prelude.{List}
 
--- the rows of what counts are the answer
+-- the rows of the qualifying combinations are the answer
 pub counted-answer : (choices : Choices) (query : Masked) (sets : List KeyedRows) → map (masked_items choices query) (counting choices query (product (rows_of sets))) ≡ masked_answer choices query (rows_of sets)
 unfolding stays
 counted-answer choices query sets = refl

@@ -1,4 +1,4 @@
--- Numbers in a row, and their orders.
+-- Consecutive numbers, and their orders.
 use Rattle.std.proofs.Common.{◌≡◌, ℕ, zero, suc, ◌+◌, ◌<◌, ◌≤◌, List, [], ◌∷◌, ◌++◌, length, take, refl, sym, ap, subst, ◌∙◌, arith, add-one, get_or}
 use Rattle.std.specs.List.{range_with_len, remove}
 use Rattle.std.specs.List.Sorted.{IsPermutation}
@@ -12,12 +12,12 @@ range_from a (suc n) = let e : (a + 1) + n ≡ a + suc n = omega arith in ap (λ
 pub range-more : (n : ℕ) → range_with_len 0 (n + 1) ≡ range_with_len 0 n ++ n ∷ []
 range-more n = let e : 0 + n ≡ n = omega arith in rw (add-one n) (range_from 0 n ∙ ap (λ k. range_with_len 0 n ++ k ∷ []) e)
 
--- one more stands at its own place
+-- one more number is at its own place
 pub in_order_more : (tables : List ℕ) (place : ℕ) → place < length tables → get_or tables place 0 ≡ place → take place tables ≡ range_with_len 0 place → take (place + 1) tables ≡ range_with_len 0 (place + 1)
 in_order_more tables place within own so_far =
     take_more tables place 0 within ∙ (λ i. so_far i ++ own i ∷ []) ∙ sym (range-more place)
 
--- one of those that are left comes next
+-- one of the remaining tables comes next
 pub ordered-more : (xs order left more less : List ℕ) (i x : ℕ) → i < length left → x ≡ get_or left i x → IsPermutation xs (order ++ left) → more ≡ order ++ x ∷ [] → less ≡ remove left i → IsPermutation xs (more ++ less)
 ordered-more xs order left more less i x within is so_far pushed removed =
     subst (λ l. IsPermutation xs (l ++ less)) (sym pushed) (subst (λ l. IsPermutation xs ((order ++ x ∷ []) ++ l)) (sym removed) (IsPermutation-more xs order left i x within is so_far))

@@ -52,8 +52,8 @@ pub chosen-whole : (sets : List KeyedRows) (places : List Place) (i : ℕ) (rows
 chosen-whole sets places i rows all so_far =
     sym (take_all i rows (omega (arith, all, so_far.0))) ∙ so_far.1 ∙ take_all i (chosen_rows sets places) (omega (arith, all, length-rows_at sets (map Some places)))
 
--- ---- what is told one after the other
--- a state keeps what is made of the first of some members; these are left
+-- ---- combinations visited one after the other
+-- a state keeps the first of some members, mapped; these are left
 pub record HasTold {A S : Type 0} (keeps : List Combination → S → Type 0) (made : A → Combination) (all left : List A) (old new : S) : Type 0 where
   pub front : List A
   pub is : all ≡ front ++ left
@@ -85,7 +85,7 @@ module _ {A S : Type 0} (keeps : List Combination → S → Type 0) (made : A �
         kept = λ before kept. subst (λ (some : List Combination). keeps some after) (one_more before) (kept_whole keeps onward (before ++ map made told.front) (rows ∷ []) after (visited (before ++ map made told.front) (told.kept before kept)));
       }
 
-      -- what is kept holds whatever follows
+      -- the state holds, whatever follows
       pub told-enough : ((before : List Combination) → keeps before now → KeptAfter keeps (Ok Enough) before (rows ∷ []) after) → (before : List Combination) → keeps before old → KeptAfter keeps (Ok Enough) before (map made all) after
       told-enough visited before kept later =
           let joined : ((before ++ map made told.front) ++ rows ∷ []) ++ (map made rest ++ later) ≡ (before ++ map made all) ++ later =
@@ -96,11 +96,11 @@ module _ {A S : Type 0} (keeps : List Combination → S → Type 0) (made : A �
 
 -- ---- what was found, in the order of the product
 module _ (choices : Choices) (query : Masked) (sets : List KeyedRows) (limit : ℕ) (found : List (List Place)) (rising : IsRising found) (are : AreFound (λ places. stands choices query sets places ≡ true) limit found) where
-  -- within the limit it is all that count
+  -- within the limit, these are all qualifying combinations
   pub found-whole : length found ≤ limit → map (chosen_rows sets) found ≡ counting choices query (product (rows_of sets))
   found-whole within = rows-in-order choices query sets found (record { sound = are.sound; whole = are.whole within; rising = λ asked. rising })
 
-  -- beyond it more than the limit count
+  -- beyond it, more combinations than the limit qualify
   pub found-many : limit < length found → limit < length (counting choices query (product (rows_of sets)))
   found-many more = omega (arith, more, length-found choices query sets found rising are.sound, length-counted choices query sets)
 

@@ -1,4 +1,4 @@
--- Rows that each combination which counts has.
+-- Rows that every qualifying combination has.
 use Rattle.std.proofs.Common.{◌≡◌, ℕ, suc, ◌<◌, ◌≤◌, Bool, true, false, cond, List, [], ◌∷◌, ◌++◌, ◌+◌, append_assoc, drop, if◌then◌else◌, map, length, length-set, get_or, refl, sym, ap, subst, ◌∙◌, Option, Some, None, inl, inr, ◌⊎◌, arith}
 use Rattle.std.specs.Prelude.{slice_set, filter, IfSome}
 use Rattle.std.specs.List.{All, Contains}
@@ -27,7 +27,7 @@ module _ (choices : Choices) (query : Masked) (sets : List KeyedRows) where
   pub Settles-trans : (slots more most : List (Option Place)) → Settles choices query sets slots more → Settles choices query sets more most → Settles choices query sets slots most
   Settles-trans slots more most a b = record { long = b.long ∙ a.long; fits = λ places fits counts. b.fits places (a.fits places fits counts) counts }
 
-  -- the row of a table, of which one at most may follow
+  -- the row of a table with at most one candidate
   pub settles-one : (slots : List (Option Place)) (table : Place) (some : List Place) (first : Place) → table < length sets → ReachesFrom choices query sets slots table some → length some ≤ 1 → first ≡ get_or some 0 0
       → Settles choices query sets slots (slice_set slots table (Some first))
   settles-one slots table some first within reaches few is = record {
@@ -47,7 +47,7 @@ module _ (choices : Choices) (query : Masked) (sets : List KeyedRows) where
   only-settles slots table some None within reaches only = tt
   only-settles slots table some (Some first) within reaches only = settles-one slots table some first within reaches only.0 only.1
 
-  -- what may follow the rows that are settled is all that can count
+  -- the candidates, given the settled rows, are all that can qualify
   pub reaches-settled : (slots here : List (Option Place)) (table : Place) (some listed : List Place) → ((places : List Place) → stands choices query sets places ≡ true → Fits slots places) → here ≡ slots
       → ReachesFrom choices query sets here table some → listed ≡ some → Reaches choices query sets table listed
   reaches-settled slots here table some listed settled same reaches is places counts place at =
@@ -69,7 +69,7 @@ open_or_not : (b : Bool) → (b ≡ true) ⊎ (b ≡ false)
 open_or_not true = inl refl
 open_or_not false = inr refl
 
--- of tables that are all in an order, those whose rows are not chosen are left in it
+-- an order of all tables contains those whose rows are not chosen
 pub covers-open : (order tables : List Place) (slots : List (Option Place)) (n : ℕ) → length slots ≡ n → ((table : Place) → table < n → Contains order table) → tables ≡ filter (is_open slots) order
     → (table : Place) → table < length slots → (is_chosen slots table ≡ true) ⊎ Contains tables table
 covers-open order tables slots n long whole kept table within = elim (open_or_not (is_open slots table)) as (λ _. (is_chosen slots table ≡ true) ⊎ Contains tables table) [
@@ -77,7 +77,7 @@ covers-open order tables slots n long whole kept table within = elim (open_or_no
   | inr closed ↦ inl (closed_chosen slots table closed within)
 ]
 
--- stages of tables that are left are those of a walk
+-- stages of the remaining tables are those of a walk
 pub walk-left : (choices : Choices) (query : Masked) (sets : List KeyedRows) (order tables : List Place) (stages here : List Stage) (slots : List (Option Place)) → AreWalkable choices query sets false tables stages → here ≡ stages → length slots ≡ length sets
     → ((table : Place) → table < length sets → Contains order table) → tables ≡ filter (is_open slots) order → CanWalk choices query sets false here slots
 walk-left choices query sets order tables stages here slots are same long whole kept = record {
@@ -89,7 +89,7 @@ walk-left choices query sets order tables stages here slots are same long whole 
   rises = λ asked. absurd (false≢true asked);
 }
 
--- a member more of a list was looked at
+-- one more member of a list was tested
 pub kept-more : (test : Place → Bool) (xs : List Place) (i : ℕ) (so_far more whole : List Place) → i < length xs → more ≡ (if test (get_or xs i 0) then so_far ++ get_or xs i 0 ∷ [] else so_far)
     → so_far ++ filter test (drop i xs) ≡ whole → more ++ filter test (drop (i + 1) xs) ≡ whole
 kept-more test xs i so_far more whole within pushed before = by (test x) refl pushed

@@ -1,4 +1,4 @@
--- What is visited of the combinations that count, place by place.
+-- The qualifying combinations that are visited, place by place.
 use Rattle.std.proofs.Common.{◌≡◌, ℕ, zero, suc, ◌+◌, ◌<◌, ◌≤◌, Bool, true, false, ◌&&◌, ◌||◌, cond, not, List, [], ◌∷◌, ◌++◌, map, length, get_or, refl, sym, ap, subst, ◌∙◌, append_assoc, arith, Option, Some, None, inl, inr, ◌⊎◌, nat_eq, replicate, zero-add, unwrap_or}
 use Rattle.std.proofs.Math.Dec.{eqb, eqb-suc-zero}
 use Rattle.std.specs.Prelude.{filter, slice_get, slice_set, Result, Ok, Err, IfOk, OnOk}
@@ -56,7 +56,7 @@ module _ {A : Type 0} where
   none-counted [] none = refl
   none-counted (x ∷ xs) none = absurd (omega (arith, none))
 
-  -- where one test implies another, it is enough to make the narrower one
+  -- when one test implies another, the narrower one is enough
   pub filter-implied : (wide narrow : A → Bool) → ((x : A) → narrow x ≡ true → wide x ≡ true) → (xs : List A) → filter narrow (filter wide xs) ≡ filter narrow xs
   filter-implied wide narrow implied [] = refl
   filter-implied wide narrow implied (x ∷ xs) =
@@ -121,7 +121,7 @@ at_place (slot ∷ slots) (first ∷ places) zero place within fits = ap Some (s
 at_place (None ∷ slots) (first ∷ places) (suc table) place within fits = at_place slots places table place (omega (arith, within)) fits
 at_place (Some fixed ∷ slots) (first ∷ places) (suc table) place within fits = at_place slots places table place (omega (arith, within)) fits.1
 
--- the rows, once that of a table is no longer chosen
+-- the rows, after that of a table is no longer chosen
 pub rows-left : (sets : List KeyedRows) (slots : List (Option Place)) (table : ℕ) → table < length slots → slice_set (rows_at sets slots) table blank ≡ rows_at sets (slice_set slots table None)
 rows-left [] slots table within = refl
 rows-left (set ∷ sets) [] table within = absurd (omega (arith, within))
@@ -145,7 +145,7 @@ lower_at (Some fixed ∷ slots) (x ∷ p) (y ∷ q) (suc table) a b fits_p fits_
     ap (λ (first : ℕ). slice_cmp nat_cmp (first ∷ p) (y ∷ q)) (sym fits_p.0 ∙ fits_q.0) ∙ same-first y (slice_cmp nat_cmp p q)
     ∙ lower_at slots p q table a b fits_p.1 fits_q.1 (λ before within. chosen (suc before) (omega (arith, within))) at_p at_q below
 
--- whether places are those chosen, as a test
+-- whether places agree with the chosen ones, as a test
 abbrev fits : List (Option Place) → List Place → Bool
 fits [] [] = true
 fits [] (place ∷ places) = false
@@ -174,7 +174,7 @@ fits_test (Some fixed ∷ slots) (place ∷ places) e =
     λ i. test i && fits_test slots places e.1 i
 
 -- ---- the places of a stage, one after the other
--- a combination that counts and has one of the first places of a stage
+-- a qualifying combination that has one of the first places of a stage
 pub record Tried
     (choices : Choices) (query : Masked) (sets : List KeyedRows) (slots : List (Option Place)) (table : Place) (some : List Place) (i : ℕ) (places : List Place) : Type 0 where
   pub completes : Completes choices query sets slots places
@@ -182,7 +182,7 @@ pub record Tried
   pub lower : k < i
   pub at : slice_get places table ≡ Some (get_or some k 0)
 
--- a stage whose table's row is to be chosen next, and places that may follow
+-- a stage whose table's row is chosen next, and its candidate places
 pub record IsNext
     (choices : Choices) (query : Masked) (sets : List KeyedRows) (in_order : Bool) (slots : List (Option Place)) (table : Place) (some : List Place) : Type 0 where
   pub within : table < length slots
@@ -247,7 +247,7 @@ module _ (choices : Choices) (query : Masked) (sets : List KeyedRows) (in_order 
       (are_both in_order (Those i) (Has (get_or some i 0)) all more
       (λ asked p q tried has. let both = with_place (get_or some i 0) q has in less tried.k i p q tried.completes both.0 asked tried.lower within tried.at both.1) are here)
 
-  -- those that are left, once some of the places were tried
+  -- the combinations that are left after some of the places were tried
   module _ (i : ℕ) (short : i ≤ length some) (all : List (List Place)) (are : AreAll (Those i) in_order all) where
     abbrev Left : List Place → Type 0
     Left places = Is places × (has_places places all ≡ false)
@@ -298,7 +298,7 @@ module _ {S : Type 0} (keeps : List (List Place) → S → Type 0) (in_order : B
   kept-whole More before these state kept = kept
   kept-whole Enough before these state kept = subst (λ (all : List (List Place)). keeps all state) (append-nil (before ++ these)) (kept [])
 
-  -- the same combinations, said otherwise, whether or not a visitor has enough
+  -- the same combinations, described differently, whether or not a visitor has enough
   pub visited-as : (P Q : List Place → Type 0) (onward : Onward) (before : List (List Place)) (state : S) → ((places : List Place) → P places → Q places) → ((places : List Place) → Q places → P places) → Visited P in_order keeps onward before state → Visited Q in_order keeps More before state
   visited-as P Q onward before state there back visited = record { all = visited.all; are = are_same in_order P Q visited.all there back visited.are; kept = kept-whole onward before visited.all state visited.kept }
 
@@ -306,7 +306,7 @@ module _ {S : Type 0} (keeps : List (List Place) → S → Type 0) (in_order : B
   visited-none P before state none kept = record { all = []; are = are_none in_order P none; kept = subst (λ (all : List (List Place)). keeps all state) (sym (append-nil before)) kept }
 
   module _ (choices : Choices) (query : Masked) (sets : List KeyedRows) (slots : List (Option Place)) where
-    -- where each row is chosen, there is one combination, which counts or does not
+    -- when each row is chosen, there is one combination, which qualifies or does not
     pub visited-one : (places : List Place) (onward : Onward) (before : List (List Place)) (state : S) → slots ≡ map Some places → stands choices query sets places ≡ true → KeptOn keeps onward before (places ∷ []) state
         → Visited (Completes choices query sets slots) in_order keeps onward before state
     visited-one places onward before state whole counts kept = record {
@@ -332,7 +332,7 @@ module _ {S : Type 0} (keeps : List (List Place) → S → Type 0) (in_order : B
             (subst (λ (s : List (Option Place)). AreAll (Completes choices query sets s) in_order here.all) (sym (set-set slots_now table None (Some (get_or some i 0))))
             (subst (λ (at : Place). AreAll (Completes choices query sets (slice_set slots_now table (Some at))) in_order here.all) is_place here.are)))
 
-        -- one place more, and a place at which the visitor has enough
+        -- one more place, or a place at which the visitor has enough
         pub visited-more : Visited (Tried choices query sets slots table some (i + 1)) in_order keeps More before now
         visited-more = record {
           all = so_far.all ++ here.all;
@@ -353,7 +353,7 @@ module _ {S : Type 0} (keeps : List (List Place) → S → Type 0) (in_order : B
                   subst (λ (these : List (List Place)). keeps these now) joined (kept (rest ++ later));
             }
 
--- all tables of an order are there
+-- an order contains all tables
 pub below-all : (n : ℕ) (order : List Place) → order ≡ range_with_len 0 n → All (λ table. table < n) order
 below-all n order is = subst (λ (l : List Place). All (λ table. table < n) l) (sym is) (λ k d within.
     let short : k < n = omega (arith, within, length-range_with_len 0 n) in
@@ -386,29 +386,29 @@ module _ {S : Type 0} (keeps : List Combination → S → Type 0) (sets : List K
 pub completes-open : (choices : Choices) (query : Masked) (sets : List KeyedRows) (slots : List (Option Place)) → slots ≡ replicate (length sets) None → (places : List Place) → stands choices query sets places ≡ true → Completes choices query sets slots places
 completes-open choices query sets slots none places counts = (subst (λ (s : List (Option Place)). Fits s places) (sym none) (Fits-open places (length sets) (long-enough choices query sets places counts)), counts)
 
--- ---- places that follow
+-- ---- candidate places
 pub has-at : (some : List Place) (i place : Place) → i < length some → place ≡ get_or some i 0 → Contains some place
 has-at some i place within is = (i, within, get_or_default some i 0 place within ∙ sym is)
 
--- what counts with rows that are chosen does with the same ones, in whatever row a table was before
+-- what qualifies with chosen rows still does, whatever row a table had before
 pub counts-again : (choices : Choices) (query : Masked) (sets : List KeyedRows) (slots now : List (Option Place)) (table place : Place) → slice_set now table None ≡ slots → Counts choices query sets slots table place → Counts choices query sets now table place
 counts-again choices query sets slots now table place same counts =
     subst (λ (s : List (Option Place)). (set : KeyedRows) → slice_get sets table ≡ Some set → place < length set.rows → stays choices query (rows_at sets s) ≡ true)
     (ap (λ (s : List (Option Place)). slice_set s table (Some place)) (sym same) ∙ set-set now table None (Some place)) counts
 
 -- ---- a walk
--- what holds anyhow holds where a call is Ok
+-- an unconditional fact holds when a call is Ok
 pub on-ok : {T E : Type 0} (fact : Type 0) (result : Result T E) → fact → OnOk result fact
 on-ok fact (Ok x) holds = holds
 on-ok fact (Err e) holds = tt
 
--- no combination that counts has a place past the end of a table
+-- no qualifying combination has a place past the end of a table
 pub none-there : (choices : Choices) (query : Masked) (sets : List KeyedRows) (slots : List (Option Place)) (table place : Place) (set : KeyedRows) → table < length slots → slice_get sets table ≡ Some set → length set.rows ≤ place → (places : List Place) → ¬ Completes choices query sets (slice_set slots table (Some place)) places
 none-there choices query sets slots table place set within at past places is =
     let below = below-rows sets places table set place (in-range choices query sets places is.1) at (at_place slots places table place within is.0) in
     omega (arith, below, past)
 
--- where no stage is left, the rows are those of one combination, of which a test says whether it counts
+-- when no stage is left, there is one combination, and a test decides whether it qualifies
 pub record IsWhole (join : Join) (slots : List (Option Place)) (rows : Combination) (test : Bool) : Type 0 where
   pub places : List Place
   pub whole : slots ≡ map Some places
@@ -429,7 +429,7 @@ module _ (join : Join) where
         counts = counts-is join.choices join.query join.sets places rows test (sym (there-whole join.sets places long) ∙ sym (ap (are_there join.sets) whole) ∙ can.stand.there) are is;
       }
 
-  -- a combination that is known to count
+  -- a combination that is known to qualify
   pub is-counted : (slots : List (Option Place)) (rows : Combination) → CanGoOn join [] slots rows → stays join.choices join.query rows ≡ true → IsWhole join slots rows true
   unfolding stays
   is-counted slots rows can counts = is-whole slots rows true can (sym counts)
@@ -439,7 +439,7 @@ module _ (join : Join) where
   counted-by rows test is passes = sym is ∙ passes
 
   module _ (stage : Stage) (rest : List Stage) (slots : List (Option Place)) (rows : Combination) (can : CanGoOn join (stage ∷ rest) slots rows) where
-    -- on with the row at a place of the first stage's table
+    -- continue with the row at a place of the first stage's table
     pub on-with : (place : Place) (set : KeyedRows) (kept : BornRow) (now : Combination) → stage.table < length slots → slice_get join.sets stage.table ≡ Some set → place < length set.rows → slice_get set.rows place ≡ Some kept → now ≡ slice_set rows stage.table kept
         → CanGoOn join rest (slice_set slots stage.table (Some place)) now
     on-with place set kept now within at below has put = record {
@@ -452,14 +452,15 @@ module _ (join : Join) where
       };
     }
 
-    -- again with another row of its table, or none
+    -- continue with another row of its table, or none
     pub on-again : (left : List (Option Place)) (now : Combination) → slice_set left stage.table None ≡ slots → StandAt join.sets left now → CanGoOn join (stage ∷ rest) left now
     on-again left now same stand = record { can = walk-again join.choices join.query join.sets join.in_order stage rest slots left can.can same; stand = stand }
 
     pub next-on : (some : List Place) → is_open slots stage.table ≡ true → ReachesFrom join.choices join.query join.sets slots stage.table some → (join.in_order ≡ true → IsStrictlyIncreasing some) → IsNext join.choices join.query join.sets join.in_order slots stage.table some
     next-on some still reaches rises = is-next join.choices join.query join.sets join.in_order (stage ∷ rest) stage rest slots some can.can refl still reaches rises
 
-  -- on along the other stages, where the row of the first one's table is chosen already; and along all
+  -- continue along the other stages, when the row of the first one's table is already chosen; and
+  -- along all
   pub on-closed : (stages : List Stage) (stage : Stage) (rest : List Stage) (slots : List (Option Place)) (rows : Combination) → CanGoOn join stages slots rows → stages ≡ stage ∷ rest → is_open slots stage.table ≡ false → CanGoOn join rest slots rows
   on-closed stages stage rest slots rows can first closed = record { can = walk-closed join.choices join.query join.sets join.in_order stages stage rest slots can.can first closed; stand = can.stand }
 

@@ -1,4 +1,4 @@
--- Whether some combination counts that has the rows that are chosen.
+-- Whether some qualifying combination has the chosen rows.
 use Rattle.std.specs.Prelude.{◌≡◌, Bool, true, false, List, Option, Result, Ok, Err}
 use Rattle.std.specs.List.{list_all}
 use Rattle.hippo_values.specs.declared.memory.Memory.{Memory}
@@ -13,8 +13,7 @@ use Rattle.hippo_join_lookups.specs.Places.{chosen_rows, Fits, stands}
 abbrev pub are_shown : Choices → List Expr → Combination → Bool
 are_shown choices seen rows = list_all (λ expr. is_shown_cell (masked_cell choices rows expr)) seen
 
--- a combination that has the rows that are chosen and counts, in which all that is to be seen is
--- shown
+-- a qualifying combination with the chosen rows in which all wanted cells are shown
 pub record HasOne
     (choices : Choices) (query : Masked) (seen : List Expr) (sets : List KeyedRows)
     (slots : List (Option Place)) : Type 0 where
@@ -23,7 +22,7 @@ pub record HasOne
   pub counts : stands choices query sets places ≡ true
   pub shows : are_shown choices seen (chosen_rows sets places) ≡ true
 
--- what a test says: that a fact is so, or that it is not; or want of memory
+-- the result of a test: a fact holds, it does not hold, or out of memory
 abbrev pub Decides : Type 0 → Result Bool Memory → Type 0
 Decides fact (Ok true) = fact
 Decides fact (Ok false) = ¬ fact

@@ -1,4 +1,4 @@
--- Rows that each combination which counts has.
+-- Rows that every qualifying combination has.
 use Rattle.std.specs.Prelude.{◌≡◌, true, List, length, Option}
 use Rattle.hippo_model.specs.declared.query.Masked.{Masked}
 use Rattle.hippo_model.specs.Terms.{Place}
@@ -6,8 +6,7 @@ use Rattle.hippo_tables_keyed.specs.RowSets.{KeyedRows}
 use Rattle.hippo_model.specs.Masking.{Choices}
 use Rattle.hippo_join_lookups.specs.Places.{Fits, stands}
 
--- a combination that counts and has the rows that are chosen before has those that are chosen
--- after, too
+-- each qualifying combination with the rows chosen before also has the rows chosen after
 pub record Settles
     (choices : Choices) (query : Masked) (sets : List KeyedRows)
     (before after : List (Option Place)) : Type 0 where

@@ -1,4 +1,4 @@
--- A walk over the combinations of a join that count.
+-- A walk over the qualifying combinations of a join.
 use Rattle.std.specs.Prelude.{◌≡◌, Bool, true, None, List, Option, OnOk, Result, slice_set}
 use Rattle.std.specs.List.Sorted.{IsStrictlyIncreasing}
 use Rattle.hippo_values.specs.declared.memory.Memory.{Memory}
@@ -30,21 +30,21 @@ join_of choices_of walk = record {
   in_order = walk.in_order;
 }
 
--- each row that is chosen is there, and rows are those that are chosen
+-- each chosen row exists, and `rows` are the chosen rows
 pub record StandAt (sets : List KeyedRows) (slots : List (Option Place)) (rows : Combination)
     : Type 0 where
   pub there : are_there sets slots ≡ true
   pub are : rows ≡ rows_at sets slots
 
--- a walk may go on along some stages from the rows that are chosen
+-- a walk may continue along some stages from the chosen rows
 pub record CanGoOn
     (join : Join) (stages : List Stage) (slots : List (Option Place)) (rows : Combination)
     : Type 0 where
   pub can : CanWalk join.choices join.query join.sets join.in_order stages slots
   pub stand : StandAt join.sets slots rows
 
--- places of a stage that may follow the rows that are chosen: all that count, in ascending order
--- where that is asked for; each counts where that is said
+-- candidate places of a stage, given the chosen rows: all that can qualify, ascending if the join
+-- is in order; with `all_count`, each of them qualifies
 pub record Follow
     (join : Join) (stage : Stage) (slots : List (Option Place)) (all_count : Bool)
     (places : List Place) : Type 0 where
@@ -53,11 +53,11 @@ pub record Follow
   pub count : is_open slots stage.table ≡ true → all_count ≡ true
       → AllCount join.choices join.query join.sets slots stage.table places
 
--- what a visitor keeps of a join's combinations, behind those of its front
+-- what a visitor keeps of a join's combinations, after those of its front
 abbrev pub Keeping : Type 0 → Type 1
 Keeping S = List KeyedRows → List Combination → List (List Place) → S → Type 0
 
--- what counts with the rows that are chosen was visited, and they are chosen again
+-- the qualifying combinations with the chosen rows were visited, and the same rows are chosen again
 pub record HasGoneOn {S : Type 0}
     (join : Join) (keeps : Keeping S) (chosen left : List (Option Place)) (now : Combination)
     (result : Result Onward Memory) (old new : S) : Type 0 where
@@ -66,7 +66,7 @@ pub record HasGoneOn {S : Type 0}
   pub kept : Visits (Completes join.choices join.query join.sets chosen) join.in_order
       (keeps join.sets) result old new
 
--- what counts with the rows that are chosen was visited, and those of the other tables than one
+-- the qualifying combinations with the chosen rows were visited, and the rows of all tables but one
 -- are chosen as before
 pub record HasWalked {S : Type 0}
     (join : Join) (keeps : Keeping S) (table : Place) (chosen before left : List (Option Place))

@@ -1,4 +1,4 @@
-//! Whether some combination of rows counts, with an end at the first that is found.
+//! Tests whether some combination of rows qualifies. Stops at the first one found.
 ghost use Rattle.std.specs.Prelude.{◌≡◌, false, OnOk, length};
 ghost use Rattle.std.specs.List.{All};
 ghost use Rattle.hippo_model.specs.Masking.{masked_cell, is_shown_cell};
@@ -32,7 +32,7 @@ fn are_shown<C: ChoiceView>(choices: &C, seen: &[Expr], rows: &Combo<'_>) -> boo
     true
 }
 
-// Seeks a combination of a side's rows that shows what is to be seen.
+// Searches for a combination of a side's rows in which all wanted cells are shown.
 #[derive(Drop)]
 pub(crate) struct Seeker<'w, 'a, C> {
     pub(crate) side: &'w Side<'a, C>,
@@ -68,8 +68,8 @@ impl<'w, 'a, C: ChoiceView> PlaceVisitor for Seeker<'w, 'a, C> {
 }
 
 impl<'w, 'a, C: ChoiceView> Seeker<'w, 'a, C> {
-    // Whether some combination counts that has the rows that are chosen, and shows each cell that
-    // is to be seen, along stages of the tables whose row is not chosen.
+    // Whether some qualifying combination has the chosen rows and shows each wanted cell. Walks
+    // stages for the tables whose row is not chosen.
     pub(crate) fn has_along(
         &self,
         alloc: Global,
@@ -99,9 +99,8 @@ impl<'w, 'a, C: ChoiceView> Seeker<'w, 'a, C> {
     }
 }
 
-/// Whether some combination counts that has the rows that are chosen, and shows each cell that is
-/// to be seen. Wants stages for all tables whose row is not chosen; leaves the slots as they are,
-/// but where memory is short.
+/// Whether some qualifying combination has the chosen rows and shows each cell of `seen`. Requires
+/// stages for all tables whose row is not chosen. Leaves the slots unchanged, unless out of memory.
 pub fn has<C: ChoiceView>(
     side: &Side<'_, C>,
     alloc: Global,

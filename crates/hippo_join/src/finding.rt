@@ -1,4 +1,4 @@
-//! All combinations of rows that count, by their places.
+//! All qualifying combinations, by the places of their rows.
 ghost use Rattle.std.specs.Prelude.{◌≡◌, map, unwrap_or, IfOk, OnOk, OnErr};
 ghost use Rattle.hippo_join_stages.specs.Finding.{HasOnePlaceMore};
 
@@ -9,7 +9,7 @@ use hippo_values::{Memory, Sequence};
 use std::alloc::Global;
 use std::collections::BTreeSet;
 
-// The places that are chosen, in the order of FROM.
+// The chosen places, in the order of FROM.
 fn chosen_places(alloc: Global, slots: &[Option<usize>]) -> Result<Places, Memory>
     ensures { IfOk result (λ places. places ≡ map (λ slot. unwrap_or slot 0) slots.now) }
 {
@@ -25,7 +25,7 @@ fn insert(found: &mut BTreeSet<Places>, places: Places) -> Result<(), Memory>
     Ok(())
 }
 
-// Finds the places of combinations that count, and one at most beyond a limit.
+// Collects the places of qualifying combinations, at most one more than a limit.
 #[derive(Drop)]
 pub(crate) struct PlaceFinder {
     pub(crate) limit: usize,

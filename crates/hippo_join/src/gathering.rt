@@ -1,4 +1,4 @@
-//! The rows of an answer, gathered while the combinations that count are visited.
+//! Gathers the rows of an answer while the qualifying combinations are visited.
 ghost use Rattle.hippo_model.specs.Masking.{masked_answer};
 ghost use Rattle.hippo_eval.specs.Answering.{IsAnswered};
 ghost use Rattle.hippo_eval.specs.Walks.{rows_of};
@@ -9,9 +9,9 @@ use hippo_model::{Answer, ChoiceView, Masked};
 use hippo_tables_rows::Sets;
 use std::alloc::Global;
 
-/// What is answered of the rows that a query with the policy written into it makes, over unmasked
-/// rows and patients' choices, in the time of `walk_joined`. TooManyRows exactly where it is more
-/// than the limit.
+/// The answer that a gatherer makes of the rows of a query, with the policy written into it, over
+/// unmasked rows and patients' choices. It takes the time of `walk_joined`. Returns TooManyRows
+/// exactly when the answer exceeds the limit.
 pub fn gather_joined<C: ChoiceView, G: Gatherer>(
     alloc: Global,
     query: &Masked,

@@ -1,4 +1,4 @@
-//! The answer of a query by a planned join.
+//! Evaluates a query by a planned join.
 ghost use Rattle.std.specs.Prelude.{◌≡◌, IfOk, length};
 ghost use Rattle.hippo_model.specs.Masking.{masked_answer};
 ghost use Rattle.hippo_eval.specs.Answering.{IsAnswered};
@@ -14,7 +14,7 @@ use hippo_tables_rows::Sets;
 use hippo_values::{Memory, Moment, Sequence};
 use std::alloc::Global;
 
-/// What stands for a row that is not chosen yet.
+/// A row that stands in for one not chosen yet.
 pub fn blank_row(alloc: Global) -> Result<BornRow, Memory>
     ensures { IfOk result (λ row. row ≡ blank) }
 {
@@ -27,7 +27,7 @@ pub fn blank_row(alloc: Global) -> Result<BornRow, Memory>
     }
 }
 
-// A query over tables, with what stands for rows that are not chosen.
+// A query over tables, with a stand-in for rows that are not chosen.
 pub(crate) fn side_of<'s, C: ChoiceView>(
     query: &'s Masked,
     sets: &'s Sets<'_>,
@@ -47,14 +47,18 @@ pub(crate) fn side_of<'s, C: ChoiceView>(
     }
 }
 
-/// The answer of a query with the policy written into it, by joins of its tables in a plan's order:
-/// the same as that of `evaluate`, whatever the plan. Wants a plan of the query, and the rows of
-/// each of its tables. TooManyRows exactly where the answer has more than 100,000 rows. Where the
-/// query's outermost AND says the key of a table's row, or the value of a column by which the table
-/// has an order, by literals or by columns of tables before it, such rows are looked up; where it
-/// has another equality of columns of two tables, only rows whose values are equal are looked at.
-/// So the time is in proportion to the tables whose rows are not looked up and to what matches;
-/// memory is in proportion to these tables and the answer.
+/// The answer of a query, with the policy written into it, by a nested-loop join of its tables in a
+/// plan's order. It is the same as that of `evaluate`, whatever the plan. Requires a plan of the
+/// query, and the rows of each of its tables. Returns TooManyRows exactly when the answer has more
+/// than 100,000 rows.
+///
+/// The query's outermost AND decides how the rows of a table are found. They are looked up when
+/// literals, or columns of tables before it in the plan, fix the table's key, or the value of a
+/// column that the table is ordered by. When the AND contains another equality of columns of two
+/// tables, only rows with equal values are read.
+///
+/// The time is proportional to the size of the tables whose rows are not looked up, and to the
+/// number of matches. The memory is proportional to these tables and the answer.
 pub fn run<C: ChoiceView>(
     alloc: Global,
     plan: &Plan,

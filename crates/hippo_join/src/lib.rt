@@ -1,4 +1,4 @@
-//! Planned joins, and whether some combination of rows counts.
+//! Planned joins, and tests for whether some combination of rows qualifies.
 #![tactic(auto)]
 
 mod existence;

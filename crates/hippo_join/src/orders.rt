@@ -1,4 +1,4 @@
-//! In which order the tables of a query are joined.
+//! Join planning: the order in which the tables of a query are joined.
 ghost use Rattle.std.specs.Prelude.{◌≡◌, ◌<◌, ◌++◌, IfOk, IsTrue, length, take};
 ghost use Rattle.std.specs.List.{range_with_len};
 ghost use Rattle.std.specs.List.Sorted.{IsPermutation};
@@ -20,7 +20,7 @@ pub(crate) fn tables_below(alloc: Global, count: usize) -> Result<Vec<usize>, Me
     Ok(tables)
 }
 
-// Whether an expression shows a column of a table, and the other one is a literal.
+// Whether an expression shows a column of a table, and the other expression is a literal.
 fn is_fixed(expr: &Expr, other: &Expr, table: usize) -> bool {
     match column_of(expr) {
         Some(column) => column.table == table && matches!(other, Expr::Literal(_)),
@@ -39,8 +39,8 @@ fn fixes(part: &CondOf<Expr>, table: usize) -> bool {
     }
 }
 
-// How late a table is to be joined: those behind a tie come before the others, then those of which
-// a literal says a value, and then the small ones.
+// The rank of a table in the join order, lower first: tied tables before others, then tables with a
+// column fixed by a literal, then small tables.
 fn lateness(
     query: &Masked,
     sizes: &Sizes,
@@ -54,7 +54,7 @@ fn lateness(
     (tie.is_none(), !is_fixed, size)
 }
 
-// The place of the table that is to be joined next, among those that are left.
+// The place, in `left`, of the table to join next.
 fn next_place(query: &Masked, sizes: &Sizes, left: &[usize], slots: &[Option<usize>]) -> usize
     requires { 0 < length left.now }
     ensures { result < length left.now }
@@ -77,9 +77,10 @@ fn mark(slots: &mut [Option<usize>], table: usize) {
     }
 }
 
-/// Some tables of a query, and then the others that are left, in an order in which they can be
-/// joined behind the first: next comes a table that an equality ties to one before it, if there is
-/// one, then one of which an equality with a literal says a value, and of several the smallest.
+/// Orders the tables of a query for a join: first those in `first`, then those in `others`. The
+/// next table is one that an equality ties to a table before it, if there is one, otherwise one
+/// with a column that an equality fixes to a literal. Of several such tables, the smallest comes
+/// first.
 pub fn order_after(
     alloc: Global,
     query: &Masked,
@@ -106,10 +107,10 @@ pub fn order_after(
     Ok(order)
 }
 
-/// An order in which the tables of a query can be joined, each once, for tables of these sizes:
-/// next comes a table that an equality ties to one before it, if there is one, then one of which an
-/// equality with a literal says a value, and of several the smallest. `run` gives the same answer
-/// for every order; this one is chosen to be fast.
+/// A join order for the tables of a query, each once, given their sizes. The next table is one that
+/// an equality ties to a table before it, if there is one, otherwise one with a column that an
+/// equality fixes to a literal. Of several such tables, the smallest comes first. `run` gives the
+/// same answer for every order; this one is chosen to be fast.
 pub fn plan(alloc: Global, query: &Masked, sizes: &Sizes) -> Result<Plan, Memory>
     ensures { IfOk result (λ plan. IsPlanOf query.now plan) }
 {

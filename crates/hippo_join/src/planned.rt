@@ -1,4 +1,4 @@
-//! A visit of the combinations that a planned join finds, in the order of the product.
+//! Visits the combinations that a planned join finds, in the order of the product.
 ghost use Rattle.std.specs.Prelude.{◌≡◌, ◌<◌, true, List, length, map, slice_get};
 ghost use Rattle.std.specs.List.{All, Contains};
 ghost use Rattle.hippo_model.specs.Terms.{Combination, Place};
@@ -28,7 +28,7 @@ fn place_at(places: &[usize], table: usize) -> Option<usize>
     places.get(table).copied()
 }
 
-// Puts the rows at these places in the place of those before.
+// Replaces the rows by those at these places.
 fn choose<'a, C: ChoiceView>(side: &Side<'a, C>, places: &[usize], rows: &mut Combo<'a>)
     requires { length rows.old ≡ length side.now.sets.now }
     ensures { rows.new ≡ chosen_rows side.now.sets.now places.now }
@@ -40,7 +40,7 @@ fn choose<'a, C: ChoiceView>(side: &Side<'a, C>, places: &[usize], rows: &mut Co
     }
 }
 
-// Visits combinations by their places, one after the other, until the visitor has enough.
+// Visits the combinations at these places, one after the other, until the visitor has enough.
 fn visit_each<C: ChoiceView, V: Visitor>(
     found: &BTreeSet<Places>,
     side: &Side<'_, C>,
@@ -63,7 +63,7 @@ fn visit_each<C: ChoiceView, V: Visitor>(
     Ok(Onward::More)
 }
 
-// Visits the combinations that count, where all of them are found, or more than the limit.
+// Visits the qualifying combinations, given all of them or more than the limit.
 fn visit_found<C: ChoiceView, V: Visitor>(
     side: &Side<'_, C>,
     alloc: Global,
@@ -79,7 +79,7 @@ fn visit_found<C: ChoiceView, V: Visitor>(
         (counting (C.choices side.now.choices.now) side.now.query.now
         (product (rows_of side.now.sets.now))) state.new }
 {
-    // The order of a set's members is known where its length was asked for.
+    // Asking for the length lets the proof know the order of the set's members.
     if found.len() > ANSWER_LIMIT {
         return Err(EvalFault::TooManyRows);
     }
@@ -87,7 +87,7 @@ fn visit_found<C: ChoiceView, V: Visitor>(
     Ok(())
 }
 
-// Visits the combinations that count, by joins of the tables in an order.
+// Visits the qualifying combinations, by joining the tables in an order.
 fn visit_ordered<C: ChoiceView, V: Visitor>(
     order: &[usize],
     side: &Side<'_, C>,
@@ -113,12 +113,15 @@ fn visit_ordered<C: ChoiceView, V: Visitor>(
     }
 }
 
-/// Visits each combination of one row of each table that counts for a query with the policy written
-/// into it, in the order of the product, the first table slowest, until the visitor has enough: the
-/// same as `walk_joined`, whatever the plan. Wants a plan of the query, and the rows of each of its
-/// tables, which are joined in the plan's order as `run` joins them. Where that is not the order of
-/// FROM, the places of what counts are found before the first visit, in memory in proportion to
-/// them; TooManyRows, and no visit, only where more than 100,000 combinations count.
+/// Visits each qualifying combination of a query, with the policy written into it, until the
+/// visitor has enough. The combinations have one row of each table and come in the order of the
+/// product, where the first table varies slowest. The result is the same as that of `walk_joined`,
+/// whatever the plan. Requires a plan of the query, and the rows of each of its tables. The tables
+/// are joined in the plan's order, as `run` does.
+///
+/// If the plan's order is not that of FROM, the places of all qualifying combinations are found
+/// before the first visit, in memory proportional to their number. Returns TooManyRows, without any
+/// visit, only when more than 100,000 combinations qualify.
 pub fn visit_planned<C: ChoiceView, V: Visitor>(
     alloc: Global,
     plan: &Plan,

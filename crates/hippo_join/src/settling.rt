@@ -1,5 +1,5 @@
-//! Rows that each combination which counts has, since look-ups find no other; and joins behind rows
-//! that are chosen.
+//! Rows that every qualifying combination must have, because lookups find no other; and joins that
+//! start from chosen rows.
 ghost use Rattle.std.specs.Prelude.{◌≡◌, ◌<◌, ◌≤◌, true, List, IfOk, IfSome, OnOk, Some, filter, get_or, length, slice_set};
 ghost use Rattle.std.specs.List.{All, Contains};
 ghost use Rattle.hippo_model.specs.Terms.{Place};
@@ -17,16 +17,16 @@ use hippo_model::{ChoiceView, Expr};
 use hippo_values::Memory;
 use std::alloc::Global;
 
-// So many places are few.
+// At or below this many places are few.
 const FEW: usize = 16;
 
-// How many of so many rows are few.
+// The limit for few places in a table with this many rows.
 fn few_of(rows: usize) -> usize {
     let part = rows / FEW;
     if part < FEW { part } else { FEW }
 }
 
-// The place of which there is no other; 0 where there is none.
+// The only place; 0 if there is no place. None if there are several.
 fn only_of(following: &Following<'_>) -> Option<usize>
     ensures { IfSome result (λ first. (length (following_places following.now) ≤ 1)
         × (first ≡ get_or (following_places following.now) 0 0)) }
@@ -38,7 +38,7 @@ fn only_of(following: &Following<'_>) -> Option<usize>
     }
 }
 
-// The tables of an order whose rows are still to be chosen.
+// The tables of an order whose rows are not yet chosen.
 fn still_open(alloc: Global, order: &[usize], slots: &[Option<usize>]) -> Result<Vec<usize>, Memory>
     ensures { IfOk result (λ left. left.items ≡ filter (is_open slots.now) order.now) }
 {
@@ -49,8 +49,7 @@ fn still_open(alloc: Global, order: &[usize], slots: &[Option<usize>]) -> Result
     Ok(left)
 }
 
-// The place of a table's row, where it is not chosen yet and one at most may follow those that are
-// chosen.
+// The place of a table's row, if none is chosen yet and at most one row is a candidate.
 fn only_place<C: ChoiceView>(
     side: &Side<'_, C>,
     alloc: Global,
@@ -70,7 +69,7 @@ fn only_place<C: ChoiceView>(
     Ok(only_of(&following))
 }
 
-// Chooses a table's row, where it is not chosen yet and one at most may follow.
+// Chooses a table's row, if none is chosen yet and at most one row is a candidate.
 #[tactic(auto, using(crate::proofs::SettlingLemmas::Settles_refl))]
 fn settle_table<C: ChoiceView>(
     side: &Side<'_, C>,
@@ -91,8 +90,8 @@ fn settle_table<C: ChoiceView>(
     Ok(())
 }
 
-// Chooses the row of each table, one after the other, where one at most may follow those that are
-// chosen.
+// Chooses the row of each table for which at most one row is a candidate, one table after the
+// other.
 fn settle_each<C: ChoiceView>(
     side: &Side<'_, C>,
     alloc: Global,
@@ -109,9 +108,9 @@ fn settle_each<C: ChoiceView>(
     Ok(())
 }
 
-/// Slots of all tables, in which rows are chosen that each combination has which counts: those of
-/// tables of which a look-up, by literals or by such rows, finds one at most. No row is tested.
-/// Where none is found, none counts, and whatever row is chosen is that of each.
+/// Slots of all tables, where each chosen row is in every qualifying combination. A table's row is
+/// chosen when a lookup, by literals or by rows chosen in this way, finds at most one row. Rows are
+/// not tested. If a lookup finds none, no combination qualifies, and any row may be chosen.
 pub fn settled<C: ChoiceView>(
     side: &Side<'_, C>,
     alloc: Global,
@@ -127,8 +126,8 @@ pub fn settled<C: ChoiceView>(
     Ok(slots)
 }
 
-/// The places of a table's rows that can count, where look-ups find few: sixteen at most, and of
-/// sixteen rows one. No row is tested.
+/// The places of a table's rows that can be in a qualifying combination, if lookups find few: at
+/// most sixteen, and at most one in sixteen of the table's rows. Rows are not tested.
 pub fn few_places<C: ChoiceView>(
     side: &Side<'_, C>,
     alloc: Global,
@@ -148,10 +147,10 @@ pub fn few_places<C: ChoiceView>(
     Ok(Some(places))
 }
 
-/// Whether some combination counts that has the rows that are chosen, and shows each cell that is
-/// to be seen. The tables whose rows are not chosen are joined behind the others in an order of
-/// all; where rows before say the key of a row, or the value of a column by which its table has an
-/// order, it is looked up. Leaves the slots as they are, but where memory is short.
+/// Whether some qualifying combination has the chosen rows and shows each cell of `seen`. The
+/// tables whose rows are not chosen are joined after the others, in the given order of all tables.
+/// A row is looked up when the rows before it fix its key, or the value of a column that its table
+/// is ordered by. Leaves the slots unchanged, unless out of memory.
 pub fn has_joined<C: ChoiceView>(
     side: &Side<'_, C>,
     alloc: Global,

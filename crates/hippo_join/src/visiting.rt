@@ -1,4 +1,4 @@
-//! A walk over the combinations that count, in the order of the product.
+//! Walks the qualifying combinations in the order of the product.
 ghost use Rattle.std.specs.Prelude.{◌++◌, List, OnOk};
 ghost use Rattle.hippo_model.specs.Terms.{Combination};
 ghost use Rattle.hippo_model.specs.Answers.{product};
@@ -15,7 +15,7 @@ use hippo_tables_rows::Sets;
 use hippo_values::Memory;
 use std::alloc::Global;
 
-// Tells a visitor of the rows.
+// Passes the rows on to a visitor.
 #[derive(Drop)]
 struct RowTeller<'a, V> {
     visitor: &'a V,
@@ -42,7 +42,7 @@ impl<'a, V: Visitor> PlaceVisitor for RowTeller<'a, V> {
     }
 }
 
-// Visits what counts of all combinations.
+// Visits the qualifying ones of all combinations.
 fn visit_all<C: ChoiceView, V: Visitor>(
     side: &Side<'_, C>,
     alloc: Global,
@@ -59,13 +59,16 @@ fn visit_all<C: ChoiceView, V: Visitor>(
     walk_all(side, alloc, &order, true, &teller, state)
 }
 
-/// Visits each combination of one row of each table that counts for a query with the policy written
-/// into it, in the order of the product, the first table slowest, until the visitor has enough. The
-/// tables are joined in the order of FROM: where the query's outermost AND says the key of a
-/// table's row, or the value of a column by which the table has an order, by literals or by columns
-/// of tables before it, such rows are looked up; where it has another equality of columns of two
-/// tables, only rows whose values are equal are looked at. Takes memory in proportion to the tables
-/// whose rows are not looked up, beside what the visitor takes, and none for what counts.
+/// Visits each qualifying combination of a query, with the policy written into it, until the
+/// visitor has enough. The combinations have one row of each table and come in the order of the
+/// product, where the first table varies slowest.
+///
+/// The tables are joined in the order of FROM. The query's outermost AND decides how the rows of a
+/// table are found. They are looked up when literals, or columns of tables before it, fix the
+/// table's key, or the value of a column that the table is ordered by. When the AND contains
+/// another equality of columns of two tables, only rows with equal values are read. The memory is
+/// proportional to the tables whose rows are not looked up, apart from what the visitor allocates.
+/// It does not depend on the number of qualifying combinations.
 pub fn walk_joined<C: ChoiceView, V: Visitor>(
     alloc: Global,
     query: &Masked,

@@ -1,4 +1,4 @@
-//! A walk over the combinations that count, stage by stage, by the rows' places.
+//! The nested-loop join: walks the qualifying combinations stage by stage, by the rows' places.
 ghost use Rattle.std.specs.Prelude.{◌≡◌, [], ◌∷◌, ◌<◌, true, None, Some, List, IfOk, IfSome, OnOk, length, nat_lt, slice_set};
 ghost use Rattle.std.specs.List.{All, Contains};
 ghost use Rattle.std.specs.List.Sorted.{IsStrictlyIncreasing};
@@ -20,8 +20,8 @@ use hippo_tables_rows::RowSet;
 use hippo_values::Memory;
 use std::alloc::Global;
 
-// What is told of combinations that count, one after the other, and keeps something of their places
-// in a state.
+// Visits qualifying combinations, one after the other, and keeps a result of their places in a
+// state.
 pub(crate) trait PlaceVisitor {
     ghost use Rattle.std.specs.Prelude.{◌≡◌, [], ◌∷◌, List, map, Some, IfOk};
     ghost use Rattle.hippo_model.specs.Terms.{Combination, Place};
@@ -31,12 +31,12 @@ pub(crate) trait PlaceVisitor {
 
     type State;
 
-    // Whether a state is what is kept of some combinations and then of these, by their places in
-    // tables.
+    // Whether a state is the result of visiting some combinations and then these, given by their
+    // places in tables.
     ghost Keeps: { Self → List KeyedRows → List Combination → List (List Place) → Self.State
         → Type 0 };
 
-    // Takes one combination more into the state, whose rows are all chosen.
+    // Adds one combination, whose rows are all chosen, to the state.
     fn visit(
         &self,
         alloc: Global,
@@ -52,7 +52,7 @@ pub(crate) trait PlaceVisitor {
             state.new) };
 }
 
-// The places that follow, each once, in ascending order.
+// The candidate places, each once, in ascending order.
 fn ascending(alloc: Global, following: &Following<'_>) -> Result<Vec<usize>, Memory>
     ensures order { IfOk result (λ places. IsStrictlyIncreasing places.items) }
     ensures all { IfOk result (λ places. (place : Place)
@@ -67,7 +67,7 @@ fn ascending(alloc: Global, following: &Following<'_>) -> Result<Vec<usize>, Mem
     Ok(places)
 }
 
-// Whether the place that is chosen in a table, if one is, is one of its rows'.
+// Whether the chosen place of a table, if there is one, is below the number of its rows.
 #[inline(always)]
 fn is_there(set: &RowSet, slot: Option<usize>) -> bool
     ensures { result ≡ option_map_or (λ place. nat_lt place (length set.now.rows)) slot true }
@@ -78,7 +78,7 @@ fn is_there(set: &RowSet, slot: Option<usize>) -> bool
     }
 }
 
-// Whether each place that is chosen is one of its table's.
+// Whether each chosen place is below the number of its table's rows.
 pub(crate) fn are_there<C: ChoiceView>(side: &Side<'_, C>, slots: &[Option<usize>]) -> bool
     requires { length slots.now ≡ length side.now.sets.now }
     ensures { result ≡ are_there side.now.sets.now slots.now }
@@ -91,8 +91,8 @@ pub(crate) fn are_there<C: ChoiceView>(side: &Side<'_, C>, slots: &[Option<usize
     true
 }
 
-// A walk over the combinations of a side that count, and what is told of them, in the order of the
-// product where that is asked for.
+// A walk over the qualifying combinations of a side, with its visitor. It goes in the order of the
+// product if `in_order` is true.
 #[derive(Drop)]
 pub(crate) struct Walk<'w, 'a, C, V> {
     pub(crate) side: &'w Side<'a, C>,
@@ -102,8 +102,8 @@ pub(crate) struct Walk<'w, 'a, C, V> {
 }
 
 impl<'w, 'a, C: ChoiceView, V: PlaceVisitor> Walk<'w, 'a, C, V> {
-    // The places of a stage that may follow the rows that are chosen, in ascending order where that
-    // is asked for.
+    // The candidate places of a stage, given the chosen rows. They are in ascending order if the
+    // walk is in order.
     #[inline(always)]
     fn following<'s>(
         &self,
@@ -126,8 +126,8 @@ impl<'w, 'a, C: ChoiceView, V: PlaceVisitor> Walk<'w, 'a, C, V> {
         }
     }
 
-    // The places that a stage lists and that may follow the rows that are chosen, in ascending
-    // order where that is asked for; none where the stage looks its places up, or they are to be
+    // The candidate places of a materialised stage, given the chosen rows; in ascending order if
+    // the walk is in order. None if the stage looks its rows up, or if the places have to be
     // sorted.
     #[inline(always)]
     fn listed_places<'s>(
@@ -152,8 +152,8 @@ impl<'w, 'a, C: ChoiceView, V: PlaceVisitor> Walk<'w, 'a, C, V> {
         Some(places)
     }
 
-    // Whether each of the places of a stage that follow is known to count: its tie suffices, or the
-    // places say enough.
+    // Whether each candidate of a stage is known to qualify, because the tie suffices or because
+    // the places alone show it.
     #[inline(always)]
     fn all_count(&self, stage: &Stage, following: &Following<'_>, slots: &[Option<usize>]) -> bool
         requires table { stage.now.table < length self.now.side.now.sets.now }
@@ -168,7 +168,7 @@ impl<'w, 'a, C: ChoiceView, V: PlaceVisitor> Walk<'w, 'a, C, V> {
         self.side.all_count(stage.table, following)
     }
 
-    // Visits the combination whose rows are all chosen, which counts.
+    // Visits the combination whose rows are all chosen and which qualifies.
     #[inline(always)]
     fn visit_counted(
         &self,
@@ -185,7 +185,7 @@ impl<'w, 'a, C: ChoiceView, V: PlaceVisitor> Walk<'w, 'a, C, V> {
         self.visitor.visit(self.alloc, state, slots, rows)
     }
 
-    // Visits the combination whose rows are all chosen, if it counts.
+    // Visits the combination whose rows are all chosen, if it qualifies.
     #[inline(always)]
     fn visit_whole(
         &self,
@@ -204,7 +204,8 @@ impl<'w, 'a, C: ChoiceView, V: PlaceVisitor> Walk<'w, 'a, C, V> {
         }
     }
 
-    // Visits the combination whose rows are all chosen, if it counts, which may be known.
+    // Visits the combination whose rows are all chosen, if it qualifies; `counts` says that it is
+    // known to.
     #[inline(always)]
     fn visit_last(
         &self,
@@ -226,7 +227,7 @@ impl<'w, 'a, C: ChoiceView, V: PlaceVisitor> Walk<'w, 'a, C, V> {
         }
     }
 
-    // Lets the row of a table go that is chosen.
+    // Unchooses the row of a table.
     #[inline(always)]
     fn leave(&self, table: usize, slots: &mut [Option<usize>], rows: &mut Combo<'a>)
         requires long { length slots.old ≡ length self.now.side.now.sets.now }
@@ -239,10 +240,10 @@ impl<'w, 'a, C: ChoiceView, V: PlaceVisitor> Walk<'w, 'a, C, V> {
         rows.set(table, &self.side.blank.row, self.side.blank.born);
     }
 
-    // Visits what counts and has the rows that are chosen, where the row at a place of a stage's
-    // table is chosen too, in the place of the one before; none does where no row stands there. The
-    // whole condition is tested at the last stage, unless it is known that the combination counts,
-    // and so some parts of it at the others alone. It is a part of its caller, for speed.
+    // Visits the qualifying combinations with the chosen rows and with the row at a place of a
+    // stage's table, which replaces the one chosen before. There are none if the table has no such
+    // row. At the last stage the whole condition is tested, unless the combination is known to
+    // qualify. At the other stages only some parts are tested. Inlined, for speed.
     #[inline(always)]
     #[cycle(walk)]
     fn walk_with(
@@ -282,9 +283,9 @@ impl<'w, 'a, C: ChoiceView, V: PlaceVisitor> Walk<'w, 'a, C, V> {
         Ok(onward)
     }
 
-    // Visits what counts and has the rows that are chosen, for each of the places of a stage that
-    // may follow them, of which all may be known to count. The last of these rows stays chosen. It
-    // is a part of its caller, for speed.
+    // Visits the qualifying combinations with the chosen rows, for each candidate place of a stage.
+    // All candidates may be known to qualify. The last candidate's row stays chosen. Inlined, for
+    // speed.
     #[inline(always)]
     #[cycle(walk)]
     fn walk_each(
@@ -315,9 +316,9 @@ impl<'w, 'a, C: ChoiceView, V: PlaceVisitor> Walk<'w, 'a, C, V> {
         Ok(Onward::More)
     }
 
-    // Visits what counts and has the rows that are chosen, for each of the places of a stage that
-    // may follow them, of which none stays chosen. It is a part of its caller, for speed: places
-    // that are listed are walked as a slice.
+    // Visits the qualifying combinations with the chosen rows, for each candidate place of a stage.
+    // No candidate's row stays chosen. Inlined, for speed: materialised places are walked as a
+    // slice.
     #[inline(always)]
     #[cycle(walk)]
     fn walk_through(
@@ -343,8 +344,9 @@ impl<'w, 'a, C: ChoiceView, V: PlaceVisitor> Walk<'w, 'a, C, V> {
         Ok(onward)
     }
 
-    // Visits what counts and has the rows that are chosen, along stages of the other tables, in the
-    // order of the product where that is asked for and the stages are in the order of FROM.
+    // Visits the qualifying combinations with the chosen rows, along stages of the other tables.
+    // They come in the order of the product if the walk is in order and the stages are in the order
+    // of FROM.
     #[cycle(walk)]
     pub(crate) fn walk(
         &self,
@@ -372,7 +374,7 @@ impl<'w, 'a, C: ChoiceView, V: PlaceVisitor> Walk<'w, 'a, C, V> {
     }
 }
 
-// Visits all combinations that count, by joins of the tables in an order.
+// Visits all qualifying combinations, by joining the tables in an order.
 pub(crate) fn walk_all<C: ChoiceView, V: PlaceVisitor>(
     side: &Side<'_, C>,
     alloc: Global,

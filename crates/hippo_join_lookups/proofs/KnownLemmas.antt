@@ -1,4 +1,4 @@
--- A condition whose columns are known has the truth that it has of each combination with the rows that are chosen.
+-- A condition whose columns are known has the same truth in each combination with the chosen rows.
 use Rattle.std.proofs.Common.{◌≡◌, Bool, true, ◌&&◌, List, [], ◌∷◌, map, refl, sym, ap, subst, ◌∙◌, Option}
 use Rattle.std.specs.List.{list_all}
 use Rattle.std.proofs.lemmas.Bool.{and_parts}
@@ -47,7 +47,7 @@ module _ (slots : List (Option Place)) where
 
 pub ruleset knowledge = (knows-All, knows-Any, knows-Not, knows-Compare, knows-Between, knows-Among, knows-Missing)
 
--- two readings that agree on each expression that is known
+-- two readings that agree on each known expression
 module _ (slots : List (Option Place)) (read other : Expr → Value) (agree : (expr : Expr) → knows_expr slots expr ≡ true → read expr ≡ other expr) where
   abbrev Agrees : CondOf Expr → Type 0
   Agrees condition = knows slots condition ≡ true → truth read condition ≡ truth other condition
@@ -79,7 +79,7 @@ module _ (slots : List (Option Place)) (read other : Expr → Value) (agree : (e
   abbrev plain_layer : CondOf-F Expr Agreeing → CondOf-F Expr (CondOf Expr)
   plain_layer layer = map-CondOf Expr Agreeing (CondOf Expr) (λ part. part.0) layer
 
-  -- one layer, whose parts agree
+  -- one layer of a condition, whose parts agree
   layer_agrees : (layer : CondOf-F Expr Agreeing) → knows_layer slots (map-CondOf Expr (CondOf Expr) Bool (knows slots) (plain_layer layer)) ≡ true
       → truth_layer read (map-CondOf Expr (CondOf Expr) Truth (truth read) (plain_layer layer)) ≡ truth_layer other (map-CondOf Expr (CondOf Expr) Truth (truth other) (plain_layer layer))
   layer_agrees (All parts) known = least_agrees parts known

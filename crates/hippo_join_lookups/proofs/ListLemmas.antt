@@ -1,4 +1,4 @@
--- Lists of literals that have the value of a column.
+-- Lists of literals that restrict a column.
 use Rattle.std.proofs.Common.{◌≡◌, ℕ, zero, suc, ◌+◌, ◌<◌, ◌≤◌, ◌⊎◌, inl, inr, true, false, List, [], ◌∷◌, map, length, get_or, refl, sym, ap, subst, ◌∙◌, Some, arith, Bool}
 use Rattle.std.specs.List.{list_all, Contains}
 use Rattle.std.proofs.lemmas.Bool.{and_parts, cases_lt, false≢true}
@@ -42,7 +42,7 @@ module _ (choices : Choices) (rows : Combination) where
   abbrev equal_to : Value → List Expr → List Truth
   equal_to left list = map (λ item. comparison Eq left (masked_value choices rows item)) list
 
-  -- a value that is equal to one of some literals is among them, and not null
+  -- a value that equals one of some literals is among them, and is not null
   among : (left : Value) (list : List Expr) → list_all is_literal list ≡ true → is_true (greatest (equal_to left list)) ≡ true → (is_null left ≡ false) × Contains list (Literal left)
   among left [] literals e = absurd (false≢true e)
   among left (Keep column ∷ rest) literals e = absurd (false≢true literals)
@@ -58,7 +58,7 @@ module _ (choices : Choices) (rows : Combination) where
         (found.0, Contains-next (Literal value) rest (Literal left) found.1)
   ]
 
--- a list of literals that has a column's value
+-- a list of literals that restricts a column
 pub among-listed : (value : Expr) (list : List Expr) (column : Ref) → shown_column value ≡ Some column → list_all is_literal list ≡ true → IsListedBy (conditions.Among value list ∷ []) column list
 among-listed value list column is literals choices rows all =
     let of = masked_value choices rows in
@@ -66,7 +66,7 @@ among-listed value list column is literals choices rows all =
     let found = among choices rows (of value) list literals (sym (ap is_true (truth-Among of value list)) ∙ part) in
     subst (λ (v : Value). Contains list (Literal v)) (column-value choices rows value column is found.0) found.1
 
--- ---- the places that are found by the items so far
+-- ---- the places found by the items so far
 
 abbrev pub AreListed : KeyedRows → Place → List Expr → ℕ → List Place → Type 0
 AreListed set column list count found =
@@ -94,12 +94,12 @@ all-listed set column list count found long so_far place within has =
     let inside = has.1 in
     so_far place within has.0 (omega (arith, inside, long)) (Literal (value_at_place set column place)) has.2
 
--- what is equal to a bound that is not strict is within it
+-- a value equal to an inclusive bound is within it
 pub allows_equal : (above : Bool) → is_allowed (bounding above false) Equal ≡ true
 allows_equal false = refl
 allows_equal true = refl
 
--- a value is within the bounds that it makes
+-- a value is within the bounds at itself
 pub keeps-equal : (above : Bool) (bound : Bound) (value other : Value) → bound.value.now ≡ value → bound.strict ≡ false → value ≡ other → is_allowed (bounding above bound.strict) (value_cmp other bound.value.now) ≡ true
 keeps-equal above bound value other at strict is =
     ap (λ (s : Bool). is_allowed (bounding above s) (value_cmp other bound.value.now)) strict ∙ ap (λ (v : Value). is_allowed (bounding above false) (value_cmp other v)) (at ∙ is)

@@ -1,4 +1,4 @@
--- What a search by halves finds among values in order.
+-- Results of a binary search in sorted values.
 use Rattle.std.proofs.Common.{◌≡◌, ℕ, ◌+◌, ◌-◌, ◌<◌, ◌≤◌, true, false, List, length, map, take, drop, refl, sym, ap, ◌∙◌, arith, get_or, length-take, length-drop, inl, inr, ◌⊎◌}
 use Rattle.std.proofs.lemmas.List.{get_or-drop, get_or-take, get_or-map, length-map}
 use Rattle.std.specs.Prelude.{slice_index_or}
@@ -50,13 +50,13 @@ neither Less above below = absurd (false≢true (sym above))
 neither Equal above below = refl
 neither Greater above below = absurd (false≢true below)
 
--- what is equal by a test is equal
+-- values that test as equal are equal
 pub equal-by_test : (order : Ordering) → is_eq order ≡ true → order ≡ Equal
 equal-by_test Less is = absurd (false≢true is)
 equal-by_test Equal is = refl
 equal-by_test Greater is = absurd (false≢true is)
 
--- values in a column that rise, against one of them
+-- the values of an index on a column, compared to one value
 module _ (set : KeyedRows) (column : Place) (values : List Value) (places : List Place) (value : Value) (index : IsIndex set column values places) where
   abbrev order_of : Value → Ordering
   order_of own = value_cmp own value
@@ -84,7 +84,7 @@ module _ (set : KeyedRows) (column : Place) (values : List Value) (places : List
   equal_at : (k : ℕ) (d : Value) → k < length places → order_of (value_of (get_or places k 0)) ≡ Equal → order_of (get_or values k d) ≡ Equal
   equal_at k d inside equal = ap order_of (at k d inside) ∙ equal
 
-  -- a value that is equal is not among those below
+  -- an equal value is not among those below
   pub from-start : (start : ℕ) → IsPartitionPoint (λ own. is_lt (order_of own) ≡ true) (λ own. is_lt (order_of own) ≡ false) values start
       → (k : ℕ) → k < length places → order_of (value_of (get_or places k 0)) ≡ Equal → start ≤ k
   from-start start point k within equal = elim (cases_lt k start) as (λ _. start ≤ k) [
@@ -102,7 +102,7 @@ module _ (set : KeyedRows) (column : Place) (values : List Value) (places : List
     | inr before ↦ absurd (false≢true (sym (ap is_lt (equal_at k d inside equal)) ∙ lower_less (order_of (get_or values k d)) (order_of (get_or values last d)) (rising_values k last d before within) below))
   ]
 
-  -- nor behind one that is above
+  -- nor after one that is above
   pub before-end : (end : ℕ) (d : Value) → end < length values → is_le (order_of (get_or values end d)) ≡ false
       → (k : ℕ) → k < length places → order_of (value_of (get_or places k 0)) ≡ Equal → k < end
   before-end end d within above k inside equal = elim (cases_lt k end) as (λ _. k < end) [
@@ -112,7 +112,7 @@ module _ (set : KeyedRows) (column : Place) (values : List Value) (places : List
         absurd (false≢true (sym above ∙ lower_within (order_of (get_or values end d)) (order_of (get_or values k d)) later (ap is_le (equal_at k d inside equal))))
   ]
 
-  -- from one that is not below on, none is
+  -- if one is not below, none after it is
   pub none-below : (start : ℕ) (d : Value) → start < length values → is_lt (order_of (get_or values start d)) ≡ false
       → (k : ℕ) → start ≤ k → k < length values → k < length places → is_lt (order_of (value_of (get_or places k 0))) ≡ false
   none-below start d inside above k after within there =
@@ -120,7 +120,7 @@ module _ (set : KeyedRows) (column : Place) (values : List Value) (places : List
       let rises = rising_values start k d after within in
       ap is_lt (sym own) ∙ not-lower (order_of (get_or values start d)) (order_of (get_or values k d)) rises above
 
-  -- where they end before they begin, there is none
+  -- if the end comes before the start, there is no equal value
   pub none-among : (start end : ℕ) → end < start
       → ((k : ℕ) → k < length places → order_of (value_of (get_or places k 0)) ≡ Equal → start ≤ k)
       → ((k : ℕ) → k < length places → order_of (value_of (get_or places k 0)) ≡ Equal → k < end)
@@ -131,15 +131,15 @@ module _ (set : KeyedRows) (column : Place) (values : List Value) (places : List
       let before = upto has.0 has.1 same in
       omega (arith, turned, after, before)
 
-  -- how a value stands is how the one at its place does
+  -- the value compares as the one at its place does
   pub stands-at : {X : Type 0} (test : Ordering → X) (k : ℕ) (d : Value) → k < length places → test (order_of (get_or values k d)) ≡ test (order_of (value_of (get_or places k 0)))
   stands-at test k d there = ap (λ (own : Value). test (order_of own)) (at k d there)
 
-  -- what is neither below nor above is equal
+  -- a value that is neither below nor above is equal
   pub between-equal : (k : ℕ) → is_lt (order_of (value_of (get_or places k 0))) ≡ false → is_le (order_of (value_of (get_or places k 0))) ≡ true → order_of (value_of (get_or places k 0)) ≡ Equal
   between-equal k above below = neither (order_of (value_of (get_or places k 0))) above below
 
-  -- so each place between both is one of an equal value
+  -- so each place in the range has an equal value
   pub all-between : (start end : ℕ) → end ≤ length places
       → ((k : ℕ) → start ≤ k → k < end → k < length places → order_of (value_of (get_or places k 0)) ≡ Equal)
       → (place : Place) → Contains (take (end - start) (drop start places)) place → order_of (value_of place) ≡ Equal
@@ -155,7 +155,7 @@ module _ (set : KeyedRows) (column : Place) (values : List Value) (places : List
   pub before-all : (k : ℕ) → k < length places → k < length values
   before-all k inside = omega (arith, inside, long)
 
-  -- so its place is among those between both
+  -- so its place is in the range
   pub among : (start end : ℕ) → end ≤ length places
       → ((k : ℕ) → k < length places → order_of (value_of (get_or places k 0)) ≡ Equal → start ≤ k)
       → ((k : ℕ) → k < length places → order_of (value_of (get_or places k 0)) ≡ Equal → k < end)
@@ -171,7 +171,7 @@ module _ (set : KeyedRows) (column : Place) (values : List Value) (places : List
         get_or-take (end - start) (drop start places) (k - start) place (omega (arith, after, before)) ∙ get_or-drop start places (k - start) place ∙ ap (λ j. get_or places j place) there ∙ at.2,
       )
 
--- values in a column that do not fall make places that stand by them
+-- places whose values ascend are sorted by these values
 pub rises-by_values : (set : KeyedRows) (column : Place) (values : List Value) (places : List Place) → values ≡ map (value_at_place set column) places → IsSorted value_cmp values → IsByColumn set column places
 rises-by_values set column values places are up k d lower within =
     let value_of : Place → Value = value_at_place set column in

@@ -1,4 +1,4 @@
--- What equal cells have in common, and what the two sides of an equality are.
+-- What equal cells have in common, and the two sides of an equality.
 use Rattle.std.proofs.Common.{◌≡◌, ℕ, ◌<◌, Bool, true, false, List, [], ◌∷◌, length, refl, sym, ap, subst, ◌∙◌, get_or, Some, zero, suc, arith}
 use Rattle.std.specs.List.{list_all}
 use Rattle.std.specs.Ordering.{is_eq, int_cmp, nat_cmp}
@@ -24,7 +24,7 @@ use Rattle.hippo_model.proofs.Truths.{truth-Compare}
 use Rattle.hippo_model.specs.MaskedTruth.{masked_value}
 use Rattle.hippo_join_lookups.specs.Ties.{shown_column, holds, AreEqual}
 
--- values that are found equal are the same, and not null
+-- values that compare equal are the same, and not null
 equal_orders : (o : Ordering) → is_true (truth_of (is_eq o)) ≡ true → o ≡ Equal
 equal_orders Less e = absurd (false≢true e)
 equal_orders Equal e = refl
@@ -51,7 +51,7 @@ column-value choices rows (Aged own rule after) column e shown = shown_value _ (
 column-value choices rows (Case own subject item rule opt_in after) column e shown = shown_value _ (raw_value rows own) rule shown ∙ ap (raw_value rows) (some_is e)
 column-value choices rows (Literal value) column e shown = absurd cc
 
--- an equality of two columns ties them
+-- an equality of two columns is a tie of them
 pub tie-left : (left right : Expr) (a b : Ref) → shown_column left ≡ Some a → shown_column right ≡ Some b → (choices : Choices) (rows : Combination) → list_all (holds choices rows) (conditions.Compare Eq left right ∷ []) ≡ true → AreEqual rows a b
 tie-left left right a b of_left of_right choices rows all =
     let first = (and_parts (holds choices rows (conditions.Compare Eq left right)) true all).0 in
@@ -63,7 +63,7 @@ tie-left left right a b of_left of_right choices rows all =
 pub equal-turned : (rows : Combination) (a b : Ref) → AreEqual rows a b → AreEqual rows b a
 equal-turned rows a b equal = (sym equal.0, ap is_null equal.0 ∙ equal.1)
 
--- a tie of one part is a tie of all
+-- a tie that one part requires is a tie that all parts require
 pub tie-of-part : (parts : List (CondOf Expr)) (k : ℕ) (part : CondOf Expr) → k < length parts → get_or parts k part ≡ part → (choices : Choices) (rows : Combination) → list_all (holds choices rows) parts ≡ true → list_all (holds choices rows) (part ∷ []) ≡ true
 tie-of-part [] k part within at choices rows all = absurd (omega arith)
 tie-of-part (first ∷ parts) zero part within at choices rows all =

@@ -1,4 +1,4 @@
--- Places one after the other, and results, whatever they are of.
+-- General steps about lists of places and about results.
 use Rattle.std.proofs.Common.{◌≡◌, ℕ, zero, suc, ◌+◌, ◌<◌, ◌⊎◌, List, [], ◌∷◌, ◌++◌, map, length, get_or, take, refl, sym, ap, ◌∙◌, arith}
 use Rattle.std.specs.Prelude.{Result, Ok, Err, IfOk}
 use Rattle.std.specs.List.{range_with_len}
@@ -25,7 +25,7 @@ pub map_push : {A B : Type 0} (f : A → B) (xs : List A) (x : A) → map f (xs 
 map_push f [] x = refl
 map_push f (y ∷ xs) x = ap (λ l. f y ∷ l) (map_push f xs x)
 
--- one row more of an answer
+-- one more row in an answer
 pub map-more : {A B : Type 0} (f : A → B) (xs : List A) (i : ℕ) (made more : List B) (x here : A) (y : B) → made ≡ map f (take i xs) → i < length xs → x ≡ get_or xs i x → here ≡ x → y ≡ f here → more ≡ made ++ y ∷ [] → more ≡ map f (take (i + 1) xs)
 map-more f xs i made more x here y so_far within at same is pushed =
     pushed ∙ (λ j. so_far j ++ is j ∷ []) ∙ sym (map_push f (take i xs) here) ∙ ap (map f) (ap (λ z. take i xs ++ z ∷ []) (same ∙ at) ∙ sym (take_more xs i x within))

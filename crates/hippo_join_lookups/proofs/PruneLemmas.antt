@@ -1,4 +1,4 @@
--- What is known of the rows that are chosen holds of each combination that counts.
+-- A condition known from the chosen rows holds in each combination that qualifies.
 use Rattle.std.proofs.Common.{◌≡◌, ℕ, zero, suc, ◌<◌, Bool, true, false, ◌||◌, not, List, [], ◌∷◌, length, refl, sym, ap, subst, ◌∙◌, get_or, Option, Some, nat_lt, ltb, ltb-true}
 use Rattle.std.specs.Prelude.{slice_get}
 use Rattle.std.specs.List.{list_all}
@@ -21,7 +21,7 @@ use Rattle.hippo_join_lookups.proofs.KnownLemmas.{truth-known}
 use Rattle.hippo_model.proofs.HeldParts.{parts-hold}
 use Rattle.hippo_join_lookups.proofs.SlotLemmas.{cell-known, length-in_range}
 
--- a member of a list passes a test that all pass
+-- a member of a list passes a test that all members pass
 pub one-of-all : {X : Type 0} (test : X → Bool) (xs : List X) (k : ℕ) (x : X) → slice_get xs k ≡ Some x → list_all test xs ≡ true → test x ≡ true
 one-of-all test [] k x at all = absurd cc
 one-of-all test (first ∷ xs) zero x at all = ap test (sym (some_is at)) ∙ (and_parts (test first) (list_all test xs) all).0
@@ -34,7 +34,7 @@ or_of : (known holds : Bool) → (known ≡ true → holds ≡ true) → (not kn
 or_of true holds h = h refl
 or_of false holds h = refl
 
--- what is said of a combination that counts
+-- facts about a combination that qualifies
 module _ (choices : Choices) (query : Masked) (sets : List KeyedRows) (places : List Place) (counts : stands choices query sets places ≡ true) where
   pub in-range : in_range sets places ≡ true
   in-range = (and_parts (in_range sets places) (stays choices query (chosen_rows sets places)) counts).0
@@ -75,7 +75,7 @@ below-rows (first ∷ sets) (p ∷ places) zero set place all at here =
     some_is e = cc
 below-rows (first ∷ sets) (p ∷ places) (suc table) set place all at here = below-rows sets places table set place (and_parts (nat_lt p (length first.rows)) (in_range sets places) all).1 at here
 
--- what `get` and a loop say of a member, of a list that is known by another name
+-- what `get` and a loop say of a member, for two names of the same list
 pub get-at : {X : Type 0} (xs ys : List X) (i : ℕ) (x : X) → xs ≡ ys → true ≡ ltb i (length xs) → x ≡ get_or xs i x → slice_get ys i ≡ Some x
 get-at xs ys i x same within is = sym (ap (λ l. slice_get l i) same) ∙ slice_get_read xs (length xs) i x refl (ltb-true _ _ (sym within)) is
 

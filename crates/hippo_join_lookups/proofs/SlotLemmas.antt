@@ -1,4 +1,4 @@
--- Rows that are chosen, and combinations that agree with them.
+-- Chosen rows, and the combinations that agree with them.
 use Rattle.std.proofs.Common.{◌≡◌, ℕ, zero, suc, ◌+◌, ◌<◌, ◌≤◌, Bool, true, false, ◌&&◌, List, [], ◌∷◌, ◌++◌, map, length, drop, refl, sym, ap, ◌∙◌, arith, Option, Some, None, unwrap_or, add-one, append_assoc, subst, not, nat_lt, int_le, get_or}
 use Rattle.std.specs.Prelude.{slice_get}
 use Rattle.std.specs.Prelude.{replicate, slice_set}
@@ -31,7 +31,7 @@ Fits-open [] n e = subst0 n e
 Fits-open (place ∷ places) zero e = absurd (omega arith)
 Fits-open (place ∷ places) (suc n) e = let shorter : length places ≡ n = omega arith in Fits-open places n shorter
 
--- one place more is chosen
+-- one more place is chosen
 pub Fits-set : (slots : List (Option Place)) (places : List Place) (table : ℕ) (place : Place) → Fits slots places → slice_get places table ≡ Some place → Fits (slice_set slots table (Some place)) places
 Fits-set [] places table place fits at = fits
 Fits-set (slot ∷ slots) [] table place fits at = absurd fits
@@ -46,7 +46,7 @@ Fits-set (Some fixed ∷ slots) (first ∷ places) zero place fits at = (sym (so
 Fits-set (None ∷ slots) (first ∷ places) (suc table) place fits at = Fits-set slots places table place fits at
 Fits-set (Some fixed ∷ slots) (first ∷ places) (suc table) place fits at = (fits.0, Fits-set slots places table place fits.1 at)
 
--- where each place is chosen, only these places fit
+-- when every place is chosen, only these places fit
 pub Fits-whole : (slots : List (Option Place)) (places : List Place) (all : List Place) → slots ≡ map Some all → Fits slots places → all ≡ places
 Fits-whole slots places all e fits = whole all places (subst (λ (s : List (Option Place)). Fits s places) e fits)
   where
@@ -56,7 +56,7 @@ Fits-whole slots places all e fits = whole all places (subst (λ (s : List (Opti
     whole (place ∷ all) [] fits = absurd fits
     whole (place ∷ all) (other ∷ places) fits = λ i. fits.0 i ∷ whole all places fits.1 i
 
--- the place that is chosen is the one that the combination has
+-- the chosen place is the one that the combination has
 pub Fits-at : (slots : List (Option Place)) (places : List Place) (table : ℕ) (place : Place) → Fits slots places → slot_at slots table ≡ Some place → slice_get places table ≡ Some place
 Fits-at [] places table place fits at = absurd cc
 Fits-at (slot ∷ slots) [] table place fits at = absurd fits
@@ -65,7 +65,7 @@ Fits-at (Some fixed ∷ slots) (first ∷ places) zero place fits at = sym (ap S
 Fits-at (None ∷ slots) (first ∷ places) (suc table) place fits at = Fits-at slots places table place fits at
 Fits-at (Some fixed ∷ slots) (first ∷ places) (suc table) place fits at = Fits-at slots places table place fits.1 at
 
--- the row of a table that is chosen
+-- the chosen row of a table
 pub row-chosen_rows : (sets : List KeyedRows) (slots : List (Option Place)) (places : List Place) (table : ℕ) → Fits slots places → is_chosen slots table ≡ true → slice_get (rows_at sets slots) table ≡ slice_get (chosen_rows sets places) table
 row-chosen_rows [] slots places table fits known = refl
 row-chosen_rows (set ∷ sets) [] [] table fits known = absurd (false≢true known)
@@ -89,7 +89,7 @@ row-at (first ∷ sets) (p ∷ places) (suc table) set place e at = row-at sets 
 pub raw-at : (sets : List KeyedRows) (places : List Place) (column : Ref) (set : KeyedRows) (place : Place) → slice_get sets column.table ≡ Some set → slice_get places column.table ≡ Some place → raw_value (chosen_rows sets places) column ≡ cell_at (row_at_place set.rows place).row column.column
 raw-at sets places column set place e at = ap (λ o. option_map_or (λ (kept : BornRow). cell_at kept.row column.column) o NullValue) (row-at sets places column.table set place e at)
 
--- an expression that is known stands for the same cell in each combination that fits
+-- a known expression has the same cell in each combination that fits
 module _ (choices : Choices) (sets : List KeyedRows) (slots : List (Option Place)) (places : List Place) (fits : Fits slots places) where
   pub raw_same : (column : Ref) → is_chosen slots column.table ≡ true → raw_value (rows_at sets slots) column ≡ raw_value (chosen_rows sets places) column
   raw_same column known = ap (λ o. option_map_or (λ (kept : BornRow). cell_at kept.row column.column) o NullValue) (row-chosen_rows sets slots places column.table fits known)
@@ -106,7 +106,7 @@ module _ (choices : Choices) (sets : List KeyedRows) (slots : List (Option Place
       λ i. shown_if (option_map_or (younger_same column both.0 i) after true && agrees_by choices (number_in (raw_same subject both.1 i)) item opt_in) (raw_same column both.0 i) rule
   cell-known (Literal value) known = refl
 
--- one table's row more
+-- one more table's row
 pub rows_at-drop : (sets : List KeyedRows) (slots : List (Option Place)) (i : ℕ) (set : KeyedRows) → slice_get sets i ≡ Some set → rows_at (drop i sets) (drop i slots) ≡ option_map_or (row_at_place set.rows) (slot_at slots i) blank ∷ rows_at (drop (suc i) sets) (drop (suc i) slots)
 rows_at-drop [] slots i set at = absurd cc
 rows_at-drop (first ∷ sets) [] zero set at = refl
@@ -117,14 +117,14 @@ rows_at-drop (first ∷ sets) (slot ∷ slots) zero set at = ap (λ (s : KeyedRo
 rows_at-drop (first ∷ sets) [] (suc i) set at = subst (λ (l : List (Option Place)). rows_at (drop i sets) l ≡ blank ∷ rows_at (drop (suc i) sets) []) (drop-nil i) (rows_at-drop sets [] i set at)
 rows_at-drop (first ∷ sets) (slot ∷ slots) (suc i) set at = rows_at-drop sets slots i set at
 
--- places in range are as many as the tables, and one stands in each table
+-- There is one place in range for each table.
 pub length-in_range : (sets : List KeyedRows) (places : List Place) → in_range sets places ≡ true → length places ≡ length sets
 length-in_range [] [] e = refl
 length-in_range [] (place ∷ places) e = absurd (false≢true e)
 length-in_range (set ∷ sets) [] e = absurd (false≢true e)
 length-in_range (set ∷ sets) (place ∷ places) e = ap suc (length-in_range sets places (and_parts (nat_lt place (length set.rows)) (in_range sets places) e).1)
 
--- a loop over the tables: one row more, and the end
+-- a loop over the tables: one more row, and the end
 pub rows-more : (sets : List KeyedRows) (slots : List (Option Place)) (i : ℕ) (set : KeyedRows) (slot : Option Place) (empty : BornRow) (rows more whole : Combination) → slice_get sets i ≡ Some set → slot ≡ slot_at slots i → empty ≡ blank
     → more ≡ rows ++ option_map_or (λ place. unwrap_or (slice_get set.rows place) empty) slot empty ∷ [] → rows ++ rows_at (drop i sets) (drop i slots) ≡ whole → more ++ rows_at (drop (i + 1) sets) (drop (i + 1) slots) ≡ whole
 rows-more sets slots i set slot empty rows more whole at of_slot of_blank pushed so_far =
@@ -136,13 +136,13 @@ pub rows-all : (sets : List KeyedRows) (slots : List (Option Place)) (i : ℕ) (
 rows-all sets slots i rows whole past so_far =
     sym (append-nil rows) ∙ sym (ap (λ (s : List KeyedRows). rows ++ rows_at s (drop i slots)) (drop_all i sets past)) ∙ so_far
 
--- as many rows as tables, and the row of one table chosen anew
+-- there is one row for each table; and the chosen row of one table is replaced
 pub length-rows_at : (sets : List KeyedRows) (slots : List (Option Place)) → length (rows_at sets slots) ≡ length sets
 length-rows_at [] slots = refl
 length-rows_at (set ∷ sets) [] = ap suc (length-rows_at sets [])
 length-rows_at (set ∷ sets) (slot ∷ slots) = ap suc (length-rows_at sets slots)
 
--- the rows, but for that of a table that is chosen anew; and with the one that is chosen
+-- the rows without that of a table whose row is replaced; and with the new one
 pub rows-but : (sets : List KeyedRows) (slots : List (Option Place)) (table : ℕ) (slot : Option Place) (row : BornRow) → slice_set (rows_at sets slots) table row ≡ slice_set (rows_at sets (slice_set slots table slot)) table row
 rows-but [] slots table slot row = refl
 rows-but (set ∷ sets) [] zero slot row = refl
@@ -166,7 +166,7 @@ rows-renewed sets slots table set rows row at is same =
     sym (set-set rows table blank row) ∙ ap (λ (some : Combination). slice_set some table row) same ∙ set-set (rows_at sets slots) table blank row
     ∙ ap (λ (own : BornRow). slice_set (rows_at sets slots) table own) is ∙ rows-own sets slots table set at
 
--- the rows, once that at a place of a table is chosen
+-- the rows, after the one at a place of a table is chosen
 pub rows-chosen : (sets : List KeyedRows) (slots : List (Option Place)) (table place : ℕ) (set : KeyedRows) → slice_get sets table ≡ Some set → table < length slots → slice_set (rows_at sets slots) table (row_at_place set.rows place) ≡ rows_at sets (slice_set slots table (Some place))
 rows-chosen [] slots table place set at within = absurd cc
 rows-chosen (first ∷ sets) [] table place set at within = absurd (omega arith)
@@ -176,7 +176,7 @@ rows-chosen (first ∷ sets) (slot ∷ slots) zero place set at within = ap (λ 
     one e = cc
 rows-chosen (first ∷ sets) (slot ∷ slots) (suc table) place set at within = ap (λ (rows : Combination). option_map_or (row_at_place first.rows) slot blank ∷ rows) (rows-chosen sets slots table place set at (omega arith))
 
--- ---- places that are there
+-- ---- places that exist
 abbrev slot_there : KeyedRows → Option Place → Bool
 slot_there set slot = option_map_or (λ place. nat_lt place (length set.rows)) slot true
 
@@ -185,14 +185,14 @@ there-none [] n = refl
 there-none (set ∷ sets) zero = refl
 there-none (set ∷ sets) (suc n) = there-none sets n
 
--- where each place is chosen, it is whether all are in range
+-- when every place is chosen: whether all are in range
 pub there-whole : (sets : List KeyedRows) (places : List Place) → length places ≡ length sets → are_there sets (map Some places) ≡ in_range sets places
 there-whole [] [] long = refl
 there-whole [] (place ∷ places) long = absurd (omega arith)
 there-whole (set ∷ sets) [] long = absurd (omega arith)
 there-whole (set ∷ sets) (place ∷ places) long = let shorter : length places ≡ length sets = omega arith in ap (λ b. nat_lt place (length set.rows) && b) (there-whole sets places shorter)
 
--- places of a combination that is there
+-- places of a combination that exists
 pub there-fits : (sets : List KeyedRows) (slots : List (Option Place)) (places : List Place) → Fits slots places → in_range sets places ≡ true → are_there sets slots ≡ true
 there-fits [] slots places fits within = refl
 there-fits (set ∷ sets) [] places fits within = refl
@@ -202,7 +202,7 @@ there-fits (set ∷ sets) (Some fixed ∷ slots) (place ∷ places) fits within 
     let both = and_parts (nat_lt place (length set.rows)) (in_range sets places) within in
     and_from (nat_lt fixed (length set.rows)) (are_there sets slots) (ap (λ (p : Place). nat_lt p (length set.rows)) fits.0 ∙ both.0) (there-fits sets slots places fits.1 both.1)
 
--- one place more that is there
+-- one more place that exists
 pub there-set : (sets : List KeyedRows) (slots : List (Option Place)) (table place : ℕ) (set : KeyedRows) → slice_get sets table ≡ Some set → place < length set.rows → are_there sets slots ≡ true → are_there sets (slice_set slots table (Some place)) ≡ true
 there-set [] slots table place set at within there = refl
 there-set (first ∷ sets) [] zero place set at within there = refl

@@ -9,15 +9,15 @@ use Rattle.hippo_model.specs.declared.query.Expr.TheVariants.{Keep, Null, Aged, 
 use Rattle.hippo_model.specs.Terms.{Place}
 use Rattle.hippo_join_lookups.specs.Places.{slot_at}
 
--- whether a table's row is chosen
+-- whether a row of a table is chosen
 abbrev pub is_chosen : List (Option Place) → Place → Bool
 is_chosen slots table = is_some (slot_at slots table)
 
--- whether a table's row is still to be chosen
+-- whether a table's row is not yet chosen
 abbrev pub is_open : List (Option Place) → Place → Bool
 is_open slots table = option_map_or is_none (slice_get slots table) false
 
--- whether an expression's columns are in rows that are chosen
+-- whether all columns of an expression are in chosen rows
 abbrev pub knows_expr : List (Option Place) → Expr → Bool
 knows_expr slots (Keep column) = is_chosen slots column.table
 knows_expr slots (Null rule) = true
@@ -26,7 +26,7 @@ knows_expr slots (Case column subject item rule opt_in after) =
     is_chosen slots column.table && is_chosen slots subject.table
 knows_expr slots (Literal value) = true
 
--- whether the columns of a condition are of rows that are chosen, where that is known of its parts
+-- whether all columns of a condition are in chosen rows, given this of each of its parts
 abbrev pub knows_layer : List (Option Place) → CondOf-F Expr Bool → Bool
 knows_layer slots (All parts) = list_all (λ part. part) parts
 knows_layer slots (Any parts) = list_all (λ part. part) parts
@@ -37,6 +37,6 @@ knows_layer slots (Between value low high) =
 knows_layer slots (Among value list) = knows_expr slots value && list_all (knows_expr slots) list
 knows_layer slots (Missing value) = knows_expr slots value
 
--- whether a condition's columns are in rows that are chosen
+-- whether all columns of a condition are in chosen rows
 abbrev pub knows : List (Option Place) → CondOf Expr → Bool
 knows slots condition = fold-CondOf Expr Bool (knows_layer slots) condition

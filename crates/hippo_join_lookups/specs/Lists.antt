@@ -1,4 +1,4 @@
--- Lists of literals that have the value of a column.
+-- Lists of literals that restrict a column.
 use Rattle.std.specs.Prelude.{◌≡◌, Bool, true, false, List}
 use Rattle.std.specs.List.{list_all, Contains}
 use Rattle.hippo_model.specs.declared.query.CondOf.{CondOf}
@@ -13,7 +13,7 @@ abbrev pub is_literal : Expr → Bool
 is_literal (Literal value) = true
 is_literal expr = false
 
--- where all parts hold, a list has the value of a column
+-- when all parts hold, the column's value is in the list
 abbrev pub IsListedBy : List (CondOf Expr) → Ref → List Expr → Type 0
 IsListedBy parts column list =
     (choices : Choices) (rows : Combination) → list_all (holds choices rows) parts ≡ true

@@ -1,4 +1,4 @@
--- Rows of a table in the order of one of its columns.
+-- Temporary indexes: the rows of a table in the order of one of its columns.
 use Rattle.std.specs.Prelude.{◌≡◌, Bool, true, false, ℕ, ◌<◌, ◌≤◌, List, get_or, length, map}
 use Rattle.std.specs.List.{Contains}
 use Rattle.std.specs.List.Sorted.{IsSortedByKey}
@@ -11,24 +11,24 @@ use Rattle.hippo_model.specs.Terms.{Place}
 use Rattle.hippo_tables_keyed.specs.RowSets.{KeyedRows}
 pub use Rattle.hippo_tables_keyed.specs.RowSets.{value_at_place}
 
--- places that stand by the values in a column
+-- places are sorted by the values in a column
 abbrev pub IsByColumn : KeyedRows → Place → List Place → Type 0
 IsByColumn set column places = IsSortedByKey (value_at_place set column) value_cmp places
 
--- values are those in a column at some places, and rise
+-- these are the values in a column at some places, in ascending order
 pub record IsIndex (set : KeyedRows) (column : Place) (values : List Value) (places : List Place)
     : Type 0 where
   pub are : values ≡ map (value_at_place set column) places
   pub rise : IsByColumn set column places
 
--- a fact of each place in an index at which a value is equal to another one
+-- a fact holds of each place in an index whose value equals another one
 abbrev pub HoldsOfEqual : List Value → Value → (ℕ → Type 0) → Type 0
 HoldsOfEqual values value holds =
     (set : KeyedRows) (column : Place) (places : List Place) → IsIndex set column values places
     → (k : ℕ) → k < length places
     → value_cmp (value_at_place set column (get_or places k 0)) value ≡ Equal → holds k
 
--- a fact of how the values at some places of an index, from one up to another, stand to a value
+-- how the values at some places of an index, from one up to another, compare to a value
 abbrev pub StandBetween : (Ordering → Bool) → Bool → List Value → Value → ℕ → ℕ → Type 0
 StandBetween test truth values value start end =
     (set : KeyedRows) (column : Place) (places : List Place) → IsIndex set column values places
@@ -45,7 +45,7 @@ NoneAbove values value start end = StandBetween is_le true values value start en
 abbrev pub AllEqual : List Value → Value → ℕ → ℕ → Type 0
 AllEqual values value start end = StandBetween is_eq true values value start end
 
--- of places that stand by the values in a column, those whose row has a value, and no others
+-- a lookup: of places sorted by the values in a column, exactly those whose row has a value
 pub record FindsEqual (places : List Place) (values : List Value) (value : Value)
     (found : List Place) : Type 0 where
   pub all : (set : KeyedRows) (column : Place) → IsIndex set column values places

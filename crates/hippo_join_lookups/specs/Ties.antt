@@ -1,4 +1,4 @@
--- Equalities between columns of two tables.
+-- Join equalities: equalities between columns of two tables.
 use Rattle.std.specs.Prelude.{◌≡◌, Bool, true, false, List, Option, Some, None}
 use Rattle.std.specs.List.{list_all}
 use Rattle.hippo_model.specs.declared.query.CondOf.{CondOf}
@@ -11,7 +11,7 @@ use Rattle.hippo_model.specs.Masking.{Choices, raw_value}
 use Rattle.hippo_model.specs.MaskedTruth.{masked_truth}
 use Rattle.hippo_join_lookups.specs.declared.ties.Tie.{Tie}
 
--- the column whose value an expression shows, where it shows one
+-- the column whose value an expression shows, if it shows one
 abbrev pub shown_column : Expr → Option Ref
 shown_column (Keep column) = Some column
 shown_column (Null rule) = None
@@ -23,12 +23,12 @@ shown_column (Literal value) = None
 abbrev pub holds : Choices → Combination → CondOf Expr → Bool
 holds choices rows condition = is_true (masked_truth choices rows condition)
 
--- two columns that have the same value, which is not null
+-- two columns have the same value, which is not null
 abbrev pub AreEqual : Combination → Ref → Ref → Type 0
 AreEqual rows column other =
     (raw_value rows column ≡ raw_value rows other) × (is_null (raw_value rows other) ≡ false)
 
--- where all parts hold, the two columns of a tie are equal
+-- when all parts hold, the two columns of a tie are equal
 abbrev pub IsTieOf : List (CondOf Expr) → Place → Tie → Type 0
 IsTieOf parts table tie =
     (choices : Choices) (rows : Combination) → list_all (holds choices rows) parts ≡ true

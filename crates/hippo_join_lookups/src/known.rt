@@ -6,7 +6,7 @@ ghost use Rattle.hippo_join_lookups.specs.Known.{is_chosen, is_open, knows_expr,
 
 use hippo_model::{CondOf, Expr};
 
-/// The place that is chosen in a table, if one is.
+/// The place of the row chosen in a table, if one is chosen.
 pub fn slot_at(slots: &[Option<usize>], table: usize) -> Option<usize>
     ensures { result ≡ slot_at slots.now table }
 {
@@ -16,14 +16,14 @@ pub fn slot_at(slots: &[Option<usize>], table: usize) -> Option<usize>
     }
 }
 
-/// Whether a table's row is chosen.
+/// Whether a row of a table is chosen.
 pub fn is_chosen(slots: &[Option<usize>], table: usize) -> bool
     ensures { result ≡ is_chosen slots.now table }
 {
     slot_at(slots, table).is_some()
 }
 
-/// Whether a table's row is still to be chosen.
+/// Whether a table is one of the join's and its row is not yet chosen.
 pub fn is_open(slots: &[Option<usize>], table: usize) -> bool
     ensures { result ≡ is_open slots.now table }
 {
@@ -33,7 +33,7 @@ pub fn is_open(slots: &[Option<usize>], table: usize) -> bool
     }
 }
 
-/// Whether an expression's columns are in rows that are chosen.
+/// Whether all columns of an expression are in chosen rows.
 pub fn knows_expr(expr: &Expr, slots: &[Option<usize>]) -> bool
     ensures { result ≡ knows_expr slots.now expr.now }
 {
@@ -56,7 +56,7 @@ fn knows_exprs(exprs: &[Expr], slots: &[Option<usize>]) -> bool
     exprs.iter().all(|expr| knows_expr(expr, slots))
 }
 
-/// Whether a condition's columns are in rows that are chosen.
+/// Whether all columns of a condition are in chosen rows.
 #[cycle(knows)]
 pub fn knows(condition: &CondOf<Expr>, slots: &[Option<usize>]) -> bool
     ensures { result ≡ knows slots.now condition.now }

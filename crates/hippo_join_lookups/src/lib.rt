@@ -1,4 +1,4 @@
-//! What the parts of a condition say of columns, and rows that are found by a value.
+//! Join equalities and IN lists among the parts of a condition, and the lookup of rows by a value.
 #![tactic(auto)]
 
 mod known;

@@ -1,4 +1,4 @@
-//! Rows that are found by a column, where a list of literals has its value.
+//! Lookup of rows by a column that a list of literals restricts (`column IN (..)`).
 ghost use Rattle.std.specs.Prelude.{◌≡◌, ◌∷◌, [], ◌<◌, true, false, IfOk, IfSome, OnOk, length};
 ghost use Rattle.std.specs.List.{Contains, list_all};
 ghost use Rattle.hippo_model.specs.declared.query.CondOf.TheVariants.{Among};
@@ -25,7 +25,7 @@ fn are_literals(list: &[Expr]) -> bool
     list.iter().all(|item| is_literal(item))
 }
 
-// The list that has the value of a column, where it has literals alone.
+// The list, if it restricts this column and holds only literals.
 fn list_beside<'a>(column: Ref, value: &Expr, list: &'a [Expr]) -> Option<&'a [Expr]>
     ensures { IfSome result (λ found. IsListedBy (Among value.now list.now ∷ []) column found.now) }
 {
@@ -44,7 +44,8 @@ fn list_by_part(column: Ref, part: &CondOf<Expr>) -> Option<&[Expr]>
     }
 }
 
-/// The list of literals that has the value of a column, where the parts of a condition say one.
+/// A list of literals that the parts of a condition require the column's value to be in, if there
+/// is one.
 pub fn find_list(parts: &[CondOf<Expr>], column: Ref) -> Option<&[Expr]>
     ensures { IfSome result (λ list. IsListedBy parts.now column list.now) }
 {
@@ -56,7 +57,7 @@ pub fn find_list(parts: &[CondOf<Expr>], column: Ref) -> Option<&[Expr]>
     None
 }
 
-// The bound, from below and from above, of what is equal to a value.
+// The inclusive bound at a value, for use as lower and as upper bound.
 fn bound_at(value: &Value) -> Bound<'_>
     ensures value { result.value.now ≡ value.now }
     ensures strict { result.strict ≡ false }
@@ -75,7 +76,7 @@ fn count_with(set: &RowSet, column: usize, item: &Expr) -> usize {
     set.count_within(column, end, end).unwrap_or(0)
 }
 
-/// How many rows a column finds by the values of a list.
+/// The number of rows that a lookup by the values of a list finds in a column.
 pub fn count_listed(set: &RowSet, column: usize, list: &[Expr]) -> usize {
     let mut count: usize = 0;
     for item in list {
@@ -84,7 +85,7 @@ pub fn count_listed(set: &RowSet, column: usize, list: &[Expr]) -> usize {
     count
 }
 
-// The places of rows that a column finds by a value.
+// The places of the rows that have a value in a column.
 fn places_with(
     alloc: Global,
     set: &RowSet,
@@ -99,8 +100,8 @@ fn places_with(
     set.places_within(alloc, column, end, end)
 }
 
-// Adds the places that are found by an item of a list, and answers whether rows are found by it;
-// none are by one that is no literal.
+// Adds the places found by an item of a list. Returns whether a lookup was possible; an item that
+// is no literal finds no rows.
 fn add_item(
     alloc: Global,
     set: &RowSet,
@@ -126,7 +127,7 @@ fn add_item(
     Ok(true)
 }
 
-/// The places of rows that a column finds by the values of a list.
+/// The places of the rows whose value in a column is in a list.
 pub fn places_listed(
     alloc: Global,
     set: &RowSet,

@@ -1,4 +1,4 @@
-//! Rows of a table in the order of one of its columns.
+//! Temporary indexes: the rows of a table in the order of one of its columns.
 ghost use Rattle.std.specs.Prelude.{◌≡◌, ◌+◌, ◌<◌, ◌≤◌, ◌++◌, ◌∷◌, [], true, false, length, IfOk, OnOk, map, option_copied, unwrap_or};
 ghost use Rattle.std.specs.List.{Contains};
 ghost use Rattle.std.specs.List.Sorted.{IsPermutation, IsSorted};
@@ -17,14 +17,14 @@ use std::alloc::Global;
 use std::cell::Cell;
 use std::cmp::Ordering;
 
-/// Places of rows in the order of the values in a column, and these values.
+/// Places of rows in the order of the values in a column, with these values.
 #[derive(Drop)]
 pub struct Index {
     pub places: Vec<usize>,
     pub values: Vec<Value>,
 }
 
-/// The value in a column of the row at a place, if one stands there.
+/// The value in a column of the row at a place, if there is one.
 #[inline(always)]
 pub fn value_at<'a>(set: &'a RowSet, column: usize, place: usize) -> Option<&'a Value>
     ensures { unwrap_or (option_copied result) Null ≡ value_at_place set.now column place }
@@ -51,7 +51,7 @@ fn value_order(set: &RowSet, column: usize, place: usize, value: &Value) -> Orde
         .cmp(value)
 }
 
-// Two rows by their values in a column.
+// Compares two rows by their values in a column.
 fn row_order(set: &RowSet, column: usize, place: usize, other: usize) -> Ordering
     ensures { result ≡ value_cmp (value_at_place set.now column place)
         (value_at_place set.now column other) }
@@ -64,7 +64,7 @@ fn row_order(set: &RowSet, column: usize, place: usize, other: usize) -> Orderin
     )
 }
 
-// Two values by their order. A call of its own, so that comparing numbers stays short.
+// Compares two values. Not inlined, so that comparing numbers stays short.
 #[inline(never)]
 fn order_of(own: &Value, value: &Value) -> Ordering
     ensures { result ≡ value_cmp own.now value.now }
@@ -72,7 +72,7 @@ fn order_of(own: &Value, value: &Value) -> Ordering
     own.cmp(value)
 }
 
-// Whether two values are the same.
+// Whether two values are equal.
 #[inline(always)]
 fn is_same(own: &Value, value: &Value) -> bool
     ensures { result ≡ is_eq (value_cmp own.now value.now) }
@@ -83,8 +83,8 @@ fn is_same(own: &Value, value: &Value) -> bool
     }
 }
 
-// Whether a value is below another. Numbers, as most keys are, are compared without a call, for
-// speed.
+// Whether a value is less than another. Most keys are numbers, which are compared without a call,
+// for speed.
 #[inline(always)]
 fn is_below(own: &Value, value: &Value) -> bool
     ensures { result ≡ is_lt (value_cmp own.now value.now) }
@@ -95,7 +95,7 @@ fn is_below(own: &Value, value: &Value) -> bool
     }
 }
 
-// Whether a value is not above another.
+// Whether a value is at most another.
 #[inline(always)]
 fn is_within(own: &Value, value: &Value) -> bool
     ensures { result ≡ is_le (value_cmp own.now value.now) }
@@ -106,7 +106,7 @@ fn is_within(own: &Value, value: &Value) -> bool
     }
 }
 
-// Puts places in the order of the values in a column.
+// Sorts places by the values in a column.
 fn sort_by_column(set: &RowSet, column: usize, places: &mut [usize])
     ensures permutation { IsPermutation places.old places.new }
     ensures order { IsByColumn set.now column places.new }
@@ -114,7 +114,7 @@ fn sort_by_column(set: &RowSet, column: usize, places: &mut [usize])
     places.sort_unstable_by(|a, b| row_order(set, column, *a, *b));
 }
 
-// A value with memory of its own; null where none is there.
+// An owned copy of a value, or null if there is none.
 fn copied_value(alloc: Global, value: Option<&Value>) -> Result<Value, Memory>
     ensures { IfOk result (λ made. made ≡ unwrap_or (option_copied value.entry) Null) }
 {
@@ -124,7 +124,8 @@ fn copied_value(alloc: Global, value: Option<&Value>) -> Result<Value, Memory>
     }
 }
 
-// Adds a copy of a value, or null where none is there. A number, as most are, is added at once.
+// Adds a copy of a value, or null if there is none. Numbers, the usual case, are added without a
+// call.
 #[inline(always)]
 fn push_copy(alloc: Global, value: Option<&Value>, values: &mut Vec<Value>) -> Result<(), Memory>
     ensures { OnOk result (values.new.items
@@ -138,7 +139,7 @@ fn push_copy(alloc: Global, value: Option<&Value>, values: &mut Vec<Value>) -> R
     Ok(())
 }
 
-// The values in a column of the rows at some places.
+// The values in a column for the rows at some places.
 fn values_at(
     alloc: Global,
     set: &RowSet,
@@ -155,7 +156,7 @@ fn values_at(
     Ok(values)
 }
 
-// Whether values do not fall, from one to the next.
+// Whether values are in ascending order; equal values may follow each other.
 fn rises(values: &[Value]) -> bool
     ensures { result ≡ true → IsSorted value_cmp values.now }
 {
@@ -182,8 +183,9 @@ fn sorted_index(
     Ok(Index { places, values })
 }
 
-/// Places in the order of the values in a column, with these values. Those that stand in this order
-/// already, as when rows came in it, are not sorted: one look-up a place tells.
+/// Sorts places by the values in a column, and returns them with these values. Places that are
+/// already in this order, such as those of rows that were inserted in it, are not sorted. To find
+/// out takes one comparison for each place.
 pub fn index_by_column(
     alloc: Global,
     set: &RowSet,
@@ -202,7 +204,7 @@ pub fn index_by_column(
     sorted_index(alloc, set, column, places)
 }
 
-// Where those of some values begin, by their order, that are not below one; it is found by halves.
+// The start of the values, in sorted order, that are not below a value, by binary search.
 fn start_with(values: &[Value], value: &Value) -> usize
     ensures from { HoldsOfEqual values.now value.now (λ k. result ≤ k) }
     ensures above { NoneBelow values.now value.now result }
@@ -210,7 +212,7 @@ fn start_with(values: &[Value], value: &Value) -> usize
     values.partition_point(|own| is_below(own, value))
 }
 
-// Whether the value at a place is there and below another one.
+// Whether there is a value at a place and it is below another one.
 fn is_below_at(values: &[Value], place: usize, value: &Value) -> bool
     ensures below { result ≡ true → HoldsOfEqual values.now value.now (λ k. place < k) }
     ensures above { result ≡ false → NoneBelow values.now value.now place }
@@ -222,7 +224,7 @@ fn is_below_at(values: &[Value], place: usize, value: &Value) -> bool
     }
 }
 
-// Whether the value at a place is above another one, or none is there.
+// Whether the value at a place is above another one. True past the end.
 fn is_above_at(values: &[Value], place: usize, value: &Value) -> bool
     ensures { result ≡ true → HoldsOfEqual values.now value.now (λ k. k < place) }
 {
@@ -240,7 +242,7 @@ fn begins_at(values: &[Value], place: usize, value: &Value) -> bool
     place == 0 || is_below_at(values, place - 1, value)
 }
 
-// Where they begin, which is tried near a place first, since look-ups often rise.
+// The same start, tried near a place first, since successive lookups often ascend.
 fn start_near(values: &[Value], near: usize, value: &Value) -> usize
     ensures from { HoldsOfEqual values.now value.now (λ k. result ≤ k) }
     ensures above { NoneBelow values.now value.now result }
@@ -254,7 +256,7 @@ fn start_near(values: &[Value], near: usize, value: &Value) -> usize
     near
 }
 
-// Where those from a place on end that are not above it.
+// The end of the values, from a place on, that are not above a value.
 fn end_with(values: &[Value], start: usize, value: &Value) -> usize
     ensures upto { HoldsOfEqual values.now value.now (λ k. k < result) }
     ensures within { NoneAbove values.now value.now start result }
@@ -268,7 +270,7 @@ fn end_with(values: &[Value], start: usize, value: &Value) -> usize
     values.len()
 }
 
-// Whether a value is equal to the one at a place alone, of some that rise.
+// Whether a value is equal to the one at a place and to no other, in sorted values.
 fn is_only_at(values: &[Value], place: usize, value: &Value) -> bool
     ensures only { result ≡ true → HoldsOfEqual values.now value.now (λ k. k ≡ place) }
     ensures same { result ≡ true → AllEqual values.now value.now place (place + 1) }
@@ -282,8 +284,8 @@ fn is_only_at(values: &[Value], place: usize, value: &Value) -> bool
     is_above_at(values, place + 1, value) && begins_at(values, place, value)
 }
 
-// As `with_value`, by a search from where the last one ended. A call of its own, so that a look-up
-// of the next value stays short.
+// The same as `with_value`, by a search from where the last one ended. Not inlined, so that a
+// lookup of the next value stays short.
 #[inline(never)]
 fn searched_with<'a>(
     places: &'a [usize],
@@ -305,8 +307,9 @@ fn searched_with<'a>(
     &places[start..end]
 }
 
-/// The places whose row has a value, and no others, of places that stand by the values in a column,
-/// and these values; where the last search ended is tried first, and marked anew.
+/// The places of exactly the rows that have a value. The places are sorted by the values in a
+/// column, which are given too. The search starts at `near`, where the last one ended, and updates
+/// it.
 #[inline(always)]
 pub fn with_value<'a>(
     places: &'a [usize],

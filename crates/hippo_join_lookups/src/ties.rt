@@ -1,4 +1,4 @@
-//! Equalities between columns of two tables.
+//! Join equalities: equalities between columns of two tables.
 ghost use Rattle.std.specs.Prelude.{◌≡◌, [], ◌∷◌, IfSome, true, Some};
 ghost use Rattle.hippo_model.specs.Terms.{Combination};
 ghost use Rattle.hippo_model.specs.Conditions.{outer_parts};
@@ -10,7 +10,7 @@ use crate::known::is_chosen;
 use hippo_model::{CondOf, Expr, Ref};
 use hippo_values::CompareOp;
 
-/// A column of a table, and the column of another one that it is equal to.
+/// A join equality: a column of a table, and the column of another table that it equals.
 #[derive(Clone, Copy)]
 pub struct Tie {
     pub column: usize,
@@ -27,7 +27,7 @@ pub fn outer_parts(condition: &CondOf<Expr>) -> &[CondOf<Expr>]
     }
 }
 
-/// The column whose value an expression shows, where it shows one.
+/// The column whose value an expression shows, if it shows one.
 pub fn column_of(expr: &Expr) -> Option<Ref>
     ensures { result ≡ shown_column expr.now }
 {
@@ -40,7 +40,7 @@ pub fn column_of(expr: &Expr) -> Option<Ref>
     }
 }
 
-/// Whether an expression shows a column, where it shows anything.
+/// Whether an expression shows the value of a column whenever it shows anything.
 pub fn shows_column(expr: &Expr, column: Ref) -> bool
     ensures { result ≡ true → shown_column expr.now ≡ Some column }
 {
@@ -50,7 +50,7 @@ pub fn shows_column(expr: &Expr, column: Ref) -> bool
     }
 }
 
-// The tie of a table to a row that is chosen, of two columns that are equal.
+// The equality of two columns as a tie of a table to a chosen row, if it is one.
 fn tie_to_chosen(left: Ref, right: Ref, table: usize, slots: &[Option<usize>]) -> Option<Tie>
     ensures { IfSome result (λ tie. (rows : Combination) → AreEqual rows left right
         → AreEqual rows (record { table = table; column = tie.column }) tie.other) }
@@ -92,7 +92,7 @@ fn tie_of(part: &CondOf<Expr>, table: usize, slots: &[Option<usize>]) -> Option<
     }
 }
 
-/// A tie of a table to a row that is chosen, where the parts of a condition say one.
+/// A tie of a table to a chosen row that the parts of a condition require, if there is one.
 pub fn find_tie(parts: &[CondOf<Expr>], table: usize, slots: &[Option<usize>]) -> Option<Tie>
     ensures { IfSome result (λ tie. IsTieOf parts.now table tie) }
 {

@@ -1,4 +1,4 @@
--- What is found while a join goes on.
+-- What is found while a join continues.
 use Rattle.std.proofs.Common.{◌≡◌, ℕ, zero, suc, ◌+◌, ◌<◌, ◌≤◌, Bool, true, false, ◌&&◌, ◌||◌, cond, List, [], ◌∷◌, map, length, refl, sym, ap, subst, ◌∙◌, Option, Some, None, unwrap_or, inl, inr, ◌⊎◌, arith, get_or, length-set, take, ◌++◌, zero-add}
 use Rattle.std.specs.Prelude.{slice_set}
 use Rattle.std.specs.List.{Contains, All, range_with_len}
@@ -30,7 +30,7 @@ or_cond : (a b : Bool) → cond a true b ≡ (a || b)
 or_cond true b = refl
 or_cond false b = refl
 
--- what `insert` says, with the places that are asked for first
+-- the clause of `insert`, with the wanted places first
 pub one-more : (places : List Place) (before after : List (List Place)) → ((other : List Place) → has_places other after ≡ cond (is_eq (slice_cmp nat_cmp places other)) true (has_places other before)) → HasOnePlaceMore places before after
 one-more places before after updated other =
     updated other ∙ or_cond (is_eq (slice_cmp nat_cmp places other)) (has_places other before)
@@ -45,13 +45,13 @@ pub places-back : (places : List Place) → map (λ slot. unwrap_or slot 0) (map
 places-back [] = refl
 places-back (place ∷ places) = ap (λ l. place ∷ l) (places-back places)
 
--- where each row is chosen, the slots are the places
+-- when each row is chosen, the slots are the places
 pub whole-chosen_rows : (slots : List (Option Place)) → ((table : Place) → table < length slots → is_chosen slots table ≡ true) → slots ≡ map Some (map (λ slot. unwrap_or slot 0) slots)
 whole-chosen_rows [] each = refl
 whole-chosen_rows (None ∷ slots) each = absurd (false≢true (each 0 (omega arith)))
 whole-chosen_rows (Some place ∷ slots) each = ap (λ l. Some place ∷ l) (whole-chosen_rows slots (λ table within. each (suc table) (omega arith)))
 
--- no stage is left: each row is chosen
+-- no stage is left, so each row is chosen
 pub covered-whole : (slots : List (Option Place)) → Covers [] slots → (table : Place) → table < length slots → is_chosen slots table ≡ true
 covered-whole slots covers table within = elim (covers table within) as (λ _. is_chosen slots table ≡ true) [
   | inl known ↦ known
@@ -77,7 +77,7 @@ still_chosen (slot ∷ slots) zero (suc table) place known = known
 still_chosen (slot ∷ slots) (suc at) zero place known = known
 still_chosen (slot ∷ slots) (suc at) (suc table) place known = still_chosen slots at table place known
 
--- a table whose row is still to be chosen
+-- a table whose row is not yet chosen
 pub open-within : (slots : List (Option Place)) (table : Place) → is_open slots table ≡ true → table < length slots
 open-within [] table still = absurd (false≢true still)
 open-within (slot ∷ slots) zero still = omega arith
@@ -95,7 +95,7 @@ closed_chosen (None ∷ slots) zero closed within = absurd (false≢true (sym cl
 closed_chosen (Some place ∷ slots) zero closed within = refl
 closed_chosen (slot ∷ slots) (suc table) closed within = closed_chosen slots table closed (omega arith)
 
--- a stage whose row is not to be chosen any more, and one whose row is chosen now
+-- a stage whose row is no longer open, and one whose row is chosen now
 pub covers-closed : (stage : Stage) (stages : List Stage) (slots : List (Option Place)) → Covers (stage ∷ stages) slots → is_open slots stage.table ≡ false → Covers stages slots
 covers-closed stage stages slots covers closed table within = elim (covers table within) as (λ _. (is_chosen slots table ≡ true) ⊎ Contains (map (λ s. s.table) stages) table) [
   | inl before ↦ inl before
@@ -127,7 +127,7 @@ unchosen-same (None ∷ slots) zero none = refl
 unchosen-same (Some place ∷ slots) zero none = absurd (false≢true (sym none))
 unchosen-same (slot ∷ slots) (suc table) none = ap (λ l. slot ∷ l) (unchosen-same slots table none)
 
--- the numbers behind the first of those that rise
+-- the rest of ascending numbers, after the first
 rises_rest : (first : ℕ) (rest : List ℕ) → IsStrictlyIncreasing (first ∷ rest) → IsStrictlyIncreasing rest
 rises_rest first rest rising k within = let further : suc k + 1 ≡ suc (k + 1) = omega arith in rw further at (rising (suc k) (omega (arith, within)))
 
@@ -138,11 +138,11 @@ first-lowest first rest rising other has = by_index has.0 has.1 has.2
     by_index zero within at = omega (arith, at)
     by_index (suc k) within at = let above = AllPairs-from_increasing (first ∷ rest) rising 0 (suc k) other (omega arith) within in omega (arith, above, at)
 
--- a place that was chosen, and is not any more
+-- a place that was chosen and is open again
 pub still-open : (slots : List (Option Place)) (table : Place) → is_open slots table ≡ true → slice_set slots table None ≡ slots
 still-open slots table still = unchosen-same slots table (open-unchosen slots table still)
 
--- another row of a table chosen, or none
+-- another row of a table is chosen, or none
 pub within-set : (slots now : List (Option Place)) (table : Place) → table < length slots → slice_set now table None ≡ slots → table < length now
 within-set slots now table within same = omega (arith, within, ap length same, length-set now table None)
 
@@ -167,7 +167,7 @@ module _ (choices : Choices) (query : Masked) (sets : List KeyedRows) where
   covers-all : (order : List Place) (stages : List Stage) (slots : List (Option Place)) → map (λ stage. stage.table) stages ≡ order → length slots ≡ length sets → ((table : Place) → table < length sets → Contains order table) → Covers stages slots
   covers-all order stages slots tables long whole table within = inr (subst (λ (l : List Place). Contains l table) (sym tables) (whole table (omega (arith, long))))
 
-  -- one stage more
+  -- one more stage
   pub stages-more : (lists : Bool) (order : List Place) (i : ℕ) (stages more : List Stage) (stage : Stage) → AreWalkable choices query sets lists (take i order) stages → IsWalkable choices query sets stage → (lists ≡ true → stage.is_searched ≡ false)
       → stage.table ≡ get_or order i 0 → i < length order → more ≡ stages ++ stage ∷ [] → AreWalkable choices query sets lists (take (i + 1) order) more
   stages-more lists order i stages more stage so_far walkable listed at within pushed =
@@ -178,14 +178,14 @@ module _ (choices : Choices) (query : Masked) (sets : List KeyedRows) where
             ap (λ (l : List Stage). map (λ s. s.table) l) pushed ∙ map_push (λ (s : Stage). s.table) stages stage ∙ (λ j. so_far.tables j ++ at j ∷ []) ∙ sym (take_more order i 0 within);
       }
 
-  -- where all are listed
+  -- when all are materialised
   pub all-listed : (order : List Place) (stages : List Stage) → AreWalkable choices query sets true order stages → AreStages choices query sets order stages
   all-listed order stages are = record {
     each = λ k d within. let one = are.each k d within in one.0.listed (one.1 refl);
     tables = are.tables;
   }
 
-  -- at the beginning of a walk
+  -- at the start of a walk
   pub walk-all : (in_order : Bool) (order : List Place) (stages here : List Stage) (slots : List (Option Place)) → AreWalkable choices query sets false order stages → here ≡ stages → length slots ≡ length sets → ((table : Place) → table < length sets → Contains order table)
       → (in_order ≡ true → IsStrictlyIncreasing order) → CanWalk choices query sets in_order here slots
   walk-all in_order order stages here slots are same long whole rises = record {
@@ -196,12 +196,12 @@ module _ (choices : Choices) (query : Masked) (sets : List KeyedRows) where
   }
 
   module _ (in_order : Bool) where
-    -- behind the first stage
+    -- after the first stage
     pub walk-first : (stages : List Stage) (stage : Stage) (rest : List Stage) (slots now : List (Option Place)) → CanWalk choices query sets in_order stages slots → stages ≡ stage ∷ rest → now ≡ slots → CanWalk choices query sets in_order (stage ∷ rest) now
     walk-first stages stage rest slots now can first same =
         subst (λ (s : List (Option Place)). CanWalk choices query sets in_order (stage ∷ rest) s) (sym same) (subst (λ (l : List Stage). CanWalk choices query sets in_order l slots) first can)
 
-    -- where another row of the first stage's table is chosen, or none
+    -- when another row of the first stage's table is chosen, or none
     pub walk-again : (stage : Stage) (rest : List Stage) (slots now : List (Option Place)) → CanWalk choices query sets in_order (stage ∷ rest) slots → slice_set now stage.table None ≡ slots → CanWalk choices query sets in_order (stage ∷ rest) now
     walk-again stage rest slots now can same =
         let as_long : length now ≡ length slots = sym (length-set now stage.table None) ∙ ap length same in
@@ -233,7 +233,7 @@ module _ (choices : Choices) (query : Masked) (sets : List KeyedRows) where
       rises = λ asked. rises_rest stage.table (map (λ s. s.table) rest) (can.rises asked);
     }
 
-    -- in the order of FROM the rows of all tables before an open stage's are chosen
+    -- in the order of FROM, all tables before an open stage have chosen rows
     pub before-chosen_rows : (stages : List Stage) (stage : Stage) (rest : List Stage) (slots : List (Option Place)) → CanWalk choices query sets in_order stages slots → stages ≡ stage ∷ rest → stage.table < length slots
         → in_order ≡ true → (earlier : Place) → earlier < stage.table → is_chosen slots earlier ≡ true
     before-chosen_rows stages stage rest slots can first within asked earlier lower =
@@ -243,7 +243,7 @@ module _ (choices : Choices) (query : Masked) (sets : List KeyedRows) where
           | inr left ↦ let lowest = first-lowest stage.table (map (λ s. s.table) rest) (whole.rises asked) earlier left in absurd (omega (arith, lowest, lower))
         ]
 
--- an order that has each table once
+-- an order that contains each table once
 pub below-order : (n : ℕ) (order : List Place) → IsPermutation (range_with_len 0 n) order → All (λ table. table < n) order
 below-order n order moved = All-permutation (λ table. table < n) (range_with_len 0 n) order moved (λ k d within. let l : k < n = simp length-range_with_len at within in rw (get_or-range_with_len 0 n k d l) (omega arith))
 
@@ -279,14 +279,14 @@ module _ (limit : ℕ) (visited : List (List Place)) (found : List (List Place))
       back false true had e whole = whole refl
       back false false had e whole = absurd (false≢true e)
 
--- at the beginning nothing is visited or found
+-- at the start nothing is visited or found
 pub found-none : (limit : ℕ) (found : List (List Place)) → found ≡ [] → AreFound (λ places. has_places places [] ≡ true) limit found
 found-none limit found none = record {
   sound = λ places has. sym (ap (has_places places) none) ∙ has;
   whole = λ few places has. absurd (false≢true has);
 }
 
--- at the end all that were visited are those of a kind
+-- at the end, the combinations visited are those of a kind
 pub found-are : (Is : List Place → Type 0) (limit : ℕ) (visited found : List (List Place)) → ((places : List Place) → has_places places visited ≡ true → Is places) → ((places : List Place) → Is places → has_places places visited ≡ true)
     → AreFound (λ places. has_places places visited ≡ true) limit found → AreFound Is limit found
 found-are Is limit visited found there back are = record { sound = λ places has. there places (are.sound places has); whole = λ few places is. are.whole few places (back places is) }

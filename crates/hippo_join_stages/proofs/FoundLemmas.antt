@@ -1,4 +1,4 @@
--- What is found in ascending order is what counts of the product.
+-- What is found in ascending order is the qualifying part of the product.
 use Rattle.std.proofs.Common.{◌≡◌, ℕ, zero, ◌+◌, ◌-◌, ◌≤◌, suc, Bool, true, false, ◌&&◌, ◌||◌, cond, List, [], ◌∷◌, ◌++◌, map, length, refl, sym, ap, ◌∙◌, inl, inr, ◌⊎◌, arith}
 use Rattle.std.specs.Prelude.{filter}
 use Rattle.std.specs.List.{range_with_len}
@@ -44,11 +44,11 @@ pub or-cases : (x y : Bool) → (x || y) ≡ true → (x ≡ true) ⊎ (y ≡ tr
 or-cases true y e = inl refl
 or-cases false y e = inr e
 
--- whether places stand in two lists, one behind the other
+-- whether one of two concatenated lists contains places
 pub has-both : (c : List Place) (some more : List (List Place)) → has_places c (some ++ more) ≡ (has_places c some || has_places c more)
 has-both c some more = list_any-append (λ other. is_eq (slice_cmp nat_cmp c other)) some more
 
--- the first of rising combinations, and any below it, stands nowhere behind
+-- the first of ascending combinations, and any below it, is not in the rest
 absent : (c : List Place) (rest : List (List Place)) → Below c rest → has_places c rest ≡ false
 absent c [] below = refl
 absent c (other ∷ rest) below = rw (below.0, absent c rest below.1) refl
@@ -70,7 +70,7 @@ after_both : (test a b : Bool) → (test ≡ true → a ≡ false) → (test ≡
 after_both true a b left right e = left refl ∙ sym (right refl)
 after_both false a b left right e = e
 
--- rising lists with the same combinations are one list
+-- ascending lists with the same combinations are equal
 pub same_rising : (some others : List (List Place)) → IsRising some → IsRising others → ((c : List Place) → has_places c some ≡ has_places c others) → some ≡ others
 unfolding IsStrictlySortedBy
 same_rising [] [] a b same = refl
@@ -88,7 +88,7 @@ same_rising (c ∷ some) (d ∷ others) a b same =
     λ i. one i ∷ same_rising some others a.1 b.1 remaining i)
     (λ greater. absurd (false≢true (sym (not_here d c some (other_way c d greater) a.0) ∙ same d ∙ has-first d others)))
 
--- what rises within other combinations is no longer than these
+-- an ascending list contained in another one is no longer than it
 pub length-rising : (some others : List (List Place)) → IsRising some → ((c : List Place) → has_places c some ≡ true → has_places c others ≡ true) → length some ≤ length others
 length-rising some others rising within =
     length-le_from_is_member (eq_by_cmp_equiv total) some others (IsDistinct-from_sorted (slice_cmp nat_cmp) some rising) within
@@ -134,13 +134,13 @@ module _ (choices : Choices) (query : Masked) (sets : List KeyedRows) where
   unfolding stays
   answer-counting = ap (map (masked_items choices query)) rows-counting ∙ map-map (masked_items choices query) (chosen_rows sets) counting
 
-  -- all that count, in the order of the product
+  -- all qualifying combinations, in the order of the product
   pub rows-in-order : (all : List (List Place)) → AreAll (λ c. stands choices query sets c ≡ true) true all → map (chosen_rows sets) all ≡ filter (stays choices query) (product (rows_of sets))
   rows-in-order all are =
       ap (map (chosen_rows sets)) (same_rising all counting (are.rising refl) rising-counting (λ c. same_tests (has_places c all) (stands choices query sets c) (are.sound c) (are.whole c) ∙ sym (has-counting c)))
       ∙ sym rows-counting
 
-  -- what is found in order, and is all that counts, gives the answer
+  -- if what is found is in order and complete, it gives the answer
   pub answer-found : (found : List (List Place)) → IsRising found → ((c : List Place) → has_places c found ≡ stands choices query sets c) → map (λ c. masked_items choices query (chosen_rows sets c)) found ≡ masked_answer choices query (rows_of sets)
   answer-found found rising same =
       ap (map (λ c. masked_items choices query (chosen_rows sets c))) (same_rising found counting rising rising-counting (λ c. same c ∙ sym (has-counting c)))

@@ -1,4 +1,4 @@
--- Rows that are found by their key.
+-- Lookup of rows by key.
 use Rattle.std.proofs.Common.{◌≡◌, ℕ, zero, suc, ◌+◌, ◌-◌, ◌<◌, ◌≤◌, true, false, List, [], ◌∷◌, map, length, take, refl, sym, ap, subst, ◌∙◌, Option, Some, None, unwrap_or, arith, get_or}
 use Rattle.std.specs.Prelude.{slice_get, replicate, option_map, IfSome}
 use Rattle.std.specs.List.{Contains, list_all, range_with_len}
@@ -34,7 +34,7 @@ use Rattle.hippo_join_lookups.proofs.PartLemmas.{equal-values, column-value, tie
 use Rattle.hippo_join_lookups.proofs.PruneLemmas.{below-rows, in-range, all-hold, long-enough}
 use Rattle.hippo_join_lookups.proofs.SlotLemmas.{Fits-at, Fits-open, raw-at}
 
--- what is so wherever one part holds is so wherever all do
+-- what holds whenever one part holds, holds whenever all parts do
 pub of-all-parts : (choices : Choices) (sets : List KeyedRows) (slots : List (Option Place)) (parts items : List (CondOf Expr)) (i : ℕ) (part : CondOf Expr) (P : List Place → Type 0) → items ≡ parts → i < length items → part ≡ get_or items i part
     → ((places : List Place) → Fits slots places → list_all (holds choices (chosen_rows sets places)) (part ∷ []) ≡ true → P places)
     → (places : List Place) → Fits slots places → list_all (holds choices (chosen_rows sets places)) parts ≡ true → P places
@@ -42,7 +42,7 @@ of-all-parts choices sets slots parts items i part P same within at told places 
     let rows = chosen_rows sets places in
     told places fits (tie-of-part items i part within (sym at) choices rows (ap (list_all (holds choices rows)) same ∙ all))
 
--- the row that has a key stands where the search finds it
+-- the search finds the row that has a key
 pub found-at : (set : KeyedRows) (key : Key) (place : Place) → IsAscending (map (key_in set.key) set.rows) → place < length set.rows → key_of set.key (row_at_place set.rows place).row ≡ key → find_row set.key key set.rows ≡ Some place
 found-at set key place ascends within has =
     find_row-found set.key key set.rows place ascends within (λ d.
@@ -62,7 +62,7 @@ pub key-at : (sets : List KeyedRows) (places : List Place) (table : Place) (set 
 key-at sets places table set place at_set at [] = refl
 key-at sets places table set place at_set at (column ∷ columns) = λ i. raw-at sets places (record { table = table; column = column }) set place at_set at i ∷ key-at sets places table set place at_set at columns i
 
--- the value in a column of a row that is chosen
+-- the value in a column of a chosen row
 pub chosen_rows-raw : (sets : List KeyedRows) (slots : List (Option Place)) (places : List Place) (column : Ref) (set : KeyedRows) (place : Place) (value : Value) → Fits slots places → Some place ≡ slot_at slots column.table → slice_get sets column.table ≡ Some set → value ≡ value_at_place set column.column place → raw_value (chosen_rows sets places) column ≡ value
 chosen_rows-raw sets slots places column set place value fits at_slot at_set is = raw-at sets places column set place at_set (Fits-at slots places column.table place fits (sym at_slot)) ∙ sym is
 
@@ -81,7 +81,7 @@ module _ (choices : Choices) (sets : List KeyedRows) (slots : List (Option Place
       equal-values (masked_value choices rows left) (masked_value choices rows right)
       (sym (ap is_true (truth-Compare (masked_value choices rows) Eq left right)) ∙ (and_parts (holds choices rows (conditions.Compare Eq left right)) true all).0)
 
-  -- an equality of a column with what is known
+  -- an equality of a column with a known value
   pub told-left : (left right : Expr) (column : Ref) (value : Value) → shown_column left ≡ Some column → IsShownAs choices sets slots right value → IsToldBy choices sets slots (conditions.Compare Eq left right ∷ []) column value
   told-left left right column value is shown places fits all =
       let rows = chosen_rows sets places in
@@ -97,7 +97,7 @@ module _ (choices : Choices) (sets : List KeyedRows) (slots : List (Option Place
       let known = shown places fits some in
       (sym (column-value choices rows right column is equal.1) ∙ sym equal.0 ∙ known, sym (ap is_null known) ∙ some)
 
-  -- the row of a combination that counts has the key that is told
+  -- the row of a qualifying combination has the key that the condition fixes
   pub key-of-told : (query : Masked) (table : Place) (set : KeyedRows) (columns : List Place) (key : Key) → slice_get sets table ≡ Some set → columns ≡ set.key → IsKeyTold choices sets slots (outer_parts query.cond) table columns key
       → (places : List Place) → Fits slots places → stands choices query sets places ≡ true → (place : Place) → slice_get places table ≡ Some place → key_of set.key (row_at_place set.rows place).row ≡ key
   key-of-told query table set columns key at_set same told places fits counts place at =
@@ -124,7 +124,7 @@ out-span start end place there =
     let at : start + there.0 ≡ place = sym (get_or-range_with_len start (end - start) there.0 place within) ∙ there.2 in
     (omega (arith, at), omega (arith, at, within))
 
--- where no row is chosen
+-- when no row is chosen
 module _ (choices : Choices) (query : Masked) (sets : List KeyedRows) where
   pub within-open : (table : Place) (span : Span) → IsWithin choices query sets (replicate (length sets) None) table span
       → (places : List Place) → stands choices query sets places ≡ true → (place : Place) → slice_get places table ≡ Some place → (span.start ≤ place) × (place < span.end)

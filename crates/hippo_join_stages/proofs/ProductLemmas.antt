@@ -67,7 +67,7 @@ product-rows (set ∷ sets) =
     (λ place. ap (map (λ others. row_at_place set.rows place ∷ others)) (product-rows sets) ∙ sym (one_more set sets place (places_of sets))) (range_with_len 0 (length set.rows))
     ∙ sym (map-flat_map (chosen_rows (set ∷ sets)) (λ place. map (λ others. place ∷ others) (places_of sets)) (range_with_len 0 (length set.rows)))
 
--- whether places stand behind a first one
+-- whether a list contains places after a first one
 remaining : (a p : Place) (rest : List Place) (some : List (List Place)) → has_places (a ∷ rest) (map (λ others. p ∷ others) some) ≡ (nat_eq a p && has_places rest some)
 remaining a p rest [] = by_cases (nat_eq a p)
   where
@@ -110,7 +110,7 @@ in_a_range : (a start n : ℕ) → list_any (nat_eq a) (range_with_len start n) 
 in_a_range a start zero = grind (arith, nat_tests)
 in_a_range a start (suc n) = rw (in_a_range a (start + 1) n) (grind (arith, nat_tests))
 
--- a combination stands in the product exactly where its places are in range
+-- the product contains a combination exactly when its places are in range
 pub has-places_of : (sets : List KeyedRows) (places : List Place) → has_places places (places_of sets) ≡ in_range sets places
 has-places_of [] [] = refl
 has-places_of [] (place ∷ places) = refl

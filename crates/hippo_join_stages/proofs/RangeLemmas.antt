@@ -1,4 +1,4 @@
--- Rows in a range of keys, and what bounds a column.
+-- Rows in a range of keys, and bounds of a column.
 use Rattle.std.proofs.Common.{◌≡◌, Bool, true, false, List, [], ◌∷◌, length, take, refl, sym, ap, subst, ◌∙◌, Option, Some, None, ltb-true, ltb-false}
 use Rattle.std.specs.Prelude.{slice_get, IfSome}
 use Rattle.std.specs.List.{list_all}
@@ -41,13 +41,13 @@ use Rattle.hippo_join_lookups.proofs.PruneLemmas.{below-rows, in-range, all-hold
 use Rattle.hippo_join_lookups.proofs.SlotLemmas.{raw-at}
 use Rattle.hippo_join_lookups.proofs.ListLemmas.{allows_equal}
 
--- ---- what conditions say
+-- ---- bounds that conditions give
 
 truly : (b : Bool) → is_true (truth_of b) ≡ true → b ≡ true
 truly true e = refl
 truly false e = absurd (false≢true e)
 
--- values of which a comparison is true stand in an order that it allows, and are not null
+-- if a comparison of values is true, their order allows it and they are not null
 pub compared-values : (op : CompareOp) (a b : Value) → is_true (comparison op a b) ≡ true → (is_allowed op (value_cmp a b) ≡ true) × ((is_null a ≡ false) × (is_null b ≡ false))
 compared-values op (Int a) (Int b) e = (truly (is_allowed op (value_cmp (Int a) (Int b))) e, (refl, refl))
 compared-values op (Text a) (Text b) e = (truly (is_allowed op (value_cmp (Text a) (Text b))) e, (refl, refl))
@@ -77,7 +77,7 @@ allowed-turned Ge Greater = refl
 turned_truth : (op : CompareOp) (a b : Value) → truth_of (is_allowed (flipped_operator op) (value_cmp b a)) ≡ truth_of (is_allowed op (value_cmp a b))
 turned_truth op a b = ap (λ (o : Ordering). truth_of (is_allowed (flipped_operator op) o)) (value_total.antisymm b a) ∙ ap truth_of (allowed-turned op (value_cmp a b))
 
--- a comparison read from the other side
+-- a comparison with its sides swapped
 pub comparison-turned : (op : CompareOp) (a b : Value) → comparison (flipped_operator op) b a ≡ comparison op a b
 comparison-turned op Null Null = refl
 comparison-turned op Null (Int b) = refl
@@ -136,7 +136,7 @@ over-null (Text text) some = refl
 over-null (Day day) some = refl
 
 module _ (choices : Choices) (sets : List KeyedRows) (slots : List (Option Place)) where
-  -- a comparison of a column with what is known
+  -- a comparison of a column with a known value
   pub bounded-left : (left right : Expr) (column : Ref) (op : CompareOp) (value : Value) → shown_column left ≡ Some column → IsShownAs choices sets slots right value → IsBoundedBy choices sets slots (conditions.Compare op left right ∷ []) column op value
   bounded-left left right column op value is shown places fits all =
       let rows = chosen_rows sets places in
@@ -152,7 +152,7 @@ module _ (choices : Choices) (sets : List KeyedRows) (slots : List (Option Place
       let own : raw_value (chosen_rows sets places) column ≡ value = (told places fits all).0 in
       (ap (λ (v : Value). is_allowed (bounding above false) (value_cmp v value)) own ∙ ap (is_allowed (bounding above false)) (tied_itself value_total value) ∙ allows_equal above, ap is_null own ∙ (told places fits all).1)
 
-  -- the row of a combination that counts keeps the bounds that are said
+  -- the row of a qualifying combination is within the given bounds
   pub keeps : (query : Masked) (table : Place) (set : KeyedRows) (column : Place) (above : Bool) (bound : Option Bound) → slice_get sets table ≡ Some set
       → IfSome bound (λ bound. IsBoundedBy choices sets slots (outer_parts query.cond) (record { table = table; column = column }) (bounding above bound.strict) bound.value.now)
       → (places : List Place) → Fits slots places → stands choices query sets places ≡ true → (place : Place) → slice_get places table ≡ Some place → KeepsBound above bound (value_at_place set column place)
@@ -161,7 +161,7 @@ module _ (choices : Choices) (sets : List KeyedRows) (slots : List (Option Place
       subst (λ (v : Value). is_allowed (bounding above bound.strict) (value_cmp v bound.value.now) ≡ true) (raw-at sets places (record { table = table; column = column }) set place at_set at)
       (is places fits (all-hold choices query sets places counts)).0
 
-  -- rows that count stand between the ends
+  -- qualifying rows are between the two ends
   pub within-edges : (query : Masked) (table : Place) (set : KeyedRows) (front : Key) (column : Place) (low high : Option Bound) (span : Span) → slice_get sets table ≡ Some set
       → IsKeyTold choices sets slots (outer_parts query.cond) table (take (length front) set.key) front
       → IfSome low (λ bound. IsBoundedBy choices sets slots (outer_parts query.cond) (record { table = table; column = column }) (bounding false bound.strict) bound.value.now)
@@ -174,7 +174,7 @@ module _ (choices : Choices) (sets : List KeyedRows) (slots : List (Option Place
         ltb-true _ _ (end place within begins (keeps query table set column true high at_set of_high places fits counts place at)),
       )
 
--- a bound that some parts tell is told by a part that says them
+-- a bound given by some parts is given by the list that contains them
 pub tells-from : (choices : Choices) (sets : List KeyedRows) (slots : List (Option Place)) (part form : CondOf Expr) (parts : List (CondOf Expr)) (column : Ref) (above : Bool) (told : Option Bound) → part ≡ form → ((rows : Combination) → list_all (holds choices rows) (form ∷ []) ≡ true → list_all (holds choices rows) parts ≡ true)
     → TellsBound choices sets slots parts column above told → TellsBound choices sets slots (part ∷ []) column above told
 tells-from choices sets slots part form parts column above told is say tells = IfSome_then told tells (λ bound bounded places fits all.

@@ -1,4 +1,4 @@
--- Lists of places that have each place that counts.
+-- Lists of places that contain each qualifying place.
 use Rattle.std.proofs.Common.{◌≡◌, ℕ, zero, suc, ◌+◌, ◌<◌, ◌≤◌, Bool, true, false, List, [], ◌∷◌, ◌++◌, length, get_or, refl, sym, ap, subst, ◌∙◌, Option, Some, None, inl, inr, arith}
 use Rattle.std.specs.Prelude.{nat_lt, slice_get, slice_set, replicate, if◌then◌else◌}
 use Rattle.std.specs.List.{Contains, list_all}
@@ -36,7 +36,7 @@ taken : (test : Bool) (xs : List Place) (n : Place) → test ≡ true → Contai
 taken true xs n passed = Contains-push xs n
 taken false xs n passed = absurd (false≢true passed)
 
--- one place more was tested
+-- one more place was tested
 module _ (Counts : List Place → Type 0) (table : Place) where
   pub tested-more : (slots : List (Option Place)) (test : Bool) (xs ys some : List Place) (n : Place) (i : ℕ) → n ≡ get_or some i 0 → ys ≡ (if test then xs ++ n ∷ [] else xs)
       → ((places : List Place) → Counts places → slice_get places table ≡ Some n → Fits slots places)
@@ -71,7 +71,7 @@ fits-alone slots n table places none long place at = Fits-set slots places table
 pub of-some : {X : Type 0} (P : X → Type 0) (o : Option X) (x : X) → IfSome o P → o ≡ Some x → P x
 of-some {X} P o x p is = let at : IfSome (Some x) P = subst (λ (q : Option X). IfSome q P) is p in at
 
--- the rows of a table in which a place is one of a combination's
+-- the rows of the table that a combination's place belongs to
 pub set-at : (sets : List KeyedRows) (places : List Place) (table place : Place) → in_range sets places ≡ true → slice_get places table ≡ Some place → (set : KeyedRows) × (slice_get sets table ≡ Some set)
 set-at [] [] table place inside at = absurd cc
 set-at [] (first ∷ places) table place inside at = absurd (false≢true inside)
@@ -79,7 +79,7 @@ set-at (set ∷ sets) [] table place inside at = absurd (false≢true inside)
 set-at (set ∷ sets) (first ∷ places) zero place inside at = (set, refl)
 set-at (set ∷ sets) (first ∷ places) (suc table) place inside at = set-at sets places table place (and_parts (nat_lt first (length set.rows)) (in_range sets places) inside).1 at
 
--- a place whose row has the value that a tie asks for
+-- a place whose row has the value that a tie requires
 module _ (choices : Choices) (query : Masked) (sets : List KeyedRows) (places : List Place) (counts : stands choices query sets places ≡ true) (stage : Stage) (tie : Tie) (value : Value) (is_stage : IsStage choices query sets stage) (is : stage.tie ≡ Some tie) (same : raw_value (chosen_rows sets places) tie.other ≡ value) where
   equal : AreEqual (chosen_rows sets places) (record { table = stage.table; column = tie.column }) tie.other
   equal = of-some (λ t. (places : List Place) → stands choices query sets places ≡ true → AreEqual (chosen_rows sets places) (record { table = stage.table; column = t.column }) t.other) stage.tie tie is_stage.tied is places counts

@@ -1,4 +1,4 @@
--- What a tie that suffices says of rows.
+-- What a sufficient tie implies for rows.
 use Rattle.std.proofs.Common.{◌≡◌, zero, suc, Bool, true, false, ◌&&◌, not, List, [], ◌∷◌, refl, sym, ap, subst, ◌∙◌, Option, Some, None, unwrap_or, Bor}
 use Rattle.std.specs.Prelude.{option_copied, slice_get, slice_set}
 use Rattle.std.specs.List.{list_all}
@@ -35,19 +35,19 @@ use Rattle.hippo_join_stages.specs.declared.stages.Stage.{Stage}
 use Rattle.hippo_join_stages.specs.Guards.{can_fail}
 use Rattle.hippo_join_stages.specs.Stages.{AreTied, suffices}
 
--- a lent value, or another one
+-- a borrowed value, or the default
 pub unwrapped : (lent : Option (Bor Value)) (other : Bor Value) → unwrap_or (option_copied lent) other.now ≡ (unwrap_or lent other).now
 unwrapped None other = refl
 unwrapped (Some value) other = refl
 
--- a value that is not null is equal to itself
+-- a value that is not null equals itself
 itself : (value : Value) → is_null value ≡ false → is_true (comparison Eq value value) ≡ true
 itself NullValue some = absurd (false≢true (sym some))
 itself (Int a) some = ap (λ (o : Ordering). is_true (truth_of (is_eq o))) (tied_itself value_total (Int a))
 itself (Text a) some = ap (λ (o : Ordering). is_true (truth_of (is_eq o))) (tied_itself value_total (Text a))
 itself (Day a) some = ap (λ (o : Ordering). is_true (truth_of (is_eq o))) (tied_itself value_total (Day a))
 
--- an equality of columns that no rule masks holds where they are equal
+-- an equality of unmasked columns holds when they are equal
 pub equality_holds : (choices : Choices) (rows : Combination) (left right : Expr) (a b : Ref) → left ≡ Keep a → right ≡ Keep b → AreEqual rows a b → holds choices rows (conditions.Compare Eq left right) ≡ true
 equality_holds choices rows left right a b of_left of_right equal =
     ap is_true (truth-Compare (masked_value choices rows) Eq left right)
@@ -55,7 +55,7 @@ equality_holds choices rows left right a b of_left of_right equal =
     ∙ ap (λ (e : Expr). is_true (comparison Eq (raw_value rows a) (masked_value choices rows e))) of_right
     ∙ ap (λ (v : Value). is_true (comparison Eq v (raw_value rows b))) equal.0 ∙ itself (raw_value rows b) equal.1
 
--- two columns that are those of a tie
+-- two columns that are the columns of a tie
 pub equal-moved : (rows : Combination) (a b left right : Ref) → left ≡ a → right ≡ b → AreEqual rows a b → AreEqual rows left right
 equal-moved rows a b left right one two equal = subst (λ (r : Ref). AreEqual rows left r) (sym two) (subst (λ (l : Ref). AreEqual rows l b) (sym one) equal)
 
@@ -73,12 +73,12 @@ module _ (choices : Choices) (rows : Combination) where
       let both = and_parts (not (can_fail guard.expr)) (list_all (λ (g : Guard). not (can_fail g.expr)) guards) all in
       and_from (is_shown_cell (masked_cell choices rows guard.expr)) (list_all (λ (g : Guard). is_shown_cell (masked_cell choices rows g.expr)) guards) (shown guard.expr both.0) (none-fails guards both.1)
 
-  -- rows count whose guards cannot fail, and of which all parts of the condition hold
+  -- rows qualify when their guards cannot fail and all parts of the condition hold
   pub rows-count : (query : Masked) → list_all (λ (guard : Guard). not (can_fail guard.expr)) query.guards ≡ true → list_all (holds choices rows) (outer_parts query.cond) ≡ true → stays choices query rows ≡ true
   unfolding stays
   rows-count query guards parts = and_from (is_guarded choices query rows) (masked_passes choices query rows) (none-fails query.guards guards) (sym (parts-hold (masked_value choices rows) query.cond) ∙ parts)
 
--- the row of a table once it is chosen, and those of the others
+-- the chosen row of a table, and those of the others
 row-own : (sets : List KeyedRows) (slots : List (Option Place)) (table place : Place) (set : KeyedRows) → slice_get sets table ≡ Some set → is_open slots table ≡ true → slice_get (rows_at sets (slice_set slots table (Some place))) table ≡ Some (row_at_place set.rows place)
 row-own [] slots table place set at still = absurd cc
 row-own (first ∷ sets) [] table place set at still = absurd (false≢true still)
@@ -97,11 +97,11 @@ row-other (first ∷ sets) (slot ∷ slots) zero (suc other) place still known =
 row-other (first ∷ sets) (slot ∷ slots) (suc table) zero place still known = refl
 row-other (first ∷ sets) (slot ∷ slots) (suc table) (suc other) place still known = row-other sets slots table other place still known
 
--- the value in a column of the row that is chosen last
+-- the value in a column of the row chosen last
 own-value : (sets : List KeyedRows) (slots : List (Option Place)) (table place column : Place) (set : KeyedRows) → slice_get sets table ≡ Some set → is_open slots table ≡ true → raw_value (rows_at sets (slice_set slots table (Some place))) (record { table = table; column = column }) ≡ value_at_place set column place
 own-value sets slots table place column set at still = ap (λ o. option_map_or (λ (kept : BornRow). cell_at kept.row column) o NullValue) (row-own sets slots table place set at still)
 
--- an equality with a literal holds where the column has its value
+-- an equality with a literal holds when the column has its value
 pub equals_literal : (choices : Choices) (sets : List KeyedRows) (slots : List (Option Place)) (left right : Expr) (column : Ref) (value : Value) (place : Place) (set : KeyedRows) → left ≡ Keep column → right ≡ Literal value → slice_get sets column.table ≡ Some set → is_open slots column.table ≡ true
     → value_at_place set column.column place ≡ value → is_null value ≡ false → holds choices (rows_at sets (slice_set slots column.table (Some place))) (conditions.Compare Eq left right) ≡ true
 equals_literal choices sets slots left right column value place set of_left of_right at still has some =
@@ -120,7 +120,7 @@ rows-tied sets slots table place column other set value at still known has some 
     let another : raw_value rows other ≡ raw_value (rows_at sets slots) other = ap (λ o. option_map_or (λ (kept : BornRow). cell_at kept.row other.column) o NullValue) (row-other sets slots table other.table place still known) in
     (own ∙ has ∙ sym is ∙ sym another, ap is_null (another ∙ is) ∙ some)
 
--- a stage that looks its rows up and suffices has no tie
+-- a lookup stage that suffices has no tie
 untied : (searched : Bool) (slots : List (Option Place)) (table : Place) (tie : Option Tie) (rows : Combination) → option_map_or (λ (t : Tie). not searched && is_chosen slots t.other.table) tie true ≡ true → searched ≡ true → AreTied table tie rows
 untied searched slots table None rows known is = tt
 untied searched slots table (Some tie) rows known is = absurd (false≢true (sym (ap not is) ∙ (and_parts (not searched) (is_chosen slots tie.other.table) known).0))

@@ -1,4 +1,4 @@
--- What a join finds: the places of all combinations that count.
+-- What a join finds: the places of all qualifying combinations.
 use Rattle.std.specs.Prelude.{◌≡◌, ℕ, ◌<◌, ◌≤◌, Bool, true, ◌||◌, List, length, map, Option, ◌⊎◌}
 use Rattle.std.specs.List.{list_any, Contains}
 use Rattle.std.specs.List.Sorted.{IsStrictlySortedBy}
@@ -8,15 +8,15 @@ use Rattle.hippo_model.specs.Terms.{Place}
 use Rattle.hippo_join_stages.specs.declared.stages.Stage.{Stage}
 use Rattle.hippo_join_lookups.specs.Known.{is_chosen}
 
--- whether places stand in a list
+-- whether a list contains these places
 abbrev pub has_places : List Place → List (List Place) → Bool
 has_places places some = list_any (λ other. is_eq (slice_cmp nat_cmp places other)) some
 
--- combinations that stand in the order of the product
+-- the combinations are in the order of the product, without duplicates
 abbrev pub IsRising : List (List Place) → Type 0
 IsRising some = IsStrictlySortedBy (slice_cmp nat_cmp) some
 
--- each table's row is chosen, or is to be chosen by a stage
+-- each table's row is chosen, or some stage chooses it
 abbrev pub Covers : List Stage → List (Option Place) → Type 0
 Covers stages slots =
     (table : Place) → table < length slots

@@ -1,4 +1,4 @@
--- Rows that are found by their key, where equalities say each of its values.
+-- Lookup of rows by key, when equalities fix the key's values.
 use Rattle.std.specs.Prelude.{◌≡◌, ◌<◌, ◌≤◌, true, false, List, map, slice_get, Option, Some}
 use Rattle.std.specs.List.{list_all}
 use Rattle.hippo_values.specs.declared.values.Value.{Value}
@@ -15,15 +15,14 @@ use Rattle.hippo_join_stages.specs.declared.keys.Span.{Span}
 use Rattle.hippo_join_lookups.specs.Places.{chosen_rows, Fits, stands}
 use Rattle.hippo_join_lookups.specs.Ties.{holds}
 
--- with the rows that are chosen, an expression has this value wherever it is not null
+-- given the chosen rows, an expression has this value whenever it is not null
 abbrev pub IsShownAs : Choices → List KeyedRows → List (Option Place) → Expr → Value → Type 0
 IsShownAs choices sets slots expr value =
     (places : List Place) → Fits slots places
     → is_null (masked_value choices (chosen_rows sets places) expr) ≡ false
     → masked_value choices (chosen_rows sets places) expr ≡ value
 
--- with the rows that are chosen, a column has this value, which is not null, wherever some parts
--- hold
+-- given the chosen rows, a column has this value, which is not null, whenever some parts hold
 abbrev pub IsToldBy : Choices → List KeyedRows → List (Option Place) → List (CondOf Expr) → Ref
     → Value → Type 0
 IsToldBy choices sets slots parts column value =
@@ -31,7 +30,7 @@ IsToldBy choices sets slots parts column value =
     → list_all (holds choices (chosen_rows sets places)) parts ≡ true
     → (raw_value (chosen_rows sets places) column ≡ value) × (is_null value ≡ false)
 
--- with the rows that are chosen, some columns of a table have these values wherever some parts hold
+-- given the chosen rows, some columns of a table have these values whenever some parts hold
 abbrev pub IsKeyTold :
     Choices → List KeyedRows → List (Option Place) → List (CondOf Expr) → Place → List Place → Key
     → Type 0
@@ -41,7 +40,7 @@ IsKeyTold choices sets slots parts table columns key =
     → key ≡ map (λ column. raw_value (chosen_rows sets places)
     (record { table = table; column = column })) columns
 
--- each place that a table has in a combination that has the rows that are chosen and counts
+-- the span contains the table's place in each qualifying combination with the chosen rows
 abbrev pub IsWithin : Choices → Masked → List KeyedRows → List (Option Place) → Place → Span
     → Type 0
 IsWithin choices query sets slots table span =

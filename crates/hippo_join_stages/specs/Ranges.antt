@@ -1,4 +1,4 @@
--- What bounds the values of a column, as conditions say it.
+-- The bounds that conditions put on a column.
 use Rattle.std.specs.Prelude.{◌≡◌, Bool, true, false, List, Option, IfSome}
 use Rattle.std.specs.List.{list_all}
 use Rattle.hippo_values.specs.Order.{value_cmp}
@@ -18,7 +18,7 @@ pub use Rattle.hippo_tables_rows.specs.Ranges.{bounding, KeepsBound, HasFront, I
 use Rattle.hippo_join_lookups.specs.Places.{chosen_rows, Fits}
 use Rattle.hippo_join_lookups.specs.Ties.{holds}
 
--- the operator that says the same of two values in the other order
+-- the operator for the same comparison with its sides swapped
 abbrev pub flipped_operator : CompareOp → CompareOp
 flipped_operator Lt = Gt
 flipped_operator Le = Ge
@@ -26,7 +26,7 @@ flipped_operator Gt = Lt
 flipped_operator Ge = Le
 flipped_operator op = op
 
--- with the rows that are chosen, a column stands so to a value, and is not null, wherever some
+-- given the chosen rows, a column compares this way to a value, and is not null, whenever some
 -- parts hold
 abbrev pub IsBoundedBy :
     Choices → List KeyedRows → List (Option Place) → List (CondOf Expr) → Ref → CompareOp → Value
@@ -37,8 +37,8 @@ IsBoundedBy choices sets slots parts column op value =
     → (is_allowed op (value_cmp (raw_value (chosen_rows sets places) column) value) ≡ true)
     × (is_null (raw_value (chosen_rows sets places) column) ≡ false)
 
--- with the rows that are chosen, a column is within a bound from below, or from above, wherever some
--- parts hold, if one is told
+-- given the chosen rows, a column is within the lower or upper bound, if there is one, whenever
+-- some parts hold
 abbrev pub TellsBound :
     Choices → List KeyedRows → List (Option Place) → List (CondOf Expr) → Ref → Bool → Option Bound
     → Type 0

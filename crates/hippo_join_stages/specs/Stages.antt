@@ -1,4 +1,4 @@
--- The stages of a join: a table at a time, and which of its rows may follow those that are chosen.
+-- The stages of a join plan: one table each, with its candidate rows given the chosen rows.
 use Rattle.std.specs.Prelude.{◌≡◌, ◌<◌, Bool, true, false, ◌&&◌, not, List, length, map, slice_get, slice_set, Option, Some, IfSome}
 use Rattle.std.specs.List.{All, Contains}
 use Rattle.std.specs.Option.{option_map_or}
@@ -18,22 +18,20 @@ use Rattle.hippo_join_lookups.specs.Places.{chosen_rows, Fits, rows_at, stands, 
 use Rattle.hippo_join_lookups.specs.Lookups.{IsIndex, value_at_place}
 use Rattle.hippo_join_lookups.specs.Ties.{AreEqual, holds}
 
--- some places have each place that a table has in a combination that counts
+-- the list contains the table's place in each qualifying combination
 abbrev pub Reaches : Choices → Masked → List KeyedRows → Place → List Place → Type 0
 Reaches choices query sets table some =
     (places : List Place) → stands choices query sets places ≡ true
     → (place : Place) → slice_get places table ≡ Some place → Contains some place
 
--- some places have each place that a table has in a combination that counts and has the rows that
--- are chosen
+-- the list contains the table's place in each qualifying combination with the chosen rows
 abbrev pub ReachesFrom :
     Choices → Masked → List KeyedRows → List (Option Place) → Place → List Place → Type 0
 ReachesFrom choices query sets slots table some =
     (places : List Place) → Fits slots places → stands choices query sets places ≡ true
     → (place : Place) → slice_get places table ≡ Some place → Contains some place
 
--- some places have each place that a table has in a combination that counts and has a value in a
--- column
+-- the list contains the table's place in each qualifying combination that has a value in a column
 abbrev pub ReachesWith :
     Choices → Masked → List KeyedRows → Ref → Value → Place → List Place → Type 0
 ReachesWith choices query sets column value table some =
@@ -47,8 +45,8 @@ HaveValue sets table column value some =
     (set : KeyedRows) → slice_get sets table ≡ Some set → (place : Place) → Contains some place
     → (value_at_place set column place ≡ value) × (is_null value ≡ false)
 
--- a part of a condition holds with the row at each of some places of a table, whichever rows are
--- chosen in others
+-- a part of a condition holds with the row at each of some places, whichever rows of other tables
+-- are chosen
 abbrev pub HoldsWithEach :
     Choices → List KeyedRows → Place → List Place → CondOf Expr → Type 0
 HoldsWithEach choices sets table some part =
@@ -56,17 +54,17 @@ HoldsWithEach choices sets table some part =
     → (set : KeyedRows) → slice_get sets table ≡ Some set → (place : Place) → Contains some place
     → holds choices (rows_at sets (slice_set slots table (Some place))) part ≡ true
 
--- rows in which the columns of a tie are equal, where there is one
+-- the columns of a tie, if there is one, are equal in these rows
 abbrev pub AreTied : Place → Option Tie → Combination → Type 0
 AreTied table tie rows =
     IfSome tie (λ tie. AreEqual rows (record { table = table; column = tie.column }) tie.other)
 
--- where a tie suffices, rows count that it ties
+-- every combination in which the tie holds qualifies
 abbrev pub Suffices : Choices → Masked → Place → Option Tie → Type 0
 Suffices choices query table tie =
     (rows : Combination) → AreTied table tie rows → stays choices query rows ≡ true
 
--- the row at a place of a table, where one stands there, counts with those that are chosen
+-- if a table has a row at a place, it qualifies with the chosen rows
 abbrev pub Counts :
     Choices → Masked → List KeyedRows → List (Option Place) → Place → Place → Type 0
 Counts choices query sets slots table place =
@@ -78,21 +76,20 @@ abbrev pub AllCount :
 AllCount choices query sets slots table some =
     (place : Place) → Contains some place → Counts choices query sets slots table place
 
--- the rows at some places of a table count, whichever rows are chosen in others
+-- the rows at some places of a table qualify, whichever rows of other tables are chosen
 abbrev pub AlwaysCount : Choices → Masked → List KeyedRows → Place → List Place → Type 0
 AlwaysCount choices query sets table some =
     (slots : List (Option Place)) → is_open slots table ≡ true
     → AllCount choices query sets slots table some
 
--- whether the tie of a stage suffices, and its other row is chosen; one that looks its rows up goes
--- by no tie
+-- whether the tie of a stage suffices and its other row is chosen; a lookup stage uses no tie
 abbrev pub suffices : Stage → List (Option Place) → Bool
 suffices stage slots =
     stage.suffices
     && option_map_or (λ tie. not stage.is_searched && is_chosen slots tie.other.table) stage.tie true
 
--- a stage has all places of its table that count and, where it has a tie, in the order of the tie's
--- column, with its values; a tie that suffices does
+-- a materialised stage contains all places of its table that can qualify, sorted by its tie's
+-- column if it has a tie, with that column's values; `suffices` means that the tie suffices
 pub record IsStage (choices : Choices) (query : Masked) (sets : List KeyedRows) (stage : Stage)
     : Type 0 where
   pub reaches : Reaches choices query sets stage.table stage.places.items
@@ -104,7 +101,7 @@ pub record IsStage (choices : Choices) (query : Masked) (sets : List KeyedRows) 
       → IsIndex set tie.column stage.values.items stage.places.items)
   pub enough : stage.suffices ≡ true → Suffices choices query stage.table stage.tie
 
--- the stages of tables in an order
+-- the materialised stages of tables in an order
 pub record AreStages
     (choices : Choices) (query : Masked) (sets : List KeyedRows) (order : List Place)
     (stages : List Stage)

@@ -1,4 +1,4 @@
--- Stages of which a walk goes from one to the next: they list their places, or look them up.
+-- The stages of a nested-loop walk: each is materialised, or its rows are looked up.
 use Rattle.std.specs.Prelude.{◌≡◌, ◌-◌, Bool, true, false, List, length, map, Option}
 use Rattle.std.specs.List.{All, range_with_len}
 use Rattle.std.specs.List.Sorted.{IsStrictlyIncreasing}
@@ -12,19 +12,20 @@ use Rattle.hippo_join_stages.specs.declared.following.Following.TheVariants.{Lis
 use Rattle.hippo_join_stages.specs.Stages.{IsStage, Suffices}
 use Rattle.hippo_join_stages.specs.Finding.{Covers}
 
--- the places themselves, one after the other
+-- the places as a list
 abbrev pub following_places : Following → List Place
 following_places (Listed places) = places.now
 following_places (Searched span) = range_with_len span.start (span.end - span.start)
 following_places (Found places) = places.items
 
--- a stage has all places of its table that count, unless it looks them up; a tie that suffices does
+-- a stage contains all places of its table that can qualify, unless it looks them up; `suffices`
+-- means that the tie suffices
 pub record IsWalkable (choices : Choices) (query : Masked) (sets : List KeyedRows) (stage : Stage)
     : Type 0 where
   pub listed : stage.is_searched ≡ false → IsStage choices query sets stage
   pub enough : stage.suffices ≡ true → Suffices choices query stage.table stage.tie
 
--- the stages of tables in an order, of which none looks its places up where all are to be listed
+-- the stages of tables in an order; with `lists`, none looks its places up
 pub record AreWalkable
     (choices : Choices) (query : Masked) (sets : List KeyedRows)
     (lists : Bool) (order : List Place) (stages : List Stage) : Type 0 where
@@ -32,8 +33,7 @@ pub record AreWalkable
       × (lists ≡ true → stage.is_searched ≡ false)) stages
   pub tables : map (λ stage. stage.table) stages ≡ order
 
--- the stages of a walk, with the rows that are chosen before; in the order of FROM where that is
--- asked for
+-- the stages of a walk, given the rows chosen before; in the order of FROM if that is required
 pub record CanWalk
     (choices : Choices) (query : Masked) (sets : List KeyedRows) (in_order : Bool)
     (stages : List Stage) (slots : List (Option Place)) : Type 0 where

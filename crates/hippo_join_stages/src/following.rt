@@ -1,4 +1,4 @@
-//! The places of a stage that may follow the rows that are chosen.
+//! The candidate rows of a stage, given the rows chosen before it.
 ghost use Rattle.std.specs.Prelude.{◌≡◌, ◌<◌, ◌+◌, ◌-◌, true, IfOk, length, get_or, slice_get, unwrap_or};
 ghost use Rattle.std.specs.List.{range_with_len};
 ghost use Rattle.std.specs.List.Sorted.{IsStrictlyIncreasing};
@@ -15,8 +15,8 @@ use hippo_model::{ChoiceView, Combo};
 use hippo_values::Memory;
 use std::alloc::Global;
 
-/// Places of a stage: some of those that it lists, those where a look-up by key may find its rows,
-/// or those that an order of another column finds.
+/// Candidate places of a stage: a part of its materialised places, a range found by a key lookup,
+/// or places found through an order of another column.
 #[derive(Drop)]
 pub enum Following<'s> {
     Listed(&'s [usize]),
@@ -24,7 +24,7 @@ pub enum Following<'s> {
     Found(Vec<usize>),
 }
 
-// The place at an index of a list, and 0 past its end.
+// The place at an index of a list; 0 past its end.
 fn place_at(places: &[usize], index: usize) -> usize
     ensures { result ≡ unwrap_or (slice_get places.now index) 0 }
 {
@@ -41,7 +41,7 @@ fn place_in(start: usize, end: usize, index: usize) -> usize
     start + index
 }
 
-/// Whether places ascend, each there once.
+/// Whether places strictly ascend.
 pub fn ascends(places: &[usize]) -> bool
     ensures { result ≡ true → IsStrictlyIncreasing places.now }
 {
@@ -54,7 +54,7 @@ pub fn ascends(places: &[usize]) -> bool
 }
 
 impl<'s> Following<'s> {
-    /// Whether they ascend, each there once.
+    /// Whether the places strictly ascend.
     pub fn rises(&self) -> bool
         ensures { result ≡ true → IsStrictlyIncreasing (following_places self.now) }
     {
@@ -89,7 +89,7 @@ impl<'s> Following<'s> {
     }
 }
 
-// The places of a span, one after the other.
+// The places of a span, in order, as a list.
 fn listed_span(alloc: Global, span: Span) -> Result<Vec<usize>, Memory>
     ensures { IfOk result (λ places. places.items
         ≡ range_with_len span.start (span.end - span.start)) }
@@ -101,7 +101,7 @@ fn listed_span(alloc: Global, span: Span) -> Result<Vec<usize>, Memory>
     Ok(places)
 }
 
-/// The places, one after the other.
+/// The places as a list.
 pub fn listed(alloc: Global, following: &Following<'_>) -> Result<Vec<usize>, Memory>
     ensures { IfOk result (λ places. places.items ≡ following_places following.now) }
 {
@@ -113,9 +113,9 @@ pub fn listed(alloc: Global, following: &Following<'_>) -> Result<Vec<usize>, Me
 }
 
 impl<'a, C: ChoiceView> Side<'a, C> {
-    /// The places of a stage that may follow the rows that are chosen, which are at hand. A look-up
-    /// takes time that grows with the logarithm of the table and with what it finds; by key it
-    /// takes no memory but for the key.
+    /// The candidate places of a stage, given the chosen rows, which are passed in too. A lookup
+    /// takes time that grows with the logarithm of the table's size and with the number of rows
+    /// found. A lookup by key allocates memory for the key only.
     #[inline(always)]
     pub fn following<'s>(
         &self,
@@ -137,7 +137,7 @@ impl<'a, C: ChoiceView> Side<'a, C> {
             slots.now stage.now.table (following_places following)) }
     {
         if stage.is_searched {
-            // An only table is walked once, any other again and again.
+            // The only table of a query is scanned once; any other table is scanned repeatedly.
             let walked = if self.sets.len() == 1 { WALKED } else { 1 };
             self.candidates(alloc, stage.table, slots, walked)
         } else {

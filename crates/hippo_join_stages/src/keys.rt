@@ -1,4 +1,4 @@
-//! Rows that are found by their key, where equalities say each of its values.
+//! Lookup of rows by key, when equalities fix the key's values.
 ghost use Rattle.std.specs.Prelude.{◌≡◌, ◌∷◌, [], ◌-◌, ◌<◌, ◌≤◌, List, Some, IfOk, IfSome, length, take};
 ghost use Rattle.hippo_values.specs.declared.truths.CompareOp.TheVariants.{Eq};
 ghost use Rattle.hippo_model.specs.declared.query.CondOf.TheVariants.{Compare};
@@ -16,7 +16,7 @@ use hippo_tables_rows::RowSet;
 use hippo_values::{CompareOp, Duplicate, Memory, Sequence, Value};
 use std::alloc::Global;
 
-/// Places in a row, from the first to before the last.
+/// A range of consecutive places, from `start` to before `end`.
 #[derive(Clone, Copy)]
 pub struct Span {
     pub start: usize,
@@ -45,7 +45,7 @@ fn span_of(found: Option<usize>, count: usize) -> Span
     }
 }
 
-// The place of the row with a key, if there is one.
+// The place of the row with a key, as a span; empty if there is none.
 fn span_with_key(set: &RowSet, key: &Cells) -> Span
     ensures { (place : Place) → place < length set.now.rows
         → key_of set.now.key (row_at_place set.now.rows place).row ≡ key.now
@@ -56,7 +56,7 @@ fn span_with_key(set: &RowSet, key: &Cells) -> Span
 }
 
 impl<'a, C: ChoiceView> Side<'a, C> {
-    // The value in a column of a row that is chosen.
+    // The value in a column of a chosen row.
     fn chosen_value(&self, column: Ref, slots: &[Option<usize>]) -> Option<&'a Value>
         ensures { IfSome result (λ value. (places : List Place) → Fits slots.now places
             → raw_value (chosen_rows self.now.sets.now places) column ≡ value.now) }
@@ -69,7 +69,7 @@ impl<'a, C: ChoiceView> Side<'a, C> {
         }
     }
 
-    // The value of a literal, or of a column of a row that is chosen.
+    // The value of a literal, or of a column of a chosen row.
     pub(crate) fn shown_value(&self, expr: &'a Expr, slots: &[Option<usize>]) -> Option<&'a Value>
         ensures { IfSome result (λ value.
             IsShownAs (C.choices self.now.choices.now) self.now.sets.now slots.now expr.now
@@ -81,7 +81,7 @@ impl<'a, C: ChoiceView> Side<'a, C> {
         }
     }
 
-    // The value of a column, if an equality says it.
+    // The value of a column, if this equality fixes it.
     fn told_by_equal(
         &self,
         column: Ref,
@@ -122,8 +122,8 @@ impl<'a, C: ChoiceView> Side<'a, C> {
         }
     }
 
-    // The value of a column, if the condition says it: that of a literal, or of a row that is
-    // chosen.
+    // The value of a column, if the condition fixes it by equality with a literal or with a column
+    // of a chosen row.
     pub(crate) fn told_value(&self, column: Ref, slots: &[Option<usize>]) -> Option<&'a Value>
         ensures { IfSome result (λ value. IsToldBy (C.choices self.now.choices.now)
             self.now.sets.now slots.now
@@ -137,7 +137,7 @@ impl<'a, C: ChoiceView> Side<'a, C> {
         None
     }
 
-    // The first values of a table's key, as far as the condition says them.
+    // The first values of a table's key, as far as the condition fixes them.
     fn told_front(
         &self,
         alloc: Global,
@@ -163,9 +163,10 @@ impl<'a, C: ChoiceView> Side<'a, C> {
         Ok(front)
     }
 
-    // The places of a table's rows that may follow those that are chosen: that of the row with a
-    // key, where the condition says its values; those whose key begins with the values that it
-    // says, within the bounds that it says of the next one; and else all.
+    // The range of a table's rows that can follow the chosen rows. When the condition fixes the
+    // whole key, it is the row with that key. When it fixes the first values of the key, it is the
+    // rows whose key begins with them, within the bounds on the next value. Otherwise it is all
+    // rows.
     pub(crate) fn span(
         &self,
         alloc: Global,

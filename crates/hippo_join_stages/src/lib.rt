@@ -1,4 +1,4 @@
-//! One side of a join, and which rows of its tables may follow those that are chosen.
+//! One side of a join, and the candidate rows of its tables given the rows already chosen.
 #![tactic(auto)]
 
 mod following;

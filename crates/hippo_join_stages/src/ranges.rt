@@ -1,4 +1,4 @@
-//! Rows in a range of keys: the first values of the key are told, and the next one may have bounds.
+//! Range scans by key: the first values of the key are fixed, and the next one may have bounds.
 ghost use Rattle.std.specs.Prelude.{◌≡◌, ◌∷◌, [], ◌<◌, true, false, None, Some, IfOk, IfSome, length, slice_get, take};
 ghost use Rattle.hippo_values.specs.Order.{value_cmp};
 ghost use Rattle.hippo_values.specs.Truths.{is_allowed};
@@ -18,7 +18,7 @@ use hippo_tables_rows::{Bound, RowSet};
 use hippo_values::{CompareOp, Duplicate, Memory, Value};
 use std::alloc::Global;
 
-// Where the rows begin, or end, whose key begins with these values.
+// The start or the end of the rows whose key begins with these values.
 fn front_edge(set: &RowSet, front: &[Value], column: usize, above: bool) -> usize
     ensures { IsEdge set.now front.now column above None result }
 {
@@ -29,7 +29,7 @@ fn front_edge(set: &RowSet, front: &[Value], column: usize, above: bool) -> usiz
     }
 }
 
-// Where those of them begin, or end, whose next value is within a bound.
+// The start or the end of those of them whose next value is within a bound.
 fn bounded_edge(
     alloc: Global,
     set: &RowSet,
@@ -63,7 +63,7 @@ fn edge(
     }
 }
 
-// Whether an operator bounds its left side from below, or from above, and strictly.
+// Whether an operator bounds its left side from below (or from above), and if so, whether strictly.
 fn strictness(op: CompareOp, above: bool) -> Option<bool>
     ensures { IfSome result (λ strict. op ≡ bounding above strict) }
 {
@@ -76,7 +76,7 @@ fn strictness(op: CompareOp, above: bool) -> Option<bool>
     }
 }
 
-// The bound that no null meets.
+// The bound that excludes exactly null.
 fn over_null(null: &Value) -> Bound<'_>
     requires { null.now ≡ Null }
     ensures { (value : AnyValue) → is_null value ≡ false
@@ -88,7 +88,7 @@ fn over_null(null: &Value) -> Bound<'_>
     }
 }
 
-// A bound from below, which no null meets.
+// A lower bound that also excludes null.
 fn above_null<'b>(bound: Bound<'b>, null: &'b Value) -> Bound<'b>
     requires { null.now ≡ Null }
     ensures { (value : AnyValue) → is_null value ≡ false
@@ -103,7 +103,7 @@ fn above_null<'b>(bound: Bound<'b>, null: &'b Value) -> Bound<'b>
     }
 }
 
-// The operator that says the same of two values in the other order.
+// The operator for the same comparison with its sides swapped.
 fn flipped(op: CompareOp) -> CompareOp
     ensures { result ≡ flipped_operator op }
 {
@@ -117,7 +117,7 @@ fn flipped(op: CompareOp) -> CompareOp
 }
 
 impl<'a, C: ChoiceView> Side<'a, C> {
-    // The bound of a column that stands on the left of a comparison, if it tells one.
+    // The bound of a column on the left side of a comparison, if the comparison gives one.
     fn bound_beside(
         &self,
         column: Ref,
@@ -138,8 +138,8 @@ impl<'a, C: ChoiceView> Side<'a, C> {
         Some(Bound { value, strict })
     }
 
-    // The bound of a column that a part of the condition tells: one that stands on either side of a
-    // comparison, or is to be between two values.
+    // The bound of a column that a part of the condition gives: a comparison with the column on
+    // either side, or a BETWEEN.
     fn bound_by_part(
         &self,
         column: Ref,
@@ -168,8 +168,8 @@ impl<'a, C: ChoiceView> Side<'a, C> {
         }
     }
 
-    // A bound of a column from below or from above, if the condition says one: by a literal, or by
-    // a row that is chosen.
+    // A lower or upper bound of a column, if the condition gives one by a literal or by a chosen
+    // row.
     fn told_bound(&self, column: Ref, above: bool, slots: &[Option<usize>]) -> Option<Bound<'a>>
         ensures { TellsBound (C.choices self.now.choices.now) self.now.sets.now slots.now
             (outer_parts self.now.query.now.cond) column above result }
@@ -182,7 +182,7 @@ impl<'a, C: ChoiceView> Side<'a, C> {
         None
     }
 
-    // A bound of a column from below or from above, where an equality may say its value too.
+    // A lower or upper bound of a column, where an equality counts as a bound too.
     pub(crate) fn told_end(
         &self,
         column: Ref,
@@ -201,8 +201,8 @@ impl<'a, C: ChoiceView> Side<'a, C> {
         }
     }
 
-    // A bound of a column from below, which no null meets, if the condition bounds the column from
-    // either side.
+    // A lower bound of a column that excludes null, if the condition bounds the column from either
+    // side.
     pub(crate) fn lowest<'b>(
         &'b self,
         column: Ref,
@@ -222,8 +222,8 @@ impl<'a, C: ChoiceView> Side<'a, C> {
         }
     }
 
-    // The places of the rows whose key begins with the values that are told, where the next one is
-    // not.
+    // The range of the rows whose key begins with the fixed values, when the next value of the key
+    // is not fixed.
     pub(crate) fn span_from(
         &self,
         alloc: Global,

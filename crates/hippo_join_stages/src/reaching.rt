@@ -1,4 +1,4 @@
-//! Which rows of a table may follow those that are chosen.
+//! Materialises the stages of a join: the rows of each table that can follow the chosen rows.
 ghost use Rattle.std.specs.Prelude.{◌≡◌, ◌<◌, true, false, None, Some, [], ◌∷◌, ◌++◌, if◌then◌else◌, OnOk, IfOk, length, replicate};
 ghost use Rattle.std.specs.List.{All};
 ghost use Rattle.hippo_join_lookups.specs.Places.{chosen_rows as chosen, rows_at};
@@ -20,17 +20,17 @@ use hippo_values::{Memory, Value};
 use std::alloc::Global;
 use std::cell::Cell;
 
-// So many rows of an only table are tested where they are walked.
+// At or below this many rows, the rows of an only table are tested during the scan, not before.
 const FEW_ROWS: usize = 64;
 
-/// A slot for the row of each table, none of which is chosen.
+/// A slot for the row of each table, with no row chosen.
 pub fn open_slots(alloc: Global, tables: usize) -> Result<Vec<Option<usize>>, Memory>
     ensures { IfOk result (λ slots. slots.items ≡ replicate tables None) }
 {
     Ok(vec![in alloc; None; tables]?)
 }
 
-//// Adds a place at the end where a test holds.
+/// Appends a place if a test holds.
 pub fn push_if(test: bool, places: &mut Vec<usize>, place: usize) -> Result<(), Memory>
     ensures { OnOk result (places.new.items ≡ if test then places.old.items ++ place ∷ []
         else places.old.items) }
@@ -42,8 +42,8 @@ pub fn push_if(test: bool, places: &mut Vec<usize>, place: usize) -> Result<(), 
 }
 
 impl<'a, C: ChoiceView> Side<'a, C> {
-    // Whether a part of the condition, or a guard that can fail, can be tested where only these
-    // rows are chosen.
+    // Whether a part of the condition, or a guard that can fail, can be tested with these rows
+    // chosen.
     fn knows_test(&self, slots: &[Option<usize>]) -> bool {
         let parts = outer_parts(&self.query.cond);
         let guards = self.query.guards.as_slice();
@@ -51,7 +51,7 @@ impl<'a, C: ChoiceView> Side<'a, C> {
             || guards.iter().any(|guard| can_fail(&guard.expr) && knows_expr(&guard.expr, slots))
     }
 
-    // The parts of the condition that can be tested where these rows are chosen, by their places.
+    // The parts of the condition that can be tested with these rows chosen, by their places.
     fn known_parts(&self, alloc: Global, slots: &[Option<usize>]) -> Result<Vec<usize>, Memory> {
         let mut known = Vec::new(alloc);
         for (place, part) in outer_parts(&self.query.cond).iter().enumerate() {
@@ -62,8 +62,7 @@ impl<'a, C: ChoiceView> Side<'a, C> {
         Ok(known)
     }
 
-    // Places of a table's rows without those of which the guards and the parts on this table alone
-    // say that they do not count.
+    // The candidates that pass the guards and the parts of the condition on this table alone.
     fn tested_places(
         &self,
         alloc: Global,
@@ -92,10 +91,11 @@ impl<'a, C: ChoiceView> Side<'a, C> {
         Ok(places)
     }
 
-    // The places of a table's rows that can count, where it alone is chosen. Where literals say the
-    // row's key, or its first values, or bounds of the next one, or the value of a column by which
-    // the table has an order, these rows are found by halves. Rows are tested before they are
-    // walked, but for few of an only table, since the walk tests the whole condition at once there.
+    // The places of a table's rows that can be in a qualifying combination, with no other row
+    // chosen. When literals fix the row's key or its first values, or bound the next one, or
+    // restrict a column that the table is ordered by, the rows are found by binary search. They are
+    // tested before they are materialised. The exception is a query of one table with few rows:
+    // there the scan tests the whole condition at once.
     fn reached_places(
         &self,
         alloc: Global,
@@ -117,7 +117,7 @@ impl<'a, C: ChoiceView> Side<'a, C> {
         }
     }
 
-    // Whether the condition says a table's key, by the rows that are chosen.
+    // Whether the condition and the chosen rows fix a table's whole key.
     fn tells_key(&self, table: usize, slots: &[Option<usize>]) -> bool
         requires { table < length self.now.sets.now }
     {
@@ -133,7 +133,7 @@ impl<'a, C: ChoiceView> Side<'a, C> {
         true
     }
 
-    // Whether rows that are chosen, and no literal, say the first value of a table's key.
+    // Whether the chosen rows, not literals, fix the first value of a table's key.
     fn tells_front(&self, table: usize, slots: &[Option<usize>]) -> bool
         requires { table < length self.now.sets.now }
     {
@@ -147,8 +147,8 @@ impl<'a, C: ChoiceView> Side<'a, C> {
         self.is_joined(column, slots)
     }
 
-    // Whether a table's rows are looked up by the rows that are chosen, of which there are about so
-    // many combinations; those of an only table are looked up once in any case.
+    // Whether a table's rows are looked up for each combination of chosen rows; `before` is about
+    // the number of these combinations. The only table of a query is always looked up, once.
     fn is_searched(&self, table: usize, slots: &[Option<usize>], before: usize) -> bool
         requires { table < length self.now.sets.now }
     {
@@ -158,9 +158,10 @@ impl<'a, C: ChoiceView> Side<'a, C> {
             || self.finds_few(table, slots, before)
     }
 
-    // Whether all rows of a table are walked as they stand, behind about so many combinations of
-    // the rows that are chosen: one at most, since what follows is found anew for each; no tie says
-    // what may follow, and nothing can be tested where the table alone is chosen.
+    // Whether all rows of a table are scanned without being materialised. That is so when all of
+    // these hold: at most one combination of rows is expected before (`before` is an estimate),
+    // since the candidates are computed again for each; no tie restricts the candidates; and
+    // nothing can be tested on the table alone.
     fn walks_all(
         &self,
         table: usize,
@@ -173,7 +174,7 @@ impl<'a, C: ChoiceView> Side<'a, C> {
             && !self.knows_test(alone)
     }
 
-    // A table's stage behind those whose rows are chosen, with its places.
+    // The stage of a table after the chosen ones, with materialised places.
     fn listed_stage(
         &self,
         alloc: Global,
@@ -218,8 +219,8 @@ impl<'a, C: ChoiceView> Side<'a, C> {
         })
     }
 
-    // A table's stage behind those whose rows are chosen: with its places, if all stages are to
-    // list theirs or if its rows cannot be looked up.
+    // The stage of a table after the chosen ones. Its places are materialised if all stages are to
+    // be materialised, or if its rows cannot be looked up.
     fn stage(
         &self,
         alloc: Global,
@@ -252,8 +253,8 @@ impl<'a, C: ChoiceView> Side<'a, C> {
         }
     }
 
-    // The places of a stage whose rows have a value in the column of its tie; none where the value
-    // is null.
+    // The places of a stage whose rows have a value in the column of its tie; none if the value is
+    // null.
     #[inline(always)]
     fn places_with<'s>(&self, stage: &'s Stage, tie: &Tie, value: &Value) -> &'s [usize]
         requires stage { IsStage (C.choices self.now.choices.now) self.now.query.now
@@ -273,7 +274,7 @@ impl<'a, C: ChoiceView> Side<'a, C> {
         }
     }
 
-    // The places of a stage that may follow the rows that are chosen, by a tie.
+    // The places of a stage that its tie to the chosen rows allows.
     fn tied_places<'s>(&self, stage: &'s Stage, tie: &Tie, slots: &[Option<usize>]) -> &'s [usize]
         requires stage { IsStage (C.choices self.now.choices.now) self.now.query.now
             self.now.sets.now stage.now }
@@ -292,7 +293,7 @@ impl<'a, C: ChoiceView> Side<'a, C> {
         self.places_with(stage, tie, value)
     }
 
-    /// The places of a stage that may follow the rows that are chosen.
+    /// The candidate places of a materialised stage, given the chosen rows.
     pub fn places_of<'s>(&self, stage: &'s Stage, slots: &[Option<usize>]) -> &'s [usize]
         requires { IsStage (C.choices self.now.choices.now) self.now.query.now self.now.sets.now
             stage.now }
@@ -305,7 +306,7 @@ impl<'a, C: ChoiceView> Side<'a, C> {
         }
     }
 
-    // As `tied_places`, where the rows that are chosen are at hand.
+    // The same as `tied_places`, with the chosen rows passed in.
     #[inline(always)]
     fn places_tied_to<'s>(
         &self,
@@ -334,7 +335,7 @@ impl<'a, C: ChoiceView> Side<'a, C> {
         }
     }
 
-    /// As `places_of`, where the rows that are chosen are at hand.
+    /// The same as `places_of`, with the chosen rows passed in.
     #[inline(always)]
     pub fn places_after<'s>(
         &self,
@@ -359,9 +360,9 @@ impl<'a, C: ChoiceView> Side<'a, C> {
         }
     }
 
-    // The parts of the condition that are tested where a table's row is chosen, and not before, by
-    // the rows that are chosen there or by those that are tested alone: none where it is the last,
-    // since the whole condition is tested then.
+    // The parts of the condition to test once a table's row is chosen: those that neither the rows
+    // chosen before nor the table alone allow to be tested. None for the last table, since the
+    // whole condition is tested then.
     fn tests_at(
         &self,
         alloc: Global,
@@ -386,8 +387,8 @@ impl<'a, C: ChoiceView> Side<'a, C> {
         Ok(tests)
     }
 
-    /// The stages of a join behind rows that are chosen, in an order of tables: all with their
-    /// places, or only those whose rows are not looked up.
+    /// The stages of a join after the chosen rows, for tables in the given order. With `lists`, all
+    /// are materialised; without it, only those whose rows are not looked up.
     pub fn stages_after(
         &self,
         alloc: Global,
@@ -412,8 +413,8 @@ impl<'a, C: ChoiceView> Side<'a, C> {
         Ok(stages)
     }
 
-    /// The stages of a join, in an order of tables: all with their places, or only those whose rows
-    /// are not looked up.
+    /// The stages of a join, for tables in the given order. With `lists`, all are materialised;
+    /// without it, only those whose rows are not looked up.
     pub fn stages_in(
         &self,
         alloc: Global,
@@ -429,7 +430,7 @@ impl<'a, C: ChoiceView> Side<'a, C> {
         self.stages_after(alloc, slots, order, lists)
     }
 
-    /// The stages of a join, in an order of tables.
+    /// The stages of a join, all materialised, for tables in the given order.
     pub fn stages(&self, alloc: Global, order: &[usize]) -> Result<Vec<Stage>, Memory>
         requires { All (λ table. table < length self.now.sets.now) order.now }
         ensures { IfOk result (λ stages. AreStages (C.choices self.now.choices.now)

@@ -1,5 +1,5 @@
-//! Rows that are found by a column that is no key, where their table has an order by it, or by a
-//! list.
+//! Lookup of rows by a column that their table is ordered by, by bounds or by a list of values. A
+//! table is ordered by the first column of its key and by each column with a secondary order.
 ghost use Rattle.std.specs.Prelude.{◌<◌, IfOk, IfSome, length, None};
 ghost use Rattle.hippo_join_stages.specs.Stages.{Reaches, ReachesFrom};
 ghost use Rattle.hippo_join_stages.specs.declared.following.Following.TheVariants.{Searched};
@@ -14,13 +14,13 @@ use hippo_model::{ChoiceView, CondOf, Expr, Ref};
 use hippo_values::{CompareOp, Memory, Value};
 use std::alloc::Global;
 
-// So many rows are looked at one by one, whatever order there is.
+// At or below this many rows, scan.
 const FEW: usize = 16;
 
-// A row that an order finds takes as long as so many that are tested one by one.
+// A row found through an order costs as much as scanning this many rows.
 pub(crate) const WALKED: usize = 4;
 
-// How rows of a table are found: by the bounds of a column, or by the values that a list has for
+// An access path to a table's rows: the bounds of a column, or the list of values that restricts
 // it.
 #[derive(Clone, Copy)]
 enum Access {
@@ -28,8 +28,8 @@ enum Access {
     List(usize),
 }
 
-// Whether so many rows are too many to be looked at one by one, where a row that an order finds
-// takes as long as so many of them.
+// Whether there are too many rows to scan, when a row found through an order costs as much as
+// scanning `walked` rows.
 fn is_long(rows: usize, walked: usize) -> bool
     requires { 0 < walked }
 {
@@ -56,7 +56,7 @@ fn compared_column(part: &CondOf<Expr>, table: usize) -> Option<usize> {
     }
 }
 
-// How a part of a condition may find rows of a table.
+// The access path to a table's rows that a part of a condition gives.
 fn access_by(part: &CondOf<Expr>, table: usize) -> Option<Access> {
     match part {
         CondOf::Compare { left, right, .. } => {
@@ -70,21 +70,21 @@ fn access_by(part: &CondOf<Expr>, table: usize) -> Option<Access> {
 }
 
 impl<'a, C: ChoiceView> Side<'a, C> {
-    // Whether rows that are chosen, and no literal, say the value of a column.
+    // Whether the chosen rows, not literals, fix the value of a column.
     pub(crate) fn is_joined(&self, column: Ref, slots: &[Option<usize>]) -> bool {
         self.told_value(column, slots).is_some() && self.told_value(column, &[]).is_none()
     }
 
-    // Whether rows that are chosen, and no literal, say the value of a column by which its table
-    // has an order.
+    // Whether the chosen rows, not literals, fix the value of a column that its table is ordered
+    // by.
     fn finds_by(&self, column: Ref, slots: &[Option<usize>]) -> bool
         requires { column.table < length self.now.sets.now }
     {
         self.sets.get(column.table).is_ordered_by(column.column) && self.is_joined(column, slots)
     }
 
-    // Whether rows that are chosen, and no literal, say the value of some column by which a table
-    // has an order.
+    // Whether the chosen rows, not literals, fix the value of some column that a table is ordered
+    // by.
     fn is_found(&self, table: usize, slots: &[Option<usize>]) -> bool
         requires { table < length self.now.sets.now }
     {
@@ -98,16 +98,16 @@ impl<'a, C: ChoiceView> Side<'a, C> {
         false
     }
 
-    // Whether rows that are chosen, and no literal, say the value of a column by which a table has
-    // an order, and looking rows up by it for so many combinations takes less than to list all.
+    // Whether lookups through an order of the table, by values of the chosen rows, cost less than
+    // materialising the table. `before` is about the number of combinations of chosen rows.
     pub(crate) fn finds_few(&self, table: usize, slots: &[Option<usize>], before: usize) -> bool
         requires { table < length self.now.sets.now }
     {
         before < self.sets.get(table).len() / FEW && self.is_found(table, slots)
     }
 
-    // How many rows of a table are found by the bounds of a column, where it has some and rows are
-    // found by it.
+    // The number of a table's rows within the bounds of a column, if it has bounds and the table is
+    // ordered by it.
     fn count_bounded(&self, table: usize, column: usize, slots: &[Option<usize>]) -> Option<usize>
         requires { table < length self.now.sets.now }
     {
@@ -118,7 +118,8 @@ impl<'a, C: ChoiceView> Side<'a, C> {
         self.sets.get(table).count_within(column, Some(low), high)
     }
 
-    // How many are found by a list, where there is one and rows are found by the column.
+    // The number of a table's rows that match the list of a column, if it has a list and the table
+    // is ordered by it.
     fn count_of_list(&self, table: usize, column: usize) -> Option<usize>
         requires { table < length self.now.sets.now }
     {
@@ -130,7 +131,7 @@ impl<'a, C: ChoiceView> Side<'a, C> {
         Some(count_listed(set, column, list))
     }
 
-    // How many rows of a table an access finds, where it serves.
+    // The number of a table's rows that an access path finds, if it can be used.
     fn count_by(&self, table: usize, access: Access, slots: &[Option<usize>]) -> Option<usize>
         requires { table < length self.now.sets.now }
     {
@@ -140,7 +141,7 @@ impl<'a, C: ChoiceView> Side<'a, C> {
         }
     }
 
-    // The access that finds the fewest rows of a table, where it finds fewer than so many.
+    // The access path that finds the fewest rows of a table, if it finds fewer than `most`.
     fn best_access(&self, table: usize, slots: &[Option<usize>], most: usize) -> Option<Access>
         requires { table < length self.now.sets.now }
     {
@@ -158,8 +159,8 @@ impl<'a, C: ChoiceView> Side<'a, C> {
         best
     }
 
-    // The places of a table's rows that an access finds: those within the bounds which the condition
-    // says of a column, or with a value of a list which it says of it, if rows are found by it.
+    // The places that an access path finds: within the bounds of a column, or with a value of its
+    // list. None if the path cannot be used.
     fn places_by(
         &self,
         alloc: Global,
@@ -193,7 +194,7 @@ impl<'a, C: ChoiceView> Side<'a, C> {
         }
     }
 
-    // The places of a table's rows that the best access finds, where one finds fewer than so many.
+    // The places that the best access path finds, if it finds fewer than `most`.
     fn found_places(
         &self,
         alloc: Global,
@@ -212,8 +213,8 @@ impl<'a, C: ChoiceView> Side<'a, C> {
         }
     }
 
-    // The places that an access finds, where one finds fewer than so many; and else those of a
-    // span.
+    // The places that the best access path finds, if it finds fewer than `most`; otherwise those of
+    // the span.
     fn fewer_places<'s>(
         &self,
         alloc: Global,
@@ -236,9 +237,8 @@ impl<'a, C: ChoiceView> Side<'a, C> {
         }
     }
 
-    /// The places of a table's rows that may follow those that are chosen: by its key, or by the
-    /// column that finds the fewest, where a row that is found takes as long as so many of the
-    /// others.
+    /// The candidate places of a table, given the chosen rows: by key, or by the column that finds
+    /// the fewest rows. A row found through an order counts as much as scanning `walked` rows.
     pub fn candidates<'s>(
         &self,
         alloc: Global,
@@ -260,7 +260,7 @@ impl<'a, C: ChoiceView> Side<'a, C> {
         }
     }
 
-    // The places of a table's rows that can count, where no row is chosen.
+    // The places of a table's rows that can be in a qualifying combination, with no row chosen.
     pub(crate) fn open_candidates<'s>(
         &self,
         alloc: Global,

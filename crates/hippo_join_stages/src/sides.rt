@@ -1,5 +1,5 @@
-//! One side of a join: a query over tables, and what can be said of a combination of rows before
-//! all are chosen.
+//! One side of a join: a query over tables, and which tests already decide a combination when only
+//! some of its rows are chosen.
 ghost use Rattle.std.specs.Prelude.{◌≡◌, ◌<◌, true, List, IfOk, length, not, ◌||◌, unwrap_or, slice_get, slice_set};
 ghost use Rattle.std.specs.Option.{option_map_or};
 ghost use Rattle.hippo_model.specs.Terms.{Place};
@@ -16,19 +16,19 @@ use hippo_tables_rows::{RowSet, Sets};
 use hippo_values::{Memory, Truth};
 use std::alloc::Global;
 
-/// A query over tables, by the choices of patients. It wants the rows of each of the query's
-/// tables, in the order of FROM.
+/// A query over tables, with the patients' choices. The rows of the query's tables are given in the
+/// order of FROM.
 #[derive(Drop)]
 pub struct Side<'a, C> {
     pub query: &'a Masked,
     pub sets: &'a Sets<'a>,
     pub choices: &'a C,
-    /// Stands for a row that is not chosen yet.
+    /// Stands in for a row that is not chosen yet.
     pub blank: &'a BornRow,
     ghost is_blank: { blank.now ≡ blank_row },
 }
 
-/// The row that is chosen in a table, or the blank one.
+/// The chosen row of a table, or the blank row.
 pub fn chosen_row<'a>(set: &'a RowSet, slot: Option<usize>, blank: &'a BornRow) -> &'a BornRow
     ensures { result.now ≡ option_map_or (λ place. unwrap_or (slice_get set.now.rows place)
         blank.now) slot blank.now }
@@ -46,7 +46,7 @@ fn is_true(truth: Truth) -> bool
 }
 
 impl<'a, C: ChoiceView> Side<'a, C> {
-    /// The rows that are chosen, and blank ones of the other tables.
+    /// The chosen rows, with the blank row for each other table.
     pub fn rows(&self, alloc: Global, slots: &[Option<usize>]) -> Result<Combo<'a>, Memory>
         ensures { IfOk result (λ rows. rows ≡ rows_at self.now.sets.now slots.now) }
     {
@@ -59,7 +59,7 @@ impl<'a, C: ChoiceView> Side<'a, C> {
         Ok(rows)
     }
 
-    // Puts the row that is chosen in a table, or a blank one, in the place of the one before.
+    // Replaces a table's row in `rows` by the one now chosen, or by the blank row.
     pub(crate) fn renew(&self, rows: &mut Combo<'a>, slots: &[Option<usize>], table: usize)
         requires long { length slots.now ≡ length self.now.sets.now }
         requires table { table < length slots.now }
@@ -72,7 +72,7 @@ impl<'a, C: ChoiceView> Side<'a, C> {
         rows.set(table, &row.row, row.born);
     }
 
-    // Whether a part of the condition holds, if its columns are known.
+    // Whether a part of the condition holds; true if its columns are not all known.
     fn part_holds(&self, part: &CondOf<Expr>, slots: &[Option<usize>], rows: &Combo<'_>) -> bool
         ensures { result ≡ (not (knows slots.now part.now)
             || holds (C.choices self.now.choices.now) rows.now part.now) }
@@ -88,8 +88,8 @@ impl<'a, C: ChoiceView> Side<'a, C> {
         !knows_expr(&guard.expr, slots) || is_shown(&guard.expr, rows, self.choices)
     }
 
-    // Whether the guards hold, as far as their columns are known: true where some combination
-    // counts that has these rows.
+    // Whether the guards hold, as far as their columns are known. True if some qualifying
+    // combination has these rows.
     fn guards_hold(&self, slots: &[Option<usize>], rows: &Combo<'_>) -> bool
         requires { rows.now ≡ rows_at self.now.sets.now slots.now }
         ensures { (places : List Place) → Fits slots.now places
@@ -105,7 +105,7 @@ impl<'a, C: ChoiceView> Side<'a, C> {
         true
     }
 
-    // Whether one part of the condition holds, as far as its columns are known.
+    // Whether one part of the condition holds; true if its columns are not all known.
     fn test_holds(&self, test: usize, slots: &[Option<usize>], rows: &Combo<'_>) -> bool
         requires { rows.now ≡ rows_at self.now.sets.now slots.now }
         ensures { (places : List Place) → Fits slots.now places
@@ -119,8 +119,7 @@ impl<'a, C: ChoiceView> Side<'a, C> {
         }
     }
 
-    /// Whether some parts of the condition, by their places, may hold with the rows that are
-    /// chosen.
+    /// Whether the parts of the condition at these places can hold with the chosen rows.
     pub fn tests_hold(&self, tests: &[usize], slots: &[Option<usize>], rows: &Combo<'_>) -> bool
         requires { rows.now ≡ rows_at self.now.sets.now slots.now }
         ensures { (places : List Place) → Fits slots.now places
@@ -136,7 +135,7 @@ impl<'a, C: ChoiceView> Side<'a, C> {
         true
     }
 
-    /// Whether a combination may count that has the rows that are chosen, by some parts of the
+    /// Whether a combination with the chosen rows can qualify, judged by some parts of the
     /// condition.
     pub fn may_count(
         &self,
@@ -155,8 +154,8 @@ impl<'a, C: ChoiceView> Side<'a, C> {
         Ok(self.tests_hold(tests, slots, &rows))
     }
 
-    // Whether a combination may count that has the rows that are chosen, by the guards and by some
-    // parts of the condition.
+    // Whether a combination with the chosen rows can qualify, judged by the guards and some parts
+    // of the condition.
     pub(crate) fn may_count_by(
         &self,
         rows: &Combo<'_>,

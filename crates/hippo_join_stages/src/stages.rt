@@ -1,4 +1,4 @@
-//! The stages of a join, a table at a time.
+//! The stages of a join plan, one table each.
 ghost use Rattle.std.specs.Prelude.{◌≡◌, true, None};
 
 use hippo_join_lookups::Tie;
@@ -6,34 +6,35 @@ use hippo_values::Value;
 use std::alloc::Global;
 use std::cell::Cell;
 
-/// A table, by its place in FROM, the tie of its rows to a row that is chosen before, and its rows
-/// that can count.
+/// A stage: a table, by its place in FROM; its tie to a row chosen before; and its rows that can
+/// qualify.
 #[derive(Drop)]
 pub struct Stage {
     pub table: usize,
     pub tie: Option<Tie>,
-    /// Whether its rows are looked up by the rows that are chosen before, and not listed: where
-    /// these say the first value of the key, or that of a column by which the table has an order,
-    /// or where the whole key is said; those of an only table, and of a first one of which none is
+    /// Whether the rows are looked up or scanned for each combination of the rows chosen before,
+    /// and not materialised. They are looked up when the chosen rows fix the first value of the key
+    /// or the value of a column that the table is ordered by, or when the whole key is fixed. The
+    /// only table of a query is looked up too. A first table is scanned if none of its rows can be
     /// tested before.
     pub is_searched: bool,
-    /// About how many of its rows follow the rows that are chosen before.
+    /// The estimated number of rows for each combination of the rows chosen before.
     pub rows: usize,
-    /// Places in the table, in the order of the tie's column.
+    /// Places in the table, sorted by the tie's column.
     pub places: Vec<usize>,
-    /// The values of the tie's column at these places; none where there is no tie.
+    /// The values of the tie's column at these places; empty if there is no tie.
     pub values: Vec<Value>,
-    /// Whether a combination counts wherever the tie ties its rows, or each does where there is no
-    /// tie.
+    /// Whether every combination in which the tie holds qualifies. Without a tie: whether every
+    /// combination qualifies.
     pub suffices: bool,
-    /// Where the last search among these values ended, which the next one tries first.
+    /// Where the last search in `values` ended; the next one starts there.
     pub near: Cell<usize>,
-    /// The parts of the condition that are tested here.
+    /// The parts of the condition to test at this stage.
     pub tests: Vec<usize>,
 }
 
 impl Stage {
-    // The stage of a table whose rows are looked up, about so many, by no tie.
+    // The stage of a table whose rows are looked up, without a tie; `rows` is an estimate.
     pub(crate) fn searched(
         alloc: Global,
         table: usize,

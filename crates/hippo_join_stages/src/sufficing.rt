@@ -1,4 +1,4 @@
-//! Whether a tie says all that a query asks of rows.
+//! Whether a tie alone implies all that a query asks of its rows.
 ghost use Rattle.std.specs.Prelude.{◌≡◌, ◌<◌, ◌&&◌, true, not, length, Some, IfSome};
 ghost use Rattle.std.specs.Option.{option_map_or};
 ghost use Rattle.std.specs.List.{list_all};
@@ -22,7 +22,7 @@ use hippo_join_lookups::{Tie, is_chosen, is_null, outer_parts};
 use hippo_model::{ChoiceView, CondOf, Expr, Guard, Ref};
 use hippo_values::{CompareOp, Value};
 
-/// Whether the cell of an expression may be denied, by the expression alone.
+/// Whether the cell of an expression can be denied, judged by the expression alone.
 pub(crate) fn can_fail(expr: &Expr) -> bool
     ensures { result ≡ can_fail expr.now }
 {
@@ -40,7 +40,7 @@ fn none_fails(guards: &[Guard]) -> bool
     guards.iter().all(|guard| !can_fail(&guard.expr))
 }
 
-// The column that an expression shows of every row.
+// The column that an expression shows for every row.
 fn kept_column(expr: &Expr) -> Option<Ref>
     ensures { IfSome result (λ column. expr.now ≡ Keep column) }
 {
@@ -56,7 +56,7 @@ fn are(left: Ref, right: Ref, column: Ref, other: Ref) -> bool
     left == column && right == other
 }
 
-// Whether two columns are those of a tie of a table.
+// Whether two columns are the two columns of a table's tie.
 fn are_tied(left: Ref, right: Ref, table: usize, tie: &Tie) -> bool
     ensures { result ≡ true → (rows : Combination) → AreTied table (Some tie.now) rows
         → AreEqual rows left right }
@@ -71,7 +71,7 @@ fn are_tied(left: Ref, right: Ref, table: usize, tie: &Tie) -> bool
     are(right, left, column, tie.other)
 }
 
-// Whether an equality holds wherever a tie does.
+// Whether a tie implies an equality.
 fn follows_equality(left: &Expr, right: &Expr, table: usize, tie: &Tie) -> bool
     ensures { result ≡ true → (choices : Choices) (rows : Combination)
         → AreTied table (Some tie.now) rows
@@ -83,7 +83,7 @@ fn follows_equality(left: &Expr, right: &Expr, table: usize, tie: &Tie) -> bool
     are_tied(left, right, table, tie)
 }
 
-// Whether a comparison holds wherever a tie does.
+// Whether a tie implies a comparison.
 fn follows_comparison(op: CompareOp, left: &Expr, right: &Expr, table: usize, tie: &Tie) -> bool
     ensures { result ≡ true → (choices : Choices) (rows : Combination)
         → AreTied table (Some tie.now) rows
@@ -95,7 +95,7 @@ fn follows_comparison(op: CompareOp, left: &Expr, right: &Expr, table: usize, ti
     }
 }
 
-// Whether a part of a condition holds wherever a tie does.
+// Whether a tie implies a part of a condition.
 fn follows(part: &CondOf<Expr>, table: usize, tie: &Tie) -> bool
     ensures { result ≡ true → (choices : Choices) (rows : Combination)
         → AreTied table (Some tie.now) rows → holds choices rows part.now ≡ true }
@@ -116,7 +116,7 @@ fn follows_any(part: &CondOf<Expr>, table: usize, tie: &Option<Tie>) -> bool
     }
 }
 
-// Whether the parts of a condition hold wherever a tie does: there is one at most.
+// Whether a tie implies the parts of a condition; at most one part can be implied.
 fn all_follow(parts: &[CondOf<Expr>], table: usize, tie: &Option<Tie>) -> bool
     ensures { result ≡ true → (choices : Choices) (rows : Combination) → AreTied table tie.now rows
         → list_all (holds choices rows) parts.now ≡ true }
@@ -131,8 +131,8 @@ fn all_follow(parts: &[CondOf<Expr>], table: usize, tie: &Option<Tie>) -> bool
 }
 
 impl<'a, C: ChoiceView> Side<'a, C> {
-    // Whether the rows of a span have a value in a column of their table, which is the first of its
-    // key, and not null.
+    // Whether the rows of a span all have a value in a column. True only if the column is the first
+    // of the table's key and the value is not null.
     fn all_have(&self, column: Ref, value: &Value, span: Span) -> bool
         requires { column.table < length self.now.sets.now }
         ensures { result ≡ true → HaveValue self.now.sets.now column.table column.column value.now
@@ -147,8 +147,8 @@ impl<'a, C: ChoiceView> Side<'a, C> {
         }
     }
 
-    // Whether a comparison is known to hold with each row of a table's span: an equality of their
-    // key's first column with a literal.
+    // Whether a comparison is known to hold for each row of a table's span: it equates the first
+    // column of the key with a literal.
     fn equals_each(
         &self,
         op: CompareOp,
@@ -169,7 +169,7 @@ impl<'a, C: ChoiceView> Side<'a, C> {
         }
     }
 
-    // Whether a part of the condition is known to hold with each row of a table's span.
+    // Whether a part of the condition is known to hold for each row of a table's span.
     fn holds_with_each(&self, part: &CondOf<Expr>, table: usize, span: Span) -> bool
         requires { table < length self.now.sets.now }
         ensures { result ≡ true → HoldsWithEach (C.choices self.now.choices.now) self.now.sets.now
@@ -181,9 +181,9 @@ impl<'a, C: ChoiceView> Side<'a, C> {
         }
     }
 
-    /// Whether each row at these places of a table is known to count with the rows that are chosen:
-    /// they are a span, the condition has one part, which says the first value of their key, and no
-    /// guard can fail.
+    /// Whether each of these rows of a table is known to qualify with the chosen rows. True only if
+    /// they are a span, the condition has one part, which fixes the first value of their key, and
+    /// no guard can fail.
     pub fn all_count(&self, table: usize, following: &Following<'_>) -> bool
         requires { table < length self.now.sets.now }
         ensures { result ≡ true → AlwaysCount (C.choices self.now.choices.now) self.now.query.now
@@ -197,8 +197,8 @@ impl<'a, C: ChoiceView> Side<'a, C> {
         }
     }
 
-    // Whether rows count wherever a tie ties them: the condition says no more, and no guard can
-    // fail.
+    // Whether a tie alone makes a combination qualify: the condition has no other part, and no
+    // guard can fail.
     pub(crate) fn suffices(&self, table: usize, tie: &Option<Tie>) -> bool
         ensures { result ≡ true → Suffices (C.choices self.now.choices.now) self.now.query.now table
             tie.now }
@@ -211,7 +211,7 @@ impl<'a, C: ChoiceView> Side<'a, C> {
 }
 
 impl Stage {
-    // Whether the other row of its tie is chosen, and its own rows are listed, where it has one.
+    // Whether the stage has no tie, or is materialised and the other row of its tie is chosen.
     #[inline(always)]
     fn is_told(&self, slots: &[Option<usize>]) -> bool
         ensures { result ≡ option_map_or (λ tie. not self.now.is_searched
@@ -223,8 +223,8 @@ impl Stage {
         }
     }
 
-    /// Whether each combination counts that has the rows which are chosen and one that follows: its
-    /// tie suffices.
+    /// Whether every candidate row makes a qualifying combination with the chosen rows, because the
+    /// stage's tie suffices.
     #[inline(always)]
     pub fn suffices(&self, slots: &[Option<usize>]) -> bool
         ensures { result ≡ suffices self.now slots.now }

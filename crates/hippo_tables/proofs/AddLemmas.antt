@@ -1,4 +1,4 @@
--- What an entry of each kind adds.
+-- The effect of an entry, by its kind.
 use Rattle.std.proofs.Common.{◌≡◌, true, Result, Ok, Err, OnOk, sym, ap, ◌∙◌, refl, subst}
 use Rattle.std.proofs.lemmas.Bool.{false≢true}
 use Rattle.hippo_values.specs.declared.names.Name.{Name}

@@ -1,4 +1,4 @@
--- What a history with one entry more says of the tables.
+-- The tables of a history with one more entry.
 use Rattle.std.proofs.Common.{◌≡◌, set, true, false, if◌then◌else◌, List, [], ◌∷◌, ◌++◌, map, Some, None, unwrap_or, sym, ap, ◌∙◌, refl, subst}
 use Rattle.std.specs.Bool.{then_some}
 use Rattle.std.specs.Option.{option_or, option_map_or}
@@ -28,7 +28,7 @@ module _ (schema : Schema) (history : History) (entry : Entry) where
       last_word-append (λ entry. then_some (names_key schema key entry.act) entry.seq) history entry
       ∙ (elim (names_key schema key entry.act) as (λ names. option_or (then_some names entry.seq) (last_at schema history key) ≡ (if names then Some entry.seq else last_at schema history key)) [ true ↦ refl | false ↦ refl ])
 
-  -- an entry that names no key of the table leaves its numbers
+  -- an entry that names no key of the table does not change its numbers
   change_number-other : key_named schema entry.act ≡ None → (kept : BornRow) → change_number schema (history ++ entry ∷ []) kept ≡ change_number schema history kept
   change_number-other names kept =
       let same : last_at schema (history ++ entry ∷ []) (key_in schema.key kept) ≡ last_at schema history (key_in schema.key kept) = last_at-append (key_in schema.key kept) ∙ rw names in
@@ -61,7 +61,7 @@ module _ (schema : Schema) (history : History) (entry : Entry) where
         ∙ ap (λ place. insert (map (change_number schema history) (table_rows schema history)) place entry.seq) (sym (ap (λ found. unwrap_or found 0) at.1.found)))
         ∙ sym (ap (λ found. option_map_or (λ place. table_at history schema) found (grown_table kept entry.seq (table_at history schema))) missing)
 
-    -- a row in the place of another
+    -- a row that replaces another
     pub table_at-after_update : (kept : BornRow) → key_in schema.key kept ≡ key → table_rows schema (history ++ entry ∷ []) ≡ put_row schema.key kept (table_rows schema history) → is_live schema history key ≡ true → table_at (history ++ entry ∷ []) schema ≡ after_update kept entry.seq (table_at history schema)
     table_at-after_update kept has_key rows lives =
         let there = some_there (find_row schema.key key (table_rows schema history)) (is_live-found schema history key ∙ lives) in

@@ -1,4 +1,4 @@
--- What changes of a kept table leave, and that they can be taken back.
+-- What changes of a kept table leave, and that they can be reverted.
 use Rattle.std.proofs.Common.{◌≡◌, ℕ, zero, suc, ◌+◌, ◌≤◌, List, [], ◌∷◌, map, length, set, Some, None, Result, Ok, Err, OnOk, slice_get, unwrap_or, ap, ◌∙◌, refl, arith, get_or}
 use Rattle.std.specs.Result.{IsOk}
 use Rattle.std.specs.List.{insert, remove}
@@ -20,7 +20,7 @@ remove-insert xs zero x within = refl
 remove-insert [] (suc place) x within = absurd (omega arith)
 remove-insert (first ∷ rest) (suc place) x within = ap (λ rest. first ∷ rest) (remove-insert rest place x (omega arith))
 
--- where a new row is put
+-- when a new row is inserted
 module _ (table : KeptTable) (kept : BornRow) (missing : find_row table.rows.key (key_in table.rows.key kept) table.rows.rows ≡ None) where
   abbrev key : Key
   key = key_in table.rows.key kept
@@ -46,7 +46,7 @@ module _ (table : KeptTable) (kept : BornRow) (missing : find_row table.rows.key
       (ap (λ (set : KeyedRows). record { schema = table.schema; rows = set; numbers = remove (insert table.numbers at.0 number) at.0 }) rows_back
       ∙ ap (λ numbers. record { schema = table.schema; rows = table.rows; numbers = numbers }) (remove-insert table.numbers at.0 number (omega (arith, at.1.within))))
 
--- where a row takes the place of another
+-- when a row replaces another
 module _ (table : KeptTable) (ascends : IsAscending (map (key_in table.rows.key) table.rows.rows)) (kept : BornRow) (place : ℕ) (found : find_row table.rows.key (key_in table.rows.key kept) table.rows.rows ≡ Some place) where
   over : PutOver table.rows.key kept table.rows.rows (put_row table.rows.key kept table.rows.rows) place
   over = put_found table.rows.key kept table.rows.rows place ascends found

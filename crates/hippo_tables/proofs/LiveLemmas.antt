@@ -1,4 +1,4 @@
--- What tables that stand for a history say of a key.
+-- What tables that represent a history say about a key.
 use Rattle.std.proofs.Common.{◌≡◌, ℕ, true, List, map, Option, Some, None, option_map, is_some, unwrap_or, slice_get, get_or, sym, ap, ◌∙◌, refl, subst}
 use Rattle.std.specs.Prelude.{option_and_then}
 use Rattle.std.proofs.lemmas.List.{get_or-map}

@@ -1,4 +1,4 @@
--- Tables that are kept are created in each history that they stand for, and have their schemas there.
+-- Kept tables are created in each history that they represent, and have their schemas there.
 use Rattle.std.proofs.Common.{◌≡◌, ◌∙◌, sym, refl, ap, true, List, [], ◌∷◌, map, Option, None, Some, option_map}
 use Rattle.std.specs.Prelude.{is_some}
 use Rattle.std.specs.List.{list_all, cons_option}
@@ -15,7 +15,7 @@ is_some-map : {A B : Type 0} (f : A → B) (option : Option A) → is_some (opti
 is_some-map f None = refl
 is_some-map f (Some value) = refl
 
--- two histories that the same tables stand for have created the same tables
+-- two histories that the same tables represent have created the same tables
 same_tables : (tables : Tables) (history other : History) → TablesStandFor tables history → TablesStandFor tables other → (name : Name)
     → is_some (schema_at history name) ≡ is_some (schema_at other name)
 same_tables tables history other here there name =
@@ -23,7 +23,7 @@ same_tables tables history other here there name =
     ∙ ap is_some (sym (here.kept name) ∙ there.kept name)
     ∙ is_some-map (table_at other) (schema_at other name)
 
--- tables that are kept are created in each history that what is kept stands for
+-- kept tables are created in each history that they represent
 pub are_created-AreKeptTables : (tables : Tables) (names : List Name) (history : History) → AreKeptTables tables names → TablesStandFor tables history → are_created history names ≡ true
 are_created-AreKeptTables tables names history kept stands =
     (λ i. list_all (λ name. same_tables tables history kept.history stands kept.stands name i) names) ∙ kept.created
@@ -32,7 +32,7 @@ first_schema : (found : Option Schema) (others : List (Option Schema)) (schemas 
 first_schema None others schemas is rest = absurd cc
 first_schema (Some schema) others schemas is rest = λ i. Some schema ∷ rest i
 
--- tables that are created have their schemas
+-- created tables have their schemas
 pub schemas_are : (history : History) (names : List Name) → are_created history names ≡ true → map (schema_at history) names ≡ map Some (schemas_at history names)
 schemas_are history [] all = refl
 schemas_are history (name ∷ names) all =

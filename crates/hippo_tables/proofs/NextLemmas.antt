@@ -1,4 +1,4 @@
--- A valid history gives what is asked of an act that follows it.
+-- A valid history implies the facts about an act that follows it.
 use Rattle.std.proofs.Common.{◌≡◌, ℕ, ◌+◌, Bool, true, false, ◌&&◌, if◌then◌else◌, [], ◌∷◌, ◌++◌, length, Option, Some, None, sym, ap, ◌∙◌, refl, subst, bytes_eq, append_assoc}
 use Rattle.std.specs.Prelude.{is_none, ◌==◌}
 use Rattle.std.specs.Bool.{then_some}
@@ -20,7 +20,7 @@ use Rattle.hippo_model.proofs.LastWords.{last_word-append}
 use Rattle.hippo_tables.specs.Standing.{IsNextAct}
 use Rattle.hippo_tables.proofs.StandingLemmas.{same_name, create_parts}
 
--- no row of a table is changed before the table is made
+-- no row of a table is changed before the table is created
 abbrev pub MadeFirst : History → Type 0
 MadeFirst history = (schema : Schema) → schema_at history schema.name ≡ None → keys_named schema history ≡ []
 
@@ -35,7 +35,7 @@ none_found (Some x) e = absurd cc
 not_made : (history : History) (table : Name) (test : Schema → Bool) → schema_at history table ≡ None → option_map_or test (schema_at history table) false ≡ true → ⊥
 not_made history table test unmade passes = false≢true (sym (ap (λ found. option_map_or test found false) unmade) ∙ passes)
 
--- a key is named only where the table's name is the schema's
+-- a key is named only if the table's name is the schema's
 named_none : (test : Bool) (key : Key) → (test ≡ true → ⊥) → then_some test key ≡ None
 named_none true key never = absurd (never refl)
 named_none false key never = refl
@@ -75,7 +75,7 @@ MadeFirst-after meaning front (entry ∷ later) made sound =
 pub MadeFirst-valid : (meaning : Meaning) (history : History) → is_valid meaning history ≡ true → MadeFirst history
 MadeFirst-valid meaning history valid = MadeFirst-after meaning [] history (λ schema unmade. refl) (none_found (damage meaning history) valid)
 
--- what is asked of an act that follows a history holds where the history is valid and the act may follow it
+-- the facts about an act hold when the history is valid and the act may follow it
 pub IsNextAct-valid : (meaning : Meaning) (history : History) (act : Act) → is_valid meaning history ≡ true → is_acceptable meaning history act ≡ true → IsNextAct history act
 IsNextAct-valid meaning history (Create schema) valid fits = (fits, MadeFirst-valid meaning history valid schema (none_found (schema_at history schema.name) (create_parts history schema fits)))
 IsNextAct-valid meaning history (Insert table row) valid fits = fits

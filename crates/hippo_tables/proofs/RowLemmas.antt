@@ -1,4 +1,4 @@
--- Columns and values side by side, place by place.
+-- Columns and values, place by place.
 use Rattle.std.proofs.Common.{◌≡◌, ◌∙◌, sym, ap, refl, arith, ℕ, zero, suc, ◌+◌, ◌<◌, ◌≤◌, Bool, true, false, ◌&&◌, List, [], ◌∷◌, length, get_or, drop, Option, Some, None, filter_map, slice_get, add-one}
 use Rattle.std.proofs.Math.Seq.{drop-cons}
 use Rattle.std.specs.List.{cons_option}
@@ -8,19 +8,19 @@ use Rattle.hippo_values.specs.declared.values.Value.{Value}
 use Rattle.hippo_model.specs.declared.schema.Column.{Column}
 use Rattle.hippo_model.specs.Values.{fits}
 
--- the member at a place, and then those behind it
+-- the member at a place, and then the rest
 pub drop_at_member : {A : Type 0} (members : List A) (place : ℕ) (member : A) → place < length members → member ≡ get_or members place member → drop place members ≡ member ∷ drop (place + 1) members
 drop_at_member members place member inside is =
     rw add-one (drop-cons members place member inside ∙ ap (λ first. first ∷ drop (suc place) members) (sym is))
 
--- the first column against the first value that is left, and the others against the others
+-- the first column with the first remaining value, and the other columns with the others
 pub fits_at : (column : Column) (columns : List Column) (values : List Value) (place : ℕ) → pointwise fits (column ∷ columns) (drop place values) ≡ (option_map_or (fits column) (slice_get values place) false && pointwise fits columns (drop (suc place) values))
 fits_at column columns [] zero = refl
 fits_at column columns [] (suc place) = refl
 fits_at column columns (value ∷ values) zero = refl
 fits_at column columns (value ∷ values) (suc place) = fits_at column columns values place
 
--- a value that fits is there
+-- a value that fits exists
 pub fits_within : (column : Column) (values : List Value) (place : ℕ) → option_map_or (fits column) (slice_get values place) false ≡ true → place < length values
 fits_within column [] zero fit = absurd cc
 fits_within column [] (suc place) fit = absurd cc
@@ -44,7 +44,7 @@ module _ (columns : List Column) (places : List ℕ) (values : List Value) (i co
   next_place : drop i places ≡ get_or places i 0 ∷ drop (i + 1) places
   next_place = rw add-one (drop-cons places i 0 inside)
 
-  -- a place of no column
+  -- a place without a column
   pub key_passes : slice_get columns (get_or places i 0) ≡ None → pointwise fits (filter_map (slice_get columns) (drop (i + 1) places)) (drop count values) ≡ all
   key_passes none =
       let next : filter_map (slice_get columns) (drop i places) ≡ filter_map (slice_get columns) (drop (i + 1) places) =
@@ -65,7 +65,7 @@ module _ (columns : List Column) (places : List ℕ) (values : List Value) (i co
         ap (λ n. pointwise fits rest (drop n values)) (add-one count)
         ∙ sym (turn ∙ ap (λ test. test && pointwise fits rest (drop (suc count) values)) fit) ∙ so_far
 
-    -- and one that does not, or is missing
+    -- and one that does not fit, or is missing
     pub key_stops : option_map_or (fits column) (slice_get values count) false ≡ false → false ≡ all
     key_stops fit =
         let rest : List Column = filter_map (slice_get columns) (drop (i + 1) places) in
@@ -82,6 +82,6 @@ module _ (columns : List Column) (values : List Value) (i : ℕ) (column : Colum
       ap (λ n. pointwise fits (drop (i + 1) columns) (drop n values)) (add-one i)
       ∙ sym (row_turn ∙ ap (λ test. test && pointwise fits (drop (i + 1) columns) (drop (suc i) values)) fit) ∙ so_far
 
-  -- and one that does not, or is missing
+  -- and one that does not fit, or is missing
   pub row_stops : option_map_or (fits column) (slice_get values i) false ≡ false → false ≡ all
   row_stops fit = sym (row_turn ∙ ap (λ test. test && pointwise fits (drop (i + 1) columns) (drop (suc i) values)) fit) ∙ so_far

@@ -1,4 +1,4 @@
--- Where a row stands when it is put or taken, and what stands beside the rows then.
+-- The place of a row that is inserted or removed, and the numbers beside the rows.
 use Rattle.std.proofs.Common.{◌≡◌, ℕ, suc, ◌+◌, ◌<◌, ◌≤◌, Bool, true, false, if◌then◌else◌, List, [], ◌∷◌, map, length, set, Option, Some, None, option_map, slice_get, sym, ap, ◌∙◌, refl, subst, arith}
 use Rattle.std.specs.Prelude.{not, nat_lt}
 use Rattle.std.specs.List.{position_or_len, insert, remove}
@@ -34,7 +34,7 @@ one_place_on place size =
 first_place : (size : ℕ) → ◌≡◌ {A = Option ℕ} (if nat_lt 0 (suc size) then Some 0 else None) (Some 0)
 first_place size = let within : nat_lt 0 (suc size) ≡ true = grind (arith, nat_tests) in rw within
 
--- the row with a key is the first one, or stands among the rest
+-- the row with a key is the first one, or among the rest
 find_row-first : (places : List Place) (key : Key) (first : BornRow) (rest : List BornRow) → find_row places key (first ∷ rest) ≡ (if same_cells (key_in places first) key then Some 0 else option_map suc (find_row places key rest))
 find_row-first places key first rest =
     let test : BornRow → Bool = λ kept. same_cells (key_in places kept) key in
@@ -72,7 +72,7 @@ module _ (places : List Place) (key : Key) where
       let parts = missing_parts first rest missing in
       rw parts.0 (ap (λ rest. first ∷ rest) (take_missing rest parts.1))
 
-  -- numbers beside the rows, of which those of other keys are the same
+  -- numbers beside the rows, the same for other keys
   module _ (old new : BornRow → ℕ) (same : (other : BornRow) → same_cells (key_in places other) key ≡ false → new other ≡ old other) where
     map_missing : (rows : List BornRow) → find_row places key rows ≡ None → map new rows ≡ map old rows
     map_missing [] missing = refl
@@ -116,7 +116,7 @@ module _ (places : List Place) (kept : BornRow) where
   abbrev key : Key
   key = key_in places kept
 
-  -- a row with a new key is put at a place
+  -- a row with a new key is inserted at a place
   pub record PutAt (rows put : List BornRow) (place : ℕ) : Type 0 where
     pub found : find_row places key put ≡ Some place
     pub within : place ≤ length rows
@@ -152,7 +152,7 @@ module _ (places : List Place) (kept : BornRow) where
         | Greater ↦ λ e. let later = put_missing rest parts.1 in (suc later.0, put_later first rest (put_row places kept rest) later.0 parts.0 later.1)
       ] refl
 
-  -- a row takes the place of the one with its key
+  -- a row replaces the one with its key
   pub record PutOver (rows put : List BornRow) (place : ℕ) : Type 0 where
     pub found : find_row places key put ≡ Some place
     pub within : place < length rows

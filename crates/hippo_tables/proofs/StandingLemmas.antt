@@ -1,4 +1,4 @@
--- Tables that stand for a history stand for it with one entry more, and back again.
+-- Tables that represent a history represent it with one more entry, and the entry can be reverted.
 use Rattle.std.proofs.Common.{◌≡◌, ℕ, Bool, true, false, ◌&&◌, not, if◌then◌else◌, [], ◌∷◌, ◌++◌, map, Option, Some, None, option_map, slice_get, get_or, sym, ap, ◌∙◌, refl, subst, bytes_eq}
 use Rattle.std.specs.Prelude.{option_and_then, is_none, nat_lt, count_by, filter_map}
 use Rattle.std.specs.Bool.{then_some}
@@ -45,7 +45,7 @@ created_named : (name : Name) (act : Act) (schema : Schema) → schema_created n
 created_named name (Create made) schema is = let parts = then_some_parts (bytes_eq made.name name) made schema is in subst (λ (schema : Schema). bytes_eq schema.name name ≡ true) parts.1 parts.0
 created_named name act schema is = absurd cc
 
--- a schema has the name by which it is found
+-- a schema has the name it is found by
 pub schema_at-named : (history : History) (name : Name) (schema : Schema) → schema_at history name ≡ Some schema → bytes_eq schema.name name ≡ true
 schema_at-named [] name schema at = absurd cc
 schema_at-named (entry ∷ later) name schema at =
@@ -68,7 +68,7 @@ silent_named (Delete table key) silent schema = absurd (false≢true silent)
 silent_named act silent schema = refl
 
 module _ (history : History) (entry : Entry) where
-  -- what is said of a table that is not changed
+  -- a table that does not change
   kept_table-other : (name : Name) → schema_created name entry.act ≡ None → ((schema : Schema) → bytes_eq schema.name name ≡ true → key_named schema entry.act ≡ None) → kept_table (history ++ entry ∷ []) name ≡ kept_table history name
   kept_table-other name plain names =
       ap (option_map (table_at (history ++ entry ∷ []))) (schema_at-plain history entry name plain)
@@ -105,7 +105,7 @@ module _ (history : History) (entry : Entry) where
       ] refl;
     }
 
-    -- and changed back
+    -- and reverted
     pub changed_back : (back : KeptTable → KeptTable) → back (change (table_at history schema)) ≡ table_at history schema → (name : Name) → (if bytes_eq table name then option_map back (held_table new name) else held_table new name) ≡ kept_table history name
     changed_back back again name =
         elim (bytes_eq table name) as (λ same. bytes_eq table name ≡ same → (if same then option_map back (held_table new name) else held_table new name) ≡ kept_table history name) [
@@ -113,7 +113,7 @@ module _ (history : History) (entry : Entry) where
           | false ↦ λ e. is_there name e
         ] refl
 
--- what is known of a version that may follow
+-- facts about a version that may follow
 table_passed : (found : Option Schema) (test : Schema → Bool) → option_map_or test found false ≡ true → (schema : Schema) × (found ≡ Some schema) × (test schema ≡ true)
 table_passed None test passes = absurd (false≢true passes)
 table_passed (Some schema) test passes = (schema, refl, passes)
@@ -132,7 +132,7 @@ create_parts history schema fits =
     let both = and_parts (few && is_none (schema_at history schema.name)) (is_well_formed schema) fits in
     (and_parts few (is_none (schema_at history schema.name)) both.0).1
 
--- the row with a live key, and where it stands
+-- the row with a live key, and its place
 pub row_found : (schema : Schema) (history : History) (key : Key) (place : ℕ) → find_row schema.key key (table_rows schema history) ≡ Some place → slice_get (table_rows schema history) place ≡ born_row_at schema history key
 row_found schema history key place found =
     sym (ap (option_and_then (slice_get (table_rows schema history))) found)

@@ -19,14 +19,14 @@ before_of key table =
     (slice_get table.rows.rows place))
     (find_row table.rows.key key table.rows.rows)
 
--- a table with a row in the place of the one that has its key, and with its birth
+-- a table in which a row replaces the one with its key, and keeps its birth
 abbrev pub renewed_table : Row → ℕ → KeptTable → KeptTable
 renewed_table row number table =
     option_map_or (λ (before : Before). after_update (record { row = row; born = before.born })
     number table)
     (before_of (key_of table.rows.key row) table) table
 
--- a table with the row put back
+-- a table with the former row restored
 abbrev pub restored_table : Before → KeptTable → KeptTable
 restored_table before table =
     after_update (record { row = before.row; born = before.born }) before.number table

@@ -1,4 +1,4 @@
--- What a change that is wanted comes to, by the rows as they are.
+-- The result of a requested change, by the current rows.
 use Rattle.std.specs.Prelude.{◌≡◌, ◌⊎◌, ℕ, List, [], ◌∷◌, Option, option_map, option_and_then, unwrap_or, slice_set, Result, Ok, Err}
 use Rattle.std.specs.Option.{option_map_or}
 use Rattle.hippo_values.specs.declared.names.Name.{Name}
@@ -46,6 +46,6 @@ finished_act history (Set table key places values) =
 finished_act history (Remove table key) =
     option_map_or (λ row. Ok (Delete table key)) (live_row history table key) (Err KeyMissing)
 
--- an outcome, or want of memory
+-- an outcome, or out of memory
 abbrev pub IsFinishedAct : Result Act TableFault → Result Act TableFault → Type 0
 IsFinishedAct outcome result = (result ≡ Err Memory) ⊎ (result ≡ outcome)

@@ -1,4 +1,4 @@
--- Tables that stand for a history.
+-- Tables that represent a history.
 use Rattle.std.specs.Prelude.{◌≡◌, ℕ, Bool, true, false, List, [], ◌∷◌, ◌++◌, Option, None, Some, filter_map, option_map, is_some, if◌then◌else◌, bytes_eq}
 use Rattle.std.specs.HashMap.{get}
 use Rattle.std.specs.List.{list_all}
@@ -20,14 +20,14 @@ use Rattle.hippo_tables.specs.KeptTables.{KeptTable, table_at, empty_table, afte
 use Rattle.hippo_tables.specs.declared.table.Before.{Before}
 use Rattle.hippo_tables.specs.Before.{before_of, renewed_table, restored_table}
 
--- what a history says of a table
+-- a table as a history leaves it
 abbrev pub kept_table : History → Name → Option KeptTable
 kept_table history name = option_map (table_at history) (schema_at history name)
 
 abbrev pub held_table : Tables → Name → Option KeptTable
 held_table tables name = get bytes_eq tables.tables name
 
--- under each name stands what the history says of the table
+-- each name has the table that the history gives it
 pub record TablesStandFor (tables : Tables) (history : History) : Type 0 where
   pub kept : (name : Name) → held_table tables name ≡ kept_table history name
 
@@ -40,12 +40,12 @@ table_before (Inserted table key) name kept =
 table_before (Updated table before) name kept =
     if bytes_eq table name then option_map (restored_table before) kept else kept
 
--- tables know what they were before their last entry
+-- tables remember what they were before their last entry
 pub record RemembersTables (tables : Tables) (history : History) : Type 0 where
   pub before : (name : Name) → table_before tables.last name (held_table tables name)
       ≡ kept_table history name
 
--- what a valid history gives of an act that may follow
+-- the facts that hold of an act that may follow a valid history
 abbrev pub IsNextAct : History → Act → Type 0
 IsNextAct history (Create schema) =
     (create_fits history schema ≡ true) × (keys_named schema history ≡ [])
@@ -58,7 +58,7 @@ abbrev pub is_delete : Act → Bool
 is_delete (Delete table key) = true
 is_delete act = false
 
--- whether an act changes no row and makes no table
+-- whether an act changes no row and creates no table
 abbrev pub leaves_tables : Act → Bool
 leaves_tables (Create schema) = false
 leaves_tables (Insert table row) = false
@@ -66,7 +66,7 @@ leaves_tables (Update table row) = false
 leaves_tables (Delete table key) = false
 leaves_tables act = true
 
--- tables have taken in an entry
+-- an entry was applied to the tables
 pub record TablesAdd (old new : Tables) (entry : Entry) : Type 0 where
   pub stands : (history : History) → IsNextAct history entry.act → TablesStandFor old history
       → TablesStandFor new (history ++ entry ∷ [])
@@ -74,18 +74,18 @@ pub record TablesAdd (old new : Tables) (entry : Entry) : Type 0 where
       → TablesStandFor old history
       → RemembersTables new history
 
--- tables are what they were
+-- tables are the same as before
 pub record TablesAreAsBefore (old new : Tables) : Type 0 where
   pub kept : (name : Name) → held_table new name ≡ held_table old name
   pub same_last : new.last ≡ old.last
 
--- tables with one of them changed
+-- tables, one of which is changed
 abbrev pub with_change : Name → (KeptTable → KeptTable) → (Name → Option KeptTable) → Name
     → Option KeptTable
 with_change name change tables other =
     if bytes_eq name other then option_map change (tables other) else tables other
 
--- a table is made
+-- a table is created
 pub record Makes (old new : Tables) (schema : Schema) : Type 0 where
   pub kept : (other : Name) → held_table new other
       ≡ (if bytes_eq schema.name other then Some (empty_table schema) else held_table old other)
@@ -111,7 +111,7 @@ pub record Deletes (old new : Tables) (table : Name) (key : Key) : Type 0 where
   pub tables : (other : Name) → held_table new other
       ≡ with_change table (after_delete key) (held_table old) other
 
--- the schemas of tables that are created, in the order of their names
+-- the schemas of created tables, in the order of the given names
 abbrev pub schemas_at : History → List Name → List Schema
 schemas_at history names = filter_map (schema_at history) names
 
@@ -119,7 +119,7 @@ schemas_at history names = filter_map (schema_at history) names
 abbrev pub are_created : History → List Name → Bool
 are_created history names = list_all (λ name. is_some (schema_at history name)) names
 
--- tables with these names are kept: they are created in some history that what is kept stands for
+-- tables with these names exist: they are created in some history that the tables represent
 pub record AreKeptTables (tables : Tables) (names : List Name) : Type 0 where
   pub history : History
   pub stands : TablesStandFor tables history

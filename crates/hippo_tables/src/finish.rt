@@ -1,4 +1,4 @@
-//! What a change that is wanted comes to.
+//! Completes a requested change into an act.
 ghost use Rattle.std.specs.Prelude.{◌≡◌, slice_set, IfOk, Ok as Good};
 ghost use Rattle.hippo_model.specs.Terms.{History};
 ghost use Rattle.hippo_model.specs.declared.entry.Act.TheVariants.{Insert, Update, Delete};
@@ -11,7 +11,7 @@ use hippo_model::{Act, Cells, Places, TableFault, Wanted};
 use hippo_values::{Duplicate, Memory, Name, Sequence, Value};
 use std::alloc::Global;
 
-// Puts a value at a place, where there is such a place.
+// Overwrites the value at a place, if there is such a place.
 fn put(cells: &mut Vec<Value>, place: usize, value: Value)
     ensures { cells.new.items ≡ slice_set cells.old.items place value }
 {
@@ -33,7 +33,7 @@ fn write_values(cells: &mut Vec<Value>, places: &[usize], values: Vec<Value>)
     }
 }
 
-// A row with values at some places.
+// A row with values written at some places.
 fn with_values(row: Cells, places: &[usize], values: Cells) -> Cells
     ensures { result ≡ written_row places.now values row }
 {
@@ -42,7 +42,7 @@ fn with_values(row: Cells, places: &[usize], values: Cells) -> Cells
     Sequence::from_vec(cells)
 }
 
-// A copy of a row, with values at some places.
+// A copy of a row, with values written at some places.
 fn written_row(alloc: Global, row: &Cells, places: &[usize], values: Cells) -> Result<Cells, Memory>
     ensures { IfOk result (λ made. made ≡ written_row places.now values row.now) }
 {
@@ -105,10 +105,10 @@ impl Tables {
         }
     }
 
-    /// The act that a change which is wanted comes to, made of its parts: an UPDATE's is the whole
-    /// new row. Answers `KeyThere`, with the number of the last entry that names the key, exactly
-    /// where an INSERT's key is live, and `KeyMissing` exactly where an UPDATE's or a DELETE's is
-    /// not; else `Memory` where memory is short.
+    /// The act of a requested change, built from its parts. The act of an UPDATE has the whole new
+    /// row. Returns `KeyThere`, with the number of the last entry that names the key, exactly when
+    /// an INSERT's key is live. Returns `KeyMissing` exactly when the key of an UPDATE or a DELETE
+    /// is not live. Otherwise returns `Memory` when out of memory.
     pub fn finish(&self, alloc: Global, wanted: Wanted) -> Result<Act, TableFault>
         ensures { (history : History) → TablesStandFor self.now history
             → IsFinishedAct (finished_act history wanted) result }

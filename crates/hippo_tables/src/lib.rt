@@ -1,4 +1,4 @@
-//! The rows of each table as they are now, and what a change of them comes to.
+//! The current rows of each table, and the effect of a change on them.
 #![tactic(auto)]
 
 mod finish;

@@ -1,4 +1,4 @@
-//! Tables that are there, by their names: their schemas and their rows.
+//! Existing tables by name: their schemas and their rows.
 ghost use Rattle.std.specs.Prelude.{◌≡◌, ◌∷◌, [], IfOk, Some, length, map, option_map};
 ghost use Rattle.hippo_model.specs.Terms.{History};
 ghost use Rattle.hippo_model.specs.Histories.{schema_at};
@@ -28,7 +28,7 @@ fn rows_of<'a>(tables: &'a Tables, name: &Name) -> &'a RowSet
     tables.rows(name).unwrap()
 }
 
-/// The schemas of tables that are there.
+/// The schemas of existing tables.
 pub fn schemas_of<'a>(
     alloc: Global,
     tables: &'a Tables,
@@ -45,7 +45,7 @@ pub fn schemas_of<'a>(
     Ok(schemas)
 }
 
-/// The rows of tables that are there.
+/// The rows of existing tables.
 pub fn sets_of<'a>(alloc: Global, tables: &'a Tables, names: &Names) -> Result<Sets<'a>, Memory>
     requires { AreKeptTables tables.now names.now }
     ensures each { IfOk result (λ sets. length sets ≡ length names.now) }

@@ -1,4 +1,4 @@
-//! Orders that tables keep of their rows, for the columns by which a query seeks them.
+//! Secondary orders of tables, for the columns that a query's condition restricts.
 ghost use Rattle.hippo_tables.specs.Standing.{TablesAreAsBefore};
 
 use crate::tables::Tables;
@@ -14,8 +14,8 @@ fn outer_parts(condition: &CondOf<Operand>) -> &[CondOf<Operand>] {
     }
 }
 
-// Whether an operand says a value where rows of a table are sought: a literal does, and a column of
-// another table.
+// Whether an operand fixes a value when rows of a table are looked up: a literal does, and so does
+// a column of another table.
 fn says_value(operand: &Operand, table: usize) -> bool {
     match operand {
         Operand::Column(column) => column.table != table,
@@ -27,7 +27,7 @@ fn is_literal(operand: &Operand) -> bool {
     matches!(operand, Operand::Literal(_))
 }
 
-// Whether a comparison with an operand says a value of a table's rows, or bounds them by a literal.
+// Whether a comparison with an operand fixes a value of a table's rows, or bounds it by a literal.
 fn says_some(op: CompareOp, operand: &Operand, table: usize) -> bool {
     match op {
         CompareOp::Ne => false,
@@ -37,7 +37,7 @@ fn says_some(op: CompareOp, operand: &Operand, table: usize) -> bool {
 }
 
 impl Tables {
-    // Keeps an order by the column that an operand is.
+    // Orders a table by the column that an operand is.
     fn order_of(&mut self, alloc: Global, names: &Names, column: Ref)
         ensures { TablesAreAsBefore self.old self.new }
     {
@@ -46,7 +46,7 @@ impl Tables {
         }
     }
 
-    // Keeps an order by the column on one side of a comparison, where the other side says its value
+    // Orders a table by the column on one side of a comparison, if the other side fixes its value
     // or bounds it.
     fn order_beside(
         &mut self,
@@ -65,7 +65,7 @@ impl Tables {
         }
     }
 
-    // Keeps an order by a column that is to be between two values, where one of them is a literal.
+    // Orders a table by the column of a BETWEEN, if one of its bounds is a literal.
     fn order_between(
         &mut self,
         alloc: Global,
@@ -83,7 +83,7 @@ impl Tables {
         }
     }
 
-    // Keeps an order by a column that is to be in a list of literals.
+    // Orders a table by a column that has to be in a list of literals.
     fn order_among(&mut self, alloc: Global, names: &Names, operand: &Operand, list: &[Operand])
         ensures { TablesAreAsBefore self.old self.new }
     {
@@ -94,7 +94,7 @@ impl Tables {
         }
     }
 
-    // Keeps orders by the columns of which a part of a condition says the value, or what bounds it.
+    // Orders tables by the columns that a part of a condition fixes or bounds.
     fn order_for_part(&mut self, alloc: Global, names: &Names, part: &CondOf<Operand>)
         ensures { TablesAreAsBefore self.old self.new }
     {
@@ -113,11 +113,11 @@ impl Tables {
         }
     }
 
-    /// Keeps, from now on, orders of the rows of a query's tables by the columns that it compares
-    /// with `=`, with a literal or with a column of another table, that it bounds by a literal, or
-    /// that are to be in a list of literals, so that such rows are found by halves. Of a table that
-    /// has no more than 256 rows none is kept. The tables stay what they are, and so does every
-    /// answer.
+    /// Creates secondary orders of the rows of a query's tables, and maintains them from now on, so
+    /// that such rows are found by binary search. A column gets an order if the query compares it
+    /// by `=` with a literal or with a column of another table, bounds it by a literal, or requires
+    /// it to be in a list of literals. A table with 256 rows or fewer gets none. The contents of
+    /// the tables, and so all answers, stay the same.
     pub fn order_for(&mut self, alloc: Global, query: &Query)
         ensures { TablesAreAsBefore self.old self.new }
     {

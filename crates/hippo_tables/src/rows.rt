@@ -18,7 +18,7 @@ fn has_kind(kind: ColumnKind, value: &Value) -> bool
     }
 }
 
-// What may stand in a column.
+// Whether a value may be in a column.
 fn fits(column: &Column, value: &Value) -> bool
     ensures { result ≡ fits column.now value.now }
 {
@@ -29,7 +29,7 @@ fn fits(column: &Column, value: &Value) -> bool
     }
 }
 
-// Whether there is a value at a place, and it may stand in a column.
+// Whether there is a value at a place and it may be in a column.
 fn fits_at(column: &Column, values: &[Value], place: usize) -> bool
     ensures { result ≡ option_map_or (fits column.now) (slice_get values.now place) false }
 {
@@ -39,7 +39,7 @@ fn fits_at(column: &Column, values: &[Value], place: usize) -> bool
     }
 }
 
-/// Whether a row has as many values as a table has columns, and each fits.
+/// Whether a row has one value for each column of a table, and each value fits its column.
 pub fn row_fits(schema: &Schema, row: &Cells) -> bool
     ensures { result ≡ row_fits schema.now row.now }
 {
@@ -53,7 +53,7 @@ pub fn row_fits(schema: &Schema, row: &Cells) -> bool
     columns.len() == values.len()
 }
 
-/// Whether a key has as many values as a table's key has columns, and each fits.
+/// Whether a key has one value for each column of a table's key, and each value fits its column.
 pub fn key_fits(schema: &Schema, key: &Cells) -> bool
     ensures { result ≡ key_fits schema.now key.now }
 {

@@ -1,4 +1,4 @@
-//! One table: its schema and rows, and which entry named each row's key last.
+//! One table: its schema, its rows, and for each row the last entry that named its key.
 ghost use Rattle.std.specs.Prelude.{◌≡◌, option_copied, option_map, option_and_then, slice_get, slice_index_or, OnOk, OnErr, IfOk, None};
 ghost use Rattle.hippo_model.specs.Rows.{key_of};
 ghost use Rattle.hippo_tables_keyed.specs.RowSets.{find_row};
@@ -12,7 +12,7 @@ use hippo_values::{Duplicate, Memory, Moment};
 use std::alloc::Global;
 use std::marker::Model;
 
-/// A row as it was, with the number of the last entry that named its key.
+/// A former row, with the number of the last entry that named its key.
 #[derive(Drop)]
 pub struct Before {
     pub row: Cells,
@@ -20,7 +20,7 @@ pub struct Before {
     pub number: u64,
 }
 
-/// A table's rows, with the number of the last entry that names each one's key.
+/// A table's rows, each with the number of the last entry that names its key.
 #[derive(Drop)]
 pub struct Table {
     schema: Schema,
@@ -68,7 +68,7 @@ impl Table {
         &self.rows
     }
 
-    /// The row with a key, none exactly where no row has it.
+    /// The row with a key; None exactly when there is none.
     pub fn row(&self, key: &Cells) -> Option<&Cells>
         ensures { option_copied result ≡ option_map (λ kept. kept.row)
             (option_and_then (slice_get self.now.rows.rows)
@@ -80,7 +80,7 @@ impl Table {
         }
     }
 
-    /// The number of the last entry that names a key, where a row has it.
+    /// The number of the last entry that names a key, if a row has the key.
     pub fn number(&self, key: &Cells) -> Option<u64>
         ensures { result ≡ option_map (λ place. slice_index_or self.now.numbers place 0)
             (find_row self.now.rows.key key.now self.now.rows.rows) }
@@ -98,14 +98,15 @@ impl Table {
         copied_key(alloc, self.rows.key().as_slice(), row.as_slice())
     }
 
-    /// Keeps, from now on, an order of the rows by a column; the table stays what it is.
+    /// Creates a secondary order of the rows by a column, and maintains it from now on. The table's
+    /// contents stay the same.
     pub fn order_by(&mut self, alloc: Global, column: usize)
         ensures { self.new ≡ self.old }
     {
         self.rows.order_by(alloc, column);
     }
 
-    /// Adds a row, with its key beside it, where no row has the key.
+    /// Inserts a row, given its key, if no row has the key.
     pub fn insert(
         &mut self,
         row: Cells,
@@ -129,7 +130,7 @@ impl Table {
         Ok(())
     }
 
-    /// Puts a row in the place of the one that has its key, if there is one; takes no memory.
+    /// Replaces the row with the same key, if there is one. Needs no memory.
     pub fn update(&mut self, row: Cells, born: Moment, number: u64)
         ensures { self.new ≡ after_update (record { row = row; born = born }) number self.old }
     {
@@ -141,7 +142,7 @@ impl Table {
         }
     }
 
-    /// Takes away the row with a key, if there is one; takes no memory.
+    /// Removes the row with a key, if there is one. Needs no memory.
     pub fn delete(&mut self, key: &Cells)
         ensures { self.new ≡ after_delete key.now self.old }
     {
@@ -151,7 +152,7 @@ impl Table {
         }
     }
 
-    /// Adds a copy of a row, where no row has its key; the key is handed out.
+    /// Inserts a copy of a row if no row has its key, and returns the key.
     pub fn insert_copy(
         &mut self,
         alloc: Global,
@@ -170,8 +171,7 @@ impl Table {
         Ok(key)
     }
 
-    // Puts a row in the place of the one that has its key, with that one's birth; that one is
-    // handed out.
+    // Replaces the row with the same key, keeps its birth, and returns the old row.
     fn renew(&mut self, place: usize, row: Cells, number: u64) -> Before
         requires { find_row self.old.rows.key (key_of self.old.rows.key row) self.old.rows.rows
             ≡ Some place }
@@ -189,8 +189,8 @@ impl Table {
         }
     }
 
-    /// Puts a copy of a row in the place of the one that has its key, if there is one, with that
-    /// one's birth; the old row is handed out.
+    /// Replaces the row with the same key, if there is one, by a copy of a row. Keeps its birth,
+    /// and returns the old row.
     pub fn update_copy(
         &mut self,
         alloc: Global,

@@ -20,7 +20,7 @@ use std::alloc::Global;
 use std::collections::HashMap;
 use std::mem;
 
-/// What the last entry changed, and what stood there before.
+/// What the last entry changed, and what was there before.
 #[derive(Drop)]
 pub(crate) enum Change {
     Nothing,
@@ -29,14 +29,14 @@ pub(crate) enum Change {
     Updated { table: Name, before: Before },
 }
 
-/// The rows of each table of a history as they are now.
+/// The current rows of each table of a history.
 #[derive(Drop)]
 pub struct Tables {
     pub(crate) tables: HashMap<Name, Table>,
     pub(crate) last: Change,
 }
 
-// Adds a row to a table, if it is there; the row's key is handed out.
+// Inserts a row into a table, if the table exists, and returns the row's key.
 fn insert_into(
     tables: &mut HashMap<Name, Table>,
     alloc: Global,
@@ -62,7 +62,7 @@ fn insert_into(
     }
 }
 
-// Takes a row out of a table, if both are there.
+// Removes a row from a table, if both exist.
 fn delete_from(tables: &mut HashMap<Name, Table>, table: &Name, key: &Cells)
     ensures { (other : TableName) → get bytes_eq tables.new other
         ≡ with_change table.now (after_delete key.now) (get bytes_eq tables.old) other }
@@ -72,8 +72,7 @@ fn delete_from(tables: &mut HashMap<Name, Table>, table: &Name, key: &Cells)
     }
 }
 
-// Puts a row in the place of the one that has its key, if both the table and it are there; the old
-// row is handed out.
+// Replaces the row with the same key, if it and the table exist, and returns the old row.
 fn update_in(
     tables: &mut HashMap<Name, Table>,
     alloc: Global,
@@ -98,7 +97,7 @@ fn update_in(
     }
 }
 
-// Puts back a row that was updated, if the table and a row with its key are there.
+// Restores the former row of an update, if the table and a row with its key exist.
 fn restore_in(tables: &mut HashMap<Name, Table>, table: &Name, before: Before)
     ensures { (other : TableName) → get bytes_eq tables.new other
         ≡ with_change table.now (after_update (record { row = before.row; born = before.born })
@@ -111,7 +110,7 @@ fn restore_in(tables: &mut HashMap<Name, Table>, table: &Name, before: Before)
 }
 
 impl Tables {
-    /// The tables of the empty history: none. Takes no memory.
+    /// The tables of the empty history: none. Allocates no memory.
     pub fn new(alloc: Global) -> Tables
         ensures { TablesStandFor result [] }
     {
@@ -121,7 +120,7 @@ impl Tables {
         }
     }
 
-    /// A table's schema, none where there is no such table.
+    /// A table's schema; None if there is no such table.
     pub fn schema(&self, table: &Name) -> Option<&Schema>
         ensures { (history : History) → TablesStandFor self.now history
             → option_copied result ≡ schema_at history table.now }
@@ -132,8 +131,7 @@ impl Tables {
         }
     }
 
-    /// A table's rows with their births, in the order of their keys; none where there is no such
-    /// table.
+    /// A table's rows with their births, sorted by key; None if there is no such table.
     pub fn rows(&self, table: &Name) -> Option<&RowSet>
         ensures { (history : History) → TablesStandFor self.now history
             → option_copied result ≡ option_map
@@ -145,7 +143,7 @@ impl Tables {
         }
     }
 
-    /// The row of a table with a key; none exactly where the table or the row is not there.
+    /// The row of a table with a key; None exactly when the table or the row does not exist.
     pub fn row(&self, table: &Name, key: &Cells) -> Option<&Cells>
         ensures { (history : History) → TablesStandFor self.now history
             → option_copied result ≡ live_row history table.now key.now }
@@ -156,8 +154,8 @@ impl Tables {
         }
     }
 
-    // Keeps, from now on, an order of a table's rows by a column, where the table is there and has
-    // rows enough; the tables stay what they are.
+    // Creates a secondary order of a table's rows by a column, if the table exists and has enough
+    // rows, and maintains it from now on. The tables' contents stay the same.
     pub(crate) fn order_by(&mut self, alloc: Global, table: &Name, column: usize)
         ensures { TablesAreAsBefore self.old self.new }
     {
@@ -247,7 +245,7 @@ impl Tables {
         self.remember(Change::Nothing);
     }
 
-    // An entry that changes no row and makes no table.
+    // Records an entry that changes no row and creates no table.
     fn pass_over(&mut self)
         ensures { (entry : HistoryEntry) → leaves_tables entry.act ≡ true
             → TablesAdd self.old self.new entry }
@@ -255,9 +253,9 @@ impl Tables {
         self.remember(Change::Nothing);
     }
 
-    /// Takes in the entry that comes next: the tables then stand for the history with the entry
-    /// behind. They are unchanged where memory is short, which it never is for a Delete, nor for
-    /// what changes no row and makes no table.
+    /// Applies the next entry: the tables then represent the history with the entry appended. They
+    /// are unchanged when out of memory, which cannot happen for a Delete, nor for an entry that
+    /// changes no row and creates no table.
     pub fn apply(&mut self, alloc: Global, entry: &Entry) -> Result<(), Memory>
         ensures ok { OnOk result (TablesAdd self.old self.new entry.now) }
         ensures err { OnErr result (TablesAreAsBefore self.old self.new) }
@@ -283,8 +281,8 @@ impl Tables {
         }
     }
 
-    /// Takes back the entry that was applied last, which must be no Delete: the tables then stand
-    /// for the history before it. Takes no memory.
+    /// Reverts the last entry applied, which must not be a Delete: the tables then represent the
+    /// history before it. Needs no memory.
     pub fn take_back(&mut self)
         ensures { (history : History) → RemembersTables self.old history
             → TablesStandFor self.new history }

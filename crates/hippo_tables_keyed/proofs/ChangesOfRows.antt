@@ -1,4 +1,4 @@
--- What one entry does to a table's kept rows is what it does to the rows of the history.
+-- The effect of an entry on a table's kept rows agrees with its effect on the rows of the history.
 use Rattle.std.proofs.Common.{◌≡◌, Bool, true, false, ◌&&◌, not, [], ◌∷◌, ◌++◌, Option, Some, None, option_map, is_some, sym, ap, ◌∙◌, refl}
 use Rattle.std.specs.Prelude.{option_and_then, bytes_eq}
 use Rattle.std.specs.Bool.{then_some}
@@ -17,12 +17,12 @@ use Rattle.hippo_tables_keyed.specs.Changes.{with_renewed_row, changed}
 use Rattle.hippo_tables_keyed.proofs.KeptRows.{shown, is_some-option_map, is_some-find_row}
 use Rattle.hippo_tables_keyed.proofs.RowsAfter.{table_rows-Insert, table_rows-Update, table_rows-Delete, table_rows-other, row_with-table_rows}
 
--- what three tests let through is the same where it agrees when the first holds
+-- three tests pass in the same cases, if they agree whenever the first one holds
 then_some-agrees : {A : Type 0} (named fits lives : Bool) (one other : A) → (named ≡ true → one ≡ other) → then_some (named && fits && lives) one ≡ then_some (named && fits && lives) other
 then_some-agrees true fits lives one other same = ap (then_some (true && fits && lives)) (same refl)
 then_some-agrees false fits lives one other same = refl
 
--- the same where the third is whether a row is found, whose birth counts
+-- the same when the third test is whether a row is found, whose birth is kept
 renewals_agree : (named fits : Bool) (found : Option Row) (birth : Moment) (renew : Moment → KeyedRows) (after : KeyedRows) → (named ≡ true → renew birth ≡ after) → option_and_then (λ (old : BornRow). then_some (named && fits) (renew old.born)) (option_map (λ row. record { row = row; born = birth }) found) ≡ then_some (named && fits && is_some found) after
 renewals_agree true true None birth renew after same = refl
 renewals_agree true false None birth renew after same = refl
@@ -45,13 +45,13 @@ module _ (schema : Schema) where
   key_named-other_table act other = refl
 
   module _ (history : History) where
-    -- a key is live where a row is kept with it
+    -- a key is live exactly when a kept row has it
     pub is_live-kept : (key : Key) → is_some (row_with key (kept_at schema history)) ≡ is_live schema history key
     is_live-kept key =
         ap is_some (row_with-table_rows schema history key)
         ∙ is_some-option_map (λ row. record { row = row; born = born_at schema history key }) (row_at schema history key)
 
-    -- and where a place is found for it
+    -- and when a place is found for it
     pub is_live-found : (key : Key) → is_some (find_row schema.key key (table_rows schema history)) ≡ is_live schema history key
     is_live-found key = is_some-find_row schema.key key (table_rows schema history) ∙ is_live-kept key
 
@@ -76,18 +76,19 @@ module _ (schema : Schema) where
           (λ same. ap (shown schema.key) (sym (table_rows-Delete schema history entry table key is same)))
       by_act act is = refl
 
-      -- what an entry does to the kept rows: where it is a version that fits, those of the history with it, and else nothing
+      -- an entry that is a fitting version changes the kept rows to those of the history with it;
+      -- any other entry does not change them
       pub changed-kept_at : changed schema entry.moment entry.act (kept_at schema history) ≡ then_some (version_fits schema history entry.act) (kept_at schema (history ++ entry ∷ []))
       changed-kept_at = by_act entry.act refl
 
-      -- an entry that names no key of the table leaves the kept rows
+      -- an entry that names no key of the table does not change the kept rows
       pub kept_at-other : key_named schema entry.act ≡ None → kept_at schema (history ++ entry ∷ []) ≡ kept_at schema history
       kept_at-other names = ap (shown schema.key) (table_rows-other schema history entry names)
 
-      -- as one that is no version does
+      -- nor does one that is no version
       pub kept_at-no_version : is_version entry.act ≡ false → kept_at schema (history ++ entry ∷ []) ≡ kept_at schema history
       kept_at-no_version none = kept_at-other (key_named-no_version entry.act none)
 
-      -- and one of another table
+      -- nor one of another table
       pub kept_at-other_table : bytes_eq (table_changed entry.act) schema.name ≡ false → kept_at schema (history ++ entry ∷ []) ≡ kept_at schema history
       kept_at-other_table other = kept_at-other (key_named-other_table entry.act other)

@@ -1,4 +1,4 @@
--- Where a row stands that is put in, and where one stands whose place it takes.
+-- The place of a row that is inserted, and of one that is replaced.
 use Rattle.std.proofs.Common.{◌≡◌, ℕ, ◌<◌, ◌≤◌, List, map, length, get_or, set, Some, sym, ap, ◌∙◌, arith}
 use Rattle.std.specs.List.{insert, HoldsAt}
 use Rattle.std.specs.List.Sorted.{IsPartitionPoint}
@@ -27,7 +27,7 @@ module _ (held : KeyedRows) (row : Row) (place : ℕ) (ascends : IsAscending (ma
       (omega (arith, length-insert held.rows place kept within))
       (λ d. ap (λ (other : BornRow). cells_cmp (key_in held.key other) (key_of held.key row)) (get_or-insert_at held.rows place kept d within) ∙ tied_itself cells_total (key_of held.key row))
 
-  -- where a search found no row with a row's key, it comes to stand
+  -- when a search finds no row with the key, it gives the place for an insert
   pub is_free : IsFree held row place
   is_free = record {
     missing = find_row-missing held.key (key_of held.key row) held.rows place parted;
@@ -36,7 +36,7 @@ module _ (held : KeyedRows) (row : Row) (place : ℕ) (ascends : IsAscending (ma
     found = λ born. ap (find_row held.key (key_of held.key row)) (put_so born) ∙ stands_so born;
   }
 
--- a row that takes the place of the one with its key
+-- a row that replaces the one with its key
 module _ (places : List Place) (kept : BornRow) (rows : List BornRow) (place : ℕ) (ascends : IsAscending (map (key_in places) rows)) (found : find_row places (key_in places kept) rows ≡ Some place) where
   pub found_within : place < length rows
   found_within = (position-Some (λ other. same_cells (key_in places other) (key_in places kept)) rows place kept found).0

@@ -1,4 +1,4 @@
--- Rows that are kept in the order of their keys: what a search finds, and what a put and a take leave.
+-- Rows sorted by key: what a search finds, and what a put and a take leave.
 use Rattle.std.proofs.Common.{◌≡◌, ℕ, zero, suc, ◌+◌, ◌<◌, ◌≤◌, List, [], ◌∷◌, map, length, get_or, set, Option, Some, None, option_map, true, false, if◌then◌else◌, slice_get, is_some, IfSome, Result, Ok, Err, sym, ap, ◌∙◌, refl, subst, arith}
 use Rattle.std.specs.Prelude.{Bool, not, nat_lt, position, option_and_then}
 use Rattle.std.specs.Ordering.{is_lt, ordering_index, ordering_reverse, match_ordering}
@@ -44,7 +44,7 @@ module _ (places : List Place) where
         | Greater ↦ λ e. (IsBelowAll-put other row rest (flipped key other Greater e) ascends.0, IsAscending-put row rest ascends.1)
       ] refl
 
--- how a search and a clause see kept rows
+-- a kept row compared with the wanted key
 abbrev pub order_of : List Place → Key → BornRow → Ordering
 order_of places key kept = cells_cmp (key_in places kept) key
 
@@ -64,7 +64,7 @@ one_place_on place size =
 first_place : (size : ℕ) → ◌≡◌ {A = Option ℕ} (if nat_lt 0 (suc size) then Some 0 else None) (Some 0)
 first_place size = let within : nat_lt 0 (suc size) ≡ true = grind (arith, nat_tests) in rw within
 
--- the first place that passes, by the first member
+-- the first place that passes a test, by the first member
 position-first : {X : Type 0} (test : X → Bool) (first : X) (rest : List X) → position test (first ∷ rest) ≡ (if test first then Some 0 else option_map suc (position test rest))
 position-first test first rest =
     elim (test first) as (λ passes. (if nat_lt (if not passes then 1 + position_or_len test rest else 0) (length (first ∷ rest)) then Some (if not passes then 1 + position_or_len test rest else 0) else None) ≡ (if passes then Some 0 else option_map suc (position test rest))) [
@@ -89,7 +89,7 @@ module _ (places : List Place) (key : Key) where
   sorted_kept (member ∷ kept) ascends zero (suc j) d less in_range = below_at kept (key_in places member) j d ascends.0 (omega arith)
   sorted_kept (member ∷ kept) ascends (suc k) (suc j) d less in_range = sorted_kept kept ascends.1 k j d (omega arith) (omega arith)
 
-  -- the answers of a search rise along the rows
+  -- the comparisons with the wanted key ascend along the rows
   pub answers_rise : (kept : List BornRow) → IsAscending (map (key_in places) kept) → IsNonDecreasingBy (λ member. ordering_index (order_of places key member)) kept
   answers_rise kept ascends =
       searchable_from_sorted cells_total (λ member. key_in places member) kept key
@@ -102,7 +102,7 @@ module _ (places : List Place) (key : Key) where
   find_row-first : (first : BornRow) (rest : List BornRow) → find_row places key (first ∷ rest) ≡ (if same_cells (key_in places first) key then Some 0 else option_map suc (find_row places key rest))
   find_row-first first rest = position-first (λ kept. same_cells (key_in places kept) key) first rest
 
-  -- where a search found a row with the key
+  -- when a search finds a row with the key
   pub find_row-found : (kept : List BornRow) (i : ℕ) → IsAscending (map (key_in places) kept) → i < length kept → HoldsAt (λ member. order_of places key member ≡ Equal) kept i → find_row places key kept ≡ Some i
   find_row-found [] i ascends in_range same = absurd (omega arith)
   find_row-found (member ∷ kept) zero ascends in_range same = find_row-first member kept ∙ rw (same member)
@@ -110,7 +110,7 @@ module _ (places : List Place) (key : Key) where
       find_row-first member kept ∙
       rw (above_before member kept i member ascends (omega arith) (same member), find_row-found kept i ascends.1 (omega arith) same)
 
-  -- where a search found none
+  -- when a search finds none
   pub find_row-missing : (kept : List BornRow) (i : ℕ) → IsPartitionPoint (λ member. order_of places key member ≡ Less) (λ member. order_of places key member ≡ Greater) kept i → find_row places key kept ≡ None
   find_row-missing [] i parted = refl
   find_row-missing (member ∷ kept) zero parted = find_row-first member kept ∙ rw (parted.1 0 member (omega arith) (omega arith), find_row-missing kept zero (λ k d low high. absurd (omega arith), λ k d low high. parted.1 (suc k) d (omega arith) (omega arith)))
@@ -141,7 +141,7 @@ module _ (places : List Place) (key : Key) where
       later None = refl
       later (Some place) = refl
 
-  -- a place is found where a row is
+  -- a place is found exactly when a row is
   pub is_some-find_row : (rows : List BornRow) → is_some (find_row places key rows) ≡ is_some (row_with key (shown places rows))
   is_some-find_row [] = refl
   is_some-find_row (first ∷ rest) =
@@ -167,7 +167,7 @@ module _ (places : List Place) (key : Key) where
         | false ↦ (IsBelowAll-take (key_in places first) rest ascends.0, IsAscending-take rest ascends.1)
       ]
 
-  -- a take where a search found the row
+  -- a take, when a search finds the row
   pub without_row-found : (kept : List BornRow) (i : ℕ) → IsAscending (map (key_in places) kept) → i < length kept → HoldsAt (λ member. order_of places key member ≡ Equal) kept i → shown places (remove kept i) ≡ without_row key (shown places kept)
   without_row-found [] i ascends in_range same = absurd (omega arith)
   without_row-found (member ∷ kept) zero ascends in_range same = rw (same member)
@@ -179,7 +179,7 @@ module _ (places : List Place) (key : Key) where
   IsAscending-remove kept i ascends in_range same =
       subst (λ (set : KeyedRows). IsAscending (map (key_in places) set.rows)) (sym (without_row-found kept i ascends in_range same)) (IsAscending-take kept ascends)
 
-  -- and where it found none
+  -- and when it finds none
   pub without_row-missing : (kept : List BornRow) (i : ℕ) → IsPartitionPoint (λ member. order_of places key member ≡ Less) (λ member. order_of places key member ≡ Greater) kept i → shown places kept ≡ without_row key (shown places kept)
   without_row-missing [] i parted = refl
   without_row-missing (member ∷ kept) zero parted =
@@ -197,7 +197,7 @@ module _ (places : List Place) (new : BornRow) where
   abbrev key : Key
   key = key_in places new
 
-  -- a put where a search found a row with the key
+  -- a put, when a search finds a row with the key
   pub with_row-found : (kept : List BornRow) (i : ℕ) → IsAscending (map (key_in places) kept) → i < length kept → HoldsAt (λ member. order_of places key member ≡ Equal) kept i → shown places (set kept i new) ≡ with_row new (shown places kept)
   with_row-found [] i ascends in_range same = absurd (omega arith)
   with_row-found (member ∷ kept) zero ascends in_range same = rw (flipped (key_in places member) key Equal (same member))
@@ -206,7 +206,7 @@ module _ (places : List Place) (new : BornRow) where
       let later = with_row-found kept i ascends.1 (omega arith) same in
       rw (flipped (key_in places member) key Less less) (ap (λ (set : KeyedRows). record { key = places; rows = member ∷ set.rows }) later)
 
-  -- a put where a search found none
+  -- a put, when a search finds none
   pub with_row-missing : (kept : List BornRow) (i : ℕ) → i ≤ length kept → IsPartitionPoint (λ member. order_of places key member ≡ Less) (λ member. order_of places key member ≡ Greater) kept i → shown places (insert kept i new) ≡ with_row new (shown places kept)
   with_row-missing [] zero in_range parted = refl
   with_row-missing [] (suc i) in_range parted = absurd (omega arith)

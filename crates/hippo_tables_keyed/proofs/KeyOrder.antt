@@ -1,4 +1,4 @@
--- What is left of two keys of which one has ended.
+-- The rest of two keys, one of which has ended.
 use Rattle.std.proofs.Common.{◌≡◌, ℕ, zero, suc, min, List, [], ◌∷◌, length, drop, refl, arith}
 use Rattle.std.specs.Ordering.{nat_cmp}
 use Rattle.std.proofs.lemmas.Bool.Decides.{nat_tests}
@@ -6,7 +6,7 @@ use Rattle.hippo_values.specs.declared.values.Value.{Value}
 use Rattle.hippo_values.specs.Order.{cells_cmp}
 use Rattle.hippo_model.specs.Rows.{key_of}
 
--- keys that are equal up to the shorter one's end are ordered by their lengths
+-- keys that are equal up to the end of the shorter one are ordered by length
 pub cells_cmp-past_end : (places : List ℕ) (row key : List Value) (n : ℕ) → n ≡ min (length places) (length key) → cells_cmp (key_of (drop n places) row) (drop n key) ≡ nat_cmp (length places) (length key)
 cells_cmp-past_end [] row [] n e = rw e refl
 cells_cmp-past_end [] row (value ∷ key) n e = rw e (grind (arith, nat_tests))

@@ -1,4 +1,4 @@
--- Keys put in their places among others.
+-- Keys inserted in order.
 use Rattle.std.proofs.Common.{◌≡◌, Bool, false, true, ◌||◌, List, [], ◌∷◌, sym, ap, refl}
 use Rattle.std.specs.List.{list_any}
 use Rattle.std.specs.Ordering.{match_ordering}
@@ -29,7 +29,7 @@ IsAscending-insert_key key (first ∷ rest) ascends =
       | Greater ↦ λ e. (IsBelowAll-insert_key first key rest (flipped key first Greater e) ascends.0, IsAscending-insert_key key rest ascends.1)
     ] refl
 
--- whether a key is among those with one more
+-- whether a key is in a list with one more key inserted
 pub list_any-insert_key : (target key : List Value) (keys : List (List Value)) → list_any (λ other. same_cells other target) (insert_key key keys) ≡ (same_cells key target || list_any (λ other. same_cells other target) keys)
 list_any-insert_key target key [] = refl
 list_any-insert_key target key (first ∷ rest) =
@@ -65,7 +65,7 @@ comm_from_less a b (first ∷ rest) less =
       ] refl
     ] refl
 
--- the order in which keys come does not count
+-- the order in which keys are inserted does not matter
 pub insert_key-comm : (a b : List Value) (keys : List (List Value)) → insert_key a (insert_key b keys) ≡ insert_key b (insert_key a keys)
 insert_key-comm a b keys =
     elim (cells_cmp a b) as (λ o. cells_cmp a b ≡ o → insert_key a (insert_key b keys) ≡ insert_key b (insert_key a keys)) [

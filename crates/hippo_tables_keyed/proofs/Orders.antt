@@ -1,4 +1,4 @@
--- The orders of values and of keys: total, and equal at no two different ones.
+-- The orders of values and of keys are total, and different values never compare equal.
 use Rattle.std.proofs.Common.{true, List, ◌≡◌, refl, ap}
 use Rattle.std.specs.Ordering.{is_eq}
 use Rattle.std.specs.declared.cmp.Ordering.TheVariants.{Less, Equal, Greater}

@@ -1,4 +1,4 @@
--- A search in a list in pieces: first for the piece, then in it.
+-- A search in a list held in pieces: first for the piece, then in it.
 use Rattle.std.proofs.Common.{◌≡◌, ℕ, suc, ◌+◌, ◌-◌, ◌<◌, ◌≤◌, true, false, List, [], ◌∷◌, length, get_or, Result, Ok, Err, inl, inr, sym, ap, ◌∙◌, refl, subst, arith, add-zero}
 use Rattle.std.specs.Option.{option_map_or}
 use Rattle.std.specs.Ordering.{is_le, is_lt, ordering_index}
@@ -68,7 +68,7 @@ module _ {A : Type 0} (order : A → Ordering) where
           let up = rises (start_of contents i) (start_of contents j) d (start_of-rises contents i j before) (start_within j within) in
           low_at i d (omega arith) ∙ test_from_low (order (get_or (all_members contents) (start_of contents i) d)) (omega arith)
 
-      -- behind a piece that does not begin low all is above
+      -- after a piece that does not begin low, all members are above
       above_from : (i : ℕ) → i < length contents → begins_low order (get_or contents i []) ≡ false → AllWithin (λ member. order member ≡ Greater) (all_members contents) (start_of contents i) (length (all_members contents))
       above_from i within high k d low inside =
           let at_i = high_from_test (order (get_or (all_members contents) (start_of contents i) d)) (sym (low_at i d within) ∙ high) in
@@ -125,7 +125,7 @@ module _ {A : Type 0} (order : A → Ordering) where
   Parts members place = IsNonDecreasingBy (λ member. ordering_index (order member)) members
       → IsPartitionPoint (λ member. order member ≡ Less) (λ member. order member ≡ Greater) members place
 
-  -- where the last member is below what is sought, so are all
+  -- if the last member is below the wanted one, all are
   pub missing_after : (members : List A) → ends_below order members ≡ true → Parts members (length members)
   missing_after members below rises = (all_less, λ k d low inside. absurd (omega arith))
     where
@@ -136,7 +136,7 @@ module _ {A : Type 0} (order : A → Ordering) where
           let least = least_from_test (order (get_or members last d)) end in
           less_from (order (get_or members k d)) (omega (arith, least, rises k last d (omega arith) (omega arith)))
 
-  -- The pieces are those of these rows, and so many of them begin low.
+  -- The pieces are those of these rows, and this many of them begin low.
   module _ (rows : List A) {value : List (Piece A)} (pieces : List (Piece A)) (same : pieces ≡ value) (invariant : AreFull (contents value)) (view : all_members (contents value) ≡ rows)
       (split : ℕ) (range : split ≤ length pieces) (clause : PartsLow order pieces split) where
     full : AreFull (contents pieces)
@@ -189,7 +189,7 @@ module _ {A : Type 0} (order : A → Ordering) where
       found_in place range equal = subst (λ (rows : List A). IsFound rows (start_of (contents pieces) i + place)) whole (λ d.
           ap order (get_or-flat_map (λ members. members) (contents pieces) i place [] d in_range (rw held range) ∙ ap (λ members. get_or members place d) held) ∙ equal d)
 
-      -- or it would stand there
+      -- or would be inserted there
       missing_in : (place : ℕ) → place ≤ length piece.members.items → Parts piece.members.items place → Parts rows (start_of (contents pieces) i + place)
       missing_in place range missing = subst (λ (rows : List A). Parts rows (start_of (contents pieces) i + place)) whole (λ rises.
           let low : begins_low order (get_or (contents pieces) i []) ≡ true = ap (begins_low order) (piece_at pieces i piece in_pieces) ∙ (parted rises).0 i piece (omega arith) (omega arith) in
@@ -197,7 +197,7 @@ module _ {A : Type 0} (order : A → Ordering) where
           let parts = subst (λ (members : List A). Parts members place) (sym held) missing (rises_here (contents pieces) full rises i in_range low next) in
           (below (contents pieces) full rises i in_range low next place (rw held range) parts, above (contents pieces) full rises i in_range low next place (rw held range) parts))
 
-      -- what is found in the piece is found among all rows, behind those before it
+      -- the result in the piece is the result among all rows, after those before the piece
       pub range_after : (found : Result ℕ ℕ) → IsSearchInRange found (length piece.members.items) → IsSearchInRange (place_from (start_of (contents pieces) i) found) (length rows)
       range_after (Ok place) range = omega (arith, ends_inside, range)
       range_after (Err place) range = omega (arith, ends_inside, range)

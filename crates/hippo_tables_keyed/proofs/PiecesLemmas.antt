@@ -1,4 +1,5 @@
--- A list in pieces: where each begins, and what an edit of one does to the whole.
+-- A list held in pieces: where each piece begins, and the effect of an edit of one piece on the
+-- list.
 use Rattle.std.proofs.Common.{◌≡◌, ℕ, zero, suc, ◌+◌, ◌-◌, ◌<◌, ◌≤◌, true, false, List, [], ◌∷◌, ◌++◌, map, length, get_or, set, take, drop, inl, inr, Some, sym, ap, ◌∙◌, refl, subst, arith, add-one, zero-add, slice_get, nat_le}
 use Rattle.std.specs.Prelude.{◌==◌}
 use Rattle.std.specs.List.{insert, remove}
@@ -49,7 +50,7 @@ module _ {A : Type 0} where
   pub joined_around : (contents : List (List A)) (i : ℕ) → i < length contents → all_members contents ≡ all_members (take i contents) ++ (get_or contents i [] ++ all_members (drop (suc i) contents))
   joined_around contents i within = ap all_members (sym (set-get_or contents i [])) ∙ all_members-set contents i (get_or contents i []) within
 
-  -- an edit at a place that passes over what stands before it, and leaves what stands behind it
+  -- an edit at a place skips the members before it and leaves those after it
   module _ (edit : List A → ℕ → List A) (right : (xs ys : List A) (n i : ℕ) → length xs ≡ n → n ≤ i → edit (xs ++ ys) i ≡ xs ++ edit ys (i - n)) (contents : List (List A)) (i j : ℕ) (within : i < length contents) (left : (ys : List A) → edit (get_or contents i [] ++ ys) j ≡ edit (get_or contents i []) j ++ ys) where
     pub joined_edit : all_members (set contents i (edit (get_or contents i []) j)) ≡ edit (all_members contents) (start_of contents i + j)
     joined_edit =
@@ -78,7 +79,7 @@ module _ {A : Type 0} where
         slice_get-get_or (all_members contents) (start_of contents i + j) member (omega (arith, ap length (joined_around contents i within), length-append (all_members (take i contents)) (get_or contents i [] ++ all_members (drop (suc i) contents)), length-append (get_or contents i []) (all_members (drop (suc i) contents))))
         ∙ ap Some (get_or-flat_map (λ members. members) contents i j [] member within inside ∙ sym read)
 
-  -- where the pieces end
+  -- the ends of the pieces
   pub get_or-ends_of : (start : ℕ) (contents : List (List A)) (i : ℕ) → i < length contents → get_or (ends_of start contents) i 0 ≡ start + start_of contents (suc i)
   get_or-ends_of start [] i within = absurd (omega arith)
   get_or-ends_of start (members ∷ rest) zero within = omega (arith, length-append members [])
@@ -94,7 +95,7 @@ module _ {A : Type 0} where
       let same : start + length first + length (all_members rest) + length members ≡ start + length (first ++ all_members rest) + length members = omega (arith, length-append first (all_members rest)) in
       ap (λ ends. (start + length first) ∷ ends) (ends_of-append (start + length first) rest members ∙ ap (λ end. ends_of (start + length first) rest ++ end ∷ []) same)
 
-  -- the starts rise
+  -- the starts ascend
   pub start_of-next : (contents : List (List A)) (i : ℕ) → i < length contents → start_of contents (suc i) ≡ start_of contents i + length (get_or contents i [])
   start_of-next [] i within = absurd (omega arith)
   start_of-next (members ∷ rest) zero within = omega (arith, length-append members [])
@@ -145,7 +146,7 @@ module _ {A : Type 0} where
           let above = lt_from_test (get_or pieces index d).end place (parted.1 index d (omega arith) (omega arith)) in
           (inside, omega (arith, above, end_of_piece index d (omega arith), start_of-next (contents pieces) index inside))
 
-  -- a piece that begins at or before a place and ends behind it
+  -- a piece that begins at or before a place and ends after it
   pub IsReached-held : (pieces : List (Piece A)) → IsMarked pieces → (place index start : ℕ) (piece : Piece A) → index < length pieces → piece ≡ get_or pieces index piece → start ≡ start_of (contents pieces) index → start ≤ place → place < piece.end → IsReached (contents pieces) place index start
   IsReached-held pieces marked place index start piece inside here begins low below =
       let within : index < length (contents pieces) = omega (arith, inside, length-map pieces (λ (piece : Piece A). piece.members.items)) in
@@ -173,14 +174,14 @@ module _ {A : Type 0} where
   pub piece_at : (pieces : List (Piece A)) (i : ℕ) (d : Piece A) → i < length pieces → get_or (contents pieces) i [] ≡ (get_or pieces i d).members.items
   piece_at pieces i d within = get_or-map (λ (piece : Piece A). piece.members.items) pieces i d [] within
 
-  -- a piece with the same members takes the place of another
+  -- a piece replaced by one with the same members
   pub contents-kept : (pieces : List (Piece A)) (i : ℕ) (d piece : Piece A) → i < length pieces → piece.members.items ≡ (get_or pieces i d).members.items → contents (set pieces i piece) ≡ contents pieces
   contents-kept pieces i d piece within same = contents-set pieces i piece ∙ ap (set (contents pieces) i) (same ∙ sym (piece_at pieces i d within)) ∙ set-get_or (contents pieces) i []
 
   pub contents-take : (pieces : List (Piece A)) (i : ℕ) → contents (take i pieces) ≡ take i (contents pieces)
   contents-take pieces i = sym (take-map (λ (piece : Piece A). piece.members.items) i pieces)
 
-  -- one piece more is marked
+  -- one more piece has its end stored
   pub IsMarked-more : (pieces : List (Piece A)) (i : ℕ) (piece : Piece A) → i < length pieces → IsMarked (take i pieces) → piece.end ≡ start_of (contents pieces) i + length piece.members.items → IsMarked (take (i + 1) (set pieces i piece))
   IsMarked-more pieces i piece within marked ends =
       let shorter : length (all_members (contents (take i pieces))) ≡ start_of (contents pieces) i = ap (λ (lists : List (List A)). length (all_members lists)) (contents-take pieces i) in
@@ -197,7 +198,7 @@ module _ {A : Type 0} where
   take-ends_of start (suc i) [] = refl
   take-ends_of start (suc i) (members ∷ rest) = ap (λ ends. (start + length members) ∷ ends) (take-ends_of (start + length members) i rest)
 
-  -- the first pieces are marked where all are
+  -- if all pieces have correct ends, so do the first ones
   pub IsMarked-take : (pieces : List (Piece A)) (i : ℕ) → IsMarked pieces → IsMarked (take i pieces)
   IsMarked-take pieces i marked =
       sym (take-map (λ (piece : Piece A). piece.end) i pieces) ∙ ap (take i) marked
@@ -214,7 +215,7 @@ module _ {A : Type 0} where
       ∙ ap (set (map (λ (piece : Piece A). piece.end) pieces) i) (same ∙ ap (λ (piece : Piece A). piece.end) read ∙ sym (get_or-map (λ (piece : Piece A). piece.end) pieces i old 0 within))
       ∙ set-get_or (map (λ (piece : Piece A). piece.end) pieces) i 0
 
-  -- a piece that is as long and ends there takes the place of another
+  -- a piece replaced by one with the same length and end
   pub IsMarked-set : (pieces : List (Piece A)) (i : ℕ) (old piece : Piece A) → i < length pieces → old ≡ get_or pieces i old → piece.end ≡ old.end → length piece.members.items ≡ length old.members.items → IsMarked pieces → IsMarked (set pieces i piece)
   IsMarked-set pieces i old piece within read same long marked =
       let e = piece_read pieces i old within read in
@@ -243,13 +244,13 @@ module _ {A : Type 0} where
     whole_place : start_of (contents pieces) index + (place - start) ≡ place
     whole_place = omega (arith, reached.begins, reached.low)
 
-    -- the member that is reached
+    -- the member at a place
     pub member_reached : (member : A) → member ≡ get_or piece.members.items (place - start) member → slice_get (all_members (contents pieces)) place ≡ Some member
     member_reached member found =
         ap (slice_get (all_members (contents pieces))) (sym whole_place)
         ∙ slice_get-all_members (contents pieces) index (place - start) index_in member (rw here place_of_reached) (rw here found)
 
-    -- and what is written over it
+    -- and the list after it is overwritten
     pub joined_written : (new : Piece A) (member : A) → new.members.items ≡ set piece.members.items (place - start) member → all_members (contents (set pieces index new)) ≡ set (all_members (contents pieces)) place member
     joined_written new member written =
         ap all_members (contents-set pieces index new ∙ ap (set (contents pieces) index) (written ∙ ap (λ members. set members (place - start) member) (sym here)))
@@ -289,7 +290,7 @@ module _ {A : Type 0} where
     there : get_or (contents pieces) i [] ≡ old.members.items
     there = piece_read pieces i old within read
 
-    -- a piece with one member more
+    -- a piece with one more member
     pub joined_put : (member : A) → j ≤ length (get_or (contents pieces) i []) → new.members.items ≡ insert old.members.items j member → all_members (contents (set pieces i new)) ≡ insert (all_members (contents pieces)) (start_of (contents pieces) i + j) member
     joined_put member range is =
         ap all_members (contents-set pieces i new ∙ ap (set (contents pieces) i) (is ∙ ap (λ members. insert members j member) (sym there)))
@@ -298,7 +299,7 @@ module _ {A : Type 0} where
     pub AreFull-put : (member : A) → j ≤ length (get_or (contents pieces) i []) → new.members.items ≡ insert old.members.items j member → AreFull (contents pieces) → AreFull (contents (set pieces i new))
     AreFull-put member range is full = rw (contents-set pieces i new) (AreFull-set (contents pieces) i new.members.items (omega (arith, ap length is, length-insert old.members.items j member (omega (arith, ap length there)))) full)
 
-    -- one with a member less
+    -- one with a member removed
     pub joined_taken : j < length (get_or (contents pieces) i []) → new.members.items ≡ remove old.members.items j → all_members (contents (set pieces i new)) ≡ remove (all_members (contents pieces)) (start_of (contents pieces) i + j)
     joined_taken range is =
         ap all_members (contents-set pieces i new ∙ ap (set (contents pieces) i) (is ∙ ap (λ members. remove members j) (sym there)))
@@ -307,7 +308,7 @@ module _ {A : Type 0} where
     pub AreFull-taken : 0 < length new.members.items → AreFull (contents pieces) → AreFull (contents (set pieces i new))
     AreFull-taken some full = rw (contents-set pieces i new) (AreFull-set (contents pieces) i new.members.items some full)
 
-    -- and one that is taken away, since it is empty
+    -- and one that is removed because it is empty
     pub joined_gone : new.members.items ≡ [] → all_members (contents (remove (set pieces i new) i)) ≡ all_members (contents (set pieces i new))
     joined_gone empty =
         ap (λ (pieces : List (Piece A)). all_members (contents pieces)) (remove-set pieces i new)
@@ -322,7 +323,7 @@ module _ {A : Type 0} where
   start_of-front old new i same =
       ap (λ (lists : List (List A)). length (all_members lists)) (sym (contents-take new i) ∙ ap contents same ∙ contents-take old i)
 
-  -- a list of pieces is not empty where one of its pieces is there
+  -- a list of pieces that contains a piece is not empty
   pub length-from_full : (contents : List (List A)) → AreFull contents → 0 < length contents → 0 < length (all_members contents)
   length-from_full [] full some = absurd (omega arith)
   length-from_full (first ∷ rest) full some = omega (arith, full.0, length-append first (all_members rest))
@@ -348,7 +349,7 @@ module _ {A : Type 0} where
       subst (λ (members : List A). slice_get members (length members - 1) ≡ slice_get (all_members (contents pieces)) (length (all_members (contents pieces)) - 1)) held
       (last_of_all (contents pieces) i (some_member (get_or (contents pieces) i []) some) (omega (arith, size)) some)
 
-  -- a piece that is cut in two, behind others and before others
+  -- a piece split in two, between the pieces before and after it
   module _ (old lower upper : Piece A) (is : IsCutInTwo old lower upper) (back : List (Piece A)) where
     longer : length lower.members.items + length upper.members.items ≡ length old.members.items
     longer = sym (length-append lower.members.items upper.members.items) ∙ ap length is.members

@@ -58,7 +58,7 @@ module _ (schema : Schema) where
   IsAscending-keys_named [] = tt
   IsAscending-keys_named (entry ∷ later) = IsAscending-with_key (key_named schema entry.act) (keys_named schema later) (IsAscending-keys_named later)
 
-  -- a change leaves a row that has the key which it names
+  -- a change leaves a row with the key that it names
   key_of-row_left : (act : Act) (named left : Key) → key_named schema act ≡ Some named → row_left act ≡ Some left → key_of schema.key left ≡ named
   key_of-row_left (Insert table row) named left names leaves = let same = then_some-Some (bytes_eq table schema.name) (key_of schema.key row) named names in cc
   key_of-row_left (Update table row) named left names leaves = let same = then_some-Some (bytes_eq table schema.name) (key_of schema.key row) named names in cc
@@ -75,7 +75,7 @@ module _ (schema : Schema) where
             ] refl
       ] refl
 
-  -- a row has the key by which it is found
+  -- a row has the key it is found by
   pub key_of-row_at : (history : History) (key row : Key) → row_at schema history key ≡ Some row → key_of schema.key row ≡ key
   key_of-row_at [] key row found = cc
   key_of-row_at (entry ∷ later) key row found =
@@ -85,7 +85,7 @@ module _ (schema : Schema) where
         | Some left ↦ λ e found. key_of-row_at later key row (ap (option_and_then (λ left. left)) e ∙ found)
       ] refl found
 
-  -- a row has the key by which it is found, with its birth too
+  -- the same for a row with its birth
   pub key_in-born_row_at : (history : History) (key : Key) (kept : BornRow) → born_row_at schema history key ≡ Some kept → key_in schema.key kept ≡ key
   key_in-born_row_at history key kept =
       elim (row_at schema history key) as (λ found. row_at schema history key ≡ found → option_map (λ row. record { row = row; born = born_at schema history key }) found ≡ Some kept → key_in schema.key kept ≡ key) [
@@ -149,19 +149,19 @@ module _ (schema : Schema) where
     pub table_rows-other : key_named schema entry.act ≡ None → table_rows schema (history ++ entry ∷ []) ≡ table_rows schema history
     table_rows-other names = rw (keys_named-append history entry, names) (filter_map-same (born_row_at schema (history ++ entry ∷ [])) (born_row_at schema history) (born_row_at-other names) (keys_named schema history))
 
-    -- the same by the entry's act: an insert puts a row that is born with it
+    -- the same by the entry's act: an insert puts a row that is born at its moment
     pub table_rows-Insert : (table : Name) (row : Row) → entry.act ≡ Insert table row → bytes_eq table schema.name ≡ true → table_rows schema (history ++ entry ∷ []) ≡ put_row schema.key (record { row = row; born = entry.moment }) (table_rows schema history)
     table_rows-Insert table row is same =
         table_rows-put (key_of schema.key row) row (ap (key_named schema) is ∙ rw same) (ap row_left is)
         ∙ ap (λ act. put_row schema.key (record { row = row; born = if is_insert act then entry.moment else born_at schema history (key_of schema.key row) }) (table_rows schema history)) is
 
-    -- an update puts one with the birth that its key has
+    -- an update puts a row with the birth of its key
     pub table_rows-Update : (table : Name) (row : Row) → entry.act ≡ Update table row → bytes_eq table schema.name ≡ true → table_rows schema (history ++ entry ∷ []) ≡ put_row schema.key (record { row = row; born = born_at schema history (key_of schema.key row) }) (table_rows schema history)
     table_rows-Update table row is same =
         table_rows-put (key_of schema.key row) row (ap (key_named schema) is ∙ rw same) (ap row_left is)
         ∙ ap (λ act. put_row schema.key (record { row = row; born = if is_insert act then entry.moment else born_at schema history (key_of schema.key row) }) (table_rows schema history)) is
 
-    -- and a delete takes one away
+    -- and a delete removes one
     pub table_rows-Delete : (table : Name) (key : Key) → entry.act ≡ Delete table key → bytes_eq table schema.name ≡ true → table_rows schema (history ++ entry ∷ []) ≡ take_row schema.key key (table_rows schema history)
     table_rows-Delete table key is same = table_rows-take key (ap (key_named schema) is ∙ rw same) (ap row_left is)
 

@@ -1,4 +1,4 @@
--- The row that has a key, among rows of which one was put or taken.
+-- The row with a key, after a row was put or taken.
 use Rattle.std.proofs.Common.{◌≡◌, true, false, ℕ, zero, suc, ◌<◌, List, [], ◌∷◌, map, length, Option, Some, None, if◌then◌else◌, slice_get, sym, ap, ◌∙◌, refl, subst, arith}
 use Rattle.std.specs.Prelude.{option_and_then, option_map}
 use Rattle.std.specs.Ordering.{is_eq, match_ordering}
@@ -17,7 +17,7 @@ slice_get-within [] i x at = absurd cc
 slice_get-within (first ∷ rest) zero x at = omega arith
 slice_get-within (first ∷ rest) (suc i) x at = let within = slice_get-within rest i x at in omega (arith, within)
 
--- the row that a call hands out
+-- the row that a call returns
 pub row_at-is : (rows : List BornRow) (place : Place) (row : Row) → option_map (λ kept. kept.row) (slice_get rows place) ≡ Some row → (kept : BornRow) × (slice_get rows place ≡ Some kept) × (kept.row ≡ row)
 row_at-is rows place row =
     elim (slice_get rows place) as (λ found. option_map (λ kept. kept.row) found ≡ Some row → (kept : BornRow) × (found ≡ Some kept) × (kept.row ≡ row)) [
@@ -26,7 +26,7 @@ row_at-is rows place row =
     ]
 
 module _ (places : List Place) where
-  -- what a put leaves
+  -- after a put
   pub row_with-put : (kept : BornRow) (rows : List BornRow) (key : Key) → row_with key (shown places (put_row places kept rows)) ≡ (if same_cells (key_in places kept) key then Some kept else row_with key (shown places rows))
   row_with-put kept [] key = refl
   row_with-put kept (first ∷ rest) key =
@@ -54,7 +54,7 @@ module _ (places : List Place) where
   row_with-below_all key [] below = refl
   row_with-below_all key (first ∷ rest) below = rw (flipped key (key_in places first) Less below.0) (row_with-below_all key rest below.1)
 
-  -- what a take leaves of other keys
+  -- after a take, for another key
   pub row_with-take_other : (taken : Key) (rows : List BornRow) (key : Key) → same_cells taken key ≡ false → row_with key (shown places (take_row places taken rows)) ≡ row_with key (shown places rows)
   row_with-take_other taken [] key other = refl
   row_with-take_other taken (first ∷ rest) key other =
@@ -66,7 +66,7 @@ module _ (places : List Place) where
         | false ↦ λ same. ap (λ (found : Option BornRow). if same_cells own key then Some first else found) (row_with-take_other taken rest key other)
       ] refl
 
-  -- and of its own
+  -- and for the taken key
   pub row_with-take_own : (taken : Key) (rows : List BornRow) → IsAscending (map (key_in places) rows) → row_with taken (shown places (take_row places taken rows)) ≡ None
   row_with-take_own taken [] ascends = refl
   row_with-take_own taken (first ∷ rest) ascends =
@@ -76,7 +76,7 @@ module _ (places : List Place) where
         | false ↦ λ same. rw same (row_with-take_own taken rest ascends.1)
       ] refl
 
-  -- a row has the key by which it is found
+  -- a row has the key it is found by
   pub key_in-row_with : (rows : List BornRow) (key : Key) (kept : BornRow) → row_with key (shown places rows) ≡ Some kept → key_in places kept ≡ key
   key_in-row_with [] key kept found = cc
   key_in-row_with (first ∷ rest) key kept found =
@@ -86,7 +86,7 @@ module _ (places : List Place) where
         | false ↦ λ same found. key_in-row_with rest key kept found
       ] refl found
 
-  -- it is the row at the place that is found
+  -- it is the row at the place found
   pub row_with-found : (rows : List BornRow) (key : Key) (place : Place) (kept : BornRow) → find_row places key rows ≡ Some place → slice_get rows place ≡ Some kept → row_with key (shown places rows) ≡ Some kept
   row_with-found rows key place kept found at = sym (slice_get-find_row places key rows) ∙ ap (option_and_then (slice_get rows)) found ∙ at
 
@@ -96,7 +96,7 @@ module _ (places : List Place) where
       find_row-found places (key_in places kept) rows place ascends (slice_get-within rows place kept at) (λ d.
       ap (λ (other : BornRow). cells_cmp (key_in places other) (key_in places kept)) (get_or_from_slice_get rows place kept d at) ∙ tied_itself cells_total (key_in places kept))
 
-  -- where a row has a key, it stands at some place
+  -- a row with a key is at some place
   pub place-row_with : (rows : List BornRow) (key : Key) (kept : BornRow) → row_with key (shown places rows) ≡ Some kept → (place : Place) × (slice_get rows place ≡ Some kept)
   place-row_with [] key kept found = absurd cc
   place-row_with (first ∷ rest) key kept found =

@@ -1,4 +1,4 @@
--- What one more entry does to the rows of a table.
+-- The effect of one more entry on the rows of a table.
 use Rattle.std.proofs.Common.{◌≡◌, Bool, true, false, ◌||◌, List, [], ◌∷◌, map, filter_map, Option, Some, None, if◌then◌else◌, sym, ap, ◌∙◌, refl}
 use Rattle.std.specs.List.{cons_option, list_any}
 use Rattle.std.specs.Ordering.{match_ordering}
@@ -28,7 +28,7 @@ either_None true = refl
 either_None false = refl
 
 module _ (places : List Place) (rows : Key → Option BornRow) (keyed : (key : Key) (row : BornRow) → rows key ≡ Some row → key_in places row ≡ key) where
-  -- rows have the keys by which they are found
+  -- rows have the keys they are found by
   IsBelowAll-filter_map : (key : Key) (keys : List Key) → IsBelowAll key keys → IsBelowAll key (map (key_in places) (filter_map rows keys))
   IsBelowAll-filter_map key [] below = tt
   IsBelowAll-filter_map key (first ∷ rest) below =
@@ -45,7 +45,7 @@ module _ (places : List Place) (rows : Key → Option BornRow) (keyed : (key : K
         | Some row ↦ λ e. (rw (keyed first row e) (IsBelowAll-filter_map first rest ascends.0), IsAscending-filter_map rest ascends.1)
       ] refl
 
-  -- the row with a key is the one by which it is found, where the key is there
+  -- the row with a key is found by it, if the key exists
   pub row_with-filter_map : (key : Key) (keys : List Key) → row_with key (shown places (filter_map rows keys)) ≡ (if list_any (λ other. same_cells other key) keys then rows key else None)
   row_with-filter_map key [] = refl
   row_with-filter_map key (first ∷ rest) =
@@ -62,9 +62,9 @@ module _ (places : List Place) (rows : Key → Option BornRow) (keyed : (key : K
         ] refl)
       ] refl
 
-  -- one key is written anew
+  -- one key gets a new row
   module _ (key : Key) (left : Option BornRow) (later : Key → Option BornRow) (is : (other : Key) → later other ≡ (if same_cells key other then left else rows other)) where
-    -- keys above it are as before
+    -- keys above it keep their rows
     filter_map-above : (keys : List Key) → IsBelowAll key keys → filter_map later keys ≡ filter_map rows keys
     filter_map-above [] below = refl
     filter_map-above (first ∷ rest) below = rw (is first, below.0, filter_map-above rest below.1)
@@ -72,7 +72,7 @@ module _ (places : List Place) (rows : Key → Option BornRow) (keyed : (key : K
     here : later key ≡ left
     here = rw (is key, tied_itself cells_total key)
 
-    -- where it was never written, it takes its place
+    -- if it had no row, the new row is inserted
     pub filter_map-insert_key : (row : BornRow) → left ≡ Some row → key_in places row ≡ key → (keys : List Key) → IsAscending keys → filter_map later (insert_key key keys) ≡ put_row places row (filter_map rows keys)
     filter_map-insert_key row puts has_key [] ascends = rw (here, puts)
     filter_map-insert_key row puts has_key (first ∷ rest) ascends =
@@ -98,7 +98,7 @@ module _ (places : List Place) (rows : Key → Option BornRow) (keyed : (key : K
               ] refl)
         ] refl
 
-    -- where it is taken away
+    -- if its row is removed
     pub filter_map-insert_key_taken : left ≡ None → (keys : List Key) → IsAscending keys → filter_map later (insert_key key keys) ≡ take_row places key (filter_map rows keys)
     filter_map-insert_key_taken takes [] ascends = rw (here, takes)
     filter_map-insert_key_taken takes (first ∷ rest) ascends =

@@ -1,4 +1,4 @@
--- What one version does to a table's kept rows.
+-- The effect of one version on a table's kept rows.
 use Rattle.std.specs.Prelude.{not, ◌&&◌, Option, None, is_some, option_and_then, bytes_eq}
 use Rattle.std.specs.Bool.{then_some}
 use Rattle.hippo_values.specs.declared.moments.Moment.{Moment}
@@ -11,11 +11,11 @@ use Rattle.hippo_model.specs.Rows.{key_of}
 use Rattle.hippo_tables_keyed.specs.RowSets.{KeyedRows, with_row, without_row, row_with}
 use Rattle.hippo_model.specs.Versions.{row_fits, key_fits}
 
--- a row with the birth of the one that it takes the place of
+-- a row replaces the one with its key, and keeps the old row's birth
 abbrev pub with_renewed_row : Row → KeyedRows → BornRow → KeyedRows
 with_renewed_row row kept old = with_row (record { row = row; born = old.born }) kept
 
--- a table's kept rows after a version at a moment; none where it is not the table's or does not fit
+-- a table's kept rows after a version at a moment; None if it is not the table's or does not fit
 -- them
 abbrev pub changed : Schema → Moment → Act → KeyedRows → Option KeyedRows
 changed schema moment (Insert table row) kept =

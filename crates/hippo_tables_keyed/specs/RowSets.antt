@@ -1,5 +1,4 @@
--- A table's rows as they are kept: in the order of their keys, each with the moment at which it was
--- born.
+-- A table's rows as they are kept: sorted by key, each with the moment at which it was born.
 use Rattle.std.specs.Prelude.{◌≡◌, ◌≤◌, List, [], ◌∷◌, length, Option, None, Some, if◌then◌else◌, find, position, slice_get, unwrap_or, Result, IsOk, OnOk, OnErr}
 use Rattle.std.specs.Option.{IsSome}
 use Rattle.std.specs.List.{insert}
@@ -15,7 +14,7 @@ use Rattle.hippo_values.specs.Order.{cells_cmp, same_cells}
 use Rattle.hippo_values.specs.declared.values.Value.{Value}
 use Rattle.hippo_model.specs.Rows.{cell_at, key_of, table_rows}
 
--- the places of the key, and the rows
+-- the columns of the key, by their places, and the rows
 pub record KeyedRows : Type 0 where
   pub key : List Place
   pub rows : List BornRow
@@ -32,61 +31,61 @@ abbrev pub IsBelowAll : Key → List Key → Type 0
 IsBelowAll key [] = Unit {0}
 IsBelowAll key (first ∷ rest) = (cells_cmp key first ≡ Less) × IsBelowAll key rest
 
--- each key is below those after it
+-- each key is below those that follow
 abbrev pub IsAscending : List Key → Type 0
 IsAscending [] = Unit {0}
 IsAscending (first ∷ rest) = IsBelowAll first rest × IsAscending rest
 
--- a row put at its place, instead of one with its key
+-- a row inserted at its place, or replacing the one with its key
 abbrev pub put_row : List Place → BornRow → List BornRow → List BornRow
 put_row places kept [] = kept ∷ []
 put_row places kept (first ∷ rest) =
     match_ordering (cells_cmp (key_in places kept) (key_in places first))
     (kept ∷ first ∷ rest) (kept ∷ rest) (first ∷ put_row places kept rest)
 
--- the rows without the one that has a key
+-- the rows without the one with a key
 abbrev pub take_row : List Place → Key → List BornRow → List BornRow
 take_row places key [] = []
 take_row places key (first ∷ rest) =
     if same_cells (key_in places first) key then rest else first ∷ take_row places key rest
 
--- the set with a row put in
+-- the set with a row inserted or replaced
 abbrev pub with_row : BornRow → KeyedRows → KeyedRows
 with_row kept set = record { key = set.key; rows = put_row set.key kept set.rows }
 
--- the set without the row that has a key
+-- the set without the row with a key
 abbrev pub without_row : Key → KeyedRows → KeyedRows
 without_row key set = record { key = set.key; rows = take_row set.key key set.rows }
 
--- the place of the row that has a key
+-- the place of the row with a key
 abbrev pub find_row : List Place → Key → List BornRow → Option Place
 find_row places key rows = position (λ kept. same_cells (key_in places kept) key) rows
 
--- the row that has a key
+-- the row with a key
 abbrev pub row_with : Key → KeyedRows → Option BornRow
 row_with key set = find (λ kept. same_cells (key_in set.key kept) key) set.rows
 
--- a row that is not there
+-- a row that stands in for a missing one
 abbrev pub blank : BornRow
 blank = record { row = []; born = first_moment }
 
--- the row at a place; a blank one where there is none
+-- the row at a place; the blank row if there is none
 abbrev pub row_at_place : List BornRow → Place → BornRow
 row_at_place rows place = unwrap_or (slice_get rows place) blank
 
--- the value in a column of the row at a place; null where there is none
+-- the value in a column of the row at a place; null if there is none
 abbrev pub value_at_place : KeyedRows → Place → Place → Value
 value_at_place set column place = cell_at (row_at_place set.rows place).row column
 
--- what putting a row in comes to: it stands instead of one with its key; nothing where memory is
--- short, which it never is over a row with the key
+-- the result of a put: the row is inserted or replaces the one with its key; when out of memory
+-- nothing changes, and a replacement never is out of memory
 pub record Puts (kept : BornRow) (old new : KeyedRows) (result : Result (Unit {0}) Memory)
     : Type 0 where
   pub ok : OnOk result (new ≡ with_row kept old)
   pub err : OnErr result (new ≡ old)
   pub replaces : IsSome (find_row old.key (key_in old.key kept) old.rows) → IsOk result
 
--- no row of a set has a row's key, and once it is put in, the row stands at a place
+-- no row of a set has the row's key, and an insert puts the row at this place
 pub record IsFree (set : KeyedRows) (row : Row) (place : Place) : Type 0 where
   pub missing : find_row set.key (key_of set.key row) set.rows ≡ None
   pub within : place ≤ length set.rows
@@ -97,7 +96,7 @@ pub record IsFree (set : KeyedRows) (row : Row) (place : Place) : Type 0 where
       (put_row set.key (record { row = row; born = born }) set.rows)
       ≡ Some place
 
--- what an insert comes to: nothing where a row has the key, else the row stands at a place
+-- the result of an insert: nothing changes if a row has the key, otherwise the row is at a place
 abbrev pub Inserts : BornRow → KeyedRows → KeyedRows → Option Place → Type 0
 Inserts kept old new None = IsSome (find_row old.key (key_in old.key kept) old.rows) × (new ≡ old)
 Inserts kept old new (Some place) =

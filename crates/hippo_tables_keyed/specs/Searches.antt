@@ -9,15 +9,15 @@ use Rattle.hippo_tables_keyed.specs.declared.keyed_set.Target.TheVariants.{Key a
 use Rattle.hippo_model.specs.Terms.{Key, Place}
 use Rattle.hippo_model.specs.Rows.{key_of}
 
--- the key of the row that is looked for
+-- the wanted key
 abbrev pub target_key : List Place → Target → Key
 target_key places (ByKey key) = key.now
 target_key places (ByRow row) = key_of places row.now
 
--- a kept row against the one that is looked for, by their keys
+-- a kept row compared with the wanted one, by key
 abbrev pub target_order : List Place → Target → BornRow → Ordering
 target_order places target kept = cells_cmp (key_of places kept.row) (target_key places target)
 
--- what was found in a part of a list, as a place in the list, where the part begins at this place
+-- the result of a search in a part of a list that begins at a place, as a place in the list
 abbrev pub place_from : ℕ → Result ℕ ℕ → Result ℕ ℕ
 place_from start found = result_map_both (λ place. start + place) (λ place. start + place) found

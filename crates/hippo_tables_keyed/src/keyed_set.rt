@@ -1,4 +1,4 @@
-//! A table's rows in the order of their keys.
+//! A table's rows, sorted by key.
 ghost use Rattle.std.specs.Prelude.{◌≡◌, List, ◌∷◌, ◌-◌, ◌^◌, ◌<◌, ◌≤◌, ◌↔◌, [], true, length, map, option_map, slice_get, Some, IsTrue, OnOk, OnErr, IsSome, IfSome, MatchOption};
 ghost use Rattle.std.specs.List.Sorted.{IsSearchInRange, IsBinarySearchResult};
 ghost use Rattle.std.specs.declared.cmp.Ordering.TheVariants.{Equal};
@@ -17,8 +17,8 @@ use std::alloc::Global;
 use std::cmp::Ordering;
 use std::marker::Model;
 
-// Two values of any kinds. It stays a call, so that its callers compare numbers, which most keys
-// are, in few instructions.
+// Compares two values of any kinds. Not inlined, so that its callers compare numbers, which most
+// keys are, in few instructions.
 #[inline(never)]
 fn value_order(value: &Value, other: &Value) -> Ordering
     ensures { result ≡ value_cmp value.now other.now }
@@ -26,7 +26,7 @@ fn value_order(value: &Value, other: &Value) -> Ordering
     value.cmp(other)
 }
 
-/// The value in a row's column, which is null past the row's end, against another value.
+/// Compares the value in a row's column with another value. The column is null past the row's end.
 #[inline(always)]
 pub fn cell_order(row: &[Value], place: usize, other: &Value) -> Ordering
     ensures { result ≡ value_cmp (cell_at row.now place) other.now }
@@ -38,7 +38,7 @@ pub fn cell_order(row: &[Value], place: usize, other: &Value) -> Ordering
     }
 }
 
-// A row's key against another.
+// Compares a row's key with a key.
 fn key_order(places: &[usize], row: &[Value], key: &[Value]) -> Ordering
     ensures { result ≡ cells_cmp (key_of places.now row.now) key.now }
 {
@@ -51,7 +51,7 @@ fn key_order(places: &[usize], row: &[Value], key: &[Value]) -> Ordering
     places.len().cmp(&key.len())
 }
 
-// Two rows by their keys.
+// Compares two rows by their keys.
 fn row_order(places: &[usize], row: &[Value], other: &[Value]) -> Ordering
     ensures { result ≡ cells_cmp (key_of places.now row.now) (key_of places.now other.now) }
 {
@@ -64,7 +64,7 @@ fn row_order(places: &[usize], row: &[Value], other: &[Value]) -> Ordering
     Ordering::Equal
 }
 
-// What a search looks for: the row with a key, or the row with the key of another.
+// What a search looks for: the row with a key, or the row with the same key as another row.
 #[derive(Clone, Copy)]
 enum Target<'a> {
     Key(&'a [Value]),
@@ -72,7 +72,7 @@ enum Target<'a> {
 }
 
 impl<'a> Target<'a> {
-    // The first value of the key, where the first of the key's columns has this place.
+    // The first value of the wanted key; `place` is the first column of the key.
     #[inline(always)]
     fn first(&self, place: usize) -> Option<&'a Value>
         ensures { (rest : List Place) → IfSome result (λ value.
@@ -84,7 +84,7 @@ impl<'a> Target<'a> {
         }
     }
 
-    // Whether the key has one value, where the key's columns are one.
+    // Whether the wanted key has one value, given that the table's key has one column.
     #[inline(always)]
     fn is_single(&self) -> bool
         ensures { (place : Place) → result ≡ true
@@ -97,7 +97,8 @@ impl<'a> Target<'a> {
     }
 }
 
-// A row's key against the one that is looked for, where numbers that both begin with tell.
+// Compares a row's key with the wanted key by their first values, if these are numbers that decide
+// the comparison.
 #[inline(always)]
 fn first_order(row: &[Value], places: &[usize], target: &Target<'_>) -> Option<Ordering>
     ensures { IfSome result (λ order. cells_cmp (key_of places.now row.now)
@@ -117,7 +118,7 @@ fn first_order(row: &[Value], places: &[usize], target: &Target<'_>) -> Option<O
     }
 }
 
-// A row's key against the one that is looked for, by all their values.
+// Compares a row's key with the wanted key, by all values.
 fn whole_order(row: &[Value], places: &[usize], target: &Target<'_>) -> Ordering
     ensures { result ≡ cells_cmp (key_of places.now row.now) (target_key places.now target.now) }
 {
@@ -127,7 +128,7 @@ fn whole_order(row: &[Value], places: &[usize], target: &Target<'_>) -> Ordering
     }
 }
 
-// A kept row against the one that is looked for, by their keys.
+// Compares a kept row with the wanted one, by key.
 #[inline(always)]
 fn target_order(kept: &BornRow, places: &[usize], target: &Target<'_>) -> Ordering
     ensures { result ≡ target_order places.now target.now kept.now }
@@ -139,7 +140,7 @@ fn target_order(kept: &BornRow, places: &[usize], target: &Target<'_>) -> Orderi
     }
 }
 
-// Whether a piece begins with a row that does not stand behind the one that is looked for.
+// Whether a piece begins with a row that does not come after the wanted one.
 fn begins_low(piece: &Piece<BornRow>, places: &[usize], target: &Target<'_>) -> bool
     ensures { result ≡ begins_low (target_order places.now target.now) piece.now.members.items }
 {
@@ -149,7 +150,7 @@ fn begins_low(piece: &Piece<BornRow>, places: &[usize], target: &Target<'_>) -> 
     }
 }
 
-// How many pieces begin so, where those that do come first.
+// The number of pieces that begin so, if those that do come first.
 fn low_pieces(pieces: &[Piece<BornRow>], places: &[usize], target: &Target<'_>) -> usize
     ensures bound { result ≤ length pieces.now }
     ensures parted { PartsLow (target_order places.now target.now) pieces.now result }
@@ -157,7 +158,7 @@ fn low_pieces(pieces: &[Piece<BornRow>], places: &[usize], target: &Target<'_>) 
     pieces.partition_point(|piece| begins_low(piece, places, target))
 }
 
-// The place of the row that is looked for in a piece, or else where it would stand.
+// The place of the wanted row in a piece, or the place where it would be inserted.
 fn search_piece(
     piece: &Piece<BornRow>,
     places: &[usize],
@@ -172,7 +173,7 @@ fn search_piece(
         .binary_search_by(|kept| target_order(kept, places, target))
 }
 
-// Whether all rows stand before the one that is looked for, as most often when one is put in.
+// Whether all rows come before the wanted one. This is the most frequent case for an insert.
 fn stands_after_all(rows: &Pieces<BornRow>, places: &[usize], target: &Target<'_>) -> bool
     ensures { result ≡ ends_below (target_order places.now target.now) rows.now }
 {
@@ -182,7 +183,7 @@ fn stands_after_all(rows: &Pieces<BornRow>, places: &[usize], target: &Target<'_
     }
 }
 
-// What was found in a piece, as a place among all rows, of which so many stand before the piece.
+// The result of a search in a piece, as a place among all rows; `start` rows come before the piece.
 fn place_from(start: usize, found: Result<usize, usize>) -> Result<usize, usize>
     requires { IsSearchInRange found (2 ^ 64 - 1 - start) }
     ensures { result ≡ place_from start found }
@@ -193,7 +194,7 @@ fn place_from(start: usize, found: Result<usize, usize>) -> Result<usize, usize>
     }
 }
 
-// Where a key stands among all rows, or where it would.
+// The place of a key among all rows, or the place where it would be inserted.
 fn search(rows: &Pieces<BornRow>, places: &[usize], target: &Target<'_>) -> Result<usize, usize>
     ensures range { IsSearchInRange result (length rows.now) }
     ensures place { IsBinarySearchResult (target_order places.now target.now) rows.now result }
@@ -211,7 +212,7 @@ fn search(rows: &Pieces<BornRow>, places: &[usize], target: &Target<'_>) -> Resu
     place_from(start, search_piece(&pieces[low - 1], places, target))
 }
 
-// The number at a place of a row.
+// The number in a column of a row.
 fn number_at(row: &[Value], place: usize) -> Option<i64> {
     match row.get(place) {
         Some(Value::Int(number)) => Some(*number),
@@ -219,7 +220,7 @@ fn number_at(row: &[Value], place: usize) -> Option<i64> {
     }
 }
 
-// The number at a place of a kept row.
+// The number in a column of a kept row.
 fn kept_number(kept: Option<&BornRow>, place: usize) -> Option<i64> {
     match kept {
         Some(kept) => number_at(kept.row.as_slice(), place),
@@ -227,7 +228,7 @@ fn kept_number(kept: Option<&BornRow>, place: usize) -> Option<i64> {
     }
 }
 
-// The number with which a key begins that is looked for.
+// The number that the wanted key begins with.
 fn target_number(target: &Target<'_>, place: usize) -> Option<i64> {
     match target.first(place) {
         Some(Value::Int(number)) => Some(*number),
@@ -235,7 +236,7 @@ fn target_number(target: &Target<'_>, place: usize) -> Option<i64> {
     }
 }
 
-// A number's share of the numbers from one to another, as so many places.
+// The position of a number between two others, scaled to a number of places.
 fn share(number: i64, first: i64, last: i64, places: usize) -> usize {
     if first < last {
         let before = number.abs_diff(first).saturating_mul(places as u64);
@@ -245,8 +246,8 @@ fn share(number: i64, first: i64, last: i64, places: usize) -> usize {
     }
 }
 
-// Where a row stands whose key begins with a number, if one row has each of the numbers from that of
-// the first row to that of the last.
+// The place of the wanted row by interpolation. It is exact if the keys begin with consecutive
+// numbers, one row each.
 fn likely_place(rows: &Pieces<BornRow>, places: &[usize], target: &Target<'_>) -> Option<usize> {
     let place = *places.first()?;
     let number = target_number(target, place)?;
@@ -255,7 +256,7 @@ fn likely_place(rows: &Pieces<BornRow>, places: &[usize], target: &Target<'_>) -
     Some(share(number, first, last, rows.len().saturating_sub(1)))
 }
 
-// Whether the row at a place is the one that is looked for.
+// Whether the row at a place is the wanted one.
 fn stands_at(rows: &Pieces<BornRow>, places: &[usize], target: &Target<'_>, place: usize) -> bool
     ensures { result ≡ true → (place < length rows.now)
         × ((kept : BornRow) → slice_get rows.now place ≡ Some kept
@@ -264,8 +265,8 @@ fn stands_at(rows: &Pieces<BornRow>, places: &[usize], target: &Target<'_>, plac
     place < rows.len() && target_order(rows.get(place), places, target).is_eq()
 }
 
-// Where a key stands among all rows, or where it would; it is looked for first where it stands if
-// keys are numbers without gaps.
+// The place of a key among all rows, or the place where it would be inserted. Tries first the place
+// it has if keys are consecutive numbers.
 fn look_up(rows: &Pieces<BornRow>, places: &[usize], target: &Target<'_>) -> Result<usize, usize>
     ensures range { IsSearchInRange result (length rows.now) }
     ensures place { IsBinarySearchResult (target_order places.now target.now) rows.now result }
@@ -276,7 +277,7 @@ fn look_up(rows: &Pieces<BornRow>, places: &[usize], target: &Target<'_>) -> Res
     }
 }
 
-/// The rows of a table in the order of their keys, each with the moment at which it was born.
+/// The rows of a table, sorted by key, each with the moment at which it was born.
 #[derive(Drop)]
 pub struct KeyedSet {
     key: Places,
@@ -298,7 +299,7 @@ impl Model for KeyedSet {
 }
 
 impl KeyedSet {
-    /// No rows, for a table whose key has these places; takes no memory.
+    /// An empty set for a table whose key has these columns. Allocates no memory.
     pub fn new(alloc: Global, key: Places) -> KeyedSet
         ensures { result ≡ record { key = key; rows = [] } }
     {
@@ -308,8 +309,8 @@ impl KeyedSet {
         }
     }
 
-    /// Puts a row at its place in the order of keys, instead of a row with its key. The set is
-    /// unchanged where memory is short, which it never is over a row with the key.
+    /// Inserts a row at its place in the order of keys, or replaces the row with the same key. The
+    /// set is unchanged when out of memory, which cannot happen when a row is replaced.
     pub fn put(&mut self, row: Cells, born: Moment) -> Result<(), Memory>
         ensures { Puts (record { row = row; born = born }) self.old self.new result }
     {
@@ -323,7 +324,7 @@ impl KeyedSet {
         }
     }
 
-    /// Where a row comes to stand once it is put in, none where a row has its key.
+    /// The place that a row has once it is inserted. None if a row with its key exists.
     pub fn place_for(&self, row: &Cells) -> Option<usize>
         ensures { MatchOption result
             (IsSome (find_row self.now.key (key_of self.now.key row.now) self.now.rows))
@@ -336,7 +337,7 @@ impl KeyedSet {
         }
     }
 
-    /// Puts a row where it comes to stand.
+    /// Inserts a row at its place, as given by `place_for`.
     pub fn insert_at(&mut self, place: usize, row: Cells, born: Moment) -> Result<(), Memory>
         requires { IsFree self.old row place }
         ensures ok { OnOk result (self.new
@@ -347,7 +348,7 @@ impl KeyedSet {
         Ok(())
     }
 
-    /// Puts a row in the place of the one that has its key, which is handed out.
+    /// Replaces the row with the same key, which is at `place`, and returns it.
     pub fn replace(&mut self, place: usize, row: Cells, born: Moment) -> BornRow
         requires { find_row self.old.key (key_of self.old.key row) self.old.rows ≡ Some place }
         ensures set { self.new ≡ with_row (record { row = row; born = born }) self.old }
@@ -356,7 +357,7 @@ impl KeyedSet {
         self.rows.replace(place, BornRow { row, born })
     }
 
-    /// Takes away the row with a key, if there is one.
+    /// Removes the row with a key, if there is one.
     pub fn take(&mut self, key: &Cells)
         ensures { self.new ≡ without_row key.now self.old }
     {
@@ -366,7 +367,7 @@ impl KeyedSet {
         }
     }
 
-    /// The place of the row with a key, none exactly where no row has it.
+    /// The place of the row with a key; None exactly when there is none.
     pub fn find(&self, key: &Cells) -> Option<usize>
         ensures place { result ≡ find_row self.now.key key.now self.now.rows }
         ensures range { IfSome result (λ place. place < length self.now.rows) }
@@ -375,7 +376,7 @@ impl KeyedSet {
         self.find_values(key.as_slice())
     }
 
-    /// The place of the row with these values of its key, none exactly where no row has them.
+    /// The place of the row with these key values; None exactly when there is none.
     pub fn find_values(&self, key: &[Value]) -> Option<usize>
         ensures place { result ≡ find_row self.now.key key.now self.now.rows }
         ensures range { IfSome result (λ place. place < length self.now.rows) }
@@ -384,7 +385,7 @@ impl KeyedSet {
         look_up(&self.rows, self.key.as_slice(), &Target::Key(key)).ok()
     }
 
-    /// The place of the row that has the same key as this one, none exactly where no row has it.
+    /// The place of the row with the same key as this row; None exactly when there is none.
     pub fn find_like(&self, row: &Cells) -> Option<usize>
         ensures place { result ≡ find_row self.now.key (key_of self.now.key row.now) self.now.rows }
         ensures range { IfSome result (λ place. place < length self.now.rows) }
@@ -413,7 +414,7 @@ impl KeyedSet {
         self.rows.is_empty()
     }
 
-    /// The places of the key's columns.
+    /// The columns of the key, by their places.
     pub fn key(&self) -> &Places
         ensures { result.now ≡ self.now.key }
     {
@@ -438,7 +439,7 @@ impl KeyedSet {
         &self.rows.get(place).row
     }
 
-    /// The row at a place with the moment at which it was born.
+    /// The row at a place, counted from 0, with the moment at which it was born.
     pub fn born_row(&self, place: usize) -> &BornRow
         requires { place < length self.now.rows }
         ensures { slice_get self.now.rows place ≡ Some result.now }

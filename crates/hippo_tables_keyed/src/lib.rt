@@ -1,4 +1,4 @@
-//! A table's rows in the order of their keys, in pieces.
+//! A table's rows, sorted by key and held in pieces.
 #![tactic(auto)]
 
 mod keyed_set;

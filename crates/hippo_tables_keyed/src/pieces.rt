@@ -1,4 +1,4 @@
-//! A long list in pieces, so that an edit in its middle moves one piece alone.
+//! A long list held in pieces, so that an edit in its middle moves the members of one piece only.
 ghost use Rattle.std.specs.Prelude.{◌≡◌, ◌+◌, ◌-◌, ◌^◌, ◌<◌, ◌≤◌, [], ◌∷◌, length, map, take, slice_get, slice_set, slice_index_or, option_copied, Some, IfSome, IsTrue, ◌↔◌, OnOk, OnErr, MatchOption};
 ghost use Rattle.std.specs.List.{insert, remove};
 ghost use Rattle.hippo_tables_keyed.specs.Pieces.{contents, all_members, start_of, IsMarked, AreFull, IsReached, IsCutInTwo};
@@ -8,17 +8,17 @@ use std::alloc::Global;
 use std::marker::Model;
 use std::mem;
 
-// How many members a piece of a short list has at most, where memory allows.
+// The maximum number of members in a piece of a short list, unless out of memory.
 const PIECE_LIMIT: usize = 128;
 
-// Members that stand behind one another, and how many of the list's there are up to their end.
+// Consecutive members of a list, and the number of the list's members up to their end.
 #[derive(Drop)]
 pub(crate) struct Piece<T> {
     pub(crate) members: Vec<T>,
     pub(crate) end: usize,
 }
 
-/// A list whose look-ups and edits by place stay fast when it is long.
+/// A list whose lookups and edits by place stay fast when it is long.
 #[derive(Drop)]
 pub struct Pieces<T> {
     pub(crate) pieces: Vec<Piece<T>>,
@@ -36,7 +36,7 @@ impl<T> Model for Pieces<T> {
     ghost invariant = { λ list. IsWhole list.pieces.items list.count };
 }
 
-// How many members stand before a piece.
+// The number of members before a piece.
 pub(crate) fn start<T>(pieces: &[Piece<T>], index: usize) -> usize
     requires range { index ≤ length pieces.now }
     requires marked { IsMarked pieces.now }
@@ -45,8 +45,8 @@ pub(crate) fn start<T>(pieces: &[Piece<T>], index: usize) -> usize
     if index == 0 { 0 } else { pieces[index - 1].end }
 }
 
-// The piece at a place's share of the list, but for the last piece. It holds the member at that
-// place where all but the last are of one length, as when members came in their order.
+// The piece that is likely to hold a place, by interpolation. It is the right one if all pieces but
+// the last have the same length, as when members were added in order.
 fn likely<T>(pieces: &[Piece<T>], place: usize) -> usize
     requires { IsMarked pieces.now }
     ensures { result ≤ length pieces.now }
@@ -60,7 +60,8 @@ fn likely<T>(pieces: &[Piece<T>], place: usize) -> usize
     }
 }
 
-// The piece that holds the member at a place, among all, and how many stand before it.
+// The piece that holds the member at a place, and the number of members before the piece; by binary
+// search.
 fn reaching_by_search<T>(pieces: &[Piece<T>], place: usize) -> (usize, usize)
     requires { IsMarked pieces.now }
     ensures { IsReached (contents pieces.now) place result.0 result.1 }
@@ -69,8 +70,8 @@ fn reaching_by_search<T>(pieces: &[Piece<T>], place: usize) -> (usize, usize)
     (index, start(pieces, index))
 }
 
-// The piece that holds the member at a place, which is tried by its share of the list first, and
-// how many stand before it. A call of its own, so that `reaching` stays short.
+// The piece that holds the member at a place, and the number of members before the piece. Tries the
+// piece found by interpolation first. Not inlined, so that `reaching` stays short.
 #[inline(never)]
 fn reaching_by_share<T>(pieces: &[Piece<T>], place: usize) -> (usize, usize)
     requires { IsMarked pieces.now }
@@ -84,7 +85,7 @@ fn reaching_by_share<T>(pieces: &[Piece<T>], place: usize) -> (usize, usize)
     }
 }
 
-// The piece at an index and how many stand before it, where it holds the member at a place.
+// The piece at an index and the number of members before it, if it holds the member at a place.
 #[inline(always)]
 fn holding<T>(pieces: &[Piece<T>], index: usize, place: usize) -> Option<(usize, usize)>
     requires { IsMarked pieces.now }
@@ -101,9 +102,9 @@ fn holding<T>(pieces: &[Piece<T>], index: usize, place: usize) -> Option<(usize,
     }
 }
 
-// The piece that holds the member at a place, and how many stand before it. The one that does where
-// each piece before it is as long as those of a short list may be, as when members came in their
-// order, is tried first, for speed.
+// The piece that holds the member at a place, and the number of members before the piece. For
+// speed, it first tries the piece that is right if every piece before it has the length limit of
+// short lists, as when members were added in order.
 #[inline(always)]
 fn reaching<T>(pieces: &[Piece<T>], place: usize) -> (usize, usize)
     requires { IsMarked pieces.now }
@@ -115,7 +116,7 @@ fn reaching<T>(pieces: &[Piece<T>], place: usize) -> (usize, usize)
     }
 }
 
-// Marks anew where the pieces end, from one on.
+// Recomputes the ends of the pieces, from one on.
 fn mark<T>(pieces: &mut [Piece<T>], first: usize, start: usize)
     requires front { IsMarked (take first pieces.old) }
     requires begins { start ≡ start_of (contents pieces.old) first }
@@ -130,7 +131,7 @@ fn mark<T>(pieces: &mut [Piece<T>], first: usize, start: usize)
     }
 }
 
-// The first piece, with its first member.
+// Adds the first piece, with the first member.
 fn begin<T: Drop>(pieces: &mut Vec<Piece<T>>, member: T) -> Result<(), Memory>
     requires { pieces.old.items ≡ [] }
     ensures marked { OnOk result (IsMarked pieces.new.items) }
@@ -143,17 +144,17 @@ fn begin<T: Drop>(pieces: &mut Vec<Piece<T>>, member: T) -> Result<(), Memory>
     Ok(())
 }
 
-// How many members a piece has at most, where memory allows. An edit moves members of one piece and
-// marks the pieces behind it, so the longer the list, the more there may be of both.
+// The maximum number of members in a piece, unless out of memory. An edit moves the members of one
+// piece and updates the ends of the pieces after it. So both may grow with the length of the list.
 fn piece_limit(pieces: usize) -> usize
     ensures { 0 < result }
 {
     PIECE_LIMIT.max(pieces.saturating_mul(2))
 }
 
-// Cuts a piece that is too long in two, where memory allows; the upper part is handed out. The last
-// one keeps as many members as a piece may have, so that members that come in their order fill each
-// piece; any other is cut in halves. What room is left over is given back.
+// Splits a piece that is too long, unless out of memory, and returns the upper part. The last piece
+// keeps as many members as the limit allows, so that members added in order fill each piece. Any
+// other piece is split in half. Spare capacity is freed.
 fn cut<T>(piece: &mut Piece<T>, limit: usize, is_last: bool) -> Option<Piece<T>>
     requires some { 0 < limit }
     requires size { length piece.old.members.items ≤ piece.old.end }
@@ -172,7 +173,8 @@ fn cut<T>(piece: &mut Piece<T>, limit: usize, is_last: bool) -> Option<Piece<T>>
     Some(Piece { members, end })
 }
 
-// Cuts the piece at an index where it is too long and memory allows; the list stays what it was.
+// Splits the piece at an index if it is too long and memory allows. The list's members stay the
+// same.
 fn split<T: Drop>(pieces: &mut Vec<Piece<T>>, index: usize)
     requires range { index < length pieces.old.items }
     requires marked { IsMarked pieces.old.items }
@@ -192,7 +194,7 @@ fn split<T: Drop>(pieces: &mut Vec<Piece<T>>, index: usize)
     }
 }
 
-// Puts a member into a piece.
+// Inserts a member into a piece.
 fn put_in<T: Drop>(
     pieces: &mut Vec<Piece<T>>,
     index: usize,
@@ -218,7 +220,7 @@ fn put_in<T: Drop>(
     Ok(())
 }
 
-// Takes a member out of a piece, and the piece away where it is empty then.
+// Removes a member from a piece. If the piece is then empty, it is removed too.
 fn take_out<T: Drop>(pieces: &mut Vec<Piece<T>>, index: usize, place: usize)
     requires range { index < length pieces.old.items }
     requires inside { place < length (slice_index_or (contents pieces.old.items) index []) }
@@ -236,7 +238,7 @@ fn take_out<T: Drop>(pieces: &mut Vec<Piece<T>>, index: usize, place: usize)
     }
 }
 
-// Puts a member in the place of one of a piece, which is handed out.
+// Replaces a member of a piece, and returns the old member.
 fn exchange<T>(piece: &mut Piece<T>, place: usize, member: T) -> T
     requires { place < length piece.old.members.items }
     ensures end { piece.new.end ≡ piece.old.end }
@@ -247,7 +249,7 @@ fn exchange<T>(piece: &mut Piece<T>, place: usize, member: T) -> T
 }
 
 impl<T> Pieces<T> {
-    /// The empty list; takes no memory.
+    /// An empty list. Allocates no memory.
     pub fn new(alloc: Global) -> Pieces<T>
         ensures { result ≡ [] }
     {
@@ -293,7 +295,7 @@ impl<T> Pieces<T> {
 }
 
 impl<T: Drop> Pieces<T> {
-    /// Writes over the member at a place.
+    /// Overwrites the member at a place.
     pub fn set(&mut self, place: usize, member: T)
         requires { place < length self.old }
         ensures { self.new ≡ slice_set self.old place member }
@@ -302,7 +304,7 @@ impl<T: Drop> Pieces<T> {
         self.pieces[index].members[place - start] = member;
     }
 
-    /// Puts a member in the place of the one at a place, which is handed out.
+    /// Replaces the member at a place, and returns the old member.
     pub fn replace(&mut self, place: usize, member: T) -> T
         requires { place < length self.old }
         ensures set { self.new ≡ slice_set self.old place member }
@@ -312,7 +314,7 @@ impl<T: Drop> Pieces<T> {
         exchange(&mut self.pieces[index], place - start, member)
     }
 
-    /// Adds a member before the one at a place, or at the end.
+    /// Inserts a member before the one at a place, or at the end.
     pub fn insert(&mut self, place: usize, member: T) -> Result<(), Memory>
         requires { place ≤ length self.old }
         ensures ok { OnOk result (self.new ≡ insert self.old place member) }
@@ -334,7 +336,7 @@ impl<T: Drop> Pieces<T> {
         Ok(())
     }
 
-    /// Takes out the member at a place.
+    /// Removes the member at a place.
     pub fn remove(&mut self, place: usize)
         requires { place < length self.old }
         ensures { self.new ≡ remove self.old place }

@@ -1,4 +1,4 @@
--- Entries of an order by a column: each row of the set keeps its own.
+-- Entries of a secondary order: each row of the set keeps its own.
 use Rattle.std.proofs.Common.{◌≡◌, Bool, true, false, ℕ, zero, suc, ◌+◌, ◌<◌, ◌≤◌, List, [], ◌∷◌, ◌++◌, map, length, get_or, Option, Some, None, IfSome, if◌then◌else◌, slice_get, inl, inr, sym, ap, ◌∙◌, refl, subst, arith, add-one, add-zero, zero-add}
 use Rattle.std.specs.Prelude.{option_map, OnOk, Result, Ok, Err}
 use Rattle.std.specs.List.{All, Contains, range_with_len}
@@ -60,7 +60,7 @@ own-key column places row key is =
     let size : suc (length places) ≡ length (order_key column places row) = ap suc (sym (length-key_of places row)) in
     ap (λ (k : List Place). key_of k (order_key column places row)) (is ∙ ap (range_with_len 0) size) ∙ all-cells (order_key column places row)
 
--- ---- entries among which one is put or taken
+-- ---- entries of which one is inserted or removed
 
 module _ (entries : KeyedRows) (born : Moment) (entry : Key) (own : key_of entries.key entry ≡ entry) where
   abbrev pub put : KeyedRows
@@ -91,7 +91,7 @@ entries-differ column places old other apart =
       | Greater ↦ refl
     ]
 
--- rows with one key and one value have one entry
+-- rows with the same key and value have the same entry
 entries-same : (column : Place) (places : List Place) (old row : Row) → is_eq (value_cmp (cell_at old column) (cell_at row column)) ≡ true → key_of places old ≡ key_of places row → order_key column places old ≡ order_key column places row
 entries-same column places old row alike same =
     let cell : cell_at old column ≡ cell_at row column = exact (value_cmp (cell_at old column) (cell_at row column)) refl alike in
@@ -103,7 +103,7 @@ entries-same column places old row alike same =
     exact Greater e test = absurd (false≢true test)
 
 module _ (column : Place) (set entries : KeyedRows) (are : AreOrderKeysOf column set entries) where
-  -- whatever becomes of the entries, rows keep theirs where each entry that stood there stays
+  -- whatever happens to the entries, rows keep theirs if each existing entry stays
   covers-kept : (later : KeyedRows) → ((entry : Key) → HasOrderKey entries entry → HasOrderKey later entry) → later.key ≡ entries.key → AreOrderKeysOf column set later
   covers-kept later kept same = record {
     key = same ∙ are.key;
@@ -117,7 +117,7 @@ module _ (column : Place) (set entries : KeyedRows) (are : AreOrderKeysOf column
     abbrev entry : Key
     entry = order_key column set.key row
 
-    -- a row is put; its own entry stands there, and so do those of other keys
+    -- a row is put: its own entry exists, and so do those of other keys
     covers-put : (later : KeyedRows) → later.key ≡ entries.key → HasOrderKey later entry → ((kept : BornRow) → same_cells (key_of set.key row) (key_in set.key kept) ≡ false → HasOrderKey entries (order_key column set.key kept.row) → HasOrderKey later (order_key column set.key kept.row)) → AreOrderKeysOf column (with_row new set) later
     covers-put later same own others = record {
       key = same ∙ are.key;
@@ -131,14 +131,14 @@ module _ (column : Place) (set entries : KeyedRows) (are : AreOrderKeysOf column
     pub own_key : key_of entries.key entry ≡ entry
     own_key = own-key column set.key row entries.key are.key
 
-    -- where the row's key is new
+    -- if the row's key is new
     pub ready-new : AreReadyFor column new set (put entries born entry own_key)
     ready-new = (
       covers-put (put entries born entry own_key) refl (HasOrderKey-own entries born entry own_key) (λ kept other has. HasOrderKey-put entries born entry own_key (order_key column set.key kept.row) has),
       λ none. covers-kept (put entries born entry own_key) (HasOrderKey-put entries born entry own_key) refl,
     )
 
-    -- where another row has it
+    -- if another row has it
     module _ (old : BornRow) (found : row_with (key_of set.key row) set ≡ Some old) where
       same_key : key_in set.key old ≡ key_of set.key row
       same_key = key_in-row_with set.key set.rows (key_of set.key row) old found
@@ -157,7 +157,7 @@ module _ (column : Place) (set entries : KeyedRows) (are : AreOrderKeysOf column
           let had : HasOrderKey entries (order_key column set.key old.row) = subst (λ (known : Option BornRow). IfSome known (λ kept. HasOrderKey entries (order_key column set.key kept.row))) found (are.covers (key_of set.key row)) in
           covers-put entries refl (subst (HasOrderKey entries) (entries-same column set.key old.row row alike same_key) had) (λ kept other has. has)
 
-  -- a row is taken; entries of other keys stand as before
+  -- a row is removed: entries of other keys stay
   module _ (ascends : IsAscending (map (key_in set.key) set.rows)) (taken : Key) where
     covers-take : (later : KeyedRows) → later.key ≡ entries.key → ((kept : BornRow) → same_cells taken (key_in set.key kept) ≡ false → HasOrderKey entries (order_key column set.key kept.row) → HasOrderKey later (order_key column set.key kept.row)) → AreOrderKeysOf column (without_row taken set) later
     covers-take later same others = record {
@@ -170,7 +170,7 @@ module _ (column : Place) (set entries : KeyedRows) (are : AreOrderKeysOf column
         by_key key false is = subst (λ (found : Option BornRow). IfSome found (λ kept. HasOrderKey later (order_key column set.key kept.row))) (sym (row_with-take_other set.key taken set.rows key is))
             (IfSome-weaker (λ (kept : BornRow). HasOrderKey entries (order_key column set.key kept.row)) (λ (kept : BornRow). HasOrderKey later (order_key column set.key kept.row)) (row_with key set) (λ kept found has. others kept (ap (same_cells taken) (key_in-row_with set.key set.rows key kept found) ∙ is) has) (are.covers key))
 
-    -- where no row has the key
+    -- if no row has the key
     pub forgotten-none : AreOrderKeysOf column (without_row taken set) entries
     forgotten-none = covers-take entries refl (λ kept other has. has)
 
@@ -208,7 +208,7 @@ forgotten-at column set entries taken place old are ascends found at =
 
 -- ---- entries of one row after the other
 
--- the rows at the first places of a list have their entries
+-- the entries contain those of the rows at the first places of a list
 pub record AreFilled (column : Place) (set : KeyedRows) (places : List Place) (entries : KeyedRows) (end : ℕ) : Type 0 where
   pub key : entries.key ≡ range_with_len 0 (suc (length set.key))
   pub so_far : (at : ℕ) → at < end → (place : Place) → get_or places at place ≡ place → (kept : BornRow) → slice_get set.rows place ≡ Some kept → HasOrderKey entries (order_key column set.key kept.row)
@@ -235,14 +235,14 @@ AreFilled-next column set places entries later end own row born only at is fille
       ];
     })
 
--- where all places of a list have been gone through, the rows at them have their entries
+-- once all places of a list are done, the entries contain those of their rows
 pub AreFilled-all : (column : Place) (set : KeyedRows) (places : List Place) (entries : KeyedRows) (end : ℕ) → length places ≤ end → AreFilled column set places entries end → AreEntered column set places entries
 AreFilled-all column set places entries end past filled = record {
   key = filled.key;
   each = λ place among kept at. filled.so_far among.0 (let within = among.1 in omega arith) place among.2 kept at;
 }
 
--- where these are the places of all rows, in whatever order, each row has its entry
+-- if the list is a permutation of the places of all rows, each row has its entry
 pub entered-all : (column : Place) (set : KeyedRows) (places : List Place) (entries : KeyedRows) → IsPermutation (range_with_len 0 (length set.rows)) places → AreEntered column set places entries → AreOrderKeysOf column set entries
 entered-all column set places entries moved entered = record {
   key = entered.key;
@@ -259,7 +259,7 @@ entered-all column set places entries moved entered = record {
         let at = place-row_with set.key set.rows key kept is in
         entered.each at.0 (among at.0 (slice_get-within set.rows at.0 kept at.1)) kept at.1
 
--- the places of all rows, in whatever order, are places of rows
+-- a permutation of the places of all rows contains only places of rows
 pub places-below : (n : ℕ) (places : List Place) → IsPermutation (range_with_len 0 n) places → All (λ place. place < n) places
 places-below n places moved =
     All-permutation (λ place. place < n) (range_with_len 0 n) places moved (λ k d within. let l : k < n = simp length-range_with_len at within in rw (get_or-range_with_len 0 n k d l) (omega arith))

@@ -1,4 +1,4 @@
--- The rows within two bounds of a column are those whose entries stand between two places.
+-- The rows within two bounds of a column are those whose entries are in a range.
 use Rattle.std.proofs.Common.{◌≡◌, true, false, ℕ, zero, suc, ◌+◌, ◌<◌, ◌≤◌, List, [], ◌∷◌, ◌++◌, map, length, Option, Some, None, IfSome, slice_get, inl, inr, sym, ap, ◌∙◌, refl, subst, arith, ltb-true, ltb-false}
 use Rattle.std.specs.Prelude.{option_map, unwrap_or}
 use Rattle.std.specs.List.{Contains}
@@ -14,7 +14,7 @@ use Rattle.hippo_tables_rows.specs.ColumnOrders.{order_key, HasOrderKey, AreOrde
 use Rattle.hippo_tables_rows.specs.Ranges.{HasFront, KeepsBound, IsEdge}
 use Rattle.hippo_tables_keyed.proofs.RowsByKey.{slice_get-within, find_row-at, row_with-found, place-row_with}
 
--- an entry stands at some place
+-- an entry is at some place
 entry-place : (entries : KeyedRows) (entry : Key) → HasOrderKey entries entry → (place : Place) × (kept : BornRow) × (slice_get entries.rows place ≡ Some kept) × (kept.row ≡ entry)
 entry-place entries entry =
     elim (row_with entry entries) as (λ found. row_with entry entries ≡ found → option_map (λ kept. kept.row) found ≡ Some entry → (place : Place) × (kept : BornRow) × (slice_get entries.rows place ≡ Some kept) × (kept.row ≡ entry)) [
@@ -25,7 +25,7 @@ entry-place entries entry =
           (at.0, kept, at.1, row)
     ] refl
 
--- one entry more is looked at
+-- one more entry is read
 pub next-gathered : (entries set : KeyedRows) (start here : ℕ) (found later : List Place) (row : Row) → option_map (λ kept. kept.row) (slice_get entries.rows here) ≡ Some row
     → ((place : Place) → Contains found place → Contains later place)
     → ((cell : Value) (kept : BornRow) (place : Place) → slice_get set.rows place ≡ Some kept → row ≡ cell ∷ key_of set.key kept.row → Contains later place)
@@ -39,7 +39,7 @@ next-gathered entries set start here found later row stands stay added gathered 
       added cell kept place at_place (sym is ∙ begins)
 ]
 
--- the key in an entry is that of the row which has the entry
+-- the key in an entry is that of its row
 pub found-remaining : (set : KeyedRows) (entry : Key) (first : Value) (key : Key) (found : Option Place) → IsAscending (map (key_in set.key) set.rows) → entry ≡ first ∷ key → found ≡ find_row set.key key set.rows
     → (cell : Value) (kept : BornRow) (place : Place) → slice_get set.rows place ≡ Some kept → entry ≡ cell ∷ key_of set.key kept.row → found ≡ Some place
 found-remaining set entry first key found ascends is searched cell kept place at has =
@@ -52,14 +52,14 @@ contains-pushed old new place other pushed is =
     let same : place ≡ other = cc in
     subst (λ (x : Place). Contains new x) same (subst (λ (l : List Place). Contains l place) (sym pushed) (Contains-push old place))
 
--- a place among those that stand within two ends
+-- a place in the range between two ends
 within-ends : (set : KeyedRows) (column : Place) (low high : Option Bound) (start end place : Place) → IsEdge set [] column false low start → IsEdge set [] column true high end → place < length set.rows
     → KeepsBound false low (value_at_place set column place) → KeepsBound true high (value_at_place set column place) → (start ≤ place) × (place < end)
 within-ends set column low high start end place from to within over under =
     let front : HasFront set [] place = refl in
     (ltb-false place start (from place within front over), ltb-true place end (to place within front under))
 
--- one place more is found
+-- one more place is found
 pub between-more : (start here : ℕ) (found later : List Place) → later ≡ found ++ here ∷ [] → ((place : Place) → start ≤ place → place < here → Contains found place) → (place : Place) → start ≤ place → place < here + 1 → Contains later place
 between-more start here found later pushed so_far place from to = subst (λ (l : List Place). Contains l place) (sym pushed) (elim (cases_lt place here) as (λ _. Contains (found ++ here ∷ []) place) [
   | inl before ↦ Contains-append_left found (here ∷ []) place (so_far place from before)

@@ -23,7 +23,7 @@ some_is e = cc
 
 -- ---- the order of keys is that of their first values
 
--- lesser ones are before an end, greater ones are not, and equal ones are where they are passed
+-- lesser rows are before an end, greater ones are not, and equal ones are if they are passed
 low_of : (past : Bool) → (is_low past Less ≡ true) × (is_low past Equal ≡ past) × (is_low past Greater ≡ false)
 low_of false = (refl, refl, refl)
 low_of true = (refl, refl, refl)
@@ -58,7 +58,7 @@ front-low past f g [] (value ∷ front) le low = low
 front-low past f g (column ∷ columns) (value ∷ front) le low =
     first-low past (f column) (g column) value (cells_cmp (map f columns) (map g columns)) (front_cmp (map g columns) front) (front_cmp (map f columns) front) (λ le low. front-low past f g columns front le low) le low
 
--- where the key or the values end, what was equal so far decides
+-- when the key or the values end, the equality so far decides
 pub front-past_end : (columns : List Place) (row : List Value) (front : Key) (n : ℕ) → n ≡ min (length columns) (length front) → front_cmp (key_of (drop n columns) row) (drop n front) ≡ Equal
 front-past_end columns row [] n e = let none : n ≡ 0 = omega arith in rw none refl
 front-past_end [] row (value ∷ front) n e = let none : n ≡ 0 = omega arith in rw none refl
@@ -82,7 +82,7 @@ ascends-at of_row (row ∷ rows) (suc j) (suc k) ascends lower within = ascends-
 lower_or_same : (j k : ℕ) → j ≤ k → (j < k) ⊎ (j ≡ k)
 lower_or_same j k at_most = grind arith
 
--- what stands before a row that stands low stands low too
+-- a row before a low row is low too
 pub low-before : (set : KeyedRows) (front : Key) (past : Bool) (j k : ℕ) → IsAscending (map (key_in set.key) set.rows) → j ≤ k → k < length set.rows → stands_low set front past k ≡ true → stands_low set front past j ≡ true
 low-before set front past j k ascends at_most within low =
     elim (lower_or_same j k at_most) as (λ _. stands_low set front past j ≡ true) [
@@ -100,7 +100,7 @@ high-after set front past j k ascends at_most within high =
 below_or_from : (k n : ℕ) → (k < n) ⊎ (n ≤ k)
 below_or_from k n = grind arith
 
--- where a search by halves ends
+-- the result of a binary search
 pub parted : (test : ℕ → Bool) (low high size : ℕ) → high ≤ low → ((k : ℕ) → k < low → test k ≡ true) → ((k : ℕ) → high ≤ k → k < size → test k ≡ false) → (k : ℕ) → k < size → test k ≡ nat_lt k low
 parted test low high size met below above k within =
     elim (below_or_from k low) as (λ _. test k ≡ nat_lt k low) [
@@ -129,7 +129,7 @@ past-front f (column ∷ columns) (value ∷ front) next bound is at =
     let same : value_cmp (f column) value ≡ Equal = ap (value_cmp (f column)) first ∙ tied_itself value_total (f column) in
     λ i. ordering_then (same i) (past-front f columns front next bound rest at i)
 
--- what is within a bound stands on its side of the end
+-- a value within a bound is on its side of the end
 low-bounded : (above strict : Bool) (o : Ordering) → is_allowed (bounding above strict) o ≡ true → is_low (is_past above strict) o ≡ above
 low-bounded false false Less e = absurd (false≢true e)
 low-bounded false false Equal e = refl
@@ -155,7 +155,7 @@ bounded-edge set front values column above bound edge next pushed splits place w
     sym (splits place within) ∙ ap (is_low (is_past above bound.strict)) (ap (front_cmp (map cell set.key)) pushed ∙ past-front cell set.key front column bound.value.now begins next)
     ∙ low-bounded above bound.strict (value_cmp (cell column) bound.value.now) keeps
 
--- ---- rows between two that begin with some values
+-- ---- rows between two rows whose keys begin with some values
 
 between : (o : Ordering) → is_low false o ≡ false → is_low true o ≡ true → o ≡ Equal
 between Less from to = absurd (false≢true (sym from))
@@ -169,6 +169,6 @@ begin-all set front start end last place ascends from to remaining within first 
     (high-after set front false start place ascends from (omega (arith, to, within)) first)
     (low-before set front true place last ascends (omega (arith, to, remaining)) (omega (arith, remaining, within)) low)
 
--- the first value of a key that begins with one
+-- the first value of a key that begins with one value
 pub first-value : (set : KeyedRows) (column place : Place) (value : Value) → slice_get set.key 0 ≡ Some column → front_cmp (key_of set.key (row_at_place set.rows place).row) (value ∷ []) ≡ Equal → value_cmp (cell_at (row_at_place set.rows place).row column) value ≡ Equal
 first-value set column place value at equal = sym (past-front (cell_at (row_at_place set.rows place).row) set.key [] column value refl at) ∙ equal

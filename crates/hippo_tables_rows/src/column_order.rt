@@ -1,4 +1,4 @@
-//! Orders of a table's rows by a column that is not the first of its key.
+//! Secondary orders: orders of a table's rows by a column other than the first of its key.
 ghost use Rattle.std.specs.Prelude.{◌≡◌, ◌<◌, ◌≤◌, ◌++◌, ◌∷◌, [], true, false, ℕ, suc, length, map, Some, slice_get, IfOk, IfSome, OnOk};
 ghost use Rattle.std.specs.List.Sorted.{IsPermutation};
 ghost use Rattle.std.specs.List.{All, Contains, range_with_len};
@@ -19,15 +19,15 @@ use hippo_tables_keyed::KeyedSet;
 use hippo_values::{Duplicate, Memory, Moment, Value};
 use std::alloc::Global;
 
-// An order of rows by a column. An entry is a row's value there, and the row's key behind it. There
-// are none where memory was short for them.
+// A secondary order of rows, by a column. An entry is the row's value in that column, followed by
+// the row's key. There are no entries if memory for them ran out.
 #[derive(Drop)]
 pub(crate) struct ColumnOrder {
     pub(crate) column: usize,
     pub(crate) entries: Option<KeyedSet>,
 }
 
-// Adds a copy of the value in a row's column.
+// Appends a copy of the value in a row's column.
 fn push_cell(alloc: Global, row: &[Value], column: usize, entry: &mut Cells) -> Result<(), Memory>
     ensures { OnOk result (entry.new ≡ entry.old ++ cell_at row.now column ∷ []) }
 {
@@ -46,7 +46,7 @@ fn entry_of(alloc: Global, column: usize, key: &[usize], row: &[Value]) -> Resul
     Ok(entry)
 }
 
-// Puts a row's entry among the others.
+// Inserts a row's entry.
 fn enter(
     alloc: Global,
     column: usize,
@@ -61,7 +61,7 @@ fn enter(
     entries.put(entry_of(alloc, column, key, row)?, born)
 }
 
-// Takes a row's entry out.
+// Removes a row's entry.
 fn leave(
     alloc: Global,
     column: usize,
@@ -87,7 +87,7 @@ fn is_alike(column: usize, row: &[Value], other: &[Value]) -> bool
         .is_eq()
 }
 
-// Puts in the entry of a row that is to be put into a set instead of the one at a place.
+// Replaces the entry of the row at a place by that of the row which will replace it in the set.
 fn replace(
     alloc: Global,
     column: usize,
@@ -112,7 +112,7 @@ fn replace(
     enter(alloc, column, key, row.as_slice(), born, entries)
 }
 
-// Puts in the entry of a row that is to be put into a set.
+// Inserts the entry of a row that will be put into the set.
 fn prepare(
     alloc: Global,
     column: usize,
@@ -134,7 +134,7 @@ fn prepare(
     }
 }
 
-// Takes out the entry of a row that is to be taken from a set.
+// Removes the entry of a row that will be removed from the set.
 fn forget(
     alloc: Global,
     column: usize,
@@ -191,8 +191,8 @@ fn forgotten(
     }
 }
 
-// Makes an order ready for a row that is to be put into its set, or lets it go where memory is
-// short.
+// Prepares an order for a row that will be put into its set, or drops the order's entries when out
+// of memory.
 fn prepare_order(alloc: Global, set: &KeyedSet, row: &Cells, born: Moment, order: &mut ColumnOrder)
     ensures { IsOrderOf set.now order.old
         → IsReadyFor (record { row = row.now; born = born }) set.now order.new }
@@ -203,7 +203,8 @@ fn prepare_order(alloc: Global, set: &KeyedSet, row: &Cells, born: Moment, order
     };
 }
 
-// Makes an order that of a set without a row, or lets it go.
+// Updates an order for the removal of a row from its set, or drops the order's entries when out of
+// memory.
 fn forget_in_order(alloc: Global, set: &KeyedSet, key: &Cells, order: &mut ColumnOrder)
     ensures { IsOrderOf set.now order.old → IsOrderOf (without_row key.now set.now) order.new }
 {
@@ -213,7 +214,7 @@ fn forget_in_order(alloc: Global, set: &KeyedSet, key: &Cells, order: &mut Colum
     };
 }
 
-// Makes orders ready for a row that is to be put into their set.
+// Prepares orders for a row that will be put into their set.
 pub(crate) fn prepare_orders(
     alloc: Global,
     set: &KeyedSet,
@@ -229,7 +230,7 @@ pub(crate) fn prepare_orders(
     }
 }
 
-// Makes orders those of a set without a row.
+// Updates orders for the removal of a row from their set.
 pub(crate) fn forget_in_orders(
     alloc: Global,
     set: &KeyedSet,
@@ -244,7 +245,7 @@ pub(crate) fn forget_in_orders(
     }
 }
 
-// The places from 0 to this one, which is passed too.
+// The places from 0 to `last`, inclusive.
 fn places_to(alloc: Global, last: usize) -> Result<Places, Memory>
     ensures { IfOk result (λ made. made ≡ range_with_len 0 (suc last)) }
 {
@@ -256,7 +257,7 @@ fn places_to(alloc: Global, last: usize) -> Result<Places, Memory>
     Ok(places)
 }
 
-// The place of each row, behind the row's value in a column.
+// For each row, its value in a column, then its place.
 fn ranked<'a>(
     alloc: Global,
     column: usize,
@@ -278,7 +279,7 @@ fn places_in(alloc: Global, ranked: &[(Option<&Value>, usize)]) -> Result<Vec<us
     Ok(ranked.iter().map(|pair| pair.1).collect(alloc)?)
 }
 
-// The places of all rows, in the order of their values in a column.
+// The places of all rows, sorted by their values in a column.
 fn places_by(alloc: Global, column: usize, set: &KeyedSet) -> Result<Vec<usize>, Memory>
     ensures { IfOk result (λ places. IsPermutation (range_with_len 0 (length set.now.rows))
         places.items) }
@@ -288,7 +289,7 @@ fn places_by(alloc: Global, column: usize, set: &KeyedSet) -> Result<Vec<usize>,
     places_in(alloc, &ranked)
 }
 
-// Puts in the entries of the rows at some places.
+// Inserts the entries of the rows at some places.
 fn fill(
     alloc: Global,
     column: usize,
@@ -309,7 +310,7 @@ fn fill(
     Ok(())
 }
 
-// The entries of a set's rows. They are put in by their order, each behind those before it.
+// The entries of a set's rows, inserted in their own order, so that each is appended.
 pub(crate) fn entries_of(alloc: Global, column: usize, set: &KeyedSet) -> Result<KeyedSet, Memory>
     ensures { IfOk result (λ entries. AreOrderKeysOf column set.now entries) }
 {
@@ -319,7 +320,7 @@ pub(crate) fn entries_of(alloc: Global, column: usize, set: &KeyedSet) -> Result
     Ok(entries)
 }
 
-// The place of an order that was let go, or the one behind all.
+// The index of an order without entries, or the end if there is none.
 pub(crate) fn free_place(orders: &[ColumnOrder]) -> usize {
     orders
         .iter()
@@ -327,7 +328,7 @@ pub(crate) fn free_place(orders: &[ColumnOrder]) -> usize {
         .unwrap_or(orders.len())
 }
 
-// Adds an order, where memory allows.
+// Adds an order, unless out of memory.
 pub(crate) fn add_order(orders: &mut Vec<ColumnOrder>, column: usize, entries: KeyedSet)
     ensures { (set : KeyedRows) → AreOrderKeysOf column set entries
         → AreOrdersOf set orders.old.items
@@ -345,7 +346,7 @@ pub(crate) fn add_order(orders: &mut Vec<ColumnOrder>, column: usize, entries: K
     }
 }
 
-// The entries of an order, where it is by a column.
+// The entries of an order, if it is by this column.
 fn own_entries(order: &ColumnOrder, column: usize) -> Option<&KeyedSet>
     ensures { (set : KeyedRows) → IsOrderOf set order.now
         → IfSome result (λ entries. AreOrderKeysOf column set entries.now) }
@@ -357,7 +358,7 @@ fn own_entries(order: &ColumnOrder, column: usize) -> Option<&KeyedSet>
     }
 }
 
-// The entries of the order by a column, if it is kept.
+// The entries of the order by a column, if there are any.
 pub(crate) fn entries_by(orders: &[ColumnOrder], column: usize) -> Option<&KeyedSet>
     ensures { (set : KeyedRows) → AreOrdersOf set orders.now
         → IfSome result (λ entries. AreOrderKeysOf column set entries.now) }
@@ -370,7 +371,7 @@ pub(crate) fn entries_by(orders: &[ColumnOrder], column: usize) -> Option<&Keyed
     None
 }
 
-// Adds the place of the row whose key stands in an entry, if it is in the set.
+// Appends the place of the row whose key an entry holds, if the set has this row.
 fn add_place(set: &KeyedSet, entry: &[Value], places: &mut Vec<usize>) -> Result<(), Memory>
     ensures range { All (λ place. place < length set.now.rows) places.old.items
         → OnOk result (All (λ place. place < length set.now.rows) places.new.items) }
@@ -390,7 +391,7 @@ fn add_place(set: &KeyedSet, entry: &[Value], places: &mut Vec<usize>) -> Result
     Ok(())
 }
 
-// Adds the places of the rows whose entries stand from one place to before another.
+// Appends the places of the rows whose entries are in a range.
 fn add_places(
     entries: &KeyedSet,
     set: &KeyedSet,
@@ -409,7 +410,7 @@ fn add_places(
     Ok(())
 }
 
-// Where the entries begin and end whose value is within two bounds.
+// The range of the entries whose value is within two bounds.
 fn entries_within(
     entries: &KeyedSet,
     low: Option<Bound<'_>>,
@@ -423,7 +424,7 @@ fn entries_within(
     ends_within(entries, 0, low, high)
 }
 
-// How many entries there are within two bounds.
+// The number of entries within two bounds.
 pub(crate) fn count_among(
     entries: &KeyedSet,
     column: usize,
@@ -437,8 +438,7 @@ pub(crate) fn count_among(
     end.saturating_sub(start)
 }
 
-// The places of rows that are in the set, among them all whose value in a column is within two
-// bounds.
+// Places of rows of the set that include all rows whose value in a column is within two bounds.
 pub(crate) fn places_among(
     alloc: Global,
     entries: &KeyedSet,

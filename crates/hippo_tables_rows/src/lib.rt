@@ -1,4 +1,4 @@
-//! The rows of a table, found by their keys and by orders of other columns.
+//! A table's rows, with lookup by key and by secondary orders.
 #![tactic(auto)]
 
 mod column_order;

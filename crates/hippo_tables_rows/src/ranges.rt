@@ -1,5 +1,5 @@
-//! Rows between two ends in the order of their keys: the first values of the key are told, or its
-//! first one has bounds.
+//! Range lookups in key order: the first values of the key are fixed, or its first value has
+//! bounds.
 ghost use Rattle.std.specs.Prelude.{◌≡◌, ◌<◌, ◌≤◌, [], true, false, None, Some, IfOk, length, nat_lt, slice_get};
 ghost use Rattle.std.specs.List.{All, Contains};
 ghost use Rattle.std.specs.declared.cmp.Ordering.TheVariants.{Equal};
@@ -14,7 +14,7 @@ use std::alloc::Global;
 use std::cmp::Ordering;
 use std::slice;
 
-/// A value that bounds others, from below or from above, and whether they differ from it.
+/// A lower or upper bound on values, and whether it is strict, that is, excludes the value itself.
 #[derive(Clone, Copy)]
 pub struct Bound<'a> {
     pub value: &'a Value,
@@ -22,8 +22,8 @@ pub struct Bound<'a> {
 }
 
 impl<'a> Bound<'a> {
-    /// Whether the values that are equal to it stand before the end that it makes, from above or
-    /// from below.
+    /// Whether values equal to the bound come before the end that it makes in sorted values, for an
+    /// upper bound (`above`) or a lower one.
     pub fn is_past(&self, above: bool) -> bool
         ensures { result ≡ is_past above self.now.strict }
     {
@@ -31,7 +31,7 @@ impl<'a> Bound<'a> {
     }
 }
 
-// A row's key against the first values of one.
+// Compares the beginning of a row's key with some values.
 fn front_order(row: &[Value], columns: &[usize], front: &[Value]) -> Ordering
     ensures { result ≡ front_cmp (key_of columns.now row.now) front.now }
 {
@@ -44,7 +44,7 @@ fn front_order(row: &[Value], columns: &[usize], front: &[Value]) -> Ordering
     Ordering::Equal
 }
 
-// Whether an order is one before an end, where equal ones are passed too or not.
+// Whether a row that compares this way comes before an end. With `past`, equal rows do too.
 fn is_low(order: Ordering, past: bool) -> bool
     ensures { result ≡ is_low past order }
 {
@@ -62,8 +62,8 @@ fn stands_low(set: &KeyedSet, front: &[Value], past: bool, place: usize) -> bool
     )
 }
 
-// Where the rows end that stand before those whose key begins with these values; or these end,
-// where they are passed too. It is found by halves.
+// The number of rows before those whose key begins with these values. With `past`, these rows count
+// too. By binary search.
 pub(crate) fn split(set: &KeyedSet, front: &[Value], past: bool) -> usize
     ensures range { result ≤ length set.now.rows }
     ensures parted { (place : Place) → place < length set.now.rows
@@ -82,8 +82,8 @@ pub(crate) fn split(set: &KeyedSet, front: &[Value], past: bool) -> usize
     low
 }
 
-// Whether the keys of the rows from a place on up to another one begin with these values, by the
-// first and the last of them.
+// Whether the keys of all rows in a range begin with these values. Reads only the first and the
+// last row.
 pub(crate) fn all_begin_with(set: &KeyedSet, front: &[Value], start: usize, end: usize) -> bool
     ensures { result ≡ true → (place : Place) → start ≤ place → place < end
         → front_cmp (key_of set.now.key (row_at_place set.now.rows place).row) front.now ≡ Equal }
@@ -98,7 +98,7 @@ pub(crate) fn all_begin_with(set: &KeyedSet, front: &[Value], start: usize, end:
     !stands_low(set, front, false, start) && stands_low(set, front, true, end - 1)
 }
 
-// Where all rows end, or begin.
+// The end of all rows, or their start.
 fn open_edge(set: &KeyedSet, column: usize, above: bool) -> usize
     ensures range { result ≤ length set.now.rows }
     ensures edge { IsEdge set.now [] column above None result }
@@ -106,7 +106,7 @@ fn open_edge(set: &KeyedSet, column: usize, above: bool) -> usize
     if above { set.len() } else { 0 }
 }
 
-// Where the rows begin, or end, that are within a bound.
+// The start or the end of the rows within a bound.
 fn bounded_edge(set: &KeyedSet, column: usize, above: bool, bound: Bound<'_>) -> usize
     requires { slice_get set.now.key 0 ≡ Some column }
     ensures range { result ≤ length set.now.rows }
@@ -115,7 +115,7 @@ fn bounded_edge(set: &KeyedSet, column: usize, above: bool, bound: Bound<'_>) ->
     split(set, slice::from_ref(bound.value), bound.is_past(above))
 }
 
-// Where the rows begin, or end, that are within a bound of the key's first column.
+// The start or the end of the rows within a bound on the key's first column.
 fn edge(set: &KeyedSet, column: usize, above: bool, bound: Option<Bound<'_>>) -> usize
     requires { slice_get set.now.key 0 ≡ Some column }
     ensures range { result ≤ length set.now.rows }
@@ -127,7 +127,7 @@ fn edge(set: &KeyedSet, column: usize, above: bool, bound: Option<Bound<'_>>) ->
     }
 }
 
-// Where the rows begin and end whose value in the key's first column is within two bounds.
+// The range of the rows whose value in the key's first column is within two bounds.
 pub(crate) fn ends_within(
     set: &KeyedSet,
     column: usize,
@@ -142,7 +142,7 @@ pub(crate) fn ends_within(
     (edge(set, column, false, low), edge(set, column, true, high))
 }
 
-// How many rows there are within two bounds of the key's first column.
+// The number of rows within two bounds on the key's first column.
 pub(crate) fn own_count(
     set: &KeyedSet,
     column: usize,
@@ -155,7 +155,7 @@ pub(crate) fn own_count(
     end.saturating_sub(start)
 }
 
-// The places from one to before another.
+// The places from `start` to before `end`.
 fn places_between(
     alloc: Global,
     set: &KeyedSet,
@@ -175,7 +175,7 @@ fn places_between(
     Ok(places)
 }
 
-// The places of rows, among them all whose value in the key's first column is within two bounds.
+// Places of rows that include all rows whose value in the key's first column is within two bounds.
 pub(crate) fn own_places(
     alloc: Global,
     set: &KeyedSet,

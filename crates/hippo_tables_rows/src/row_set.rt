@@ -1,4 +1,4 @@
-//! A table's rows in the order of their keys, with orders of them by other columns.
+//! A table's rows, sorted by key, with secondary orders by other columns.
 ghost use Rattle.std.specs.Prelude.{◌≡◌, ◌<◌, ◌≤◌, ◌↔◌, [], true, false, length, map, nat_lt, option_map, slice_get, Some, IsTrue, OnErr, IfOk, IfSome};
 ghost use Rattle.std.specs.List.{All, Contains};
 ghost use Rattle.hippo_model.specs.Terms.{Place};
@@ -18,14 +18,13 @@ use std::alloc::Global;
 use std::marker::Model;
 use std::slice;
 
-// How many orders by a column a set keeps.
+// The maximum number of secondary orders of a set.
 const ORDER_LIMIT: usize = 8;
 
-// How many rows a set has at most of which no order is kept, since a walk over them takes little
-// time.
+// At or below this many rows, a set keeps no secondary order, since a scan is fast.
 const FEW_ROWS: usize = 256;
 
-/// The rows of a table in the order of their keys, each with the moment at which it was born.
+/// The rows of a table, sorted by key, each with the moment at which it was born.
 #[derive(Drop)]
 pub struct RowSet {
     set: KeyedSet,
@@ -44,7 +43,7 @@ impl Model for RowSet {
 }
 
 impl RowSet {
-    /// No rows, for a table whose key has these places; takes no memory.
+    /// An empty set for a table whose key has these columns. Allocates no memory.
     pub fn new(alloc: Global, key: Places) -> RowSet
         ensures { result ≡ record { key = key; rows = [] } }
     {
@@ -54,8 +53,8 @@ impl RowSet {
         }
     }
 
-    /// Puts a row at its place in the order of keys, instead of a row with its key. The set is
-    /// unchanged where memory is short, which it never is over a row with the key.
+    /// Inserts a row at its place in the order of keys, or replaces the row with the same key. The
+    /// set is unchanged when out of memory, which cannot happen when a row is replaced.
     pub fn put(&mut self, row: Cells, born: Moment) -> Result<(), Memory>
         ensures { Puts (record { row = row; born = born }) self.old self.new result }
     {
@@ -64,9 +63,9 @@ impl RowSet {
         self.set.put(row, born)
     }
 
-    /// Puts a row at its place in the order of keys, where no row has its key, and answers the
-    /// place; none where a row has the key, and then nothing is done. The set is unchanged where
-    /// memory is short. One search is made.
+    /// Inserts a row at its place in the order of keys, and returns the place. Returns None, and
+    /// does nothing, if a row has the same key. The set is unchanged when out of memory. Takes one
+    /// search.
     pub fn insert(&mut self, row: Cells, born: Moment) -> Result<Option<usize>, Memory>
         ensures ok { IfOk result (Inserts (record { row = row; born = born }) self.old self.new) }
         ensures err { OnErr result (self.new ≡ self.old) }
@@ -80,8 +79,8 @@ impl RowSet {
         Ok(Some(place))
     }
 
-    /// Puts a row in the place of the one that has its key, which is handed out; takes no memory.
-    /// No search is made but for orders by other columns.
+    /// Replaces the row with the same key, which is at `place`, and returns the old row. Needs no
+    /// memory. Takes no search, except for secondary orders.
     pub fn replace(&mut self, place: usize, row: Cells, born: Moment) -> BornRow
         requires { find_row self.old.key (key_of self.old.key row) self.old.rows ≡ Some place }
         ensures set { self.new ≡ with_row (record { row = row; born = born }) self.old }
@@ -92,7 +91,7 @@ impl RowSet {
         self.set.replace(place, row, born)
     }
 
-    /// Takes away the row with a key, if there is one.
+    /// Removes the row with a key, if there is one.
     pub fn take(&mut self, key: &Cells)
         ensures { self.new ≡ without_row key.now self.old }
     {
@@ -101,9 +100,10 @@ impl RowSet {
         self.set.take(key);
     }
 
-    /// Keeps, from now on, an order of the rows by a column, so that rows within bounds there are
-    /// found by halves. Does nothing where there is one, where there are eight, where the column is
-    /// the key's first one, where there are 256 rows or fewer, or where memory is short.
+    /// Creates a secondary order of the rows by a column, and maintains it from now on. Rows within
+    /// bounds on the column are then found by binary search. Does nothing if there is such an order
+    /// already, if there are eight orders, if the column is the first of the key, if there are 256
+    /// rows or fewer, or when out of memory.
     pub fn order_by(&mut self, alloc: Global, column: usize)
         ensures { self.new ≡ self.old }
     {
@@ -115,20 +115,21 @@ impl RowSet {
         }
     }
 
-    // Whether rows are not found by a column, and an order of them would be kept.
+    // Whether a column has no order and a secondary order of it would be kept.
     fn wants_order(&self, column: usize) -> bool {
         self.len() > FEW_ROWS
             && free_place(self.orders.as_slice()) < ORDER_LIMIT
             && !self.is_ordered_by(column)
     }
 
-    /// Whether rows are found by a column: it is the first of the key, or an order of the rows by
-    /// it is kept.
+    /// Whether rows can be looked up by a column: it is the first of the key, or it has a secondary
+    /// order.
     pub fn is_ordered_by(&self, column: usize) -> bool {
         self.set.begins_with(column) || entries_by(self.orders.as_slice(), column).is_some()
     }
 
-    /// How many rows are found by a column within two bounds; none where rows are not found by it.
+    /// The number of rows that a lookup by a column finds within two bounds. None if rows cannot be
+    /// looked up by this column.
     pub fn count_within(
         &self,
         column: usize,
@@ -144,8 +145,8 @@ impl RowSet {
         }
     }
 
-    /// The places of rows, each in the set, among them all whose value in a column is within two
-    /// bounds; none where rows are not found by the column.
+    /// Places of rows of the set that include all rows whose value in a column is within two
+    /// bounds. None if rows cannot be looked up by this column.
     pub fn places_within(
         &self,
         alloc: Global,
@@ -174,8 +175,8 @@ impl RowSet {
         }
     }
 
-    /// How many rows stand before those whose key begins with these values; or how many do not
-    /// stand behind them, where they are passed too. It is found by halves.
+    /// The number of rows before those whose key begins with these values. With `past`, these rows
+    /// count too. By binary search.
     pub fn split(&self, front: &[Value], past: bool) -> usize
         ensures range { result ≤ length self.now.rows }
         ensures parted { (place : Place) → place < length self.now.rows
@@ -184,8 +185,8 @@ impl RowSet {
         split(&self.set, front, past)
     }
 
-    /// Whether the rows from a place on up to another one have a value in the first column of their
-    /// key, by the first and the last of them.
+    /// Whether the rows in a range all have a value in the first column of their key. Reads only
+    /// the first and the last row.
     pub fn all_begin_with(&self, value: &Value, start: usize, end: usize) -> bool
         ensures { result ≡ true → (column : Place) → slice_get self.now.key 0 ≡ Some column
             → (place : Place) → start ≤ place → place < end
@@ -194,7 +195,7 @@ impl RowSet {
         all_begin_with(&self.set, slice::from_ref(value), start, end)
     }
 
-    /// The place of the row with a key, none exactly where no row has it.
+    /// The place of the row with a key; None exactly when there is none.
     pub fn find(&self, key: &Cells) -> Option<usize>
         ensures place { result ≡ find_row self.now.key key.now self.now.rows }
         ensures range { IfSome result (λ place. place < length self.now.rows) }
@@ -202,7 +203,7 @@ impl RowSet {
         self.set.find(key)
     }
 
-    /// The place of the row that has the same key as this one, none exactly where no row has it.
+    /// The place of the row with the same key as this row; None exactly when there is none.
     pub fn find_like(&self, row: &Cells) -> Option<usize>
         ensures place { result ≡ find_row self.now.key (key_of self.now.key row.now) self.now.rows }
         ensures range { IfSome result (λ place. place < length self.now.rows) }
@@ -224,7 +225,7 @@ impl RowSet {
         self.set.is_empty()
     }
 
-    /// The places of the key's columns.
+    /// The columns of the key, by their places.
     pub fn key(&self) -> &Places
         ensures { result.now ≡ self.now.key }
     {
@@ -239,7 +240,7 @@ impl RowSet {
         self.set.row(place)
     }
 
-    /// The row at a place with the moment at which it was born, by one search.
+    /// The row at a place with the moment at which it was born. Takes one search.
     pub fn born_row(&self, place: usize) -> &BornRow
         requires { place < length self.now.rows }
         ensures { slice_get self.now.rows place ≡ Some result.now }

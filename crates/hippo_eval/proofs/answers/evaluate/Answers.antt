@@ -1,4 +1,4 @@
--- The walk begins with no combination, and so with no row.
+-- The walk begins with no combination, so with no row.
 use Rattle.std.proofs.Common.{[]}
 use Rattle.hippo_eval.proofs.FoundLemmas.{gathered-none}
 use Rattle.hippo_eval.proofs.answers.evaluate.Goals as goal

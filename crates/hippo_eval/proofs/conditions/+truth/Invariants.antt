@@ -1,4 +1,4 @@
--- The truth so far, and that of the parts from the index on.
+-- The truth so far, combined with that of the parts from the index on.
 use Rattle.std.proofs.Common.{◌≡◌, map, drop}
 use Rattle.hippo_model.specs.MaskedTruth.{masked_truth}
 use Rattle.hippo_eval.specs.PartTruths.{truth_of_both, truth_of_all}

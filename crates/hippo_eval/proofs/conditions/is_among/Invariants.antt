@@ -1,4 +1,4 @@
--- The truth so far, and that of the members from the index on.
+-- The truth so far, combined with that of the members from the index on.
 use Rattle.std.proofs.Common.{◌≡◌, map, drop}
 use Rattle.hippo_values.specs.declared.truths.CompareOp.TheVariants.{Eq}
 use Rattle.hippo_values.specs.Truths.{truth_or, comparison}

@@ -1,4 +1,4 @@
--- The guards up to the index are shown, so those behind decide.
+-- The guards before the index are shown, so the rest decide.
 use Rattle.std.proofs.Common.{◌≡◌, drop}
 use Rattle.std.specs.List.{list_all}
 use Rattle.hippo_model.specs.Masking.{is_guarded, is_shown_cell, masked_cell}

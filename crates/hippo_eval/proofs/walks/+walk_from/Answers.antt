@@ -1,4 +1,4 @@
--- One row more, with all that may follow it.
+-- One row more, with every combination that can follow it.
 use Rattle.std.proofs.Common.{◌≡◌, ◌+◌, ◌++◌, [], ◌∷◌, take, drop, ap, ◌∙◌, Some, slice_get, arith}
 use Rattle.std.specs.List.{flat_map}
 use Rattle.std.proofs.lemmas.List.{take_all}

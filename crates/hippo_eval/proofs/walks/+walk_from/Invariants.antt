@@ -1,4 +1,4 @@
--- What is kept of the rows up to the index, with all that may follow each.
+-- What is kept of the rows before the index, with every combination that can follow each.
 use Rattle.std.proofs.Common.{◌≡◌, ◌+◌, ◌-◌, List, ◌++◌, length, take, drop}
 use Rattle.std.specs.List.{flat_map}
 use Rattle.hippo_model.specs.Terms.{Combination}

@@ -1,4 +1,4 @@
--- A walk is all that follows no row.
+-- A walk visits everything that follows an empty combination.
 use Rattle.std.proofs.Common.{[]}
 use Rattle.hippo_model.specs.Answers.{product}
 use Rattle.hippo_eval.specs.Walks.{rows_of, combinations_after}

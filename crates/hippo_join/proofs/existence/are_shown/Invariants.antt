@@ -1,4 +1,4 @@
--- The expressions that are left are shown exactly where all are.
+-- The remaining expressions are shown exactly when all are.
 use Rattle.std.proofs.Common.{◌≡◌, drop}
 use Rattle.hippo_join.specs.Existence.{are_shown}
 use Rattle.hippo_join.proofs.existence.are_shown.Given as goal

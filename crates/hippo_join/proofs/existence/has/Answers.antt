@@ -1,4 +1,4 @@
--- Stages that list their places are stages of a walk.
+-- Materialised stages are stages of a walk.
 use Rattle.std.proofs.lemmas.Bool.{false≢true}
 use Rattle.hippo_join.proofs.existence.has.Goals as goal
 

@@ -1,4 +1,4 @@
--- The set has the new places, and each that it had.
+-- The set contains the new places, and all it had before.
 use Rattle.hippo_join_stages.proofs.FindingLemmas.{one-more}
 use Rattle.hippo_join.proofs.finding.insert.Goals as goal
 

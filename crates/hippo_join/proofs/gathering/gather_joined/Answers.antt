@@ -1,4 +1,4 @@
--- The walk begins with no row, and visits what the answer is made of.
+-- The walk begins with no row, and visits the combinations of the answer.
 use Rattle.std.proofs.Common.{[], List, subst}
 use Rattle.hippo_model.specs.Terms.{ShownRow}
 use Rattle.hippo_eval.specs.Gathering.{IsGathered}

@@ -1,4 +1,4 @@
--- The visit begins with no row, and tells what the answer is made of.
+-- The visit begins with no row, and visits the combinations of the answer.
 use Rattle.std.proofs.Common.{◌≡◌, [], List, subst}
 use Rattle.hippo_model.specs.Terms.{ShownRow}
 use Rattle.hippo_eval.specs.declared.answers.TheConstants.{ANSWER_LIMIT}

@@ -1,4 +1,4 @@
--- One more table stands at its own place.
+-- One more table is at its own place.
 use Rattle.hippo_join.proofs.OrderLemmas.{in_order_more}
 use Rattle.hippo_join.proofs.orders.is_in_order.Goals as goal
 

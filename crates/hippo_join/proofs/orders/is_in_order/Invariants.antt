@@ -1,4 +1,4 @@
--- The tables so far stand at their own places.
+-- The tables so far are at their own places.
 use Rattle.std.proofs.Common.{◌≡◌, take}
 use Rattle.std.specs.List.{range_with_len}
 use Rattle.hippo_join.proofs.orders.is_in_order.Given as goal

@@ -1,4 +1,4 @@
--- The place so far is one of those that are left.
+-- The place so far is one of the remaining ones.
 use Rattle.std.proofs.Common.{◌<◌, length}
 use Rattle.hippo_join.proofs.orders.next_place.Given as goal
 

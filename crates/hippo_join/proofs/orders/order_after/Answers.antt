@@ -1,4 +1,4 @@
--- One of the tables that are left comes next.
+-- One of the remaining tables comes next.
 use Rattle.std.proofs.Common.{◌≡◌, ℕ, ◌<◌, ◌++◌, List, length, ap, subst, arith}
 use Rattle.hippo_join.proofs.OrderLemmas.{ordered-more, long-more, front-more, front-first, same-first}
 use Rattle.hippo_join.proofs.orders.order_after.Goals as goal

@@ -1,4 +1,4 @@
--- The tables that are ordered, with those that are left behind them, are all; the first ones stand first.
+-- The tables ordered so far, followed by the remaining ones, are all; the first ones come first.
 use Rattle.std.proofs.Common.{◌≡◌, ◌≤◌, ◌++◌, length, take, vec_len}
 use Rattle.std.specs.List.Sorted.{IsPermutation}
 use Rattle.hippo_join.proofs.orders.order_after.Given as goal

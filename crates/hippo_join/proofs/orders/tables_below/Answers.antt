@@ -1,4 +1,4 @@
--- One table more.
+-- One more table.
 use Rattle.std.proofs.Common.{ap, sym, ◌∙◌, List, ℕ, [], ◌∷◌, ◌++◌}
 use Rattle.hippo_join.proofs.OrderLemmas.{range-more}
 use Rattle.hippo_join.proofs.orders.tables_below.Goals as goal

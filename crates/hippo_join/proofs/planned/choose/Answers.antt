@@ -1,4 +1,4 @@
--- One table's row more, and the end.
+-- One more table's row, and the end.
 use Rattle.std.proofs.Common.{arith}
 use Rattle.hippo_join.proofs.PlannedLemmas.{chosen-more, chosen-whole}
 use Rattle.hippo_join.proofs.planned.choose.Goals as goal

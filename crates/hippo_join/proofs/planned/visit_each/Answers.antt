@@ -1,4 +1,4 @@
--- One combination more, with all that may follow it.
+-- One more combination, with everything that can follow it.
 use Rattle.std.proofs.Common.{length, map, Some, [], ap, ◌∙◌}
 use Rattle.hippo_join_lookups.specs.Places.{chosen_rows}
 use Rattle.hippo_join_lookups.proofs.SlotLemmas.{length-rows_at}

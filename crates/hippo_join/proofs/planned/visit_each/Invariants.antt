@@ -1,4 +1,4 @@
--- The first combinations were told.
+-- The first combinations were visited.
 use Rattle.std.proofs.Common.{◌≡◌, length}
 use Rattle.hippo_join_lookups.specs.Places.{chosen_rows}
 use Rattle.hippo_join.proofs.PlannedLemmas.{HasTold}

@@ -1,4 +1,4 @@
--- What was found is all that counts, or more than the limit.
+-- What was found is all that qualifies, or more than the limit.
 use Rattle.std.proofs.Common.{◌≡◌, List, ◌++◌, length, map, subst, arith}
 use Rattle.hippo_model.specs.Terms.{Combination}
 use Rattle.hippo_eval.specs.declared.answers.TheConstants.{ANSWER_LIMIT}

@@ -1,4 +1,4 @@
--- All that counts is found, or more than the limit.
+-- All that qualifies is found, or more than the limit.
 use Rattle.std.proofs.Common.{◌≡◌, true, []}
 use Rattle.std.proofs.lemmas.Bool.{false≢true}
 use Rattle.hippo_eval.specs.declared.answers.TheConstants.{ANSWER_LIMIT}

@@ -1,4 +1,4 @@
--- A plan has each table once.
+-- A plan contains each table once.
 use Rattle.std.proofs.Common.{ℕ, ◌<◌, List, length, subst, sym, ap, arith}
 use Rattle.std.specs.List.{All, Contains}
 use Rattle.hippo_model.specs.Terms.{Place}

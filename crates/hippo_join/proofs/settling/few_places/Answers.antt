@@ -1,4 +1,4 @@
--- What may follow the rows that are settled is all that can count.
+-- The candidates, given the settled rows, are all that can qualify.
 use Rattle.hippo_join_stages.specs.Walking.{following_places}
 use Rattle.hippo_join.proofs.SettlingLemmas.{reaches-settled}
 use Rattle.hippo_join.proofs.settling.few_places.Goals as goal

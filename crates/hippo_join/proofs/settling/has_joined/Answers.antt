@@ -1,4 +1,4 @@
--- The tables whose rows are chosen want no stage.
+-- Tables whose rows are chosen need no stage.
 use Rattle.std.proofs.Common.{List, ◌<◌, length, subst, sym, ◌∙◌}
 use Rattle.std.specs.List.{All}
 use Rattle.std.proofs.lemmas.List.Elements.{All-filter}

@@ -1,4 +1,4 @@
--- One place at most is among those that may follow.
+-- There is at most one candidate.
 use Rattle.hippo_join_stages.specs.Walking.{following_places}
 use Rattle.hippo_join.proofs.SettlingLemmas.{only-settles}
 use Rattle.hippo_join.proofs.settling.only_place.Goals as goal

@@ -1,4 +1,4 @@
--- One table more.
+-- One more table.
 use Rattle.std.proofs.Common.{arith}
 use Rattle.hippo_join.proofs.SettlingLemmas.{Settles_refl, Settles-trans}
 use Rattle.hippo_join.proofs.settling.settle_each.Goals as goal

@@ -1,4 +1,4 @@
--- At the beginning no row is chosen, and each pass chooses some.
+-- At the start no row is chosen, and each pass chooses some.
 use Rattle.std.proofs.Common.{ℕ, List, Option, None, length, replicate, sym, ap, subst, ◌∙◌, arith}
 use Rattle.std.proofs.lemmas.List.{length-replicate, with_items_is}
 use Rattle.hippo_model.specs.Terms.{Place}

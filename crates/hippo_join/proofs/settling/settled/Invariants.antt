@@ -1,4 +1,4 @@
--- What was chosen so far is what each combination has.
+-- The rows chosen so far are in every qualifying combination.
 use Rattle.std.proofs.Common.{None, length, replicate}
 use Rattle.hippo_join.specs.Settling.{Settles}
 use Rattle.hippo_join.proofs.settling.settled.Given as goal

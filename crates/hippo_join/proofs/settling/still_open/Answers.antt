@@ -1,4 +1,4 @@
--- One table more, and all.
+-- One more table, or all of them.
 use Rattle.std.proofs.Common.{[], ◌∷◌, ◌++◌, Bool, if◌then◌else◌, get_or, ap, ◌∙◌, arith}
 use Rattle.std.specs.Prelude.{filter}
 use Rattle.hippo_join_lookups.specs.Known.{is_open}

@@ -1,4 +1,4 @@
--- The tables so far, with those of the others that are open behind them, are all that are open.
+-- The open tables so far, followed by the open ones of the rest, are all open tables.
 use Rattle.std.proofs.Common.{◌≡◌, ◌++◌, drop}
 use Rattle.std.specs.Prelude.{filter}
 use Rattle.hippo_join_lookups.specs.Known.{is_open}

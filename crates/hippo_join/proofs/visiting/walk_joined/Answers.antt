@@ -1,4 +1,4 @@
--- The side has what it is made of.
+-- The side has the parts it was built from.
 use Rattle.hippo_join.proofs.visiting.walk_joined.Goals as goal
 
 pub returns : goal.returns

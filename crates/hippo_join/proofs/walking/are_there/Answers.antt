@@ -1,4 +1,4 @@
--- One table's place more.
+-- One more table's place.
 use Rattle.std.proofs.Common.{◌+◌, ◌&&◌, ap, drop, refl, sym, ◌∙◌}
 use Rattle.hippo_join_lookups.specs.Places.{are_there}
 use Rattle.hippo_join_lookups.proofs.SlotLemmas.{there-more}

@@ -1,4 +1,4 @@
--- The places that are left are there exactly where all are.
+-- The remaining places exist exactly when all do.
 use Rattle.std.proofs.Common.{◌≡◌, drop}
 use Rattle.hippo_join_lookups.specs.Places.{are_there}
 use Rattle.hippo_join.proofs.walking.are_there.Given as goal

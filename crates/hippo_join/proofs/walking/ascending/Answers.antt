@@ -1,4 +1,4 @@
--- Places that are sorted, and then each there once.
+-- Places are sorted, and duplicates are removed.
 use Rattle.std.proofs.Common.{List, ℕ, eqb, sym, subst}
 use Rattle.hippo_join_stages.specs.Walking.{following_places}
 use Rattle.std.specs.List.{All, Contains}

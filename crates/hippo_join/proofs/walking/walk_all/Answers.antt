@@ -1,4 +1,4 @@
--- At the beginning no row is chosen.
+-- At the start no row is chosen.
 use Rattle.std.proofs.Common.{◌≡◌, true, length, replicate, None, ap, ◌∙◌, sym}
 use Rattle.hippo_join_lookups.specs.Places.{are_there, rows_at, stands}
 use Rattle.hippo_join_lookups.proofs.SlotLemmas.{there-none}

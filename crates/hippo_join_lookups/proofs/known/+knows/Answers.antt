@@ -1,4 +1,4 @@
--- Where a condition is a list of parts, it is known where each part is.
+-- If a condition is a list of parts, it is known when each part is.
 use Rattle.hippo_join_lookups.proofs.KnownLemmas.{knows-All, knows-Any}
 use Rattle.hippo_join_lookups.proofs.known.+knows.Goals as goal
 

@@ -1,4 +1,4 @@
--- The parts that are left are known exactly where all are.
+-- The remaining parts are known exactly when all are.
 use Rattle.std.proofs.Common.{◌≡◌, drop}
 use Rattle.std.specs.List.{list_all}
 use Rattle.hippo_join_lookups.specs.Known.{knows}

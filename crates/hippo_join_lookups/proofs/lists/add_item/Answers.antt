@@ -1,4 +1,4 @@
--- What is found is added behind what was there.
+-- The places found are appended to those already there.
 use Rattle.std.proofs.Common.{◌≡◌, List, sym, subst, ◌∙◌}
 use Rattle.std.specs.List.{Contains}
 use Rattle.std.proofs.lemmas.List.Elements.{Contains-append_left, Contains-append_right}

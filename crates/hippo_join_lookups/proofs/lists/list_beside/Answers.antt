@@ -1,4 +1,4 @@
--- The column shows the value, and the list has literals alone.
+-- The expression shows the column, and the list holds only literals.
 use Rattle.std.proofs.Common.{sym, ◌∙◌}
 use Rattle.hippo_join_lookups.proofs.ListLemmas.{among-listed}
 use Rattle.hippo_join_lookups.proofs.lists.list_beside.Goals as goal

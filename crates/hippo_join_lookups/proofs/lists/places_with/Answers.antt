@@ -1,4 +1,4 @@
--- What is equal to a value is within the bounds that it makes.
+-- A value is within the inclusive bounds at itself.
 use Rattle.std.proofs.Common.{◌≡◌, ◌<◌, false, true, length, Some}
 use Rattle.std.specs.Option.{IfSome}
 use Rattle.std.specs.List.{Contains}

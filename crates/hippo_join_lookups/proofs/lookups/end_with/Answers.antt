@@ -1,4 +1,4 @@
--- Behind a value that is above there is no equal one; none before it is above.
+-- After a value that is above there is no equal one; none before it is above.
 use Rattle.std.proofs.Common.{◌≡◌, true, inl, inr, sym, ap, ◌∙◌, arith, get_or}
 use Rattle.std.specs.Ordering.{is_le}
 use Rattle.hippo_values.specs.declared.values.Value.{Value}

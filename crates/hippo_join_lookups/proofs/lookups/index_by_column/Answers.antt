@@ -1,4 +1,4 @@
--- Values that do not fall make places that stand by them.
+-- Places whose values ascend are sorted by these values.
 use Rattle.std.proofs.Common.{map, subst, ap, ◌∙◌, List}
 use Rattle.std.specs.List.Sorted.{IsSorted}
 use Rattle.hippo_values.specs.declared.values.Value.{Value}

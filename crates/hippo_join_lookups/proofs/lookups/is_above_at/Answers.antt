@@ -1,4 +1,4 @@
--- What is equal stands before what is above.
+-- An equal value comes before one that is above.
 use Rattle.std.proofs.Common.{◌≡◌, Bool, true, false, refl, sym, ap, ◌∙◌}
 use Rattle.std.specs.Prelude.{not}
 use Rattle.std.specs.Ordering.{is_le}

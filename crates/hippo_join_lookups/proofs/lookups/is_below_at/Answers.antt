@@ -1,4 +1,4 @@
--- What is equal stands behind what is below; behind what is not below nothing is.
+-- An equal value comes after one that is below; after one that is not below, none is below.
 use Rattle.std.proofs.Common.{sym, ap, ◌∙◌}
 use Rattle.std.specs.Ordering.{is_lt}
 use Rattle.hippo_values.specs.declared.values.Value.{Value}

@@ -1,4 +1,4 @@
--- What is equal stands between both ends, and nothing else does.
+-- Equal values are between the two ends, and no others are.
 use Rattle.std.proofs.Common.{arith}
 use Rattle.hippo_join_lookups.proofs.LookupLemmas.{all-between, among, before-all, between-equal, long, none-among}
 use Rattle.hippo_join_lookups.proofs.lookups.searched_with.Goals as goal

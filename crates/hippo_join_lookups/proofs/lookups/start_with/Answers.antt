@@ -1,4 +1,4 @@
--- The search by halves passes over the values that are below.
+-- The binary search skips the values that are below.
 use Rattle.std.proofs.Common.{sym, ◌∙◌, rules}
 use Rattle.std.specs.Ordering.{is_lt}
 use Rattle.std.proofs.lemmas.List.Sorted.{IsPartitionPoint-from_clause}

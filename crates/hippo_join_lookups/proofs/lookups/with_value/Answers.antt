@@ -1,4 +1,4 @@
--- What is equal stands at the one place that was tried, and nothing else does.
+-- The only equal value is at the place that was tried.
 use Rattle.std.proofs.Common.{◌+◌, arith}
 use Rattle.hippo_join_lookups.proofs.LookupLemmas.{all-between, among, equal-by_test}
 use Rattle.hippo_join_lookups.proofs.lookups.with_value.Goals as goal

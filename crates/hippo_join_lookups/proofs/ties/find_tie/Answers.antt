@@ -1,4 +1,4 @@
--- What one part says, all parts say.
+-- What one part requires, all parts require.
 use Rattle.std.proofs.Common.{sym}
 use Rattle.hippo_join_lookups.proofs.PartLemmas.{tie-of-part}
 use Rattle.hippo_join_lookups.proofs.ties.find_tie.Goals as goal

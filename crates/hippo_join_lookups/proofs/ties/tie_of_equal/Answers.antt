@@ -1,4 +1,4 @@
--- An equality that holds says that its columns are equal.
+-- If the equality holds, its columns are equal.
 use Rattle.std.proofs.Common.{sym}
 use Rattle.std.proofs.lemmas.Option.{IfSome_then}
 use Rattle.hippo_join_lookups.proofs.PartLemmas.{tie-left}

@@ -1,4 +1,4 @@
--- A row that has the key stands where the search finds it.
+-- The search finds the row that has the key.
 use Rattle.std.proofs.Common.{◌∙◌}
 use Rattle.hippo_join_stages.proofs.KeyLemmas.{found-at}
 use Rattle.hippo_join_stages.proofs.keys.span_with_key.Goals as goal

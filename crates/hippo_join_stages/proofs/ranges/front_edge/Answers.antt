@@ -1,4 +1,4 @@
--- Rows that begin with these values stand behind the lower end, and before the upper one.
+-- Rows that begin with these values come after the lower end and before the upper one.
 use Rattle.hippo_tables_rows.proofs.RangeLemmas.{front-edge}
 use Rattle.hippo_join_stages.proofs.ranges.front_edge.Goals as goal
 

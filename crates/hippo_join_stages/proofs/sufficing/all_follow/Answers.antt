@@ -1,4 +1,4 @@
--- There is one part.
+-- There is at most one part.
 use Rattle.std.proofs.Common.{◌≡◌, true, List, [], ◌∷◌, length, refl, sym, ap, subst, ◌∙◌}
 use Rattle.std.specs.List.{list_all}
 use Rattle.std.proofs.Math.Dec.{eqb, eqb-suc-zero}

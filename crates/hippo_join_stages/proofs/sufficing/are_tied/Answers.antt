@@ -1,4 +1,4 @@
--- Two columns that are those of the tie, in one order or the other.
+-- The two columns are those of the tie, in either order.
 use Rattle.hippo_join_lookups.proofs.PartLemmas.{equal-turned}
 use Rattle.hippo_join_stages.proofs.SufficeLemmas.{equal-moved}
 use Rattle.hippo_join_stages.proofs.sufficing.are_tied.Goals as goal

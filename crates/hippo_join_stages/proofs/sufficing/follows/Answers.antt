@@ -1,4 +1,4 @@
--- It is a comparison.
+-- The part is a comparison.
 use Rattle.std.proofs.Common.{◌≡◌, true, sym, subst}
 use Rattle.hippo_model.specs.declared.query.CondOf.{CondOf}
 use Rattle.hippo_model.specs.declared.query.Expr.{Expr}

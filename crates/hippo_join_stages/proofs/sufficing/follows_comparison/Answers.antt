@@ -1,4 +1,4 @@
--- It is an equality.
+-- The comparison is an equality.
 use Rattle.std.proofs.Common.{◌≡◌, true, sym, subst}
 use Rattle.hippo_values.specs.declared.truths.CompareOp.{CompareOp}
 use Rattle.hippo_model.specs.declared.query.CondOf.TheVariants.{Compare}

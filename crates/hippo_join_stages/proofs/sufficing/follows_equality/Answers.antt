@@ -1,4 +1,4 @@
--- Both columns are shown of every row, and are those of the tie.
+-- Both columns are shown for every row, and are those of the tie.
 use Rattle.hippo_join_stages.proofs.SufficeLemmas.{equality_holds}
 use Rattle.hippo_join_stages.proofs.sufficing.follows_equality.Goals as goal
 

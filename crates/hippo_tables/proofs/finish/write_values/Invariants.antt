@@ -1,4 +1,4 @@
--- What is left to write gives the whole.
+-- Writing the remaining values gives the whole row.
 use Rattle.std.proofs.Common.{◌≡◌, drop}
 use Rattle.std.specs.Vec.Iter.{into_iter_items}
 use Rattle.hippo_tables.specs.Finished.{written_row}

@@ -1,4 +1,4 @@
--- The schemas so far, and those of the tables that are left.
+-- The schemas so far, and those of the remaining tables.
 use Rattle.std.proofs.Common.{◌≡◌, ◌++◌, drop}
 use Rattle.hippo_model.specs.Terms.{History}
 use Rattle.hippo_tables.specs.Standing.{TablesStandFor, schemas_at}

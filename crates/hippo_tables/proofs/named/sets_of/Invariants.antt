@@ -1,4 +1,4 @@
--- The rows so far, and those of the tables that are left.
+-- The rows so far, and those of the remaining tables.
 use Rattle.std.proofs.Common.{◌≡◌, ◌++◌, drop, length, map}
 use Rattle.hippo_model.specs.Terms.{History}
 use Rattle.hippo_tables_keyed.specs.RowSets.{kept_at}

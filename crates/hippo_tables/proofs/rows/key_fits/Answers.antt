@@ -1,4 +1,4 @@
--- One place more of the key.
+-- One more place of the key.
 use Rattle.std.proofs.Common.{◌∙◌, sym, refl, arith}
 use Rattle.hippo_tables.proofs.RowLemmas.{fits_within, column_there, column_missing, key_passes, key_goes_on, key_stops}
 use Rattle.hippo_tables.proofs.rows.key_fits.Goals as goal

@@ -1,4 +1,4 @@
--- One column more.
+-- One more column.
 use Rattle.std.proofs.Common.{◌∙◌, sym, refl, arith}
 use Rattle.hippo_tables.proofs.RowLemmas.{fits_within, row_goes_on, row_stops}
 use Rattle.hippo_tables.proofs.rows.row_fits.Goals as goal

@@ -1,4 +1,4 @@
--- The columns that are left against the values that are left.
+-- The remaining columns with the remaining values.
 use Rattle.std.proofs.Common.{◌≡◌, ◌≤◌, length, drop}
 use Rattle.std.specs.Cmp.Lexicographic.{pointwise}
 use Rattle.hippo_model.specs.Values.{fits}

@@ -1,4 +1,4 @@
--- The pairs ended where the shorter key did.
+-- The shorter key has ended.
 use Rattle.std.proofs.Common.{rules}
 use Rattle.std.proofs.lemmas.Slice.Zip.{zip_end}
 use Rattle.hippo_tables_keyed.proofs.KeyOrder.{cells_cmp-past_end}

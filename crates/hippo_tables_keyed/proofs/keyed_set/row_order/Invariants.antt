@@ -1,4 +1,4 @@
--- The keys are equal up to the index, so what is left decides.
+-- The keys are equal up to the index, so the rest decides.
 use Rattle.std.proofs.Common.{◌≡◌, drop}
 use Rattle.hippo_values.specs.Order.{cells_cmp}
 use Rattle.hippo_model.specs.Rows.{key_of}

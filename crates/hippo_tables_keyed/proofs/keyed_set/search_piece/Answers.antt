@@ -1,4 +1,4 @@
--- The search goes by each row's key.
+-- The search uses each row's key.
 use Rattle.std.proofs.Common.{rules}
 use Rattle.std.proofs.lemmas.Fn.{always_returns_same}
 use Rattle.hippo_tables_keyed.specs.Searches.{target_order}

@@ -1,4 +1,4 @@
--- The piece begins at or before the place, and ends behind it.
+-- The piece begins at or before the place, and ends after it.
 use Rattle.std.proofs.Common.{ap, arith}
 use Rattle.hippo_tables_keyed.specs.declared.pieces.Piece.{Piece}
 use Rattle.hippo_tables_keyed.proofs.PiecesLemmas.{IsReached-held}

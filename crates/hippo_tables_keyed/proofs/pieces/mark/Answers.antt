@@ -1,4 +1,4 @@
--- One piece more is marked.
+-- One more piece has its end stored.
 use Rattle.std.proofs.Common.{◌≡◌, ℕ, suc, ◌+◌, ◌<◌, List, [], length, get_or, set, sym, ap, ◌∙◌, refl, add-one, arith}
 use Rattle.std.proofs.lemmas.List.{length-map}
 use Rattle.hippo_tables_keyed.specs.declared.pieces.Piece.{Piece}

@@ -1,4 +1,4 @@
--- The pieces before this one know their ends.
+-- The pieces before this one store their correct ends.
 use Rattle.std.proofs.Common.{◌≡◌, take}
 use Rattle.hippo_tables_keyed.specs.Pieces.{contents, start_of, IsMarked}
 use Rattle.hippo_tables_keyed.proofs.pieces.mark.Given as goal

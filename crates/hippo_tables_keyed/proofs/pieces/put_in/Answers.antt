@@ -1,4 +1,4 @@
--- One piece has one member more, or all is as it was.
+-- One piece has one more member, or nothing changes.
 use Rattle.std.proofs.Common.{List, refl, sym, subst, ◌∙◌, ap}
 use Rattle.hippo_tables_keyed.specs.declared.pieces.Piece.{Piece}
 use Rattle.hippo_tables_keyed.specs.Pieces.{AreFull}

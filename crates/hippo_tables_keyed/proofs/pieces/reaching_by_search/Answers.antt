@@ -1,4 +1,4 @@
--- The pieces are parted by where they end.
+-- The pieces are partitioned by their ends.
 use Rattle.std.proofs.Common.{nat_le, rules}
 use Rattle.std.proofs.lemmas.List.Sorted.{IsPartitionPoint-from_clause, IsPartitionedBy-leb}
 use Rattle.hippo_tables_keyed.specs.declared.pieces.Piece.{Piece}

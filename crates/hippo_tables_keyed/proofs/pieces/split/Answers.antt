@@ -1,4 +1,4 @@
--- The upper half takes its place behind the piece.
+-- The upper half is inserted after the piece.
 use Rattle.std.proofs.Common.{◌≤◌, length, sym, ap, ◌∙◌, subst, List, arith}
 use Rattle.std.specs.Result.{IsOk}
 use Rattle.hippo_tables_keyed.specs.declared.pieces.Piece.{Piece}

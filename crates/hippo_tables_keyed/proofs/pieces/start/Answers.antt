@@ -1,4 +1,4 @@
--- A piece begins where the one before it ends.
+-- A piece begins at the end of the one before it.
 use Rattle.std.proofs.Common.{suc, ◌≡◌, ◌-◌, arith, ap, ◌∙◌}
 use Rattle.hippo_tables_keyed.specs.Pieces.{contents, start_of}
 use Rattle.hippo_tables_keyed.proofs.PiecesLemmas.{end_of_piece}

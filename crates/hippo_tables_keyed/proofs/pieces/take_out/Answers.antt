@@ -1,4 +1,4 @@
--- One piece has a member less, or goes.
+-- A piece has one member less, or is removed.
 use Rattle.std.proofs.Common.{◌≡◌, List, length, ◌∙◌, ap, sym, subst, arith}
 use Rattle.std.proofs.lemmas.List.{nil_from_length}
 use Rattle.hippo_tables_keyed.specs.declared.pieces.Piece.{Piece}

@@ -1,4 +1,4 @@
--- One entry more, up to the end.
+-- One more entry, up to the end.
 use Rattle.std.proofs.Common.{◌∙◌, arith}
 use Rattle.hippo_tables_rows.proofs.PlacesWithinLemmas.{next-gathered}
 use Rattle.hippo_tables_rows.proofs.column_order.add_places.Goals as goal

@@ -1,4 +1,4 @@
--- The rows whose entries stand from the first place to before this one are found.
+-- The rows whose entries are between the first place and this one are found.
 use Rattle.std.proofs.Common.{◌<◌, length}
 use Rattle.std.specs.List.{All}
 use Rattle.hippo_tables_rows.specs.ColumnOrders.{AreGathered}

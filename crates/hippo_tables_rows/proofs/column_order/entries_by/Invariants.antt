@@ -1,4 +1,4 @@
--- Nothing is to be kept of the orders that are passed.
+-- The orders that are skipped need no invariant.
 use Rattle.hippo_tables_rows.proofs.column_order.entries_by.Given as goal
 
 abbrev pub invariant-loop-order : goal.invariant-loop-order

@@ -1,4 +1,4 @@
--- The value in the column, and those of the key so far.
+-- The value in the column, and the values of the key so far.
 use Rattle.std.proofs.Common.{◌≡◌, take}
 use Rattle.hippo_tables_rows.specs.ColumnOrders.{order_key}
 use Rattle.hippo_tables_rows.proofs.column_order.entry_of.Given as goal

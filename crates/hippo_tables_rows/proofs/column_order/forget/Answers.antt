@@ -1,4 +1,4 @@
--- The entry of the row that is taken goes, if there is one.
+-- The entry of the removed row is removed, if there is one.
 use Rattle.std.proofs.Common.{sym, subst}
 use Rattle.hippo_tables_keyed.specs.RowSets.{without_row}
 use Rattle.hippo_tables_rows.specs.ColumnOrders.{AreOrderKeysOf}

@@ -1,4 +1,4 @@
--- What is sorted changes places.
+-- Sorting permutes the places.
 use Rattle.std.proofs.Common.{subst, sym, ap, ◌∙◌, List, ℕ, map, length}
 use Rattle.std.specs.List.{range_with_len}
 use Rattle.std.specs.List.Sorted.{IsPermutation}

@@ -1,4 +1,4 @@
--- One place more.
+-- One more place.
 use Rattle.std.proofs.Common.{◌≡◌, ap, sym, ◌∙◌, List, ℕ, [], ◌∷◌, ◌++◌, add-one, arith}
 use Rattle.std.specs.List.{range_with_len}
 use Rattle.hippo_tables_rows.proofs.EntryLemmas.{range-more}

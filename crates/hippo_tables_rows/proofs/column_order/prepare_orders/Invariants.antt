@@ -1,4 +1,4 @@
--- The orders before this place are ready, and the others are those of the set.
+-- The orders before this place are ready, and the others still belong to the set.
 use Rattle.hippo_tables_rows.specs.ColumnOrders.{IsOrderOf, AreOrdersOf, IsReadyFor}
 use Rattle.hippo_model.proofs.ChangeLoops.{AreChangedTo}
 use Rattle.hippo_tables_rows.proofs.column_order.prepare_orders.Given as goal

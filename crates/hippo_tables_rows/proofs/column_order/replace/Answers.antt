@@ -1,4 +1,4 @@
--- The row's entry stands there already, or it comes instead of the other row's.
+-- The row's entry already exists, or it replaces that of the other row.
 use Rattle.std.proofs.Common.{sym, subst, ◌∙◌}
 use Rattle.hippo_tables_keyed.specs.RowSets.{with_row}
 use Rattle.hippo_tables_rows.specs.ColumnOrders.{AreOrderKeysOf}

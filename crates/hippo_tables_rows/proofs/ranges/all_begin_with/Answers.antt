@@ -1,4 +1,4 @@
--- What stands between two rows whose keys begin with these values does so too.
+-- A row between two rows whose keys begin with these values begins with them too.
 use Rattle.std.proofs.Common.{◌-◌, sym, arith, ◌∙◌}
 use Rattle.hippo_tables_rows.proofs.RangeLemmas.{begin-all}
 use Rattle.hippo_tables_rows.proofs.ranges.all_begin_with.Goals as goal

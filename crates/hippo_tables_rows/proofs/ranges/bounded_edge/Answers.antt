@@ -1,4 +1,4 @@
--- Rows within the bound stand on its side of the end.
+-- Rows within the bound are on its side of the end.
 use Rattle.std.proofs.Common.{[], ap, sym, ◌∙◌, Bool}
 use Rattle.hippo_tables_rows.specs.Ranges.{stands_low}
 use Rattle.hippo_tables_rows.proofs.RangeLemmas.{bounded-edge}

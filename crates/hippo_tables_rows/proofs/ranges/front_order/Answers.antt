@@ -1,4 +1,4 @@
--- The pairs ended where the key or the values did.
+-- The key or the values have ended.
 use Rattle.std.proofs.Common.{rules}
 use Rattle.std.proofs.lemmas.Slice.Zip.{zip_end}
 use Rattle.hippo_tables_rows.proofs.RangeLemmas.{front-past_end}

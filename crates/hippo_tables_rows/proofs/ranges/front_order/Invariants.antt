@@ -1,4 +1,4 @@
--- The values are equal up to the pairs so far, so what is left decides.
+-- The values are equal so far, so the rest decides.
 use Rattle.std.proofs.Common.{◌≡◌, length, drop}
 use Rattle.hippo_model.specs.Rows.{key_of}
 use Rattle.hippo_tables_rows.specs.Ranges.{front_cmp}

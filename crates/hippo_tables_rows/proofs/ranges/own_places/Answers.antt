@@ -1,4 +1,4 @@
--- The rows within the bounds stand between the ends.
+-- The rows within the bounds are between the two ends.
 use Rattle.hippo_tables_rows.proofs.PlacesWithinLemmas.{own-within}
 use Rattle.hippo_tables_rows.proofs.ranges.own_places.Goals as goal
 

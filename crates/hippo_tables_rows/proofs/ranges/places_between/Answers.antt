@@ -1,4 +1,4 @@
--- One place more, up to the end.
+-- One more place, up to the end.
 use Rattle.std.proofs.Common.{◌<◌, length, subst, sym, arith, List}
 use Rattle.std.specs.List.{All}
 use Rattle.std.proofs.lemmas.List.Elements.{All-push}

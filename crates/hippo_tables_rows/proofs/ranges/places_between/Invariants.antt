@@ -1,4 +1,4 @@
--- The places so far are among those that are found.
+-- The places so far are among those found.
 use Rattle.std.proofs.Common.{◌<◌, ◌≤◌, length}
 use Rattle.std.specs.List.{All, Contains}
 use Rattle.hippo_model.specs.Terms.{Place}

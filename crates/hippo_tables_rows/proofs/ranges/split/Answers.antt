@@ -1,4 +1,4 @@
--- Keys ascend, so what stands before a low row is low, and what stands behind another is not.
+-- Keys ascend, so a row before a low row is low, and a row after one that is not low is not.
 use Rattle.std.proofs.Common.{ℕ, ◌+◌, ◌-◌, ◌/◌, ◌<◌, sym, ◌∙◌, arith}
 use Rattle.hippo_tables_rows.specs.Ranges.{stands_low}
 use Rattle.hippo_tables_rows.proofs.RangeLemmas.{low-before, high-after, parted}

@@ -1,4 +1,4 @@
--- The rows before the first end stand low, those from the second one on do not.
+-- The rows before the first end are low; those from the second one on are not.
 use Rattle.std.proofs.Common.{◌≡◌, ℕ, ◌-◌, ◌<◌, ◌≤◌, true, false, length}
 use Rattle.hippo_tables_rows.specs.Ranges.{stands_low}
 use Rattle.hippo_tables_rows.proofs.ranges.split.Given as goal

@@ -1,4 +1,4 @@
--- The different rows of a front come first.
+-- The different rows of the beginning of a list come first.
 use Rattle.std.proofs.Common.{◌≡◌, length, ap, arith, ◌++◌, ◌∙◌}
 use Rattle.std.proofs.lemmas.List.{length-append}
 use Rattle.hippo_model.specs.Forms.{different_rows}

@@ -1,4 +1,4 @@
--- A row that is found by its hash stands there already.
+-- A row found by its hash is already among them.
 use Rattle.std.proofs.Common.{sym, ◌∙◌, ap}
 use Rattle.std.specs.Prelude.{is_some}
 use Rattle.hippo_distinct.proofs.KeptLemmas.{there_already}

@@ -1,4 +1,4 @@
--- The row that is guessed is compared.
+-- The row at the guessed place is compared.
 use Rattle.std.proofs.Common.{[], ◌∷◌, ◌++◌, sym, ap, ◌∙◌}
 use Rattle.hippo_model.specs.Terms.{ShownRow}
 use Rattle.hippo_model.specs.Forms.{different_rows}

@@ -1,4 +1,4 @@
--- More rows are not fewer.
+-- More rows do not make the answer shorter.
 use Rattle.std.proofs.Common.{◌≡◌, length, ap, arith}
 use Rattle.std.proofs.lemmas.List.{length-append}
 use Rattle.hippo_eval.proofs.answers.EveryGatherer.finish.Goals as goal

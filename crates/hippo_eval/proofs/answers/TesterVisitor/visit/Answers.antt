@@ -1,4 +1,4 @@
--- A combination that counts, or one that does not.
+-- A combination that qualifies, or one that does not.
 use Rattle.std.proofs.Common.{sym, ◌∙◌}
 use Rattle.hippo_eval.proofs.FoundLemmas.{tested-counts, tested-same}
 use Rattle.hippo_eval.proofs.answers.TesterVisitor.visit.Goals as goal

@@ -1,4 +1,4 @@
--- The versions are brought up to the number.
+-- The versions are read up to the number.
 use Rattle.std.proofs.Common.{◌∙◌, ◌≤◌, sym, subst}
 use Rattle.hippo_intervals.specs.Living.{HeldLives}
 use Rattle.hippo_intervals.proofs.LivesLemmas.{advances_by}

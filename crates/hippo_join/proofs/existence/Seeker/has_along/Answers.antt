@@ -1,4 +1,4 @@
--- The first combination that is found is enough.
+-- The first combination found is enough.
 use Rattle.std.proofs.Common.{◌≡◌, Bool, false, List, [], refl, sym, ◌∙◌}
 use Rattle.std.specs.List.{list_any}
 use Rattle.std.proofs.lemmas.Bool.{false≢true}

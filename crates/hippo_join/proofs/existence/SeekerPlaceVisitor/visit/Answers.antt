@@ -1,4 +1,4 @@
--- It shows what is to be seen, or not.
+-- The combination shows all wanted cells, or it does not.
 use Rattle.std.proofs.Common.{List, sym, ap, ◌∙◌}
 use Rattle.hippo_model.specs.Terms.{Place}
 use Rattle.hippo_join_lookups.specs.Places.{chosen_rows}

@@ -1,4 +1,4 @@
--- One combination more, or enough of them.
+-- One more combination, or enough of them.
 use Rattle.std.proofs.Common.{◌≡◌, ◌<◌, ◌≤◌, true, length, List, ◌++◌, [], ◌∷◌, map, unwrap_or, Option, subst, ap, ◌∙◌, arith}
 use Rattle.hippo_model.specs.Terms.{Place}
 use Rattle.hippo_join_stages.specs.Finding.{AreFound, has_places}

@@ -1,4 +1,4 @@
--- What counts is visited stage by stage and place by place.
+-- The qualifying combinations are visited stage by stage and place by place.
 use Rattle.std.proofs.Common.{◌≡◌, suc, List, [], ◌++◌, length, length-set, Option, Some, None, refl, sym, ap, ◌∙◌, arith}
 use Rattle.std.specs.Prelude.{slice_set}
 use Rattle.std.proofs.lemmas.Bool.{false≢true}
@@ -143,7 +143,7 @@ walk_with-get-set-requires g t c =
     let long = c.requires.can.can.long in
     omega (arith, c.requires.table, long)
 
--- no row stands there
+-- the table has no row at this place
 pub walk_with-returns-then-place-len : goal.walk_with-returns-then-place-len
 walk_with-returns-then-place-len g t c =
     let join = join_of g.C.ChoiceView.choices c.args.self.now in
@@ -163,7 +163,7 @@ walk_with-set-requires g t c =
     let long = c.requires.can.can.long in
     omega (arith, c.requires.table, long, ap length c.requires.can.stand.are, length-rows_at sets c.args.slots.now)
 
--- the row is chosen: on along the other stages
+-- the row is chosen: continue along the other stages
 pub walk_with-visit_last-requires-clause-can : goal.walk_with-visit_last-requires-clause-can
 walk_with-visit_last-requires-clause-can g t c =
     let on = on-with (join_of g.C.ChoiceView.choices c.args.self.now) c.args.stage.now c.args.rest.now c.args.slots.now c.args.rows.now c.requires.can c.args.place c.get-set.result.now c.born_row-kept.result.now c.set.new.self c.requires.table c.get-set.ensures (omega (arith, c.if-place-len.false, c.len.ensures.rows)) c.born_row-kept.ensures c.set.ensures in

@@ -1,4 +1,5 @@
--- The stages that are left are fewer; what counts with each place so far was visited, with the rows that were chosen before.
+-- Fewer stages are left; what qualifies with each place so far was visited, and the rows chosen
+-- before are chosen again.
 use Rattle.std.proofs.Common.{◌≡◌, ◌+◌, ◌*◌, List, None, length}
 use Rattle.std.specs.Prelude.{slice_set}
 use Rattle.hippo_model.specs.Terms.{Combination, Place}

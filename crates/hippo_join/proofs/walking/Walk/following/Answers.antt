@@ -1,4 +1,4 @@
--- The same places count, once they are sorted.
+-- Sorting keeps the same places.
 use Rattle.std.specs.List.{Contains}
 use Rattle.std.proofs.lemmas.List.Elements.{All-contains}
 use Rattle.hippo_join_stages.specs.Walking.{following_places}

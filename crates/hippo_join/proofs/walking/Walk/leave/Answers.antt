@@ -1,4 +1,4 @@
--- The rows of the other tables stay.
+-- The rows of the other tables stay the same.
 use Rattle.std.proofs.Common.{length, ap, ◌∙◌, arith}
 use Rattle.std.specs.Prelude.{slice_set}
 use Rattle.hippo_join_lookups.proofs.SlotLemmas.{length-rows_at}

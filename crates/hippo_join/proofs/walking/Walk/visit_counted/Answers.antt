@@ -1,4 +1,4 @@
--- The combination that is there counts.
+-- The combination qualifies.
 use Rattle.std.proofs.Common.{[], ◌∷◌, refl, sym}
 use Rattle.hippo_join_stages.specs.Visiting.{KeptOn, Visited, Completes}
 use Rattle.hippo_join_lookups.proofs.PlaceSteps.{ok-then}

@@ -1,4 +1,4 @@
--- The combination that is there counts, or not.
+-- The combination qualifies, or does not.
 use Rattle.std.proofs.Common.{refl, sym, ◌∙◌}
 use Rattle.hippo_join_stages.specs.Visiting.{Completes}
 use Rattle.hippo_join.specs.Walked.{join_of}

@@ -1,4 +1,4 @@
--- A span is as long as its numbers.
+-- A span has as many places as its bounds say.
 use Rattle.std.proofs.Common.{◌-◌, length, sym, ap, ◌∙◌}
 use Rattle.std.proofs.lemmas.List.FromFn.{length-range_with_len}
 use Rattle.hippo_join_stages.specs.declared.following.Following.{Following}

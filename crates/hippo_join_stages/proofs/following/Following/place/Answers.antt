@@ -1,4 +1,4 @@
--- The place at an index, of a list and of a span.
+-- The place at an index, for a list and for a span.
 use Rattle.std.proofs.Common.{◌<◌, ◌-◌, length, get_or, subst, sym, ap, ◌∙◌}
 use Rattle.std.proofs.lemmas.List.FromFn.{get_or-range_with_len, length-range_with_len}
 use Rattle.std.proofs.lemmas.Option.{unwrap_or-slice_get}

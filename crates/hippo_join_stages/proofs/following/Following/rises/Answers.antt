@@ -1,4 +1,4 @@
--- The places of a span stand one behind the other.
+-- The places of a span are consecutive.
 use Rattle.std.proofs.Common.{◌-◌, subst, sym}
 use Rattle.std.specs.List.Sorted.{IsStrictlyIncreasing}
 use Rattle.hippo_join_stages.specs.declared.following.Following.{Following}

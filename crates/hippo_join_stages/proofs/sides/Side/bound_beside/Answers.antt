@@ -1,4 +1,4 @@
--- A comparison with what is known.
+-- A comparison with a known value.
 use Rattle.std.proofs.Common.{◌∷◌, [], subst}
 use Rattle.hippo_values.specs.declared.truths.CompareOp.{CompareOp}
 use Rattle.hippo_model.specs.declared.query.CondOf.TheVariants.{Compare}

@@ -1,5 +1,4 @@
--- A comparison says the same from the other side, and what is between two values is compared with
--- both.
+-- A comparison with its sides swapped means the same, and BETWEEN is two comparisons.
 use Rattle.std.proofs.Common.{◌∷◌, [], subst}
 use Rattle.hippo_values.specs.declared.truths.CompareOp.{CompareOp}
 use Rattle.hippo_values.specs.declared.truths.CompareOp.TheVariants.{Le, Ge}

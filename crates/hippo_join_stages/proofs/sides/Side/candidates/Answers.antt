@@ -1,4 +1,4 @@
--- Each place of the span is among those that are tried.
+-- Each place of the span is among the candidates.
 use Rattle.hippo_join_stages.proofs.KeyLemmas.{in-span}
 use Rattle.hippo_join_stages.proofs.sides.Side.candidates.Goals as goal
 

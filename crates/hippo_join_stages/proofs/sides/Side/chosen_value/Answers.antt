@@ -1,4 +1,4 @@
--- The combination has the row that is chosen.
+-- The combination has the chosen row.
 use Rattle.std.proofs.Common.{◌≡◌, List, refl, Bor}
 use Rattle.hippo_values.specs.declared.values.Value.{Value}
 use Rattle.hippo_model.specs.Terms.{Place}

@@ -1,4 +1,4 @@
--- A stage that looks its rows up has no tie that others would have to meet.
+-- A lookup stage has no tie that its candidates would have to meet.
 use Rattle.std.proofs.Common.{◌≡◌, true, Some}
 use Rattle.std.specs.Prelude.{slice_set}
 use Rattle.hippo_join_lookups.specs.Known.{is_open}

@@ -1,4 +1,4 @@
--- A known guard holds in each combination that counts.
+-- A known guard holds in each qualifying combination.
 use Rattle.std.proofs.Common.{sym, ap, ◌∙◌, not, ◌||◌}
 use Rattle.hippo_model.specs.Masking.{masked_cell, is_shown_cell}
 use Rattle.hippo_model.specs.Terms.{Combination}

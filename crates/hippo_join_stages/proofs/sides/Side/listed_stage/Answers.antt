@@ -1,4 +1,4 @@
--- The index has the places that there were, and the tie is one of all that counts.
+-- The index contains the same places, and the tie holds in each qualifying combination.
 use Rattle.std.proofs.Common.{◌≡◌, Some, sym, subst, ◌∙◌}
 use Rattle.std.proofs.lemmas.List.Sorted.{Contains-permutation}
 use Rattle.hippo_tables_keyed.specs.RowSets.{KeyedRows}

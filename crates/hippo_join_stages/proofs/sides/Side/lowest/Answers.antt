@@ -1,4 +1,4 @@
--- What has a bound is not null.
+-- A value with a bound is not null.
 use Rattle.hippo_model.specs.Masking.{raw_value}
 use Rattle.hippo_join_lookups.specs.Places.{chosen_rows}
 use Rattle.hippo_join_stages.proofs.sides.Side.lowest.Goals as goal

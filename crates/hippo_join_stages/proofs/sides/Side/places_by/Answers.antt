@@ -1,4 +1,4 @@
--- The row of a combination that counts has a value within the bounds, or of the list.
+-- The row of a qualifying combination has a value within the bounds, or in the list.
 use Rattle.std.proofs.Common.{List, subst}
 use Rattle.hippo_model.specs.declared.query.CondOf.{CondOf}
 use Rattle.hippo_model.specs.declared.query.Expr.{Expr}

@@ -1,4 +1,4 @@
--- The row that is chosen has the value that it has in each combination that fits.
+-- The chosen row has the value that it has in each combination that fits.
 use Rattle.std.proofs.Common.{Bor, Option, Some, sym, ap, subst, ◌∙◌}
 use Rattle.std.specs.Prelude.{slice_set}
 use Rattle.std.proofs.lemmas.Bool.{false≢true}

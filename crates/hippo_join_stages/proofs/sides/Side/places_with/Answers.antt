@@ -1,4 +1,4 @@
--- A place that counts has the value of the tie, which is not null.
+-- A qualifying place has the value of the tie, which is not null.
 use Rattle.std.proofs.Common.{◌≡◌, List, Some, sym, subst, ◌∙◌}
 use Rattle.std.specs.Prelude.{slice_get}
 use Rattle.std.specs.List.{Contains}

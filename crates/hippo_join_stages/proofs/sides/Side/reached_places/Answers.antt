@@ -1,4 +1,4 @@
--- Where there is nothing to test, all candidates are taken.
+-- If there is nothing to test, all candidates are taken.
 use Rattle.std.proofs.Common.{◌≡◌, List, sym, subst}
 use Rattle.hippo_model.specs.Terms.{Place}
 use Rattle.hippo_join_stages.specs.Stages.{Reaches}

@@ -1,4 +1,4 @@
--- The other rows stay, and the one is that which is chosen.
+-- The other rows stay the same; this one becomes the chosen row.
 use Rattle.std.proofs.Common.{◌≡◌, length, length-set, unwrap_or, ap, ◌∙◌, arith}
 use Rattle.std.specs.Prelude.{slice_get}
 use Rattle.std.specs.Option.{option_map_or}

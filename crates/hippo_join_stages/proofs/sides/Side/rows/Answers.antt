@@ -1,4 +1,4 @@
--- One table's row more, and the end.
+-- One more table's row, and the end.
 use Rattle.std.proofs.Common.{◌++◌, ◌∷◌, [], ap, ◌∙◌, arith}
 use Rattle.hippo_model.specs.declared.born_row.BornRow.{BornRow}
 use Rattle.hippo_join_lookups.specs.Places.{rows_at}

@@ -1,4 +1,4 @@
--- The rows so far, with those of the tables that are left behind them, are all.
+-- The rows so far, followed by those of the remaining tables, are all.
 use Rattle.std.proofs.Common.{◌≡◌, ◌++◌, drop}
 use Rattle.hippo_join_lookups.specs.Places.{rows_at}
 use Rattle.hippo_join_stages.proofs.sides.Side.rows.Given as goal

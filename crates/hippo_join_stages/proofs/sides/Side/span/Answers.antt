@@ -1,4 +1,4 @@
--- The row of a combination that counts has the values that are told.
+-- The row of a qualifying combination has the values that the condition fixes.
 use Rattle.std.proofs.Common.{◌≡◌, ℕ, ◌≤◌, ◌∙◌, arith, List, length, take, Some, sym, subst, ltb-false}
 use Rattle.std.specs.Prelude.{slice_get}
 use Rattle.hippo_model.specs.Conditions.{outer_parts}

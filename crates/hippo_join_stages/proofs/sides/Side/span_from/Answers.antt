@@ -1,4 +1,4 @@
--- The rows stand between the ends.
+-- The rows are between the two ends.
 use Rattle.hippo_join_stages.proofs.RangeLemmas.{within-edges}
 use Rattle.hippo_join_stages.proofs.sides.Side.span_from.Goals as goal
 

@@ -1,4 +1,4 @@
--- Where all stages list their places, they are stages.
+-- When no stage looks its rows up, all stages are materialised.
 use Rattle.std.proofs.Common.{true}
 use Rattle.hippo_join_stages.specs.Stages.{AreStages}
 use Rattle.hippo_join_stages.specs.Walking.{AreWalkable}

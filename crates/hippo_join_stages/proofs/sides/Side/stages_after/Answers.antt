@@ -1,4 +1,4 @@
--- One stage more.
+-- One more stage.
 use Rattle.std.proofs.Common.{length-set}
 use Rattle.hippo_join_stages.proofs.FindingLemmas.{stages-more}
 use Rattle.hippo_join_stages.proofs.sides.Side.stages_after.Goals as goal

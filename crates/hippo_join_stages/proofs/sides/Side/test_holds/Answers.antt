@@ -1,4 +1,4 @@
--- A known part holds in each combination that counts.
+-- A known part holds in each qualifying combination.
 use Rattle.std.proofs.Common.{ap, ◌∙◌, not, ◌||◌}
 use Rattle.hippo_model.specs.Conditions.{outer_parts}
 use Rattle.hippo_model.specs.Terms.{Combination}

@@ -1,4 +1,4 @@
--- One place more was tested, and all were.
+-- One more place was tested, or all were.
 use Rattle.std.proofs.Common.{◌≡◌, true, List, Some, length, subst, sym, ap, ◌∙◌, arith, length-set}
 use Rattle.std.proofs.lemmas.List.{set-set}
 use Rattle.hippo_model.specs.Terms.{Combination, Place}

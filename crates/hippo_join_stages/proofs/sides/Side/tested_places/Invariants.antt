@@ -1,4 +1,4 @@
--- The places so far have each of those that were tested where it counts.
+-- The places so far contain each tested place that qualifies.
 use Rattle.std.proofs.Common.{◌≡◌, ℕ, ◌<◌, true, List, length, get_or, Some}
 use Rattle.std.specs.Prelude.{slice_get, slice_set}
 use Rattle.std.specs.List.{Contains}

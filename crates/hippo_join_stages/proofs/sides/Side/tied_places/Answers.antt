@@ -1,4 +1,4 @@
--- The value of the tie in the row that is chosen.
+-- The value of the tie in the chosen row.
 use Rattle.std.proofs.Common.{Bor, sym, ap, ◌∙◌}
 use Rattle.hippo_values.specs.declared.values.Value.{Value}
 use Rattle.hippo_join_lookups.proofs.SlotLemmas.{Fits-at, raw-at}

@@ -1,4 +1,4 @@
--- The column stands on either side of the equality.
+-- The column is on either side of the equality.
 use Rattle.std.proofs.lemmas.Option.{IfSome_then}
 use Rattle.hippo_join_stages.proofs.KeyLemmas.{told-left, told-right}
 use Rattle.hippo_join_stages.proofs.sides.Side.told_by_equal.Goals as goal

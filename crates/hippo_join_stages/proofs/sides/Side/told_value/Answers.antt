@@ -1,4 +1,4 @@
--- What one part says, all parts say.
+-- What one part requires, all parts require.
 use Rattle.hippo_join_stages.proofs.KeyLemmas.{of-all-parts}
 use Rattle.hippo_join_stages.proofs.sides.Side.told_value.Goals as goal
 

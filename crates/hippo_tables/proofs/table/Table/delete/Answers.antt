@@ -1,4 +1,4 @@
--- A row and its number go together.
+-- A row and its number are removed together.
 use Rattle.std.proofs.Common.{length, sym, ap, arith}
 use Rattle.std.proofs.lemmas.List.Edits.{length-remove}
 use Rattle.hippo_tables_keyed.specs.RowSets.{KeyedRows}

@@ -1,4 +1,4 @@
--- The number goes where the row stands.
+-- The number is inserted at the place of the row.
 use Rattle.std.proofs.Common.{◌≡◌, length, unwrap_or, sym, ap, ◌∙◌, arith}
 use Rattle.std.proofs.lemmas.List.Edits.{length-insert}
 use Rattle.hippo_model.specs.declared.born_row.BornRow.{BornRow}

@@ -1,4 +1,4 @@
--- Each kind of entry adds what its act says.
+-- Each kind of entry has the effect of its act.
 use Rattle.hippo_tables.proofs.AddLemmas.{OnOk-map, added-insert, added-update, added-delete, added-make}
 use Rattle.hippo_tables.proofs.tables.Tables.apply.Goals as goal
 

@@ -1,4 +1,4 @@
--- The table is the one that the history makes.
+-- The table is the one that the history gives.
 use Rattle.std.proofs.Common.{sym, ◌∙◌}
 use Rattle.hippo_tables.proofs.LiveLemmas.{number_live}
 use Rattle.hippo_tables.proofs.tables.Tables.number.Goals as goal

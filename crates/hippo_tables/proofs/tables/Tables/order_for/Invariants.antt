@@ -1,4 +1,4 @@
--- The tables stay what they were.
+-- The tables' contents stay the same.
 use Rattle.hippo_tables.specs.Standing.{TablesAreAsBefore}
 use Rattle.hippo_tables.proofs.tables.Tables.order_for.Given as goal
 

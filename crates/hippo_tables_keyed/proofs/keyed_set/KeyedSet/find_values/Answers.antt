@@ -1,4 +1,4 @@
--- The search goes by the keys, which ascend.
+-- The search uses the keys, which ascend.
 use Rattle.std.proofs.Common.{sym, ap, ◌∙◌}
 use Rattle.hippo_tables_keyed.specs.RowSets.{KeyedRows, find_row}
 use Rattle.hippo_tables_keyed.proofs.KeptRows.{find_row-range, find_row-searched}

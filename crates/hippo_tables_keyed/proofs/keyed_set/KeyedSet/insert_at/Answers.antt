@@ -1,4 +1,4 @@
--- The rows are those with one put at its place.
+-- The rows are the old ones with one inserted at its place.
 use Rattle.std.proofs.Common.{◌≡◌, ◌≤◌, List, length, map, sym, ap, ◌∙◌, subst}
 use Rattle.std.specs.List.{insert}
 use Rattle.hippo_model.specs.declared.born_row.BornRow.{BornRow}

@@ -1,4 +1,4 @@
--- The search goes by the keys, which ascend.
+-- The search uses the keys, which ascend.
 use Rattle.std.proofs.Common.{subst, refl}
 use Rattle.std.specs.Option.{IsSome}
 use Rattle.hippo_model.specs.Rows.{key_of}

@@ -1,4 +1,4 @@
--- The search goes by the keys, which ascend.
+-- The search uses the keys, which ascend.
 use Rattle.std.proofs.Common.{ap, ◌∙◌, refl, rules, sym}
 use Rattle.std.proofs.lemmas.Bool.{false≢true}
 use Rattle.hippo_model.specs.Rows.{key_of}
@@ -6,7 +6,7 @@ use Rattle.hippo_tables_keyed.specs.RowSets.{KeyedRows, with_row, find_row}
 use Rattle.hippo_tables_keyed.proofs.KeptRows.{IsAscending-set, IsAscending-insert, answers_rise, with_row-found, with_row-missing, find_row-missing}
 use Rattle.hippo_tables_keyed.proofs.keyed_set.KeyedSet.put.Goals as goal
 
--- the key was there, and its row is written over
+-- the key exists, and its row is overwritten
 pub invariant_of-self : goal.invariant_of-self
 invariant_of-self c =
     let range = c.in-Ok.ensures.range in
@@ -23,7 +23,7 @@ returns-in-Ok c =
       replaces = λ there. refl;
     }
 
--- the row is put where a search says that it belongs
+-- the row is inserted at the place that the search gives
 pub invariant_of-self-in-Err : goal.invariant_of-self-in-Err
 invariant_of-self-in-Err c =
     let range = c.in-Err.ensures.range in
@@ -42,7 +42,7 @@ returns-in_ok-insert-in-Err c =
       replaces = λ there. refl;
     }
 
--- memory is short only for a key that was not there
+-- out of memory happens only for a new key
 pub returns-in_err-insert-in-Err : goal.returns-in_err-insert-in-Err
 returns-in_err-insert-in-Err c =
     let place = rw (c.as_slice.ensures, c.as_slice-2.ensures) at c.in-Err.ensures.place in

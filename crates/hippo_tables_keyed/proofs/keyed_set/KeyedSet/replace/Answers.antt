@@ -1,4 +1,4 @@
--- The row is written over.
+-- The row is overwritten.
 use Rattle.std.proofs.Common.{◌≡◌, Some, map, slice_get, sym, ap, ◌∙◌, subst}
 use Rattle.hippo_model.specs.declared.born_row.BornRow.{BornRow}
 use Rattle.hippo_model.specs.Rows.{key_of}

@@ -1,10 +1,10 @@
--- The search goes by the keys, which ascend.
+-- The search uses the keys, which ascend.
 use Rattle.std.proofs.Common.{ap, ◌∙◌, sym}
 use Rattle.hippo_tables_keyed.specs.RowSets.{without_row}
 use Rattle.hippo_tables_keyed.proofs.KeptRows.{IsAscending-remove, answers_rise, without_row-found, without_row-missing}
 use Rattle.hippo_tables_keyed.proofs.keyed_set.KeyedSet.take.Goals as goal
 
--- the row was there, and is removed
+-- the row exists, and is removed
 pub invariant_of-self : goal.invariant_of-self
 invariant_of-self c =
     let range = c.in-Ok.ensures.range in

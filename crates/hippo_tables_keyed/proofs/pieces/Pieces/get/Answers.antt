@@ -1,4 +1,4 @@
--- The member stands in the piece that is reached.
+-- The member is in the piece that is reached.
 use Rattle.std.proofs.Common.{◌≡◌, length, slice_get, sym, ap, ◌∙◌, arith}
 use Rattle.hippo_tables_keyed.specs.Pieces.{contents, all_members}
 use Rattle.hippo_tables_keyed.proofs.PiecesLemmas.{member_reached}

@@ -1,4 +1,5 @@
--- The piece that is reached has one member more, and those behind it are marked anew.
+-- The piece that is reached has one more member, and the ends of the pieces after it are
+-- recomputed.
 use Rattle.std.proofs.Common.{◌≡◌, List, sym, ap, ◌∙◌, subst, take}
 use Rattle.hippo_tables_keyed.specs.declared.pieces.Piece.{Piece}
 use Rattle.hippo_tables_keyed.specs.Pieces.{IsMarked}

@@ -1,4 +1,4 @@
--- The last member stands at the end of the last piece.
+-- The last member is at the end of the last piece.
 use Rattle.std.proofs.Common.{◌-◌, length, slice_get, ap, ◌∙◌}
 use Rattle.hippo_tables_keyed.proofs.PiecesLemmas.{last_member}
 use Rattle.hippo_tables_keyed.proofs.pieces.Pieces.last.Goals as goal

@@ -1,4 +1,4 @@
--- The member is written in the piece that is reached, where the old one stood.
+-- The new member replaces the old one in the piece that is reached.
 use Rattle.std.proofs.Common.{◌≡◌, ◌-◌, length, slice_set, slice_get, sym, ap, ◌∙◌, arith}
 use Rattle.std.proofs.lemmas.Option.{get_or_from_slice_get}
 use Rattle.hippo_tables_keyed.specs.Pieces.{contents, all_members}

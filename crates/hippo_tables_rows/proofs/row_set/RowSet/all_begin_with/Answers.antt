@@ -1,4 +1,4 @@
--- Values that are equal are the same.
+-- Values that compare equal are the same.
 use Rattle.std.proofs.Common.{◌≡◌, List, subst}
 use Rattle.std.specs.declared.cmp.Ordering.TheVariants.{Equal}
 use Rattle.hippo_values.specs.declared.values.Value.{Value}
