@@ -10,7 +10,7 @@ use Rattle.hippo_model.specs.Validity.{is_valid}
 use Rattle.hippo_model.specs.Versions.{version_fits}
 use Rattle.hippo_backlog.specs.Backlogs.{versions_of}
 
--- the rows of a table after some entries depend only on the table's versions among them
+-- the rows of a table after some entries are those after the table's versions among them alone
 abbrev pub RowsAreThoseOfVersions : Type 0
 RowsAreThoseOfVersions =
     (schema : Schema) (history : History)

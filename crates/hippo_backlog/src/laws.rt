@@ -1,8 +1,8 @@
 //! Laws about the versions of a table.
 ghost use Rattle.hippo_backlog.specs.BacklogLaws.{RowsAreThoseOfVersions, SchemasLast, VersionsFit};
 
-/// The rows of a table after some entries, with their births, depend only on the versions of the
-/// table among these entries: the inserts, updates and deletes of its rows.
+/// The rows of a table after some entries, with their births, are the rows after the table's
+/// versions among these entries alone: the inserts, updates and deletes of its rows.
 pub fn rows_are_those_of_versions()
     ensures { RowsAreThoseOfVersions }
 {}
