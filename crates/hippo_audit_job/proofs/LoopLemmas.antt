@@ -101,7 +101,7 @@ module _ {X : Type 0} (terms : Examination X) (upto : ℕ) (past : Past) where
 
 -- a job that may look up to a number, and the result of its step
 module _ {X : Type 0} (terms : Examination X) where
-  -- the first question that waits may be looked at
+  -- the first logged query that waits may be looked at
   pub MayLook-first : (upto : ℕ) (job : Job X) (keeper : KeeperState) → MayLook terms upto job keeper → (entry : Entry) → IsFirstWaiting job.questions entry → entry.seq ≤ upto → MayLook terms entry.seq job keeper
   MayLook-first upto job keeper may entry first up =
       let above = number_above terms job may.is_sound entry first in

@@ -110,9 +110,9 @@ fn alone(alloc: Global, marks: BTreeMap<CellRow, Mark>) -> Result<BTreeSet<Place
 /// Returns the first virtual tuple that a DISTINCT query needs and an audit has, or `None` if there
 /// is none. A virtual tuple is a row of each table in both FROM lists, by its key, in the audit's
 /// order. The query needs a tuple if some row of its answer comes only from combinations with the
-/// tuple. The tuple must be in a combination that makes a row of the answer and shows each
-/// expression of `seen` as a cell. It must also be in a combination of the audit's rows of which
-/// the audit's condition is true. The requirements are those of `first_shared`.
+/// tuple. The tuple must be in a combination that makes a row of the answer and in which every
+/// expression of `seen` is a shown cell. It must also be in a combination of the audit's rows of
+/// which the audit's condition is true. The requirements are those of `first_shared`.
 ///
 /// The time is that of `walk_joined` over the query's rows, unless no combination of the audit's
 /// rows counts. The memory is proportional to the number of different rows.

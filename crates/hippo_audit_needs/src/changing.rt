@@ -14,8 +14,8 @@ use std::alloc::Global;
 /// `None` if there is none. A virtual tuple is a row of each table in both FROM lists, by its key,
 /// in the audit's order. The query needs a tuple if its groups have other rows without the
 /// combinations that have the tuple. The tuple must be in a combination of the query's rows that
-/// counts and shows each expression of `seen` as a cell. It must also be in a combination of the
-/// audit's rows of which the audit's condition is true.
+/// counts and in which every expression of `seen` is a shown cell. It must also be in a combination
+/// of the audit's rows of which the audit's condition is true.
 ///
 /// The rows must be those of each side's tables, in the order of FROM. A table that both have must
 /// have the same rows on both. The audit must not name a table twice.

@@ -76,9 +76,10 @@ fn first_needed<C: ChoiceView>(
 }
 
 /// Returns the first virtual tuple that serves, or `None` if none serves. A virtual tuple is a row
-/// of each table in both FROM lists, by its key, in the audit's order. It serves if the query needs
-/// it over its view under the rules in force, the audit needs it too, and its audited cells were
-/// shown, when the audit asks for that. The caller must check that the query is a candidate.
+/// of each table in both FROM lists, by its key, in the audit's order. It serves if the query (over
+/// its view under the rules in force) and the audit both need it and, when the audit asks for cells
+/// that were shown, its audited cells were shown. The caller must check that the query is a
+/// candidate.
 ///
 /// The rules must be those in force for the query's tables. The rows must be those of each side's
 /// tables, in the order of FROM. A table that both have must have the same rows on both. The audit

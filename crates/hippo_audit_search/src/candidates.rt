@@ -110,9 +110,9 @@ fn first_of_listed<C: ChoiceView>(
 
 /// Returns the first of some virtual tuples that the query and the audit share, or `None` if they
 /// share none of them. `candidates` gives the places of their rows in the common tables. The tuple
-/// must be in a combination of the query's rows that makes a row of the answer and shows each
-/// expression of `seen` as a cell. It must also be in a combination of the audit's rows of which
-/// the audit's condition is true. The requirements are those of `first_shared`.
+/// must be in a combination of the query's rows that makes a row of the answer and in which every
+/// expression of `seen` is a shown cell. It must also be in a combination of the audit's rows of
+/// which the audit's condition is true. The requirements are those of `first_shared`.
 pub fn first_of<C: ChoiceView>(
     alloc: Global,
     candidates: BTreeSet<Places>,

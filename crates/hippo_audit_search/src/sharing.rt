@@ -141,9 +141,9 @@ fn first_beside<C: ChoiceView>(
 
 /// Returns the first virtual tuple that a query and an audit share, or `None` if they share none. A
 /// virtual tuple is a row of each table in both FROM lists, by its key, in the audit's order. The
-/// tuple must be in a combination of the query's rows that makes a row of the answer and shows each
-/// expression of `seen` as a cell. It must also be in a combination of the audit's rows of which
-/// the audit's condition is true.
+/// tuple must be in a combination of the query's rows that makes a row of the answer and in which
+/// every expression of `seen` is a shown cell. It must also be in a combination of the audit's rows
+/// of which the audit's condition is true.
 ///
 /// The rows must be those of each side's tables, in the order of FROM. A table that both sides have
 /// must have the same rows on both. The audit must not name a table twice.

@@ -9,7 +9,7 @@ use Rattle.hippo_backlog.specs.declared.faults.ReadFault.{ReadFault}
 use Rattle.hippo_backlog.specs.declared.faults.ReadFault.TheVariants.{Keeper, Damaged, Memory}
 use Rattle.hippo_backlog.specs.Calls.{read_fault, reading_as_call}
 
--- a fault other than the keeper's comes from no failed call
+-- without a keeper's fault, none of its calls failed
 pub reading_as_call-unfailed : {A : Type 0} (result : Result A ReadFault) → result ≢ Err Keeper → has_failed (reading_as_call result) ≡ false
 reading_as_call-unfailed (Ok value) other = refl
 reading_as_call-unfailed (Err Keeper) other = absurd (other refl)

@@ -99,8 +99,7 @@ not_theirs table entry (first ∷ rest) apart is =
     let later = not_theirs table entry rest apart.1 is in
     λ i. (no_version i && nat_le entry.seq first.versions.ahead.reached) || later i
 
--- an entry is unread with the first table included, or that table reached it and it was unread
--- without
+-- an entry that is unread without the first table is unread with it, or that table has reached it
 split : (version mine others : Bool) → (mine ≡ true → version ≡ true) → (mine ≡ true → others ≡ false) → one_if (version && not (mine || others)) + one_if mine ≡ one_if (version && not others)
 split true true true is apart = absurd (false≢true (sym (apart refl)))
 split true true false is apart = refl
