@@ -46,7 +46,7 @@ pub record AreAt (schema : Schema) (history : History) (held : HeldVersions) : T
   pub split : IsAhead (is_version_of schema.name) held.place held.ahead history
   pub rows_are : held.rows ≡ kept_at schema split.used
 
--- if the old state is that of a valid history, so is the new one
+-- whenever the old state is that of a valid history, the new state is that of the same history
 abbrev pub KeepsFit : Schema → HeldVersions → HeldVersions → Type 0
 KeepsFit schema old new =
     (meaning : Meaning) (history : History) → is_valid meaning history ≡ true

@@ -96,7 +96,7 @@ fn join<R: LentRow>(alloc: Global, outs: &Outs, cells: &mut [Cell], row: &R) -> 
     Ok(())
 }
 
-// The row of a group with one member more.
+// The row of a group with one more member.
 fn joined<R: LentRow>(
     alloc: Global,
     outs: &Outs,
