@@ -1,4 +1,4 @@
--- One member more in loops.
+-- One more element in each loop.
 use Rattle.std.proofs.Common.{◌≡◌, ℕ, zero, suc, ◌+◌, ◌-◌, ◌<◌, ◌≤◌, Bool, true, false, ◌||◌, not, cond, List, [], ◌∷◌, ◌++◌, map, length, get_or, drop, take, refl, sym, ap, subst, ◌∙◌, Some, inl, inr, ◌⊎◌, nat_eq, nat_lt, if◌then◌else◌, arith, append_assoc}
 use Rattle.std.specs.Prelude.{slice_get, bytes_eq}
 use Rattle.std.specs.List.{All, Contains, list_any}
@@ -11,7 +11,7 @@ use Rattle.hippo_values.specs.declared.names.Name.{Name}
 use Rattle.hippo_model.specs.Terms.{Place}
 use Rattle.hippo_audit_common.specs.Commons.{common_tables, place_in}
 
--- a table stands among others exactly where its place is below their number
+-- a table is in a list exactly when its place is below the list's length
 pub place-below : (tables : List Name) (table : Name) → nat_lt (place_in tables table) (length tables) ≡ list_any (bytes_eq table) tables
 place-below [] table = refl
 place-below (first ∷ tables) table = by (bytes_eq table first) (list_any (bytes_eq table) tables) (place-below tables table)
@@ -23,7 +23,7 @@ place-below (first ∷ tables) table = by (bytes_eq table first) (list_any (byte
         one_less : (a n : ℕ) → nat_lt (1 + a) (suc n) ≡ nat_lt a n
         one_less a n = grind (arith, nat_tests)
 
--- the table at a place: one that is common, and one that is not
+-- the table at a place, whether it is common or not
 module _ (f : Name → Place) (query audit : List Name) (i : ℕ) (table : Name) (within : i < length audit) (at : table ≡ get_or audit i table) where
   abbrev rest : List Place
   rest = map f (common_tables query (drop (i + 1) audit))
@@ -47,7 +47,7 @@ module _ (f : Name → Place) (query audit : List Name) (i : ℕ) (table : Name)
           ap (λ l. l ++ rest) pushed ∙ append_assoc places (f table ∷ []) rest ∙ sym (ap (λ l. places ++ l) (here true stands)) ∙ so_far
       by false stands pushed = ap (λ l. l ++ rest) pushed ∙ sym (ap (λ l. places ++ l) (here false stands)) ∙ so_far
 
--- some of a list's first members, and one more
+-- the first elements of a list, and one more
 module _ {X : Type 0} where
   some_is : {a b : X} → Some a ≡ Some b → a ≡ b
   some_is e = cc
@@ -67,7 +67,7 @@ pub map-push : {A B : Type 0} (f : A → B) (xs : List A) (x : A) → map f (xs 
 map-push f [] x = refl
 map-push f (y ∷ xs) x = ap (λ l. f y ∷ l) (map-push f xs x)
 
--- one pair of stages more
+-- one more pair of stages
 pub mapped-more : {A B : Type 0} (f : A → B) (some more : List A) (one : A) (xs : List B) (i : ℕ) (x : B) → map f some ≡ take i xs → more ≡ some ++ one ∷ [] → f one ≡ x → i < length xs → x ≡ get_or xs i x → map f more ≡ take (i + 1) xs
 mapped-more f some more one xs i x so_far pushed is within at =
     ap (map f) pushed ∙ map-push f some one ∙ (λ j. so_far j ++ is j ∷ []) ∙ sym (take-one-more xs i x within at)
@@ -75,7 +75,7 @@ mapped-more f some more one xs i x so_far pushed is within at =
 pub all-of-them : {X : Type 0} (P : X → Type 0) (xs : List X) (n : ℕ) → length xs ≤ n → All P (take n xs) → All P xs
 all-of-them P xs n past all = subst (λ l. All P l) (take_all n xs past) all
 
--- an order of tables, and one more of them if it is new
+-- an order of tables, and one more table if it is new
 module _ (tables : ℕ) (first order more : List Place) (table : Place) (new : Bool) (pushed : more ≡ (if new then order ++ table ∷ [] else order)) where
   pub below-more : table < tables → All (λ place. place < tables) order → All (λ place. place < tables) more
   below-more lower below = subst (λ (l : List Place). All (λ place. place < tables) l) (sym pushed) (by new)
@@ -127,7 +127,7 @@ module _ (tables : ℕ) (first order more : List Place) (table : Place) (new : B
       by true = take-append-le (length first) order (table ∷ []) long_enough ∙ front
       by false = front
 
--- the order of all tables, those behind the first ones moved
+-- the order of all tables, with those after the first ones permuted
 pub whole-again : (first here tables order : List Place) → here ≡ tables → take (length first) tables ≡ first → IsPermutation (first ++ take (length here - length first) (drop (length first) here)) order → IsPermutation tables order
 whole-again first here tables order is front moved =
     let rest : take (length here - length first) (drop (length first) here) ≡ drop (length first) here =

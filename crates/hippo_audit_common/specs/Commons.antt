@@ -8,6 +8,6 @@ use Rattle.hippo_model.specs.Terms.{Place}
 abbrev pub common_tables : List Name → List Name → List Name
 common_tables query audit = filter (λ table. list_any (bytes_eq table) query) audit
 
--- the place of a table in a list, or its length where it is not there
+-- the place of a table in a list, or the length of the list if the table is not in it
 abbrev pub place_in : List Name → Name → Place
 place_in tables table = position_or_len (bytes_eq table) tables

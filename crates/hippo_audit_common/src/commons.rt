@@ -11,22 +11,23 @@ use hippo_tables_rows::Sets;
 use hippo_values::{Memory, Name, Sequence};
 use std::alloc::Global;
 
-/// The places of the common tables in the query's FROM list, and in the audit's; both in the
-/// audit's order.
+/// The places of the common tables in the query's FROM list and in the audit's. Both lists are in
+/// the audit's order.
 #[derive(Drop)]
 pub struct CommonPlaces {
     pub query: Vec<usize>,
     pub audit: Vec<usize>,
 }
 
-/// The stages of a common table.
+/// The stages of one common table: the query's and the audit's.
 #[derive(Clone, Copy)]
 pub struct CommonStages<'s> {
     pub query: &'s Stage,
     pub audit: &'s Stage,
 }
 
-/// The place of a table among others, or their number where it is not among them.
+/// Returns the place of a table in a list of tables, or the length of the list if the table is not
+/// in it.
 pub fn place_in(tables: &[Name], table: &Name) -> usize
     ensures { result ≡ place_in tables.now table.now }
 {
@@ -40,7 +41,7 @@ pub fn place_in(tables: &[Name], table: &Name) -> usize
     place
 }
 
-/// The places in a query's FROM list, and in an audit's, of the tables that both have.
+/// Returns the places, in a query's FROM list and in an audit's, of the tables that both name.
 pub fn common_places(alloc: Global, query: &[Name], audit: &[Name]) -> Result<CommonPlaces, Memory>
     ensures query { IfOk result (λ common.
         common.query.items ≡ map (place_in query.now) (common_tables query.now audit.now)) }
@@ -72,7 +73,7 @@ fn is_among(places: &[usize], place: usize) -> bool
     false
 }
 
-// The places of all tables, these first.
+// The places of all tables, with `first` at the front.
 fn tables_from(alloc: Global, first: &[usize], tables: usize) -> Result<Vec<usize>, Memory>
     requires { All (λ table. table < tables) first.now }
     ensures below { IfOk result (λ order. All (λ table. table < tables) order.items) }
@@ -96,7 +97,7 @@ fn sizes_of(alloc: Global, sets: &Sets<'_>) -> Result<Sizes, Memory> {
     Ok(sizes)
 }
 
-/// An order in which a side's tables are joined, these first.
+/// Returns an order in which to join a side's tables, with `first` at the front.
 pub fn order_from<C: ChoiceView>(
     alloc: Global,
     side: &Side<'_, C>,
@@ -114,7 +115,7 @@ pub fn order_from<C: ChoiceView>(
     order_after(alloc, side.query, &sizes, first, &tables[first.len()..])
 }
 
-/// The first so many stages of both sides, side by side.
+/// Returns the first `count` stages of both sides, in pairs.
 pub fn common_stages<'s>(
     alloc: Global,
     count: usize,

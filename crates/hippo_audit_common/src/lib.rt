@@ -1,5 +1,5 @@
-//! The tables that a query and an audit have in common: their places in both FROM lists, orders of
-//! a side's tables that begin with them, and their stages side by side.
+//! The tables that a query and an audit have in common: their places in both FROM lists, join
+//! orders that begin with them, and their stages in pairs.
 #![tactic(auto)]
 
 mod commons;

@@ -1,4 +1,4 @@
--- Whether some column of a condition passes a test, by its parts.
+-- Whether some column of a condition passes a test, from the parts of the condition.
 use Rattle.std.proofs.Common.{◌≡◌, Bool, true, false, List, [], ◌∷◌, ◌++◌, map, refl, sym, ap, ◌∙◌}
 use Rattle.std.specs.Prelude.{◌||◌}
 use Rattle.std.specs.List.{flat_map, list_any}
@@ -30,7 +30,7 @@ any_mapped : {A B : Type 0} (test : B → Bool) (f : A → B) (members : List A)
 any_mapped test f [] = refl
 any_mapped test f (first ∷ rest) = ap (λ b. test (f first) || b) (any_mapped test f rest)
 
--- an operand that is a column has that one
+-- an operand that is a column contains that column
 pub any_one : (test : Ref → Bool) (column : Ref) → list_any test (columns_in (Column column)) ≡ test column
 any_one test column = or-false (test column)
 
@@ -64,7 +64,7 @@ module _ (test : Ref → Bool) where
 
 pub ruleset any_column = (any-All, any-Any, any-Not, any-Compare, any-Between, any-Among, any-Missing)
 
--- a query names a column in its items or in its condition
+-- a query names a column in its select list or in its condition
 pub named_any : (query : Query) (column : Name × Place) → list_any (same_column column) (query_columns query) ≡ (list_any (is_it query.tables column) query.items || list_any (is_it query.tables column) (condition_columns query.cond))
 named_any query column =
     any_mapped (same_column column) (named_column query.tables) (query.items ++ condition_columns query.cond)
@@ -79,10 +79,10 @@ second_or a b true second whole is fails other same = absurd (false≢true (sym 
 second_or a b false second whole is fails other same = other ∙ sym same
 
 module _ (query : Query) (column : Name × Place) (among : Bool) (is : among ≡ list_any (is_it query.tables column) query.items) where
-  -- a column stands in the items of a query
+  -- the column is in the select list
   pub named_items : among ≡ true → among ≡ list_any (same_column column) (query_columns query)
   named_items holds = first_or among _ _ _ is holds (named_any query column)
 
-  -- or in its condition
+  -- or in the condition
   pub named_condition : (spoken : Bool) → among ≡ false → spoken ≡ list_any (is_it query.tables column) (condition_columns query.cond) → spoken ≡ list_any (same_column column) (query_columns query)
   named_condition spoken fails other = second_or among spoken _ _ _ is fails other (named_any query column)

@@ -66,7 +66,7 @@ module _ {fits : History → Type 0} {wanted : History → List Denial} {count :
     told = λ tells history store fit. record { adds = adds history store fit; few = omega arith };
   }
 
-  -- what fits less, wants the same and counts no fewer
+  -- a condition on histories that implies another, with the same wanted cells and no smaller count
   pub ReadsDenials-weaker : {fits' : History → Type 0} {wanted' : History → List Denial} {count' : History → ℕ} (result : Result (Unit {0}) DenialsFault) (old new : List Denial) (before after : KeeperState) (steps steps' : ℕ)
       → ((history : History) → IsStoreOf meaning before.kept history → fits' history → fits history × (wanted history ≡ wanted' history) × (count history ≤ count' history))
       → ReadsDenials fits wanted count limit result old new before after steps steps' → ReadsDenials fits' wanted' count' limit result old new before after steps steps'
@@ -82,7 +82,7 @@ module _ {fits : History → Type 0} {wanted : History → List Denial} {count :
         };
   }
 
--- what is added behind what was added
+-- cells added after others
 adds_then : (limit : ℕ) (first second : List Denial) (result : Result (Unit {0}) DenialsFault) (old mid new : List Denial) → mid ≡ old ++ first → AddsDenials limit second result mid new → AddsDenials limit (first ++ second) result old new
 adds_then limit first second (Ok tt) old mid new is adds = adds ∙ ap (λ l. l ++ second) is ∙ append_assoc old first second
 adds_then limit first second (Err TooMany) old mid new is adds = subst (λ (l : List Denial). limit < length l) (ap (λ l. l ++ second) is ∙ append_assoc old first second) adds
@@ -90,7 +90,7 @@ adds_then limit first second (Err (Read Keeper)) old mid new is adds = tt
 adds_then limit first second (Err (Read (Damaged number))) old mid new is adds = adds
 adds_then limit first second (Err (Read Memory)) old mid new is adds = tt
 
--- a fault stays where more is wanted
+-- a fault remains a fault if more cells are wanted
 adds_fault : (limit : ℕ) (first second : List Denial) (fault : DenialsFault) (old new : List Denial) → AddsDenials limit first (Err fault) old new → AddsDenials limit (first ++ second) (Err fault) old new
 adds_fault limit first second TooMany old new adds = omega (arith, adds, length-append old first, length-append old (first ++ second), length-append first second)
 adds_fault limit first second (Read Keeper) old new adds = tt
@@ -98,7 +98,7 @@ adds_fault limit first second (Read (Damaged number)) old new adds = adds
 adds_fault limit first second (Read Memory) old new adds = tt
 
 module _ {fits : History → Type 0} {first second : History → List Denial} {one other : History → ℕ} {limit : ℕ} where
-  -- one reading, and then another
+  -- one read, and then another
   pub ReadsDenials-then : (result : Result (Unit {0}) DenialsFault) (old mid new : List Denial) (before between after : KeeperState) (steps steps' steps'' : ℕ)
       → ReadsDenials fits first one limit ok old mid before between steps steps' → ReadsDenials fits second other limit result mid new between after steps' steps''
       → ReadsDenials fits (λ history. first history ++ second history) (λ history. one history + other history) limit result old new before after steps steps''
@@ -112,7 +112,7 @@ module _ {fits : History → Type 0} {first second : History → List Denial} {o
   }
 
 module _ {fits : History → Type 0} {first : History → List Denial} {one : History → ℕ} {limit : ℕ} (second : History → List Denial) (other : History → ℕ) where
-  -- a reading that failed
+  -- a read that failed
   pub ReadsDenials-fault : (fault : DenialsFault) (old new : List Denial) (before after : KeeperState) (steps steps' : ℕ)
       → ReadsDenials fits first one limit (Err fault) old new before after steps steps'
       → ReadsDenials fits (λ history. first history ++ second history) (λ history. one history + other history) limit (Err fault) old new before after steps steps'
@@ -124,7 +124,7 @@ module _ {fits : History → Type 0} {first : History → List Denial} {one : Hi
         record { adds = adds_fault limit (first history) (second history) fault old new earlier.adds; few = omega (arith, earlier.few) };
   }
 
--- what is listed, where rows are read
+-- the result of listing, as that of reading
 abbrev pub listed_as : Result (Unit {0}) ListFault → Result (Unit {0}) DenialsFault
 listed_as (Ok tt) = Ok tt
 listed_as (Err fault) = Err (listing_fault fault)
@@ -181,7 +181,7 @@ module _ (schema : Schema) (rules : RulesThen) (query : Query) (limit : ℕ) (be
         };
   }
 
-  -- they were not
+  -- a table's rows were not read
   pub table_unread : (fault : ReadFault) (cells : List Denial) → Snapshots schema rules.count (Err fault) before after steps steps'
       → ReadsDenials Fits (one_table rules query schema) (one_count schema) limit (Err (Read fault)) cells cells before after steps steps'
   table_unread fault cells snapshots = record {
@@ -199,7 +199,7 @@ module _ (names : KnownNames) (rules : RulesThen) (query : Query) (limit : ℕ) 
   created_one : (table : Name) (history : History) → FitsAll (table ∷ []) history → is_some (table_of (known_at (take rules.count history)) table) ≡ true
   created_one table history fit = (and_parts (is_some (table_of (known_at (take rules.count history)) table)) true fit.created).0
 
-  -- a table by its name
+  -- a table, given by its name
   pub named_read : (table : Name) (schema : Schema) (result : Result (Unit {0}) DenialsFault) (old new : List Denial) (before after : KeeperState) (steps steps' : ℕ) → table_of names table ≡ Some schema
       → ReadsDenials (FitsTable schema rules.count rules.book.now) (one_table rules query schema) (one_count schema) limit result old new before after steps steps'
       → ReadsDenials (FitsAll (table ∷ [])) (tables_denials rules query (table ∷ [])) (tables_versions (table ∷ [])) limit result old new before after steps steps'
@@ -213,7 +213,7 @@ module _ (names : KnownNames) (rules : RulesThen) (query : Query) (limit : ℕ) 
         omega (arith, ap (λ (t : Name). length (versions_of t history)) named),
       )) reads
 
-  -- a table that is not there is none of a query's
+  -- an unknown table is not one of the query's
   pub unknown_read : (table : Name) (number : ℕ) (cells : List Denial) (keeper : KeeperState) (steps : ℕ) → IsReady true keeper → table_of names table ≡ None
       → ReadsDenials (FitsAll (table ∷ [])) (tables_denials rules query (table ∷ [])) (tables_versions (table ∷ [])) limit (Err (Read (Damaged number))) cells cells keeper keeper steps steps
   unknown_read table number cells keeper steps ready unknown =
@@ -264,7 +264,7 @@ module _ (names : KnownNames) (rules : RulesThen) (query : Query) (limit : ℕ) 
         together = ReadsDenials-then result old mid new before between after steps steps' steps'' so_far
             (ReadsDenials-weaker result mid new between after steps' steps'' (λ history store fit. (created_at history fit, refl, omega arith)) next)
 
-        -- one table more
+        -- one more table
         pub front_more : ReadsFront (place + 1) result old new before after steps steps''
         front_more =
             ReadsDenials-weaker result old new before after steps steps'' (λ history store fit. (

@@ -15,7 +15,7 @@ use Rattle.hippo_model.specs.Verdicts.{Context, verdict}
 use Rattle.hippo_typing_catalog.proofs.ListLemmas.{drop_at_item}
 use Rattle.hippo_audit_explain.specs.Listing.{denial_columns, listed_denials, rows_denials}
 
--- what is made of members that pass a test is what is made of those that pass
+-- mapping the elements that pass a test is the same as mapping and filtering in one pass
 filter_map-filter : {A B : Type 0} (test : A → Bool) (make : A → Option B) (members : List A) → filter_map (λ member. if test member then make member else None) members ≡ filter_map make (filter test members)
 filter_map-filter test make [] = refl
 filter_map-filter test make (first ∷ rest) = by (test first) (filter_map-filter test make rest)
@@ -31,16 +31,16 @@ module _ (history : History) (context : Context) (query : Query) (schema : Schem
       filter_map-filter (λ (place, column). is_listed query schema place)
       (λ (place, column). denial_by schema kept.row column.name (verdict history context schema kept place)) (enumerate_from 0 schema.columns)
 
-  -- the denied cells of a table are those of its rows in the columns that are listed
+  -- the denied cells of a table are those of its rows in the listed columns
   pub table_is : rows_denials history context schema (denial_columns query schema) (table_rows schema history) ≡ table_denials history context query schema
   table_is = sym (λ i. flat_map (λ kept. row_is kept i) (table_rows schema history))
 
--- what holds of what is Ok
+-- what is true of an Ok result
 pub held_ok : (P : Type 0) (result : Result (Unit {0}) Memory) → is_err result ≡ false → OnOk result P → P
 held_ok P (Ok value) good holds = holds
 held_ok P (Err fault) good holds = absurd (false≢true (sym good))
 
--- the denied cells of one row more
+-- the denied cells of one more row
 pub row_turn : (history : History) (context : Context) (schema : Schema) (listed : List (Place × Column)) (rows : List BornRow) (place : Place) (kept : BornRow) (cells more whole : List Denial)
     → slice_get rows place ≡ Some kept → cells ++ rows_denials history context schema listed (drop place rows) ≡ whole
     → more ≡ cells ++ listed_denials history context schema listed kept → more ++ rows_denials history context schema listed (drop (place + 1) rows) ≡ whole

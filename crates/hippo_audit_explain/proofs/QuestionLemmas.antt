@@ -1,4 +1,4 @@
--- A logged question at its own time: what its text means, and its tables.
+-- A logged query at its own time: the meaning of its text, and its tables.
 use Rattle.std.proofs.Common.{◌≡◌, ◌≤◌, ◌∙◌, ℕ, zero, suc, ◌+◌, true, List, [], ◌∷◌, ◌++◌, length, take, drop, Option, Some, None, refl, sym, ap, subst, arith}
 use Rattle.std.specs.Prelude.{◌-◌, flat_map, is_some, is_none, slice_get}
 use Rattle.std.specs.List.{list_all}
@@ -27,7 +27,7 @@ use Rattle.hippo_typing.proofs.LastingNames.{extends_later, select_lasts}
 use Rattle.hippo_typing.proofs.CatalogTheorem.{valid_names}
 use Rattle.hippo_backlog.proofs.VersionsTheorem.{may_there}
 
--- a text that means a query means it still when entries are added
+-- a text that means a query still means it when entries are added
 pub meanings_last : (front later : History) (text : Txt) (query : Query) → meaning front text ≡ Some query → meaning (front ++ later) text ≡ Some query
 meanings_last front later text query is =
     let means = Means-found (known_at front) text query is in
@@ -48,7 +48,7 @@ all_created known (table ∷ rest) none =
     let parts = both_none (unknown_table known table) (flat_map (unknown_table known) rest) none in
     and_from (is_some (table_of known table)) (list_all (λ t. is_some (table_of known t)) rest) (there (table_of known table) table parts.0) (all_created known rest parts.1)
 
--- the tables of a query that a text means are all created, and differ
+-- the tables of a query that a text means are all created and distinct
 pub record HasTables (known : KnownNames) (query : Query) : Type 0 where
   pub created : list_all (λ table. is_some (table_of known table)) query.tables ≡ true
   pub differ : repeated_names query.tables ≡ []
@@ -63,14 +63,14 @@ has_tables history text query is =
     subst (λ (tables : List Name). HasTables (known_at history) (record query { tables = tables })) (sym same)
     (record { created = all_created (known_at history) means.select.tables parts.0; differ = parts.1 })
 
--- the first entries of a history and the others
+-- a history is its first entries followed by the others
 abbrev pub parted : (count : ℕ) (history : History) → take count history ++ drop count history ≡ history
 parted count history = take-append-drop count history
 
 pub front_valid : (count : ℕ) (history : History) → is_valid meaning history ≡ true → is_valid meaning (take count history) ≡ true
 front_valid count history valid = front_is_valid meaning (take count history) (drop count history) (ap (is_valid meaning) (parted count history) ∙ valid)
 
--- a table that is known of a history, and created among its first entries, has the same schema there
+-- a table that is known in a history and created by its first entries has the same schema there
 pub schema_then : (count : ℕ) (history : History) (table : Name) (schema : Schema) → is_valid meaning history ≡ true
     → is_some (table_of (known_at (take count history)) table) ≡ true → table_of (known_at history) table ≡ Some schema
     → schema_at (take count history) table ≡ Some schema
@@ -90,7 +90,7 @@ schema_then count history table schema valid created known =
         let one : other ≡ schema = same other schema (sym now ∙ known) in
         sym ((valid_names meaning (take count history) (front_valid count history valid)).tables table) ∙ is ∙ ap Some one
 
--- no table that was created among the first entries is unknown of the whole
+-- a table created by the first entries is known in the whole history
 pub not_unknown : (count : ℕ) (history : History) (table : Name) → is_some (table_of (known_at (take count history)) table) ≡ true → table_of (known_at history) table ≡ None → ⊥
 not_unknown count history table created unknown = by (table_of (known_at (take count history)) table) refl created
   where
@@ -99,7 +99,7 @@ not_unknown count history table created unknown = by (table_of (known_at (take c
     by (Some other) is some =
         none-some other (sym unknown ∙ ap (λ (h : History). table_of (known_at h) table) (sym (parted count history)) ∙ (extends_later (take count history) (drop count history)).tables table other is)
 
--- a question stands in a valid history where it meant something
+-- a logged query of a valid history, whose text meant something there
 pub record WasAsked (history : History) (entry : Entry) (text : Txt) : Type 0 where
   pub means : is_some (meaning (before_entry entry history) text) ≡ true
   pub within : entry.seq - 1 ≤ length history

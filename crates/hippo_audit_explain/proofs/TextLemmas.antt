@@ -1,4 +1,4 @@
--- From the tables of a query to the denied cells of a logged question.
+-- From the tables of a query to the denied cells of a logged query.
 use Rattle.std.proofs.Common.{◌≡◌, ◌≤◌, ◌∙◌, ℕ, true, false, List, [], length, take, drop, Option, Some, None, Result, Ok, Err, refl, sym, ap, subst, arith}
 use Rattle.std.specs.Prelude.{◌-◌, is_some}
 use Rattle.std.specs.Option.{option_map_or}
@@ -34,7 +34,7 @@ module _ (text : Txt) (names : KnownNames) (rules : RulesThen) (limit : ℕ) whe
   abbrev Fits : History → Type 0
   Fits = FitsText text names rules.count rules.book.now
 
-  -- what a text meant at its own time is what it means now
+  -- a text means now what it meant at its own time
   meant : (history : History) → Fits history → (query : Query) × (meaning (take rules.count history) text ≡ Some query) × (meaning_in names text ≡ Some query)
   meant history fit = by (meaning (take rules.count history) text) refl fit.means
     where
@@ -63,7 +63,7 @@ module _ (text : Txt) (names : KnownNames) (rules : RulesThen) (limit : ℕ) whe
         tables_versions-within query.tables history tables.differ,
       )) reads
 
-  -- a text that means nothing is that of no question
+  -- the text of a logged query means something
   pub text_means_nothing : (number : ℕ) (cells : List Denial) (keeper : KeeperState) (steps : ℕ) → IsReady true keeper → meaning_in names text ≡ None
       → ReadsDenials Fits (text_denials rules text) versions limit (Err (Read (Damaged number))) cells cells keeper keeper steps steps
   text_means_nothing number cells keeper steps ready nothing =
@@ -74,7 +74,7 @@ module _ (text : Txt) (names : KnownNames) (rules : RulesThen) (limit : ℕ) whe
       → ReadsDenials Fits (text_denials rules text) versions limit (Err (Read Memory)) cells cells keeper keeper steps steps
   text_unread cells keeper steps ready = ReadsDenials-none (Err (Read Memory)) cells cells keeper steps ready refl (λ history store fit. tt)
 
--- what is answered where cells were added to none
+-- the result, if the list of cells was empty before
 abbrev pub answered : Result (Unit {0}) DenialsFault → List Denial → Result (List Denial) DenialsFault
 answered (Ok tt) cells = Ok cells
 answered (Err fault) cells = Err fault
@@ -93,7 +93,7 @@ answered_same (Err (Read Keeper)) cells = refl
 answered_same (Err (Read (Damaged number))) cells = refl
 answered_same (Err (Read Memory)) cells = refl
 
--- a question's cells were listed, or not
+-- a logged query's denied cells were listed, or not
 pub question_denies : (limit : ℕ) (entry : Entry) (user purpose recipient : Name) (text : Txt) (names : KnownNames) (book : PolicyBook) (count : ℕ) (result : Result (Unit {0}) DenialsFault) (cells : List Denial) (before after : KeeperState) (steps steps' : ℕ)
     → entry.act ≡ Asked user purpose recipient text → count ≡ entry.seq - 1 → (result ≡ Ok tt → length cells ≤ limit)
     → (let context : Context = record { purpose = purpose; recipient = recipient; moment = entry.moment } in
@@ -119,7 +119,7 @@ question_denies limit entry user purpose recipient text names book count result 
       };
 }
 
--- nothing was denied to an entry that is no question
+-- nothing was denied to an entry that is not a logged query
 pub none_denied : (limit : ℕ) (entry : Entry) (names : KnownNames) (book : PolicyBook) (keeper : KeeperState) (steps : ℕ) → IsReady true keeper
     → ((history : History) → denials meaning history entry ≡ []) → Denies limit entry names book (Ok []) keeper keeper steps steps
 none_denied limit entry names book keeper steps ready none = record {

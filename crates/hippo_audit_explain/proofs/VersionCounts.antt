@@ -1,4 +1,4 @@
--- The versions of tables that differ are not more than all versions.
+-- Distinct tables have no more versions in total than the history.
 use Rattle.std.proofs.Common.{◌≡◌, ◌≤◌, ◌∙◌, ℕ, ◌+◌, Bool, true, false, cond, List, [], ◌∷◌, ◌++◌, length, refl, sym, ap, arith}
 use Rattle.std.specs.Prelude.{◌||◌, bytes_eq, sum_by}
 use Rattle.std.specs.List.{list_any}
@@ -26,11 +26,12 @@ unrefused : (test : Bool) (fault : NameFault) → fault_if test fault ≡ [] →
 unrefused true fault none = absurd cc
 unrefused false fault none = refl
 
--- how often a name is this one
+-- how often a name is in a list
 abbrev times : Name → List Name → ℕ
 times table names = sum_by (λ name. cond (bytes_eq table name) 1 0) names
 
--- a name that none repeats stands at most once among others, and not at all where it stands before them
+-- a name in a list without repetitions is there at most once, and not at all if it is among the
+-- names before
 at_most_once : (before names : List Name) (table : Name) → repeated_after before names ≡ []
     → (list_any (bytes_eq table) before ≡ true → times table names ≡ 0) × (times table names ≤ 1)
 at_most_once before [] table none = (λ there. refl, omega arith)
@@ -53,7 +54,7 @@ at_most_once before (name ∷ rest) table none =
           (λ there. one ∙ later.0 (among ∙ ap (λ b. b || bytes_eq table name) there), omega (arith, one, later.1))
     ] refl
 
--- sums side by side
+-- sums added up element by element
 sums : {A : Type 0} (f g h : A → ℕ) (members : List A) → ((member : A) → h member ≡ f member + g member) → sum_by h members ≡ sum_by f members + sum_by g members
 sums f g h [] each = refl
 sums f g h (first ∷ rest) each =
@@ -63,7 +64,7 @@ none : {A : Type 0} (members : List A) → sum_by (λ member. 0) members ≡ 0
 none [] = refl
 none (first ∷ rest) = omega (arith, sum_by-cons (λ member. 0) first rest, none rest)
 
--- an entry is a version of at most one of tables that differ
+-- an entry is a version of at most one of several distinct tables
 of_one : (tables : List Name) (entry : Entry) → repeated_names tables ≡ [] → (version : Bool) → is_version entry.act ≡ version
     → sum_by (λ table. cond (is_version_of table entry) 1 0) tables ≤ cond version 1 0
 of_one tables entry differ true is =
@@ -80,7 +81,7 @@ one_more table entry later =
 nothing : (tables : List Name) → tables_versions tables [] ≡ 0
 nothing tables = none tables
 
--- tables that differ have together at most all versions
+-- distinct tables have no more versions in total than the history
 pub tables_versions-within : (tables : List Name) (history : History) → repeated_names tables ≡ [] → tables_versions tables history ≤ versions history
 tables_versions-within tables [] differ = omega (arith, nothing tables)
 tables_versions-within tables (entry ∷ later) differ =

@@ -19,11 +19,11 @@ use Rattle.hippo_audit_explain.specs.declared.faults.ListFault.{ListFault}
 use Rattle.hippo_audit_explain.specs.declared.faults.ListFault.TheVariants as lists
 use Rattle.hippo_audit_explain.specs.declared.rows.RulesThen.{RulesThen}
 
--- whether a reference of a statement is to this column
+-- whether a reference in a statement is to this column
 abbrev pub is_it : List Name → Name × Place → Ref → Bool
 is_it tables column reference = same_column column (named_column tables reference)
 
--- the columns of a table that are listed for a query, with their places
+-- the columns of a table that EXPLAIN lists for a query, with their places
 abbrev pub denial_columns : Query → Schema → List (Place × Column)
 denial_columns query schema =
     filter (λ (place, column). is_listed query schema place) (enumerate_from 0 schema.columns)
@@ -40,25 +40,25 @@ listed_denials history context schema listed kept =
     (verdict history context schema kept place))
     listed
 
--- those of some rows
+-- the denied cells of some rows
 abbrev pub rows_denials : History → Context → Schema → List (Place × Column) → List BornRow
     → List Denial
 rows_denials history context schema listed rows =
     flat_map (listed_denials history context schema listed) rows
 
--- why rows are not listed, where they are read
+-- the fault of listing a logged query's denied cells, from that of listing rows
 abbrev pub listing_fault : ListFault → DenialsFault
 listing_fault lists.TooMany = TooMany
 listing_fault lists.Memory = Read Memory
 
--- the cells that are wanted are added; or they are more than so many, or memory was short
+-- the wanted cells are added; or they are more than the limit, or memory ran out
 abbrev pub Lists : ℕ → List Denial → Result (Unit {0}) ListFault → List Denial → List Denial
     → Type 0
 Lists limit wanted (Ok tt) old new = new ≡ old ++ wanted
 Lists limit wanted (Err lists.TooMany) old new = limit < length (old ++ wanted)
 Lists limit wanted (Err lists.Memory) old new = Unit {0}
 
--- so the cells of some rows are added, for each history whose rules these are
+-- the denied cells of some rows are added, for each history that has these rules
 abbrev pub ListsRows : ℕ → RulesThen → Schema → List (Place × Column) → List BornRow
     → Result (Unit {0}) ListFault → List Denial → List Denial → Type 0
 ListsRows limit rules schema listed rows result old new =

@@ -1,4 +1,4 @@
-//! Which columns of a table are listed where a question's denied cells are.
+//! The columns of a table that EXPLAIN covers for a logged query.
 ghost use Rattle.std.specs.Prelude.{◌≡◌, [], slice_index_or, IfOk};
 ghost use Rattle.std.specs.List.{list_any};
 ghost use Rattle.hippo_model.specs.Columns.{columns_in, condition_columns, query_columns, same_column};
@@ -10,7 +10,7 @@ use hippo_values::{Memory, Name, Sequence};
 use std::alloc::Global;
 use std::marker::Model;
 
-/// A column of a table, with its place there.
+/// A column of a table, and its place in the table.
 #[derive(Drop)]
 pub struct Listed<'a> {
     pub place: usize,
@@ -26,7 +26,7 @@ impl<'a> Model for Listed<'a> {
     ghost view = { λ listed. (listed.place, listed.column.now) };
 }
 
-// The name of the table at a place in FROM; empty where there is none.
+// The name of the table at a place in FROM, or an empty name if there is none.
 fn table_name(tables: &Names, place: usize) -> &str
     ensures { result.now ≡ slice_index_or tables.now place [] }
 {
@@ -71,7 +71,7 @@ fn is_in_list(tables: &Names, table: &Name, place: usize, list: &Operands) -> bo
         .any(|operand| is_in(tables, table, place, operand))
 }
 
-// Whether a condition speaks of a column.
+// Whether a condition names a column.
 #[cycle(speaks_of)]
 #[tactic(auto, using(crate::proofs::ColumnLemmas::any_column))]
 fn speaks_of(tables: &Names, table: &Name, place: usize, condition: &CondOf<Operand>) -> bool
@@ -116,7 +116,8 @@ fn one_speaks_of(
     false
 }
 
-// Whether a query names a column: in its items, as an argument, in GROUP BY, in ON or in WHERE.
+// Whether a query names a column: in its select list, as an argument, in GROUP BY, in ON or in
+// WHERE.
 fn names(query: &Query, table: &Name, place: usize) -> bool
     ensures { result ≡ list_any (same_column (table.now, place)) (query_columns query.now) }
 {
@@ -130,7 +131,7 @@ fn is_listed(query: &Query, schema: &Schema, place: usize) -> bool
     schema.key.as_slice().contains(&place) || names(query, &schema.name, place)
 }
 
-/// The columns of a table's key and those that a query names, in the schema's order.
+/// Returns the columns of a table's key and the columns that a query names, in the schema's order.
 pub(crate) fn listed_columns<'a>(
     alloc: Global,
     query: &Query,

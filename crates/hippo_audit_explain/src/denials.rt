@@ -1,4 +1,4 @@
-//! The cells that were denied to a question.
+//! The cells that were denied to a logged query.
 ghost use Rattle.std.specs.Prelude.{◌≤◌, [], ◌∷◌, true, length, OnOk};
 ghost use Rattle.hippo_model.specs.Versions.{versions};
 ghost use Rattle.hippo_keeper.specs.Keeping.{IsReady};
@@ -17,8 +17,8 @@ use hippo_values::{Memory, Name, Sequence};
 use std::alloc::Global;
 use std::sync::ledger::Ledger;
 
-// What is looked for: the cells that were denied to a question, by the rules then, and not more than
-// so many.
+// What is searched for: the cells that were denied to a logged query by the rules of its time, at
+// most `limit` of them.
 #[derive(Clone, Copy)]
 struct Wanted<'s, 'a> {
     rules: RulesThen<'s>,
@@ -27,7 +27,7 @@ struct Wanted<'s, 'a> {
     limit: usize,
 }
 
-// Adds the denied cells of a table, whose rows are read as they were.
+// Adds the denied cells of a table. Reads the table's rows as they were.
 fn read_table<'a, P: Keeper, L: Ledger>(
     keeper: &mut P,
     alloc: Global,
@@ -56,7 +56,7 @@ fn read_table<'a, P: Keeper, L: Ledger>(
     }
 }
 
-// Adds those of a table by its name.
+// Adds the denied cells of the table with this name.
 fn read_named<'a, P: Keeper, L: Ledger>(
     keeper: &mut P,
     alloc: Global,
@@ -81,7 +81,7 @@ fn read_named<'a, P: Keeper, L: Ledger>(
     }
 }
 
-// Adds those of a query's tables, in the order of FROM.
+// Adds the denied cells of a query's tables, in the order of FROM.
 fn read_tables<'a, P: Keeper, L: Ledger>(
     keeper: &mut P,
     alloc: Global,
@@ -107,7 +107,7 @@ fn read_tables<'a, P: Keeper, L: Ledger>(
     Ok(())
 }
 
-// Adds those of the query that the text means.
+// Adds the denied cells of the query that the text means.
 fn read_text<'a, P: Keeper, L: Ledger>(
     keeper: &mut P,
     alloc: Global,
@@ -134,13 +134,14 @@ fn read_text<'a, P: Keeper, L: Ledger>(
     }
 }
 
-/// The cells that were denied to an entry of the history that a keeper keeps, whose names and rules
-/// are known: to a question in the rows of its tables as they were, table by table and row by row,
-/// of each in the key's columns and those that the question names; to another entry none. Not more
-/// than so many.
+/// Returns the cells that were denied to an entry of the history in the store. The names and rules
+/// must be those of this history. For a logged query these are cells in the rows of its tables as
+/// they were, table by table and row by row; in each row they are in the key's columns and in the
+/// columns that the query names. Other entries have none. `TooMany` if there are more than `limit`.
 ///
-/// That is said where the keeper tells a valid history; then `Damaged` never comes. `Keeper` comes
-/// only where the keeper's count of faults rose. Each version that is handed over is one step.
+/// The result is guaranteed if the store's contents are known and are a valid history. `Damaged` is
+/// then never returned. `Keeper` is returned only if the keeper's count of faults rose. Each
+/// version that the keeper hands over is one step.
 pub fn denied_cells<'a, P: Keeper, L: Ledger>(
     keeper: &mut P,
     alloc: Global,

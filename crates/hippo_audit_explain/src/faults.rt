@@ -1,17 +1,17 @@
-//! Why denied cells are not listed.
+//! Reasons for not listing denied cells.
 ghost use Rattle.std.specs.Prelude.{◌≡◌};
 ghost use Rattle.hippo_audit_explain.specs.Listing.{listing_fault};
 
 use hippo_backlog::ReadFault;
 use thiserror::Error;
 
-/// Why the cells that were denied to a question are not listed.
+/// Why the cells that were denied to a logged query are not listed.
 #[derive(Clone, Copy, Debug, PartialEq, Eq, Error)]
 pub enum DenialsFault {
-    /// What is kept was not read, or memory was short.
+    /// The store was not read, or memory ran out.
     #[error("the past was not read")]
     Read(ReadFault),
-    /// There are more than were asked for.
+    /// There are more cells than the limit.
     #[error("too many cells were denied")]
     TooMany,
 }
@@ -21,12 +21,12 @@ pub enum DenialsFault {
 pub enum ListFault {
     #[error("too many cells were denied")]
     TooMany,
-    /// The allocator refused.
+    /// Out of memory.
     #[error("out of memory")]
     Memory,
 }
 
-/// Why the denied cells of a question are not listed, where those of its rows are not.
+/// The fault of listing a logged query's denied cells, from the fault of listing those of its rows.
 pub(crate) fn fault_of(fault: ListFault) -> DenialsFault
     ensures { result ≡ listing_fault fault }
 {

@@ -1,4 +1,4 @@
-//! Which cells were denied to a question at its own time, and by which rules.
+//! Which cells were denied to a logged query at its own time, and by which rules.
 #![tactic(auto)]
 
 mod columns;

@@ -15,8 +15,8 @@ use hippo_values::{Memory, Moment, Name, Sequence};
 use std::alloc::Global;
 use std::marker::Model;
 
-/// A cell that was denied: its table, its row's key, its column, and the number of the rule that
-/// denied it, 0 where no rule ever spoke of it.
+/// A denied cell: its table, its row's key, its column, and the number of the rule that denied it.
+/// The number is 0 if no rule ever named the cell.
 #[derive(Drop)]
 pub struct Denied<'a> {
     pub table: &'a Name,
@@ -38,7 +38,7 @@ impl<'a> Model for Denied<'a> {
     } };
 }
 
-/// The rules after the first entries, those before the one with a number, for a purpose and
+/// The rules of the first `count` entries, those before entry `number`, for a purpose and a
 /// recipient at a moment.
 #[derive(Clone, Copy)]
 pub struct RulesThen<'a> {
@@ -50,7 +50,7 @@ pub struct RulesThen<'a> {
     pub recipient: &'a Name,
 }
 
-// The cell of a row, where the verdict denies it.
+// The cell of a row, if the verdict denies it.
 fn denied_by<'a>(
     alloc: Global,
     schema: &'a Schema,
@@ -116,7 +116,7 @@ impl RulesThen<'_> {
     }
 }
 
-// Adds the denied cells of rows, while there are not more than so many.
+// Adds the denied cells of rows. Fails if there are more than `limit`.
 fn list_rows<'a>(
     alloc: Global,
     rules: &RulesThen<'_>,
@@ -143,8 +143,8 @@ fn list_rows<'a>(
     Ok(())
 }
 
-/// Adds the denied cells of a table's rows that are listed for a query, while there are not more
-/// than so many.
+/// Adds the denied cells of a table's rows that EXPLAIN lists for a query. Fails if there are more
+/// than `limit`.
 pub(crate) fn list_table<'a>(
     alloc: Global,
     rules: &RulesThen<'_>,

@@ -1,4 +1,4 @@
--- What an audit expression means where nothing of it is refused.
+-- What an audit expression means if it is not refused.
 use Rattle.std.proofs.Common.{◌≡◌, ◌∙◌, sym, ap, refl, subst, arith, ℕ, zero, suc, ◌+◌, ◌<◌, Bool, true, false, cond, List, [], ◌∷◌, ◌++◌, map, length, Option, None, Some}
 use Rattle.std.specs.Prelude.{nat_lt, slice_get, slice_index_or, position, is_some, is_none, filter_map, unwrap_or, option_map, bytes_eq}
 use Rattle.std.specs.List.{AllByRecursion, flat_map, cons_option, enumerate_from}
@@ -27,7 +27,7 @@ use Rattle.hippo_typing.proofs.CatalogTheorem.{valid_names}
 use Rattle.hippo_typing.proofs.LastingNames.{extends_later, audit_lasts}
 use Rattle.hippo_audit_job.specs.Examining.{IsColumnOf, IsAuditOf}
 
--- the column stands in the schema at its table's place behind this one
+-- the column is in the schema of its table; the places of the tables count from this one
 record StandsAfter (place : ℕ) (schemas : List Schema) (column : Ref) : Type 0 where
   offset : ℕ
   table_is : column.table ≡ place + offset
@@ -71,7 +71,7 @@ homes_there written place (schema ∷ rest) =
     with_home true None is columns later = later
     with_home true (Some column) is columns later = (record { offset = 0; table_is = omega arith; schema = schema; there = refl; within = found_within schema written.column column is }, later)
 
--- a column that is one of the statement's is found there
+-- a column that the statement names is found there
 found_there : (schemas : List Schema) (written : RawColumn) → column_refused schemas written ≡ [] → StandsAfter 0 schemas (column_of schemas written)
 found_there schemas written none = by (homes schemas written) (homes_there written 0 schemas) refl
   where
@@ -93,7 +93,7 @@ module _ (known : KnownNames) where
           absurd cc
       by (Some schema) is = (schema, is)
 
-  -- the schema at a place is that of the table there
+  -- the schema at a place is that of the table at that place
   table_there : (tables : List Name) → flat_map (unknown_table known) tables ≡ [] → (place : ℕ) (schema : Schema) → slice_get (schemas_of known tables) place ≡ Some schema → (place < length tables) × (table_of known (slice_index_or tables place []) ≡ Some schema)
   table_there [] none place schema is = absurd cc
   table_there (table ∷ rest) none place schema is =

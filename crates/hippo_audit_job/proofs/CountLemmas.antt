@@ -1,4 +1,4 @@
--- Counts that rise and fall with steps.
+-- Counts that rise and fall with the steps.
 use Rattle.std.proofs.Common.{◌≡◌, refl, arith, ℕ, ◌+◌, ◌≤◌, Option, None, Some}
 use Rattle.hippo_audit_job.specs.Examining.{RisesWith, FallsWith, RisesWithin, AreWithin}
 
@@ -18,7 +18,7 @@ pub FallsWith-none : (count : Option ℕ) (steps : ℕ) → FallsWith count coun
 FallsWith-none None steps = tt
 FallsWith-none (Some count) steps = omega arith
 
--- what was handed and what is unread stay within as much
+-- what was handed over and what is unread stay within the same number
 pub AreWithin-then : (handed handed_now unread unread_now : Option ℕ) (old new number : ℕ) → RisesWith handed handed_now old new → FallsWith unread unread_now old new → AreWithin handed unread number → AreWithin handed_now unread_now number
 AreWithin-then (Some h) (Some h_now) (Some u) (Some u_now) old new number rises falls within = omega (arith, rises, falls, within)
 AreWithin-then None None None None old new number rises falls within = tt
@@ -37,7 +37,7 @@ AreWithin-more None (Some u) u_now number more rises within = absurd within
 AreWithin-more (Some h) (Some u) None number more rises within = absurd rises
 AreWithin-more None None (Some u_now) number more rises within = absurd rises
 
--- what was handed is within as much
+-- what was handed over is within the number
 pub handed_within : (handed unread : Option ℕ) (number count : ℕ) → AreWithin handed unread number → handed ≡ Some count → count ≤ number
 handed_within (Some h) (Some u) number count within is =
     let same : h ≡ count = some_is h count is in

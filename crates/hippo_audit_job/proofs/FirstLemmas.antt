@@ -1,4 +1,5 @@
--- The first question that was read ahead: what it is in a history, and what looking at it makes of a job.
+-- The first logged query that was read ahead: its entry in the history, and the job after looking
+-- at it.
 use Rattle.std.proofs.Common.{◌≡◌, ◌∙◌, sym, ap, refl, subst, arith, ℕ, zero, suc, ◌+◌, ◌-◌, ◌<◌, ◌≤◌, Bool, true, false, cond, List, [], ◌∷◌, ◌++◌, map, filter, length, take, drop, nat_le, slice_get, Option, None, Some, Result, Ok, Err, length-append}
 use Rattle.std.specs.Prelude.{◌≢◌, ◌||◌, filter_map, option_and_then, option_to_list, is_some}
 use Rattle.std.specs.List.{AllByRecursion, cons_option}
@@ -55,7 +56,7 @@ nothing_more : (front more : List Entry) → front ++ more ≡ front → more �
 nothing_more [] more same = same
 nothing_more (first ∷ front) more same = nothing_more front more (ap (drop 1) same)
 
--- the flags between two places with the same questions before them
+-- the flags between two places that have the same logged queries before them
 pub skipped : (history : History) (audit : Audit) (ahead : ReadAhead) (low high : ℕ) → is_valid meaning history ≡ true → low ≤ high
     → (split : IsAhead (is_question_in_period audit) low ahead history) (moved : IsAhead (is_question_in_period audit) high ahead history) → moved.used ≡ split.used → flags_between meaning history audit low high ≡ []
 skipped history audit ahead low high valid le split moved same =
@@ -131,7 +132,7 @@ rest_last : (held : Store) (kept : StoredEntry) (low : ℕ) → slice_get held 0
 rest_last [] kept low first = absurd cc
 rest_last (one ∷ rest) kept low first = ap (λ (k : StoredEntry). last_number k.seq rest) (sym (some_is one kept first))
 
--- a job that has looked up to a place, with what examines now
+-- the job after looking up to a place, with its examiner as it is now
 abbrev pub looked_before : {X : Type 0} → ℕ → X → Job X → Job X
 looked_before place examiner job = record job { place = place; examiner = examiner }
 
@@ -145,7 +146,7 @@ module _ {X : Type 0} (terms : Examination X) where
         stands_at (is_question_in_period job.audit) history fits.split.used (waits.rest ++ fits.split.later) waits.entry
         (fits.split.parts ∙ ap (λ (w : History). fits.split.used ++ (w ++ fits.split.later)) waits.parts)
 
-    -- it is a question of the history
+    -- it is a logged query of the history
     pub is_there : IsQuestionOf history job.audit waits.entry
     is_there = record {
       stands = record { valid = valid; place = length there.front; stands = ap (λ (h : History). slice_get h (length there.front)) there.whole ∙ at_end there.front there.remaining waits.entry };
@@ -157,7 +158,7 @@ module _ {X : Type 0} (terms : Examination X) where
         let may = may_there meaning there.front there.remaining waits.entry (ap (is_valid meaning) (sym there.whole) ∙ valid) in
         (and_parts _ _ (and_parts _ _ (and_parts _ _ may).0).0).0
 
-    -- which has a form
+    -- its stored form decodes
     pub has_entry : IsEntryOf kept None → ⊥
     has_entry none = none_some (none.only waits.entry (is_kept, waits.form))
       where
@@ -174,7 +175,7 @@ module _ {X : Type 0} (terms : Examination X) where
       number_is : entry.seq ≡ kept.seq
       number_is = ap (λ (k : StoredEntry). k.seq) found.sound.1
 
-      -- the questions up to the number before it are used
+      -- the logged queries before its number are used
       moved : (now : IsAhead (is_question_in_period job.audit) (kept.seq - 1) job.questions history) × (now.used ≡ fits.split.used)
       moved =
           let under = below in
@@ -191,7 +192,7 @@ module _ {X : Type 0} (terms : Examination X) where
           let number = number_is in
           terms.onward job.examiner history (job.place + 1) entry.seq (omega (arith, under, number)) fits.examiner_fits
 
-      -- before the flag is added, the job fits at the number before it
+      -- before the flag is added, the job fits at the number before the entry
       pub JobFits-before : (result : Result (Option (List SharedRow)) ReadFault) (steps_old steps_new : ℕ) → RisesWith (terms.handed job.examiner) (terms.handed new) steps_old steps_new
           → LooksAtKept terms history job.audit entry result job.examiner new steps_old steps_new → JobFits terms (looked_before (kept.seq - 1) new job) history
       JobFits-before result steps_old steps_new ledger looked =
@@ -240,7 +241,7 @@ module _ {X : Type 0} (terms : Examination X) where
         pub flags_after : job.waiting ++ option_to_list flag ≡ job.waiting ++ flags_between meaning history job.audit job.place kept.seq
         flags_after = ap (λ (l : List Flag). job.waiting ++ l) (sym both)
 
-        -- and then at its number
+        -- and afterwards at the number of the entry
         pub JobFits-after : JobFits terms (looked_before (kept.seq - 1) new job) history → JobFits terms (with_flag kept.seq flag (looked_before (kept.seq - 1) new job)) history
         JobFits-after before =
             let under = below in
@@ -258,7 +259,7 @@ module _ {X : Type 0} (terms : Examination X) where
               once = before.once;
             }
 
-  -- the job before the number of a question, whatever was found of it
+  -- the job at the number before a logged query, whatever was found for it
   module _ (job : Job X) (sound : IsSoundJob terms job) (kept : StoredEntry) (first : slice_get job.questions.waiting 0 ≡ Some kept) (within : kept.seq ≤ job.length) where
     under : job.place < kept.seq
     under = above_place job.questions.waiting kept job.place first sound.ahead
@@ -307,7 +308,7 @@ module _ {X : Type 0} (terms : Examination X) where
       asked_up_to : terms.upto new ≤ entry.seq → terms.upto new ≤ kept.seq
       asked_up_to limit = let number = seq_is in omega (arith, limit, number)
 
-      -- an answer that is no Damaged of a question leaves the job there
+      -- a result other than `Damaged` leaves the job there
       pub LooksOn-before : {A : Type 0} (shares : Result (Option (List SharedRow)) ReadFault) → LooksAt terms past job.audit entry shares job.examiner new before after steps_old steps_new
           → (result : Result A ReadFault) → has_failed (reading_as_call result) ≡ has_failed (reading_as_call shares) → ((number : ℕ) → shares ≢ Err (Damaged number) → result ≢ Err (Damaged number))
           → LooksOn terms upto past result job (looked_before (kept.seq - 1) new job) before after steps_old steps_new
@@ -337,7 +338,7 @@ module _ {X : Type 0} (terms : Examination X) where
                 };
           }
 
-      -- a flag, or none, leaves the job at the question's number
+      -- with a flag or without one, the job is then at the number of the logged query
       pub LooksOn-after : {A : Type 0} (shares : Option (List SharedRow)) → LooksAt terms past job.audit entry (Ok shares) job.examiner new before after steps_old steps_new
           → (value : A) → LooksOn {A = A} terms upto past (Ok value) job (with_flag kept.seq (option_and_then (flag_by entry entry.act) shares) (looked_before (kept.seq - 1) new job)) before after steps_old steps_new
       LooksOn-after shares looks value =

@@ -1,4 +1,4 @@
--- The first question that was read ahead, taken as its entry: what looking at it makes of a job.
+-- The first logged query that was read ahead, decoded: the job after looking at it.
 use Rattle.std.proofs.Common.{◌≡◌, ◌∙◌, sym, ap, refl, subst, arith, true, false, ℕ, ◌-◌, ◌<◌, ◌≤◌, List, slice_get, Option, Some, Result, Ok, Err}
 use Rattle.std.specs.Prelude.{◌≢◌, option_and_then}
 use Rattle.std.specs.Result.{result_map_both}
@@ -34,7 +34,7 @@ same_Ok : {A B : Type 0} (x y : A) → ok_of B x ≡ Ok y → x ≡ y
 same_Ok x y e = cc
 
 module _ {X : Type 0} (terms : Examination X) where
-  -- a look that is said of another answer, and as one of more numbers
+  -- `LooksOn` for another result, and for a higher number
   pub LooksOn-as : {A B : Type 0} (low high : ℕ) (past : Past) (one : Result A ReadFault) (other : Result B ReadFault) (old new : Job X) (before after : KeeperState) (steps_old steps_new : ℕ) → low ≤ high
       → has_failed (reading_as_call other) ≡ has_failed (reading_as_call one) → ((number : ℕ) → one ≢ Err (Damaged number) → other ≢ Err (Damaged number))
       → LooksOn terms low past one old new before after steps_old steps_new → LooksOn terms high past other old new before after steps_old steps_new
@@ -58,14 +58,14 @@ module _ {X : Type 0} (terms : Examination X) where
             record { fits_still = over.fits_still; flags = over.flags; undamaged = λ number. undamaged number (over.undamaged number) };
       }
 
-  -- a fault, whatever was to be answered
+  -- a fault, at any result type
   pub LooksOn-fault : (A B : Type 0) (low high : ℕ) (past : Past) (fault : ReadFault) (old new : Job X) (before after : KeeperState) (steps_old steps_new : ℕ) → low ≤ high
       → LooksOn terms low past (err_of A fault) old new before after steps_old steps_new → LooksOn terms high past (err_of B fault) old new before after steps_old steps_new
   LooksOn-fault A B low high past fault old new before after steps_old steps_new up looks =
       LooksOn-as low high past (err_of A fault) (err_of B fault) old new before after steps_old steps_new up (ap (λ (r : Result (Unit {0}) KeeperFault). has_failed r) (reading_as_call-fault B A fault))
       (λ number not e. not (ap (err_of A) (same_Err fault (Damaged number) e))) looks
 
-  -- a first stored form that is not decoded leaves the job as it is
+  -- if the first stored entry is not decoded, the job stays the same
   pub LooksOn-undecoded : (A : Type 0) (job : Job X) (sound : IsSoundJob terms job) (upto : ℕ) (past : Past) (keeper : KeeperState) (steps : ℕ) → job.place ≤ upto → IsReady true keeper → (kept : StoredEntry) → slice_get job.questions.waiting 0 ≡ Some kept
       → (fault : ReadFault) → IsDecoded kept (err_of Entry fault) → LooksOn terms upto past (err_of A fault) job job keeper keeper steps steps
   LooksOn-undecoded A job sound upto past keeper steps up ready kept first Keeper decoded = absurd decoded
@@ -96,7 +96,7 @@ module _ {X : Type 0} (terms : Examination X) where
           (LooksOn-after terms job sound (stored entry) at_first within past entry.seq (omega arith) entry own_form new before after steps_old steps_new {A = Unit {0}} shares looks tt)
       flagged_so (Err fault) flag looks is = absurd cc
 
-      -- a flag that is found, or none, leaves the job at its number
+      -- with a flag or without one, the job is then at the entry's number
       pub LooksOn-flagged : (flag : Option Flag) → FindsFlag terms past job.audit entry (Ok flag) job.examiner new before after steps_old steps_new
           → LooksOn {A = Unit {0}} terms entry.seq past (Ok tt) job (with_flag entry.seq flag (looked_before (entry.seq - 1) new job)) before after steps_old steps_new
       LooksOn-flagged flag finds = flagged_so finds.shares flag finds.looks finds.found
@@ -107,7 +107,7 @@ module _ {X : Type 0} (terms : Examination X) where
           LooksOn-before terms job sound (stored entry) at_first within past entry.seq (omega arith) entry own_form new before after steps_old steps_new {A = Unit {0}} (Ok shares) looks (Err Memory) refl (λ number not e. absurd cc)
       short_so (Err fault) flag looks is = absurd cc
 
-      -- where there is no memory for it, the job stands before its number
+      -- if there is no memory for the flag, the job is at the number before
       pub LooksOn-short : (flag : Option Flag) → FindsFlag terms past job.audit entry (Ok flag) job.examiner new before after steps_old steps_new
           → LooksOn {A = Unit {0}} terms entry.seq past (Err Memory) job (looked_before (entry.seq - 1) new job) before after steps_old steps_new
       LooksOn-short flag finds = short_so finds.shares flag finds.looks finds.found
@@ -120,7 +120,7 @@ module _ {X : Type 0} (terms : Examination X) where
           (LooksOn-before terms job sound (stored entry) at_first within past entry.seq (omega arith) entry own_form new before after steps_old steps_new {A = Unit {0}} (err_of (Option (List SharedRow)) other) looks (err_of (Unit {0}) other)
           (ap (λ (r : Result (Unit {0}) KeeperFault). has_failed r) (reading_as_call-fault (Unit {0}) (Option (List SharedRow)) other)) (λ number not e. not (ap (err_of (Option (List SharedRow))) (same_Err other (Damaged number) e))))
 
-      -- and where what it shares is not found
+      -- the same if the shared tuple is not found
       pub LooksOn-failed : (fault : ReadFault) → FindsFlag terms past job.audit entry (err_of (Option Flag) fault) job.examiner new before after steps_old steps_new
           → LooksOn terms entry.seq past (err_of (Unit {0}) fault) job (looked_before (entry.seq - 1) new job) before after steps_old steps_new
       LooksOn-failed fault finds = failed_so finds.shares fault finds.looks finds.found

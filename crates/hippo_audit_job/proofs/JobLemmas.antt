@@ -1,4 +1,4 @@
--- Jobs that fit a history: a new one, and when the history grows.
+-- A job fits its history when it is new, and when the history grows.
 use Rattle.std.proofs.Common.{◌≡◌, ◌∙◌, sym, ap, refl, subst, arith, rules, ℕ, ◌+◌, ◌≤◌, Bool, true, false, cond, List, [], ◌∷◌, ◌++◌, length, Option, None, Some, length-append}
 use Rattle.std.specs.Prelude.{nat_lt, is_some, slice_index_or, bytes_eq}
 use Rattle.std.specs.List.{AllByRecursion, IsDistinct}
@@ -44,7 +44,7 @@ module _ (history later : History) (valid : is_valid meaning (history ++ later) 
       let table : Name = slice_index_or tables column.table [] in
       (record { table = all.0.table; within = passes_on (λ schema. nat_lt column.column (length schema.columns)) table (schema_at history table) refl all.0.within }, all_columns tables rest all.1)
 
-  -- an audit of a history is one of each longer valid one
+  -- an audit of a history is one of each longer valid history
   pub IsAuditOf-longer : (audit : Audit) → IsAuditOf history audit → IsAuditOf (history ++ later) audit
   IsAuditOf-longer audit is = record {
     differ = is.differ;
@@ -70,7 +70,7 @@ module _ {X : Type 0} (terms : Examination X) where
         asked = omega (arith, unasked);
       }
 
-  -- and fits the valid history at whose length it began
+  -- and fits a valid history whose length is the one at which it began
   pub JobFits-new : (history : History) (audit : Audit) (examiner : X) → is_valid meaning history ≡ true → IsAuditOf history audit → IsNew terms examiner → JobFits terms (new_job audit (length history) examiner) history
   JobFits-new history audit examiner valid is_audit is_new = record {
     begun = omega arith;
@@ -81,14 +81,14 @@ module _ {X : Type 0} (terms : Examination X) where
     once = is_new.counted history valid;
   }
 
-  -- what holds of a job does so whichever flags wait, and whether or not each step answered Ok
+  -- a sound job stays sound whichever flags wait, and whether or not each step returned Ok
   pub IsSoundJob-marked : (waiting : List Flag) (mark : Bool) (job : Job X) → IsSoundJob terms job → IsSoundJob terms (record job { waiting = waiting; unbroken = mark })
   IsSoundJob-marked waiting mark job sound = search rules
 
   pub JobFits-marked : (waiting : List Flag) (mark : Bool) (job : Job X) (history : History) → JobFits terms job history → JobFits terms (record job { waiting = waiting; unbroken = mark }) history
   JobFits-marked waiting mark job history fits = search rules
 
-  -- a job that fits a history fits it with one entry more
+  -- a job that fits a history fits it with one more entry
   pub JobFits-grown : (job : Job X) (history : History) (entry : Entry) → is_valid meaning (history ++ entry ∷ []) ≡ true → IsSoundJob terms job → JobFits terms job history → JobFits terms job (history ++ entry ∷ [])
   JobFits-grown job history entry valid sound fits =
       let longer = length-append history (entry ∷ []) in
@@ -103,6 +103,6 @@ module _ {X : Type 0} (terms : Examination X) where
         once = subst (AreWithin (terms.handed job.examiner) (terms.unread job.examiner (history ++ entry ∷ []))) (sym (versions-one history entry)) (AreWithin-more (terms.handed job.examiner) (terms.unread job.examiner history) (terms.unread job.examiner (history ++ entry ∷ [])) (versions history) (versions (entry ∷ [])) (terms.grows job.examiner history entry (job.place + 1) valid fits.examiner_fits) fits.once);
       }
 
-  -- what it took is at most the versions of the history
+  -- what it took is at most the number of versions of the history
   pub taken_within : (job : Job X) (history : History) (count : ℕ) → JobFits terms job history → terms.handed job.examiner ≡ Some count → count ≤ versions history
   taken_within job history count fits is = handed_within (terms.handed job.examiner) (terms.unread job.examiner history) (versions history) count fits.once is

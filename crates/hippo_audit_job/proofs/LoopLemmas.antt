@@ -1,4 +1,4 @@
--- The loops of a step: what its parts ask and leave.
+-- The loops of a step: what their parts require and ensure.
 use Rattle.std.proofs.Common.{◌≡◌, ◌∙◌, ap, refl, subst, arith, true, false, Bool, ℕ, ◌<◌, ◌≤◌, [], ◌∷◌, drop, length, slice_get, None, Some, Result, Ok}
 use Rattle.std.specs.Prelude.{◌&&◌, ◌+◌, min}
 use Rattle.hippo_model.specs.declared.entry.Entry.{Entry}
@@ -24,12 +24,12 @@ pub begins_none : (held : Store) (number : ℕ) → slice_get held 0 ≡ None �
 begins_none [] number none = tt
 begins_none (kept ∷ rest) number none = absurd cc
 
--- one is used
+-- one entry is used
 pub fewer_left : (held : Store) (kept : StoredEntry) → slice_get held 0 ≡ Some kept → length (drop 1 held) < length held
 fewer_left [] kept first = absurd cc
 fewer_left (one ∷ rest) kept first = omega arith
 
--- an entry has the number of its form
+-- an entry has the number of its stored form
 pub form_number : (kept : StoredEntry) (entry : Entry) → IsEntryOf kept (Some entry) → entry.seq ≡ kept.seq
 form_number kept entry form = ap (λ (k : StoredEntry). k.seq) form.sound.1
 
@@ -49,16 +49,16 @@ module _ {X : Type 0} where
   }
 
 module _ {X : Type 0} (terms : Examination X) (upto : ℕ) (past : Past) where
-  -- a job that has looked at nothing more yet
+  -- a job that has not looked at anything more yet
   pub LooksOn-start : (job : Job X) (keeper : KeeperState) (steps : ℕ) → MayLook terms upto job keeper → LooksOn terms upto past (well ReadFault) job job keeper keeper steps steps
   LooksOn-start job keeper steps may =
       LooksOn-none terms upto past job keeper steps may.ready may.is_sound may.forward (well ReadFault) (λ e. absurd cc) (λ history kept stands fits number e. absurd cc)
 
-  -- a keeper is ready after a look that did not fail
+  -- a keeper is ready after a successful look
   pub ready_after : (old new : Job X) (before after : KeeperState) (one two : ℕ) → LooksOn terms upto past (well ReadFault) old new before after one two → IsReady true after
   ready_after old new before after one two looks = IsReady-after (reading_as_call (well ReadFault)) before after refl looks.moves.is_after
 
-  -- and the job may look on, if it might at first
+  -- and the job may look on, if it could at first
   pub MayLook-after : (old new : Job X) (before after : KeeperState) (one two : ℕ) → MayLook terms upto old before → LooksOn terms upto past (well ReadFault) old new before after one two → MayLook terms upto new after
   MayLook-after old new before after one two may looks = record {
     ready = ready_after old new before after one two looks;
@@ -68,19 +68,19 @@ module _ {X : Type 0} (terms : Examination X) (upto : ℕ) (past : Past) where
   }
 
   module _ (old mid new : Job X) (before now after : KeeperState) (one two three : ℕ) (first : LooksOn terms upto past (well ReadFault) old mid before now one two) where
-    -- and one more that did not fail, whatever it answered
+    -- a second look that succeeds, whatever it returned
     pub LooksOn-more : {B : Type 0} (value : B) → LooksOn {A = B} terms upto past (Ok value) mid new now after two three → LooksOn terms upto past (well ReadFault) old new before after one three
     LooksOn-more value second =
         LooksOn-then terms upto past {A = Unit {0}} tt (well ReadFault) old mid new before now after one two three first
         (LooksOn-as terms upto upto past (Ok value) (well ReadFault) mid new now after two three (omega arith) refl (λ number not e. absurd cc) second)
 
-    -- or one that failed
+    -- a second look that fails
     pub LooksOn-stop : (B : Type 0) (fault : ReadFault) → LooksOn terms upto past (err_of B fault) mid new now after two three → LooksOn terms upto past (err_of (Unit {0}) fault) old new before after one three
     LooksOn-stop B fault second =
         LooksOn-then terms upto past {A = Unit {0}} tt (err_of (Unit {0}) fault) old mid new before now after one two three first
         (LooksOn-fault terms B (Unit {0}) upto upto past fault mid new now after two three (omega arith) second)
 
-  -- a job that is marked
+  -- the job with another mark for its steps
   pub LooksOn-marked : {A : Type 0} (mark : Bool) (result : Result A ReadFault) (old new : Job X) (before after : KeeperState) (one two : ℕ) → LooksOn terms upto past result old new before after one two
       → LooksOn terms upto past result old (record new { unbroken = mark }) before after one two
   LooksOn-marked mark result old new before after one two looks = record {
@@ -99,9 +99,9 @@ module _ {X : Type 0} (terms : Examination X) (upto : ℕ) (past : Past) where
         };
   }
 
--- a job that may look up to a number, and what a step of it comes to
+-- a job that may look up to a number, and the result of its step
 module _ {X : Type 0} (terms : Examination X) where
-  -- the first question that waits may be looked at
+  -- the first logged query that waits may be looked at
   pub MayLook-first : (upto : ℕ) (job : Job X) (keeper : KeeperState) → MayLook terms upto job keeper → (entry : Entry) → IsFirstWaiting job.questions entry → entry.seq ≤ upto → MayLook terms entry.seq job keeper
   MayLook-first upto job keeper may entry first up =
       let above = number_above terms job may.is_sound entry first in

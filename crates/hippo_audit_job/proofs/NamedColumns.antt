@@ -1,4 +1,4 @@
--- The columns that a condition names, by those of its parts.
+-- The columns that a condition names are those that its parts name.
 use Rattle.std.proofs.Common.{◌≡◌, List, [], ◌∷◌, ◌++◌, map, refl, sym, ap, ◌∙◌}
 use Rattle.std.specs.Prelude.{Bool, ◌||◌, false, true}
 use Rattle.std.specs.List.{flat_map, list_any}

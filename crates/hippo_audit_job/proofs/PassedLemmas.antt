@@ -1,4 +1,4 @@
--- A job whose place moves on to a number up to which no question waits.
+-- A job whose place moves to a number, with no logged query waiting up to it.
 use Rattle.std.proofs.Common.{◌≡◌, ◌∙◌, sym, ap, refl, arith, ℕ, ◌+◌, ◌<◌, ◌≤◌, Bool, true, false, List, [], ◌∷◌, ◌++◌, length, nat_le, slice_get}
 use Rattle.std.specs.Prelude.{◌||◌, is_some}
 use Rattle.std.proofs.lemmas.Bool.{false≢true}
@@ -38,7 +38,7 @@ last_within : (held : Store) (low high reached : ℕ) → (nat_le high reached |
 last_within [] low high reached read within = within_reached high reached read
 last_within (one ∷ rest) low high reached read within = within
 
--- nothing waits where all is not read
+-- if not all is read, nothing waits
 pub none_waiting : (number : ℕ) (ahead : ReadAhead) → has_read number ahead ≡ false → ahead.waiting ≡ []
 none_waiting number ahead read = none_held ahead.waiting read
   where
@@ -50,7 +50,7 @@ none_waiting number ahead read = none_held ahead.waiting read
     none_held [] e = refl
     none_held (one ∷ rest) e = absurd (some_read (nat_le number ahead.reached) e)
 
--- and less is read
+-- and less than the number is read
 pub less_read : (number : ℕ) (ahead : ReadAhead) → has_read number ahead ≡ false → ahead.reached < number
 less_read number ahead read = below (is_some (slice_get ahead.waiting 0)) read
   where

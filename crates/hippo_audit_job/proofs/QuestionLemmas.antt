@@ -1,4 +1,4 @@
--- What an audit makes of one logged question, by what is found of it.
+-- Looking at one logged query, by what is found for it.
 use Rattle.std.proofs.Common.{◌≡◌, ◌∙◌, sym, ap, refl, subst, ℕ, ◌≤◌, Bool, true, false, List, Option, None, Some, Result, Ok, Err}
 use Rattle.std.specs.Bool.{then_some}
 use Rattle.std.specs.Prelude.{◌≢◌, ◌&&◌, not, option_and_then, if◌then◌else◌, IfOk}
@@ -33,7 +33,7 @@ use Rattle.hippo_audit_job.proofs.StretchLemmas.{question_means}
 abbrev Shares : Type 0
 Shares = Result (Option (List SharedRow)) ReadFault
 
--- a question, by what stands in it
+-- a logged query, with its purpose, recipient and text
 record IsAsking (act : Act) (asking : Name × Name × Txt) : Type 0 where
   user : Name
   is : act ≡ Asked user asking.0 asking.1 asking.2
@@ -51,7 +51,7 @@ not_asked (Asked user purpose recipient text) is = absurd cc
 not_asked act is = refl
 
 module _ (history : History) (audit : Audit) (entry : Entry) (question : IsQuestionOf history audit entry) where
-  -- each question is one
+  -- each entry that was read is a logged query
   pub must_be_question : question_parts entry.act ≡ None → ⊥
   must_be_question none = false≢true (sym (not_asked entry.act none) ∙ (and_parts (is_question entry.act) (in_period audit entry.moment) question.asked).0)
 
@@ -68,14 +68,14 @@ module _ (history : History) (audit : Audit) (entry : Entry) (question : IsQuest
     now_means : meaning_in past.catalog.now.names found.2 ≡ Some means.0
     now_means = ap (λ known. meaning_in known found.2) stands.names ∙ means.2
 
-    -- each text means something
+    -- each text means some query
     pub is_meant : meaning_in past.catalog.now.names found.2 ≡ None → ⊥
     is_meant none = none_some (sym none ∙ now_means)
       where
         none_some : {A : Type 0} {x : A} → None ≡ Some x → ⊥
         none_some e = cc
 
-    -- which is what it meant at its own time
+    -- and it is the query that the text meant at its own time
     pub meant_then : (query : Query) → meaning_in past.catalog.now.names found.2 ≡ Some query → meaning (before_entry entry history) found.2 ≡ Some query
     meant_then query same = means.1 ∙ sym now_means ∙ same
 
@@ -97,27 +97,27 @@ module _ (history : History) (audit : Audit) (entry : Entry) (question : IsQuest
     unnamed true false first = refl
     unnamed false exempt first = refl
 
-    -- what is exempt shares nothing
+    -- an exempt query shares nothing
     pub shares_exempt : is_exempt audit found.0 found.1 ≡ true → None ≡ shared_tuple meaning history audit entry
     unfolding means
     shares_exempt exempt =
         let before = before_entry entry history in
         sym (shared_then means.0 now_means ∙ ap (λ (b : Bool). if in_period audit entry.moment && not b && names_all means.0 audit then first_serving before asked_context means.0 audit else None) exempt ∙ exempted (in_period audit entry.moment) (names_all means.0 audit) (first_serving before asked_context means.0 audit))
 
-    -- nor what does not name each column
+    -- nor does a query that does not name every audited column
     pub shares_unnamed : (query : Query) → meaning_in past.catalog.now.names found.2 ≡ Some query → names_all query audit ≡ false → None ≡ shared_tuple meaning history audit entry
     shares_unnamed query same names =
         let before = before_entry entry history in
         sym (shared_then query same ∙ ap (λ (b : Bool). if in_period audit entry.moment && not (is_exempt audit found.0 found.1) && b then first_serving before asked_context query audit else None) names ∙ unnamed (in_period audit entry.moment) (is_exempt audit found.0 found.1) (first_serving before asked_context query audit))
 
-    -- a candidate shares what serves first
+    -- a candidate shares the first tuple that serves
     pub shares_first : (query : Query) → meaning_in past.catalog.now.names found.2 ≡ Some query → is_exempt audit found.0 found.1 ≡ false → names_all query audit ≡ true → shared_tuple meaning history audit entry ≡ first_serving (before_entry entry history) asked_context query audit
     shares_first query same exempt names =
         let before = before_entry entry history in
         let inside = (and_parts (is_question entry.act) (in_period audit entry.moment) question.asked).1 in
         shared_then query same ∙ (λ i. if inside i && not (exempt i) && names i then first_serving before asked_context query audit else None)
 
--- a query that is left out fails the test, and one that is found passes it
+-- a query that is left out fails the test, and one that is returned passes it
 not_named : (names : Bool) (query : Query) → None ≡ then_some names query → names ≡ false
 not_named true query is = absurd cc
 not_named false query is = refl
@@ -136,7 +136,7 @@ if_ok (Ok found) one other same is = is ∙ same
 if_ok (Err fault) one other same is = tt
 
 module _ {X : Type 0} (terms : Examination X) (past : Past) (audit : Audit) (entry : Entry) where
-  -- where the examiner is not asked
+  -- if the examiner is not asked
   pub LooksAt-unasked : (examiner : X) (keeper : KeeperState) (steps : ℕ) → IsReady true keeper → terms.sound examiner → terms.upto examiner ≤ entry.seq
       → (result : Shares) → result ≢ Err Keeper → ((history : History) → IsPastOf past history → IsQuestionOf history audit entry → (number : ℕ) → result ≢ Err (Damaged number))
       → ((history : History) → IsPastOf past history → IsQuestionOf history audit entry → IfOk result (λ found. found ≡ shared_tuple meaning history audit entry))
@@ -157,7 +157,7 @@ module _ {X : Type 0} (terms : Examination X) (past : Past) (audit : Audit) (ent
     };
   }
 
-  -- where it is asked
+  -- if it is asked
   pub LooksAt-examined : (query : Query) (result : Shares) (old new : X) (before after : KeeperState) (steps_old steps_new : ℕ) (found : Name × Name × Txt) → question_parts entry.act ≡ Some found
       → IsCandidateOf past audit found.2 (Ok (Some query)) → is_exempt audit found.0 found.1 ≡ false
       → Examines terms past audit entry query result old new before after steps_old steps_new
@@ -179,19 +179,19 @@ module _ {X : Type 0} (terms : Examination X) (past : Past) (audit : Audit) (ent
   }
 
   module _ (examiner : X) (keeper : KeeperState) (steps : ℕ) (ready : IsReady true keeper) (sound : terms.sound examiner) (order : terms.upto examiner ≤ entry.seq) where
-    -- a query that does not name each column shares nothing
+    -- a query that does not name every audited column shares nothing
     pub LooksAt-unnamed : (found : Name × Name × Txt) → question_parts entry.act ≡ Some found → IsCandidateOf past audit found.2 (Ok None) → LooksAt terms past audit entry (Ok None) examiner examiner keeper keeper steps steps
     LooksAt-unnamed found is meant =
         LooksAt-unasked examiner keeper steps ready sound order (Ok None) (λ e. absurd cc) (λ history stands question number e. absurd cc)
         (λ history stands question. shares_unnamed history audit entry question past stands found is meant.0 meant.1 (not_named (names_all meant.0 audit) meant.0 meant.2))
 
-    -- nor a question that is exempt
+    -- nor does an exempt query
     pub LooksAt-exempt : (found : Name × Name × Txt) → question_parts entry.act ≡ Some found → is_exempt audit found.0 found.1 ≡ true → LooksAt terms past audit entry (Ok None) examiner examiner keeper keeper steps steps
     LooksAt-exempt found is exempt =
         LooksAt-unasked examiner keeper steps ready sound order (Ok None) (λ e. absurd cc) (λ history stands question number e. absurd cc)
         (λ history stands question. shares_exempt history audit entry question past stands found is exempt)
 
-    -- an entry that is no question of the period
+    -- an entry that is not a logged query of the period
     pub LooksAt-other : (place : ℕ) → question_parts entry.act ≡ None → LooksAt terms past audit entry (Err (Damaged place)) examiner examiner keeper keeper steps steps
     LooksAt-other place none =
         LooksAt-unasked examiner keeper steps ready sound order (Err (Damaged place)) (λ e. absurd cc) (λ history stands question number e. absurd (must_be_question history audit entry question none)) (λ history stands question. tt)
@@ -200,7 +200,7 @@ module _ {X : Type 0} (terms : Examination X) (past : Past) (audit : Audit) (ent
     LooksAt-outside place outside =
         LooksAt-unasked examiner keeper steps ready sound order (Err (Damaged place)) (λ e. absurd cc) (λ history stands question number e. absurd (is_inside history audit entry question outside)) (λ history stands question. tt)
 
-    -- a question whose text means nothing now
+    -- a logged query whose text means nothing now
     pub LooksAt-meant : (found : Name × Name × Txt) → question_parts entry.act ≡ Some found → (fault : ReadFault) → IsCandidateOf past audit found.2 (Err fault) → LooksAt terms past audit entry (Err fault) examiner examiner keeper keeper steps steps
     LooksAt-meant found is Keeper meant = absurd meant
     LooksAt-meant found is Memory meant =

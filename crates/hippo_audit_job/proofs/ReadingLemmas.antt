@@ -1,4 +1,4 @@
--- A piece of the logged questions of an audit's period, read ahead.
+-- A batch of the logged queries of an audit's period, read ahead.
 use Rattle.std.proofs.Common.{◌≡◌, ◌∙◌, sym, ap, refl, subst, arith, ℕ, ◌<◌, Bool, true, false, ◌&&◌, [], Result, Ok, Err}
 use Rattle.std.specs.Prelude.{◌==◌, int_le}
 use Rattle.hippo_model.specs.declared.audit.Audit.{Audit}
@@ -39,7 +39,7 @@ kind_of_questions (Revoke purpose recipient table columns) = refl
 kind_of_questions (Choice subject item agreed) = refl
 kind_of_questions (Asked user purpose recipient text) = refl
 
--- the stored form of an entry tells whether it is a question of the period
+-- the stored form of an entry shows whether it is a logged query of the period
 pub same_test : (audit : Audit) (entry : Entry) → was_asked_in audit.from audit.to (stored entry) ≡ is_question_in_period audit entry
 same_test audit entry =
     ap (λ (kind : Bool). kind && int_le audit.from entry.moment && int_le entry.moment audit.to) (kind_of_questions entry.act)
@@ -49,7 +49,7 @@ abbrev reads_ok : Store → Result Store KeeperFault
 reads_ok piece = Ok piece
 
 module _ (audit : Audit) (max end : ℕ) (old : ReadAhead) (before after : KeeperState) (reached : ℕ) (used : old.waiting ≡ []) (reached_is : reached ≡ old.reached) where
-  -- a piece is read
+  -- a batch is read
   pub ReadsAhead-piece : (piece : Store) (new : ReadAhead) → new ≡ with_piece max end piece old → 0 < max → ReadsEntries (was_asked_in audit.from audit.to) reached max (Ok piece) before after → ReadsAhead audit end (well ReadFault) old new before after
   ReadsAhead-piece piece new new_is some reads_so =
       let reads = subst (λ (n : ℕ). ReadsEntries (was_asked_in audit.from audit.to) n max (Ok piece) before after) reached_is reads_so in

@@ -1,4 +1,4 @@
--- A job that looks on: at nothing more, and at more numbers behind others.
+-- A job that looks at no more numbers, and one that looks at more numbers after others.
 use Rattle.std.proofs.Common.{◌≡◌, ◌∙◌, sym, ap, refl, subst, arith, true, false, ℕ, ◌+◌, ◌-◌, ◌≤◌, List, [], ◌++◌, map, take, drop, Result, Ok, Err, append_assoc}
 use Rattle.std.specs.Prelude.{◌≢◌, filter_map}
 use Rattle.std.proofs.Math.Seq.{take-add, drop-drop}
@@ -26,13 +26,13 @@ use Rattle.hippo_audit_job.specs.Looking.{ReadsAhead}
 use Rattle.hippo_audit_job.specs.Jobs.{IsSoundJob, JobFits, LooksOn}
 use Rattle.hippo_audit_job.proofs.CountLemmas.{RisesWith-none, RisesWith-then}
 
--- a stretch of no numbers has no flags
+-- a range without numbers has no flags
 pub flags_none : (history : History) (audit : Audit) (place : ℕ) → flags_between meaning history audit place place ≡ []
 flags_none history audit place =
     let none : place - place ≡ 0 = omega arith in
     ap (λ (n : ℕ). filter_map (flag_of meaning history audit) (take n (drop place history))) none
 
--- the flags of a stretch are those of its parts
+-- the flags of a range are those of its parts
 pub flags_parted : (history : History) (audit : Audit) (above cut upto : ℕ) → above ≤ cut → cut ≤ upto → flags_between meaning history audit above upto ≡ flags_between meaning history audit above cut ++ flags_between meaning history audit cut upto
 flags_parted history audit above cut upto low high =
     let here : ℕ = cut - above in
@@ -46,7 +46,7 @@ flags_parted history audit above cut upto low high =
     ∙ filter_map-append (flag_of meaning history audit) (take here (drop above history)) (take later (drop cut history))
 
 module _ {X : Type 0} (terms : Examination X) (upto : ℕ) (past : Past) where
-  -- at nothing more
+  -- looking at no more numbers
   pub LooksOn-none : {A : Type 0} (job : Job X) (keeper : KeeperState) (steps : ℕ) → IsReady true keeper → IsSoundJob terms job → job.place ≤ upto → (result : Result A ReadFault) → result ≢ Err Keeper
       → ((history : History) → map stored history ≡ keeper.kept → IsPastOf past history → JobFits terms job history → (number : ℕ) → result ≢ Err (Damaged number))
       → LooksOn terms upto past result job job keeper keeper steps steps
@@ -70,7 +70,7 @@ module _ {X : Type 0} (terms : Examination X) (upto : ℕ) (past : Past) where
     };
   }
 
-  -- at some numbers, and then at more
+  -- looking at some numbers, and then at more
   pub LooksOn-then : {A B : Type 0} (value : A) (result : Result B ReadFault) (old mid new : Job X) (before now after : KeeperState) (one two three : ℕ)
       → LooksOn {A = A} terms upto past (Ok value) old mid before now one two → LooksOn terms upto past result mid new now after two three
       → LooksOn terms upto past result old new before after one three
@@ -106,7 +106,7 @@ module _ {X : Type 0} (terms : Examination X) (upto : ℕ) (past : Past) where
             };
       }
 
-  -- at the same numbers, where questions of the period are read ahead
+  -- the place stays the same while logged queries of the period are read ahead
   pub LooksOn-read : {A : Type 0} (job : Job X) (result : Result A ReadFault) (questions : ReadAhead) (before after : KeeperState) (steps : ℕ) → IsSoundJob terms job → job.place ≤ upto → job.questions.waiting ≡ []
       → ReadsAhead job.audit job.length result job.questions questions before after → LooksOn terms upto past result job (record job { questions = questions }) before after steps steps
   LooksOn-read job result questions before after steps sound within used reads =

@@ -1,4 +1,4 @@
--- What stays of meanings and flags when entries are added, and stretches without questions.
+-- Meanings and flags stay the same when entries are added; ranges without logged queries.
 use Rattle.std.proofs.Common.{◌≡◌, ◌∙◌, sym, ap, refl, arith, ℕ, zero, suc, ◌-◌, ◌≤◌, Bool, true, false, ◌&&◌, List, [], ◌∷◌, ◌++◌, length, take, drop, Option, None, Some}
 use Rattle.std.specs.Prelude.{filter_map, option_and_then, is_some, slice_get, if◌then◌else◌, not}
 use Rattle.std.specs.List.{AllByRecursion, cons_option}
@@ -30,7 +30,7 @@ use Rattle.hippo_typing.proofs.LastingMeanings.{meaning_lasts}
 use Rattle.hippo_backlog.proofs.VersionsTheorem.{may_there}
 use Rattle.hippo_audit_job.specs.Looking.{is_question_in_period}
 
--- the entries before one, it, and those behind it
+-- the entries before one, the entry itself, and those after it
 pub parted_at : (history : History) (place : ℕ) (entry : Entry) → slice_get history place ≡ Some entry → history ≡ take place history ++ entry ∷ drop (suc place) history
 parted_at [] place entry is = absurd cc
 parted_at (first ∷ rest) zero entry is =
@@ -49,7 +49,7 @@ acceptable_there meaning history entry stands =
     let may = may_there meaning (take stands.place history) (drop (suc stands.place) history) entry (sym (ap (is_valid meaning) parts) ∙ stands.valid) in
     ap (λ (h : History). is_acceptable meaning h entry.act) (before_is meaning history entry stands) ∙ (and_parts _ _ may).1
 
--- a logged question meant something, which is what it means now
+-- a logged query meant some query, and still means it
 pub question_means : (history : History) (entry : Entry) → StandsIn meaning history entry → (user purpose recipient : Name) (text : Txt) → entry.act ≡ Asked user purpose recipient text → ((query : Query) × (meaning (before_entry entry history) text ≡ Some query) × (meaning history text ≡ Some query))
 question_means history entry stands user purpose recipient text act =
     let front = before_entry entry history in
@@ -58,7 +58,7 @@ question_means history entry stands user purpose recipient text act =
     let whole : front ++ drop (entry.seq - 1) history ≡ history = take-append-drop (entry.seq - 1) history in
     (found.0, found.1, sym (ap (λ (h : History). meaning h text) whole) ∙ meaning_lasts front (drop (entry.seq - 1) history) text found.0 found.1)
 
--- some entries, of a list that has what holds of each
+-- the first entries of a list for which something is true of every entry
 pub all_take : {A : Type 0} (P : A → Type 0) (number : ℕ) (list : List A) → AllByRecursion P list → AllByRecursion P (take number list)
 all_take P zero list all = tt
 all_take P (suc number) [] all = tt
@@ -85,7 +85,7 @@ take_none : (n : ℕ) → take {A = Entry} n [] ≡ []
 take_none zero = refl
 take_none (suc n) = refl
 
--- the numbers up to one, above another
+-- the numbers above one and up to another
 pub stretch : (above upto : ℕ) (history : History) → take (upto - above) (drop above history) ≡ drop above (take upto history)
 stretch zero upto history =
     let all : upto - 0 ≡ upto = omega arith in
@@ -98,7 +98,7 @@ stretch (suc above) (suc upto) (first ∷ rest) =
     let fewer : suc upto - suc above ≡ upto - above = omega arith in
     ap (λ (n : ℕ). take n (drop above rest)) fewer ∙ stretch above upto rest
 
--- the first of the entries from a place on stands at that place
+-- the first of the entries from a place on is the entry at that place
 pub first_there : (place : ℕ) (history : History) (entry : Entry) (rest : History) → drop place history ≡ entry ∷ rest → (slice_get history place ≡ Some entry) × (drop (suc place) history ≡ rest)
 first_there zero [] entry rest is = absurd cc
 first_there zero (first ∷ others) entry rest is =
@@ -127,7 +127,7 @@ module _ (meaning : Meaning) (audit : Audit) (later : History) where
       let all = each_lasts history (front_is_valid meaning history later valid) zero history refl in
       ap (filter_map one) entries ∙ same_flags one other (take (upto - above) (drop above history)) (all_take _ (upto - above) (drop above history) (all_drop _ above history all))
 
--- what is no question of the period shares nothing
+-- an entry that is not a logged query of the period shares nothing
 unshared : (meaning : Option Query) (shares : Query → Option (List SharedRow)) → ((query : Query) → shares query ≡ None) → option_and_then shares meaning ≡ None
 unshared None shares none = refl
 unshared (Some query) shares none = none query

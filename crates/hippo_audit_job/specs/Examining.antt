@@ -1,4 +1,4 @@
--- What examines a logged question: what it holds, and what it answers of one.
+-- The examiner of a logged query: what is known about it, and what it returns for one logged query.
 use Rattle.std.specs.Prelude.{◌≡◌, ◌≢◌, ◌≤◌, ◌<◌, ⊤, ℕ, ◌+◌, min, true, false, nat_lt, List, [], ◌∷◌, ◌++◌, map, length, slice_index_or, bytes_eq, Option, Some, None, is_some, Result, Err, IfOk}
 use Rattle.std.specs.List.{AllByRecursion, IsDistinct}
 use Rattle.hippo_values.specs.Texts.{Txt}
@@ -26,61 +26,61 @@ use Rattle.hippo_backlog.specs.declared.faults.ReadFault.TheVariants.{Damaged}
 use Rattle.hippo_backlog.specs.Calls.{reading_as_call}
 use Rattle.hippo_audit_job.specs.declared.past.Past.{Past}
 
--- the history is valid; its names, its rules and choices, and its length
+-- the names, the rules and choices and the length in `past` are those of this valid history
 pub record IsPastOf (past : Past) (history : History) : Type 0 where
   pub valid : is_valid meaning history ≡ true
   pub names : past.catalog.now.names ≡ known_at history
   pub book : BookStandsFor past.book.now history
   pub count : past.count ≡ length history
 
--- a column of one of these tables, which is created
+-- the column belongs to one of these tables, and that table is created
 pub record IsColumnOf (history : History) (tables : List Name) (column : Ref) : Type 0 where
   pub table : column.table < length tables
   pub within : table_passes history (λ schema. nat_lt column.column (length schema.columns))
       (slice_index_or tables column.table []) ≡ true
 
--- the tables of an audit differ and are created, and the audited columns are theirs
+-- the audit's tables are distinct and created, and the audited columns belong to them
 pub record IsAuditOf (history : History) (audit : Audit) : Type 0 where
   pub differ : IsDistinct bytes_eq audit.tables
   pub created : AllByRecursion (λ table. is_some (schema_at history table) ≡ true) audit.tables
   pub columns : AllByRecursion (IsColumnOf history audit.tables) audit.columns
 
--- a count, where there is one, has risen by as much as the steps
+-- a count, if there is one, rises by as much as the steps
 abbrev pub RisesWith : Option ℕ → Option ℕ → ℕ → ℕ → Type 0
 RisesWith (Some old) (Some new) steps_old steps_new = new + steps_old ≡ old + steps_new
 RisesWith None None steps_old steps_new = ⊤
 RisesWith old new steps_old steps_new = ⊥
 
--- a count, where there is one, has fallen by at least as much as the steps rose
+-- a count, if there is one, falls by at least as much as the steps rise
 abbrev pub FallsWith : Option ℕ → Option ℕ → ℕ → ℕ → Type 0
 FallsWith (Some old) (Some new) steps_old steps_new = steps_new + new ≤ steps_old + old
 FallsWith None None steps_old steps_new = ⊤
 FallsWith old new steps_old steps_new = ⊥
 
--- a count, where there is one, has risen by at most a number
+-- a count, if there is one, rises by at most a number
 abbrev pub RisesWithin : Option ℕ → Option ℕ → ℕ → Type 0
 RisesWithin (Some old) (Some new) number = new ≤ old + number
 RisesWithin None None number = ⊤
 RisesWithin old new number = ⊥
 
--- two counts, where there are any, are together at most a number
+-- the sum of two counts, if there are any, is at most a number
 abbrev pub AreWithin : Option ℕ → Option ℕ → ℕ → Type 0
 AreWithin (Some first) (Some second) number = first + second ≤ number
 AreWithin None None number = ⊤
 AreWithin first second number = ⊥
 
--- what is said of an examiner: what fits a history and a number fits each higher number and each
--- longer valid history, and what it has not read of the history grows by the versions that are
--- added
+-- what contracts say about an examiner. An examiner that fits a history at a number fits it at each
+-- higher number, and fits each longer valid history. Its unread versions grow by at most the
+-- versions that are added.
 pub record Examination (X : Type 0) : Type 1 where
   pub sound : X → Type 0
-  -- up to which entry number it was asked
+  -- the last entry number that it was asked about
   pub upto : X → ℕ
-  -- it may be asked over a history about the entries from a number on
+  -- it may be asked, over a history, about the entries from a number on
   pub fits : X → History → ℕ → Type 0
-  -- how many versions it was handed, where it counts them
+  -- how many versions it was handed, if it counts them
   pub handed : X → Option ℕ
-  -- how many versions of a history it may still be handed, where it counts them
+  -- how many versions of a history it may still be handed, if it counts them
   pub unread : X → History → Option ℕ
   pub onward : (examiner : X) (history : History) (low high : ℕ) → low ≤ high
       → fits examiner history low
@@ -93,7 +93,7 @@ pub record Examination (X : Type 0) : Type 1 where
       → RisesWithin (unread examiner history) (unread examiner (history ++ entry ∷ []))
       (versions (entry ∷ []))
 
--- an examiner that was asked nothing
+-- a new examiner, which was not asked yet
 pub record IsNew {X : Type 0} (terms : Examination X) (examiner : X) : Type 0 where
   pub is_sound : terms.sound examiner
   pub unasked : terms.upto examiner ≡ 0
@@ -103,7 +103,7 @@ pub record IsNew {X : Type 0} (terms : Examination X) (examiner : X) : Type 0 wh
   pub counted : (history : History) → is_valid meaning history ≡ true
       → AreWithin (terms.handed examiner) (terms.unread examiner history) (versions history)
 
--- an examiner may be asked for an audit, about the entry with a number
+-- the examiner may be asked, for an audit, about the entry with this number
 pub record MayExamine {X : Type 0} (terms : Examination X) (audit : Audit) (number : ℕ)
     (examiner : X) (keeper : KeeperState) : Type 0 where
   pub ready : IsReady true keeper
@@ -111,7 +111,7 @@ pub record MayExamine {X : Type 0} (terms : Examination X) (audit : Audit) (numb
   pub order : terms.upto examiner ≤ number
   pub tables : IsDistinct bytes_eq audit.tables
 
--- by the entries before a question, this is the first virtual tuple that serves
+-- the first virtual tuple that serves, by the entries before the logged query
 abbrev pub IsServing : History → Audit → Entry → Query → Option (List SharedRow) → Type 0
 IsServing past audit entry query shared =
     (user purpose recipient : Name) (text : Txt) → entry.act ≡ Asked user purpose recipient text
@@ -122,7 +122,7 @@ IsServing past audit entry query shared =
     } in
     shared ≡ first_serving past context query audit
 
--- the first virtual tuple that serves is found, at the entry's own time
+-- the result is the first virtual tuple that serves, at the entry's own time
 abbrev pub FindsServing : History → Audit → Entry → Query
     → Result (Option (List SharedRow)) ReadFault → Type 0
 FindsServing history audit entry query result =
@@ -135,8 +135,8 @@ FindsServing history audit entry query result =
     } in
     IfOk result (λ shared. shared ≡ first_serving (before_entry entry history) context query audit)
 
--- of a history that is kept: the examiner fits it still, no entry of it is damaged, what is read of
--- it is not read again, and what serves is found
+-- examining a logged query over the history in the store: the examiner still fits, no entry is
+-- reported as damaged, no version is read twice, and the tuple that serves is found
 pub record ExaminesKept {X : Type 0} (terms : Examination X) (history : History) (audit : Audit)
     (entry : Entry)
     (query : Query) (result : Result (Option (List SharedRow)) ReadFault) (old new : X)
@@ -146,7 +146,8 @@ pub record ExaminesKept {X : Type 0} (terms : Examination X) (history : History)
   pub once : FallsWith (terms.unread old history) (terms.unread new history) steps_old steps_new
   pub finds : StandsIn meaning history entry → FindsServing history audit entry query result
 
--- what each call of an examiner does, whatever the keeper tells: it was asked up to a number
+-- what each call of an examiner guarantees, even if the store's contents are not known: the keeper
+-- is as after a call, the examiner stays sound, and its last number is at most `number`
 pub record MovesOn {A X : Type 0} (terms : Examination X) (number : ℕ) (result : Result A ReadFault)
     (old new : X)
     (before after : KeeperState) (steps_old steps_new : ℕ) : Type 0 where
@@ -156,8 +157,8 @@ pub record MovesOn {A X : Type 0} (terms : Examination X) (number : ℕ) (result
   pub limit : terms.upto new ≤ number
   pub ledger : RisesWith (terms.handed old) (terms.handed new) steps_old steps_new
 
--- so of each history that is kept, of which this is the past and the audit is one, and which an
--- examiner fits at an entry
+-- a statement is true of the history in the store, if the past and the audit are those of this
+-- history and the examiner fits it at the entry
 abbrev pub OverKept : {X : Type 0} → Examination X → Past → Audit → Entry → X → KeeperState
     → (History → Type 0) → Type 0
 OverKept terms past audit entry examiner keeper Is =
@@ -165,7 +166,7 @@ OverKept terms past audit entry examiner keeper Is =
     → IsAuditOf history audit → terms.fits examiner history entry.seq
     → Is history
 
--- what examining a question does
+-- what examining a logged query guarantees
 pub record Examines {X : Type 0} (terms : Examination X) (past : Past) (audit : Audit)
     (entry : Entry) (query : Query)
     (result : Result (Option (List SharedRow)) ReadFault) (old new : X) (before after : KeeperState)
@@ -174,6 +175,6 @@ pub record Examines {X : Type 0} (terms : Examination X) (past : Past) (audit : 
   pub told : after.tells → OverKept terms past audit entry old before (λ history.
       ExaminesKept terms history audit entry query result old new steps_old steps_new)
 
--- a count as far as 64 bits show it
+-- a count, cut off at the largest number of 64 bits
 abbrev pub shown_count : ℕ → ℕ
 shown_count count = min count 18446744073709551615

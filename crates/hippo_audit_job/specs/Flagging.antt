@@ -1,4 +1,4 @@
--- The flag of a question that waits.
+-- The flag of the first logged query that waits.
 use Rattle.std.specs.Prelude.{◌≡◌, ◌≤◌, ℕ, List, slice_get, Option, Some, None, option_and_then, Result, Ok, Err}
 use Rattle.std.specs.Result.{result_map_both}
 use Rattle.hippo_model.specs.declared.audit.Audit.{Audit}
@@ -15,26 +15,27 @@ use Rattle.hippo_audit_job.specs.declared.past.Past.{Past}
 use Rattle.hippo_audit_job.specs.Examining.{Examination}
 use Rattle.hippo_audit_job.specs.Looking.{IsDecoded, LooksAt}
 
--- the first stored form that waits is that of an entry
+-- the first stored entry that waits decodes to this entry
 pub record IsFirstWaiting (ahead : ReadAhead) (entry : Entry) : Type 0 where
   pub kept : StoredEntry
   pub stands : slice_get ahead.waiting 0 ≡ Some kept
   pub form : IsEntryOf kept (Some entry)
 
--- the first stored form that waits is not that of an entry, or memory was short
+-- the first stored entry that waits cannot be decoded: it is not the stored form of an entry, or
+-- memory ran out
 pub record IsUndecoded (ahead : ReadAhead) (fault : ReadFault) : Type 0 where
   pub kept : StoredEntry
   pub stands : slice_get ahead.waiting 0 ≡ Some kept
   pub undecoded : IsDecoded kept (Err fault)
 
--- the entry that waits first is found, where its number is at most this; none waits up to it, or
--- its stored form is not that of an entry
+-- the first entry that waits is found if its number is at most this. Otherwise none waits up to
+-- this number, or its stored form cannot be decoded.
 abbrev pub IsFirstUpTo : ℕ → ReadAhead → Result (Option Entry) ReadFault → Type 0
 IsFirstUpTo number ahead (Ok (Some entry)) = IsFirstWaiting ahead entry × (entry.seq ≤ number)
 IsFirstUpTo number ahead (Ok None) = BeginsAbove number ahead.waiting
 IsFirstUpTo number ahead (Err fault) = IsUndecoded ahead fault
 
--- an entry is looked at, and where it shares something its flag is found
+-- looking at an entry finds its flag, if it has a shared tuple
 pub record FindsFlag {X : Type 0} (terms : Examination X) (past : Past) (audit : Audit)
     (entry : Entry)
     (result : Result (Option Flag) ReadFault) (old new : X) (before after : KeeperState)

@@ -1,4 +1,4 @@
--- Laws on audit jobs, and on what stays when entries are added to a history.
+-- Laws about audit jobs, and about what stays the same when entries are added to a history.
 use Rattle.std.specs.Prelude.{◌≡◌, ◌≤◌, ℕ, true, false, [], ◌++◌, drop, take, ◌-◌, length, Some}
 use Rattle.std.specs.List.{AllByRecursion}
 use Rattle.hippo_values.specs.Texts.{Txt}
@@ -20,13 +20,13 @@ use Rattle.hippo_typing.specs.Meanings.{meaning}
 use Rattle.hippo_audit_job.specs.Examining.{IsAuditOf}
 use Rattle.hippo_audit_job.specs.Looking.{is_question_in_period}
 
--- a text that means a query means it still when entries are added
+-- a text that means a query still means it when entries are added
 abbrev pub MeaningsLast : Type 0
 MeaningsLast =
     (front later : History) (text : Txt) (query : Query) → meaning front text ≡ Some query
     → meaning (front ++ later) text ≡ Some query
 
--- a logged question meant at its own time what it means now, which is something
+-- a logged query means some query, and the same one at its own time as now
 abbrev pub QuestionsMean : Type 0
 QuestionsMean =
     (history : History) (entry : Entry) → StandsIn meaning history entry
@@ -35,7 +35,7 @@ QuestionsMean =
     → (query : Query) × (meaning (before_entry entry history) text ≡ Some query)
     × (meaning history text ≡ Some query)
 
--- the flags of a stretch of entry numbers stay the same when entries are added
+-- the flags of a range of entry numbers stay the same when entries are added
 abbrev pub StretchesLast : Type 0
 StretchesLast =
     (meaning : Meaning) (history later : History) (audit : Audit) (above upto : ℕ)
@@ -43,7 +43,7 @@ StretchesLast =
     → flags_between meaning (history ++ later) audit above upto
     ≡ flags_between meaning history audit above upto
 
--- a stretch of entry numbers without questions of the period has no flags
+-- a range of entry numbers without a logged query of the period has no flags
 abbrev pub NoQuestionsNoFlags : Type 0
 NoQuestionsNoFlags =
     (meaning : Meaning) (history : History) (audit : Audit) (above upto : ℕ)
@@ -51,8 +51,7 @@ NoQuestionsNoFlags =
     (take (upto - above) (drop above history))
     → flags_between meaning history audit above upto ≡ []
 
--- an audit expression of which nothing is refused means an audit of the history, and of each longer
--- valid one
+-- an audit expression that is not refused is an audit of the history, and of each longer valid one
 abbrev pub UnrefusedAreAudits : Type 0
 UnrefusedAreAudits =
     (history later : History) (period : Period) (audit : RawAudit)

@@ -1,4 +1,4 @@
--- Audit jobs, which look at the logged questions of a history in steps.
+-- Audit jobs, which examine the logged queries of a history in steps.
 use Rattle.std.specs.Prelude.{◌≡◌, ◌≢◌, ◌≤◌, ℕ, ◌+◌, min, true, ◌&&◌, List, [], ◌++◌, map, length, bytes_eq, Result, Err, is_ok, OnOk, Option, option_to_list}
 use Rattle.std.specs.List.{IsDistinct}
 use Rattle.hippo_model.specs.declared.audit.Audit.{Audit}
@@ -17,8 +17,8 @@ use Rattle.hippo_audit_job.specs.declared.jobs.Job.{Job}
 use Rattle.hippo_audit_job.specs.Looking.{is_question_in_period}
 use Rattle.hippo_audit_job.specs.Examining.{Examination, MovesOn, AreWithin, IsPastOf, IsAuditOf}
 
--- an audit job as a world has it: its audit, the history's length at its beginning, the last number
--- looked at, and flags not yet written
+-- an audit job in a `World`: its audit, the length of the history when it began, the last number it
+-- looked at, and the flags that are not written yet
 pub record OpenAudit : Type 0 where
   pub audit : Audit
   pub length : ℕ
@@ -29,11 +29,11 @@ abbrev pub open_audit : {X : Type 0} → Job X → OpenAudit
 open_audit job =
     record { audit = job.audit; length = job.length; place = job.place; waiting = job.waiting }
 
--- the last number of a step
+-- the last entry number of a step
 abbrev pub step_end : OpenAudit → ℕ → ℕ
 step_end job count = min (job.place + count) job.length
 
--- a job at its beginning
+-- a new job
 abbrev pub new_job : {X : Type 0} → Audit → ℕ → X → Job X
 new_job audit length examiner = record {
   audit = audit;
@@ -46,7 +46,8 @@ new_job audit length examiner = record {
   examiner = examiner;
 }
 
--- after one more question, which is used: its flag, where it has one, waits
+-- the job after the first logged query that was read ahead: it is removed, and its flag, if it has
+-- one, waits
 abbrev pub with_flag : {X : Type 0} → ℕ → Option Flag → Job X → Job X
 with_flag number flag job = record job {
   place = number;
@@ -55,7 +56,7 @@ with_flag number flag job = record job {
   questions = without_first job.questions;
 }
 
--- what holds of a job over any keeper
+-- what is true of a job, whatever the store does
 pub record IsSoundJob {X : Type 0} (terms : Examination X) (job : Job X) : Type 0 where
   pub tables : IsDistinct bytes_eq job.audit.tables
   pub within : job.place ≤ job.length
@@ -65,7 +66,7 @@ pub record IsSoundJob {X : Type 0} (terms : Examination X) (job : Job X) : Type 
   pub examiner_is : terms.sound job.examiner
   pub asked : terms.upto job.examiner ≤ job.place + 1
 
--- a job may look at the numbers up to this one
+-- the job may look at the numbers up to `upto`
 pub record MayLook {X : Type 0} (terms : Examination X) (upto : ℕ) (job : Job X)
     (keeper : KeeperState) : Type 0 where
   pub ready : IsReady true keeper
@@ -73,9 +74,9 @@ pub record MayLook {X : Type 0} (terms : Examination X) (upto : ℕ) (job : Job 
   pub forward : job.place ≤ upto
   pub within : upto ≤ job.length
 
--- a job that looks at a history: it began when the history was no longer, it found the flags up to
--- its place, its questions are those of the history, and its examiner may be asked about the
--- entries behind the place
+-- the job fits a history: the history is at least as long as when the job began, the job found the
+-- flags up to its place, the logged queries that it read ahead are those of the history, and its
+-- examiner may be asked about the entries after its place
 pub record JobFits {X : Type 0} (terms : Examination X) (job : Job X) (history : History)
     : Type 0 where
   pub begun : job.length ≤ length history
@@ -86,8 +87,8 @@ pub record JobFits {X : Type 0} (terms : Examination X) (job : Job X) (history :
   pub once : AreWithin (terms.handed job.examiner) (terms.unread job.examiner history)
       (versions history)
 
--- of a history that is kept: the job fits it still, the flags of the numbers that it looked at wait
--- behind the others, and no entry is damaged
+-- looking on over the history in the store: the job still fits, the flags of the numbers that it
+-- looked at are appended to those that wait, and no entry is reported as damaged
 pub record LooksOver {A X : Type 0} (terms : Examination X) (history : History)
     (result : Result A ReadFault)
     (old new : Job X) : Type 0 where
@@ -96,7 +97,7 @@ pub record LooksOver {A X : Type 0} (terms : Examination X) (history : History)
       new.place
   pub undamaged : (number : ℕ) → result ≢ Err (Damaged number)
 
--- a job looks at the next numbers, at most up to this one
+-- a job looks at the next numbers, at most up to `upto`
 pub record LooksOn {A X : Type 0} (terms : Examination X) (upto : ℕ) (past : Past)
     (result : Result A ReadFault)
     (old new : Job X) (before after : KeeperState) (steps_old steps_new : ℕ) : Type 0 where
@@ -116,8 +117,7 @@ pub record IsAsFar {X : Type 0} (old new : Job X) : Type 0 where
   pub reached_is : new.questions.reached ≡ old.questions.reached
   pub unbroken_is : new.unbroken ≡ old.unbroken
 
--- a step: where it answers Ok, the job has looked at just as many numbers as it was told, or at all
--- that were left
+-- a step; if it returns Ok, the job has looked at exactly `count` numbers, or at all that were left
 pub record HasStepped {X : Type 0} (terms : Examination X) (count : ℕ) (past : Past)
     (result : Result (Unit {0}) ReadFault) (old new : Job X) (before after : KeeperState)
     (steps_old steps_new : ℕ) : Type 0 where

@@ -1,4 +1,4 @@
--- What an audit makes of one logged question, and of the questions that are read ahead.
+-- Looking at one logged query, and at the logged queries that are read ahead.
 use Rattle.std.specs.Prelude.{◌≡◌, ◌≢◌, ◌≤◌, ◌<◌, ℕ, true, false, Bool, ◌&&◌, List, length, Option, Some, None, Result, Ok, Err, IfOk, OnOk, ⊤}
 use Rattle.std.specs.Bool.{then_some}
 use Rattle.hippo_values.specs.Texts.{Txt}
@@ -26,19 +26,20 @@ use Rattle.hippo_backlog.specs.ReadingAhead.{ReadAhead, IsAhead}
 use Rattle.hippo_audit_job.specs.declared.past.Past.{Past}
 use Rattle.hippo_audit_job.specs.Examining.{Examination, MovesOn, FallsWith, OverKept}
 
--- for which purpose and recipient was asked, and the text, where an act is a question
+-- the purpose, the recipient and the text of a logged query
 abbrev pub question_parts : Act → Option (Name × Name × Txt)
 question_parts (Asked user purpose recipient text) = Some (purpose, recipient, text)
 question_parts act = None
 
--- the entry of a stored form is found, or there is none
+-- a stored entry is decoded, or it is not the stored form of an entry
 abbrev pub IsDecoded : StoredEntry → Result Entry ReadFault → Type 0
 IsDecoded kept (Ok entry) = IsEntryOf kept (Some entry)
 IsDecoded kept (Err (Damaged number)) = IsEntryOf kept None × (number ≡ kept.seq)
 IsDecoded kept (Err Memory) = ⊤
 IsDecoded kept (Err Keeper) = ⊥
 
--- what a text means now is found, where it names each column of an audit; or it means nothing
+-- the query that a text means now, if it names every audited column; a fault if the text means
+-- nothing
 abbrev pub IsCandidateOf : Past → Audit → Txt → Result (Option Query) ReadFault → Type 0
 IsCandidateOf past audit text (Ok found) =
     (query : Query) × (meaning_in past.catalog.now.names text ≡ Some query)
@@ -48,17 +49,17 @@ IsCandidateOf past audit text (Err (Damaged number)) =
 IsCandidateOf past audit text (Err Memory) = ⊤
 IsCandidateOf past audit text (Err Keeper) = ⊥
 
--- whether an entry is a question of an audit's period
+-- whether an entry is a logged query of an audit's period
 abbrev pub is_question_in_period : Audit → Entry → Bool
 is_question_in_period audit entry = is_question entry.act && in_period audit entry.moment
 
--- an entry of a valid history that is a question of the audit's period
+-- an entry of a valid history that is a logged query of the audit's period
 pub record IsQuestionOf (history : History) (audit : Audit) (entry : Entry) : Type 0 where
   pub stands : StandsIn meaning history entry
   pub asked : is_question_in_period audit entry ≡ true
 
--- of a history that is kept: the examiner fits it still, what is read of it is not read again, and
--- of a question what it shares is found
+-- looking at a logged query over the history in the store: the examiner still fits, no version is
+-- read twice, and the shared tuple is found
 pub record LooksAtKept {X : Type 0} (terms : Examination X) (history : History) (audit : Audit)
     (entry : Entry)
     (result : Result (Option (List SharedRow)) ReadFault) (old new : X) (steps_old steps_new : ℕ)
@@ -69,7 +70,7 @@ pub record LooksAtKept {X : Type 0} (terms : Examination X) (history : History) 
   pub finds : IsQuestionOf history audit entry
       → IfOk result (λ found. found ≡ shared_tuple meaning history audit entry)
 
--- what looking at a question does
+-- what looking at a logged query guarantees
 pub record LooksAt {X : Type 0} (terms : Examination X) (past : Past) (audit : Audit)
     (entry : Entry)
     (result : Result (Option (List SharedRow)) ReadFault) (old new : X) (before after : KeeperState)
@@ -78,7 +79,7 @@ pub record LooksAt {X : Type 0} (terms : Examination X) (past : Past) (audit : A
   pub told : after.tells → OverKept terms past audit entry old before (λ history.
       LooksAtKept terms history audit entry result old new steps_old steps_new)
 
--- a piece of the questions of an audit's period is read, where nothing waits
+-- a batch of the logged queries of an audit's period is read; nothing waited before
 pub record ReadsAhead {A : Type 0} (audit : Audit) (end : ℕ) (result : Result A ReadFault)
     (old new : ReadAhead)
     (before after : KeeperState) : Type 0 where

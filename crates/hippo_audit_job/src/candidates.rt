@@ -1,4 +1,4 @@
-//! Which questions an audit looks at.
+//! Which logged queries an audit examines.
 ghost use Rattle.std.specs.Prelude.{◌≡◌, ◌++◌, [], slice_index_or};
 ghost use Rattle.std.specs.List.{list_any};
 ghost use Rattle.hippo_model.specs.Columns.{columns_in, condition_columns, named_column, same_column, names_all};
@@ -8,14 +8,14 @@ ghost use Rattle.hippo_audit_job.specs.Naming.{is_named};
 use hippo_model::{Audit, CondOf, Names, Operand, Operands, Query, Ref};
 use hippo_values::{Moment, Name, Sequence};
 
-/// Whether a moment is in an audit's period, both of whose ends are included.
+/// Whether a moment is in an audit's period. Both ends are included.
 pub fn in_period(audit: &Audit, moment: Moment) -> bool
     ensures { result ≡ in_period audit.now moment }
 {
     audit.from <= moment && moment <= audit.to
 }
 
-/// Whether an audit never flags what is asked for this purpose and recipient.
+/// Whether an audit exempts this purpose and recipient: their queries are never flagged.
 pub fn is_exempt(audit: &Audit, purpose: &Name, recipient: &Name) -> bool
     ensures { result ≡ is_exempt audit.now purpose.now recipient.now }
 {
@@ -27,14 +27,14 @@ pub fn is_exempt(audit: &Audit, purpose: &Name, recipient: &Name) -> bool
     false
 }
 
-// A column by the name of its table.
+// A column, with the name of its table.
 #[derive(Clone, Copy)]
 struct Named<'a> {
     table: &'a str,
     column: usize,
 }
 
-// The name of the table at a place in FROM.
+// The name of the table at a place in the FROM list.
 fn table_name(tables: &Names, place: usize) -> &str
     ensures { result.now ≡ slice_index_or tables.now place [] }
 {
@@ -44,7 +44,7 @@ fn table_name(tables: &Names, place: usize) -> &str
     }
 }
 
-// Whether a column of a statement's tables is this one.
+// Whether a column of a statement is the wanted one.
 fn is_same(wanted: Named<'_>, tables: &Names, column: &Ref) -> bool
     ensures { result ≡ same_column (wanted.entry.table.now, wanted.entry.column)
         (named_column tables.now column.now) }
@@ -52,7 +52,7 @@ fn is_same(wanted: Named<'_>, tables: &Names, column: &Ref) -> bool
     wanted.table == table_name(tables, column.table) && wanted.column == column.column
 }
 
-// Whether an operand is this column.
+// Whether an operand is the wanted column.
 fn operand_names(wanted: Named<'_>, tables: &Names, operand: &Operand) -> bool
     ensures { result ≡ is_named (wanted.entry.table.now, wanted.entry.column) tables.now
         (columns_in operand.now) }
@@ -74,7 +74,7 @@ fn any_operand_names(wanted: Named<'_>, tables: &Names, operands: &Operands) -> 
         .any(|operand| operand_names(wanted, tables, operand))
 }
 
-// Whether a condition names this column.
+// Whether a condition names the wanted column.
 #[cycle(condition_names)]
 #[tactic(auto, using(crate::proofs::NamedColumns::any_named))]
 fn condition_names(wanted: Named<'_>, tables: &Names, condition: &CondOf<Operand>) -> bool
@@ -126,7 +126,7 @@ fn items_name(wanted: Named<'_>, query: &Query) -> bool
     false
 }
 
-// Whether a query names this column anywhere.
+// Whether a query names the wanted column anywhere.
 #[tactic(auto, using(crate::proofs::NamedColumns::named_append))]
 fn names(wanted: Named<'_>, query: &Query) -> bool
     ensures { result ≡ is_named (wanted.entry.table.now, wanted.entry.column) query.now.tables
@@ -135,8 +135,8 @@ fn names(wanted: Named<'_>, query: &Query) -> bool
     items_name(wanted, query) || condition_names(wanted, &query.tables, &query.cond)
 }
 
-/// Whether a query names every audited column: in its items, as an argument, in GROUP BY, in ON or
-/// in WHERE.
+/// Whether a query names every audited column: in its select list, as an argument, in GROUP BY, in
+/// ON or in WHERE.
 pub fn names_all(query: &Query, audit: &Audit) -> bool
     ensures { result ≡ names_all query.now audit.now }
 {

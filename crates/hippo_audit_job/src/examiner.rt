@@ -1,4 +1,4 @@
-//! What examines a logged question.
+//! The trait of an audit's examiner, which judges one logged query at a time.
 ghost use Rattle.std.specs.Prelude.{◌≡◌, true, option_map};
 ghost use Rattle.hippo_model.specs.Columns.{names_all};
 ghost use Rattle.hippo_audit_job.specs.Examining.{Examination, MayExamine, Examines, shown_count};
@@ -10,17 +10,20 @@ use hippo_model::{Audit, Entry, Query, SharedTuple};
 use std::alloc::Global;
 use std::sync::ledger::Ledger;
 
-/// What examines logged questions, one after the other, for the rows that they share with an audit.
+/// Examines logged queries, in the order of their entries, for the rows that they share with an
+/// audit.
 pub trait Examiner<P: Keeper> {
-    // What clauses say of an examiner.
+    // What contracts say about an examiner.
     ghost terms: { Examination Self };
 
-    /// The first virtual tuple that serves, of a question whose text means this query at its own
-    /// time, and an audit whose columns it names. Entry numbers do not fall from call to call.
+    /// Returns the first virtual tuple that serves. The entry is a logged query whose text means
+    /// `query` at the entry's own time, and `query` names every audited column. Entry numbers must
+    /// not decrease from one call to the next.
     ///
-    /// That is said where the keeper tells a valid history of which this is the past, and the
-    /// examiner fits it at the entry's number; then `Damaged` never comes. `Keeper` comes only
-    /// where the keeper's count of faults rose. Each version that is handed over is a step.
+    /// The result is guaranteed if the keeper's contents are known, they are a valid history whose
+    /// past is `past`, and the examiner fits that history at the entry's number. `Damaged` is then
+    /// never returned. `Keeper` is returned only if the keeper's count of faults rose. Each version
+    /// that the keeper hands over is one step.
     fn examine<L: Ledger>(
         &mut self,
         keeper: &mut P,
@@ -37,8 +40,7 @@ pub trait Examiner<P: Keeper> {
             self.new
             (P.state keeper.old) (P.state keeper.new) steps.old steps.new };
 
-    /// How many versions it was handed, where it counts them: at most 2^64 - 1, at which the count
-    /// stands still.
+    /// How many versions the examiner was handed, if it counts them. The count stops at 2^64 - 1.
     fn taken(&self) -> Option<u64>
         ensures { result ≡ option_map shown_count (terms.handed self.now) };
 }

@@ -1,4 +1,4 @@
-//! Audit jobs, which look at the logged questions of a history in steps.
+//! Audit jobs, which examine the logged queries of a history in steps.
 ghost use Rattle.std.specs.Prelude.{◌≡◌, ◌==◌, ◌<◌, ◌+◌, min, true, [], option_map, OnOk, OnErr};
 ghost use Rattle.hippo_keeper.specs.Keeping.{IsReady};
 ghost use Rattle.hippo_audit_job.specs.Examining.{shown_count};
@@ -14,28 +14,28 @@ use hippo_values::Memory;
 use std::alloc::Global;
 use std::sync::ledger::Ledger;
 
-// The number up to which so many more numbers go, and no further than to the end.
+// The last entry number of a step: `count` numbers after `place`, but at most `length`.
 fn step_end(place: u64, count: u64, length: u64) -> u64
     ensures { result ≡ min (place + count) length }
 {
     place.saturating_add(count).min(length)
 }
 
-/// An audit of the first entries of a history, which looks at the questions of its period in steps,
-/// however they are cut.
+/// An audit of the first entries of a history. It examines the logged queries of its period in
+/// steps; the flags do not depend on how the steps are cut.
 #[derive(Drop)]
 pub struct Job<X> {
     audit: Audit,
-    // How many entries the history had when it began.
+    // How many entries the history had when the job began.
     length: u64,
-    // The number up to which it has looked.
+    // The last entry number that the job has looked at.
     place: u64,
     // The flags that are not written yet.
     waiting: Flags,
-    // How many flags it found.
+    // How many flags the job has found.
     found: u64,
     unbroken: bool,
-    // The questions of the period that were read ahead of the place.
+    // The logged queries of the period that were read ahead, after `place`.
     questions: Ahead,
     examiner: X,
 }
@@ -43,8 +43,7 @@ pub struct Job<X> {
 impl<X> Job<X> {
     ghost use Rattle.hippo_audit_job.specs.Jobs.{new_job};
 
-    /// A job over the first `length` entries, with an examiner that was asked nothing; takes no
-    /// memory.
+    /// A job over the first `length` entries, with a new examiner. Allocates nothing.
     pub fn begin(alloc: Global, audit: Audit, length: u64, examiner: X) -> Job<X>
         ensures { result ≡ new_job audit length examiner }
     {
@@ -60,50 +59,50 @@ impl<X> Job<X> {
         }
     }
 
-    /// Whether it has looked at all of its numbers.
+    /// Whether the job has looked at all of its entries.
     pub fn at_end(&self) -> bool
         ensures { result ≡ (self.now.place == self.now.length) }
     {
         self.place == self.length
     }
 
-    /// The number up to which it has looked: 0 at first.
+    /// The last entry number that the job has looked at. It is 0 at first.
     pub fn place(&self) -> u64
         ensures { result ≡ self.now.place }
     {
         self.place
     }
 
-    /// How many flags it found, those that are written included.
+    /// How many flags the job has found, including those that are already written.
     pub fn flag_count(&self) -> u64
         ensures { result ≡ self.now.found }
     {
         self.found
     }
 
-    /// The flags that are not written yet, in the order of their numbers.
+    /// The flags that are not written yet, in the order of their entry numbers.
     pub fn waiting(&self) -> &Flags
         ensures { result.now ≡ self.now.waiting }
     {
         &self.waiting
     }
 
-    /// Whether each step so far answered Ok.
+    /// Whether every step so far returned Ok.
     pub fn unbroken(&self) -> bool
         ensures { result ≡ self.now.unbroken }
     {
         self.unbroken
     }
 
-    /// No flag waits any more; takes no memory.
+    /// Drops the flags that wait: they are written now. Allocates nothing.
     pub fn written(&mut self)
         ensures { self.new ≡ record self.old { waiting = [] } }
     {
         self.waiting.clear();
     }
 
-    /// How many versions its examiner was handed, where it counts them: at most 2^64 - 1, at which
-    /// the count stands still.
+    /// How many versions the job's examiner was handed, if it counts them. The count stops at 2^64
+    /// - 1.
     pub fn taken<P: Keeper>(&self) -> Option<u64>
     where
         X: Examiner<P>,
@@ -118,7 +117,7 @@ impl<X> Job<X> {
     ghost use Rattle.hippo_audit_job.specs.Flagging.{IsFirstWaiting};
     ghost use Rattle.hippo_backlog.specs.ReadingAhead.{BeginsAbove, without_first};
 
-    // A flag waits behind the others, and the first question is used.
+    // Appends a flag to those that wait, and removes the first logged query that was read ahead.
     fn add(&mut self, number: u64, flag: Option<Flag>) -> Result<(), Memory>
         requires within { self.old.found < number }
         ensures ok { OnOk result (self.new ≡ with_flag number flag self.old) }
@@ -133,7 +132,7 @@ impl<X> Job<X> {
         Ok(())
     }
 
-    // Looks at the first question that was read ahead, which is this entry.
+    // Looks at `entry`, the first logged query that was read ahead.
     fn look_at<P: Keeper, L: Ledger>(
         &mut self,
         entry: Entry,
@@ -170,7 +169,7 @@ impl<X> Job<X> {
         }
     }
 
-    // Looks at the questions that were read ahead and are numbered up to this.
+    // Looks at the logged queries that were read ahead and whose numbers are at most `upto`.
     fn look_at_waiting<P: Keeper, L: Ledger>(
         &mut self,
         keeper: &mut P,
@@ -199,13 +198,14 @@ impl<X> Job<X> {
         }
     }
 
-    /// Looks at the next `count` numbers, up to the job's end; the flags that it finds wait behind
-    /// the others.
+    /// Looks at the next `count` entry numbers, but not beyond the job's end. The flags that it
+    /// finds are appended to those that wait.
     ///
-    /// Where it fails, it has looked up to a number between, and the flags up to there wait. That
-    /// is said where the keeper tells a valid history of which this is the past, and which the job
-    /// fits; then `Damaged` never comes. `Keeper` comes only where the keeper's count of faults
-    /// rose. Steps and what is taken rise by the same.
+    /// On failure the job has looked at the numbers up to some number in between, and the flags up
+    /// to there wait. This is guaranteed if the keeper's contents are known, they are a valid
+    /// history whose past is `past`, and the job fits that history. `Damaged` is then never
+    /// returned. `Keeper` is returned only if the keeper's count of faults rose. The steps and the
+    /// count of `taken` rise by the same number.
     pub fn step<P: Keeper, L: Ledger>(
         &mut self,
         keeper: &mut P,

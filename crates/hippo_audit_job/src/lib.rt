@@ -1,5 +1,5 @@
-//! Audits of what was asked: tests of a candidate, what examines a question, and jobs that look at
-//! the logged questions of a history in steps.
+//! Audits of past queries: the tests for a candidate, the examiner of one logged query, and jobs
+//! that examine the logged queries of a history in steps.
 #![tactic(auto)]
 
 mod candidates;

@@ -1,4 +1,4 @@
-//! What an audit makes of one logged question.
+//! Finds the flag of one logged query.
 ghost use Rattle.std.specs.Prelude.{◌≡◌, option_map, option_and_then};
 ghost use Rattle.std.specs.Bool.{then_some};
 ghost use Rattle.hippo_model.specs.Audits.{flag_by};
@@ -18,7 +18,7 @@ use hippo_values::{Memory, Moment, Name, Txt};
 use std::alloc::Global;
 use std::sync::ledger::Ledger;
 
-// For which purpose and recipient was asked, and the text.
+// The purpose and recipient of a logged query, and its text.
 #[derive(Clone, Copy)]
 struct Question<'a> {
     purpose: &'a Name,
@@ -45,7 +45,8 @@ fn question_in(act: &Act) -> Option<Question<'_>>
     }
 }
 
-// An act as a flag, with its number and moment, and with what it shares, where it is a question.
+// A flag made of an entry's number, moment and act and of its shared tuple; `None` if the act is
+// not a logged query.
 fn flag_by(seq: u64, moment: Moment, act: Act, shared: SharedTuple) -> Option<Flag>
     ensures { result ≡ flag_by (record { seq = seq; moment = moment; act = act }) act shared }
 {
@@ -72,7 +73,7 @@ fn flag_by(seq: u64, moment: Moment, act: Act, shared: SharedTuple) -> Option<Fl
     }
 }
 
-// The flag of an entry, where it shares something.
+// The flag of an entry, if it has a shared tuple.
 fn flagged(entry: Entry, shared: Option<SharedTuple>) -> Option<Flag>
     ensures { result ≡ option_and_then (flag_by entry entry.act) shared }
 {
@@ -83,7 +84,7 @@ fn flagged(entry: Entry, shared: Option<SharedTuple>) -> Option<Flag>
     }
 }
 
-// A query, where it names each column of an audit.
+// The query, if it names every audited column.
 fn naming(query: Query, audit: &Audit) -> Option<Query>
     ensures { result ≡ then_some (names_all query audit.now) query }
 {
@@ -95,8 +96,8 @@ fn naming(query: Query, audit: &Audit) -> Option<Query>
     }
 }
 
-// The query that a question's text means, where it names each column of an audit; `Damaged` with the
-// question's number where its text means nothing.
+// The query that a logged query's text means, if it names every audited column. `Damaged` with the
+// entry's number if the text means nothing.
 fn candidate(
     alloc: Global,
     past: &Past<'_>,
@@ -113,8 +114,9 @@ fn candidate(
     }
 }
 
-/// What a question shares with an audit: nothing where it is no candidate. `Damaged` where the
-/// entry is no question of the audit's period, or its text means nothing.
+/// Returns the tuple that a logged query shares with an audit; `None` if the query is not a
+/// candidate. `Damaged` if the entry is not a logged query of the audit's period, or if its text
+/// means nothing.
 pub(crate) fn shared_with<P: Keeper, L: Ledger, X: Examiner<P>>(
     examiner: &mut X,
     keeper: &mut P,
@@ -148,7 +150,8 @@ pub(crate) fn shared_with<P: Keeper, L: Ledger, X: Examiner<P>>(
     }
 }
 
-/// The flag of a question, where it shares something with an audit; the errors of `shared_with`.
+/// Returns the flag of a logged query if it shares a tuple with an audit. The errors are those of
+/// `shared_with`.
 pub(crate) fn find_flag<P: Keeper, L: Ledger, X: Examiner<P>>(
     examiner: &mut X,
     keeper: &mut P,

@@ -1,4 +1,4 @@
-//! The logged questions of an audit's period, read ahead piece by piece.
+//! Reads the logged queries of an audit's period ahead, a batch at a time.
 ghost use Rattle.std.specs.Prelude.{◌≡◌, true, []};
 ghost use Rattle.hippo_keeper.specs.Keeping.{IsReady};
 ghost use Rattle.hippo_backlog.specs.ReadingAhead.{has_read};
@@ -12,17 +12,18 @@ use hippo_model::{Audit, Entry, StoredEntry};
 use hippo_values::Memory;
 use std::alloc::Global;
 
-// How many questions are read at once: a text may have 65,536 bytes.
+// How many logged queries one read returns. The batch is small because a text may have 65,536
+// bytes.
 const PIECE: u64 = 100;
 
-/// Whether all questions up to a number are read, or a later one waits.
+/// Whether every logged query up to a number was read, or some logged query waits.
 pub(crate) fn has_read(questions: &Ahead, number: u64) -> bool
     ensures { result ≡ has_read number questions.now }
 {
     number <= questions.reached() || questions.first().is_some()
 }
 
-// The entry of a stored form, or `Damaged` with its number where it has none.
+// Decodes a stored entry. `Damaged` with its number if it is not the stored form of an entry.
 fn decoded(alloc: Global, kept: &StoredEntry) -> Result<Entry, ReadFault>
     ensures { IsDecoded kept.now result }
 {
@@ -33,8 +34,8 @@ fn decoded(alloc: Global, kept: &StoredEntry) -> Result<Entry, ReadFault>
     }
 }
 
-/// The entry of the first question that waits, if its number is at most this; `Damaged` with its
-/// number where its stored form has none.
+/// Returns the first logged query that waits, if its number is at most `number`. `Damaged` with its
+/// number if it is not the stored form of an entry.
 pub(crate) fn first_up_to(
     questions: &Ahead,
     alloc: Global,
@@ -54,8 +55,8 @@ pub(crate) fn first_up_to(
     }
 }
 
-/// Reads the next piece of the questions of an audit's period, where nothing waits; `end` says up
-/// to which number the history is looked at.
+/// Reads the next batch of logged queries of an audit's period. Nothing must be waiting. `end` is
+/// the last entry number that the audit looks at.
 pub(crate) fn read_ahead<P: Keeper>(
     questions: &mut Ahead,
     keeper: &mut P,

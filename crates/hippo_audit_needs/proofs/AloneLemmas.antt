@@ -1,4 +1,4 @@
--- The marks of an answer's rows, one combination more; and the tuples that they say are needed.
+-- The marks of an answer's rows after one more combination, and the needed tuples that they name.
 use Rattle.std.proofs.Common.{◌≡◌, ℕ, zero, suc, Bool, true, false, not, cond, ◌&&◌, ◌||◌, List, [], ◌∷◌, ◌++◌, map, length, refl, sym, ap, subst, ◌∙◌, Option, Some, None, unwrap_or}
 use Rattle.std.specs.Prelude.{filter, find, slice_get, Result, Ok, Err, IfOk}
 use Rattle.std.specs.List.{All, list_any, list_all}
@@ -44,7 +44,7 @@ use Rattle.hippo_distinct.proofs.DifferentLemmas.{same_row-exact}
 use Rattle.hippo_distinct.proofs.KeptLemmas.{same_row-sym}
 use Rattle.hippo_distinct.proofs.NeededRows.{answered, needs_what_comes_alone}
 
--- ---- one combination more
+-- ---- one more combination
 module _ (choices : Choices) (query : Masked) (sets : List KeyedRows) (tables : List Place) (before : List Combination) (rows : Combination) where
   abbrev tuples : ShownRow → List Combination → List (List Place)
   tuples row some = map (row_places sets tables) (filter (makes_row choices query row) some)
@@ -93,7 +93,7 @@ module _ (choices : Choices) (query : Masked) (sets : List KeyedRows) (tables : 
           ∙ are row
           ∙ sym (one_tuple row false ((λ i. passes i && (same_row-sym row made ∙ e) i)) ∙ ap mark_of (append_nothing (tuples row before)))
 
-  -- one that makes a given row, and has the tuple of given places
+  -- one that makes a given row and has the tuple of given places
   pub marked-by : (marks after : Marks) (row : ShownRow) (given : List Place) → passing ≡ true → row ≡ made → given ≡ row_places sets tables rows
       → ((some : List (List Place)) → mark_at row_order marks row ≡ mark_of some → (other : ShownRow) → mark_at row_order after other ≡ cond (is_eq (row_order row other)) (mark_of (some ++ given ∷ [])) (mark_at row_order marks other))
       → AreMarked row_order choices query sets tables before marks → AreMarked row_order choices query sets tables (before ++ rows ∷ []) after
@@ -102,11 +102,11 @@ module _ (choices : Choices) (query : Masked) (sets : List KeyedRows) (tables : 
       (λ other. told (tuples made before) (ap (mark_at row_order marks) is ∙ are made) other
       ∙ (λ i. cond (is_eq (row_order (is i) other)) (mark_of (tuples made before ++ given_is i ∷ [])) (mark_at row_order marks other))) are
 
--- no mark of no combination
+-- no combination leaves no mark
 pub marked-none : (choices : Choices) (query : Masked) (sets : List KeyedRows) (tables : List Place) (marks : Marks) → marks.entries ≡ [] → AreMarked row_order choices query sets tables [] marks
 marked-none choices query sets tables marks none row = ap (λ (es : List (ShownRow × Mark)). unwrap_or (lookup (λ other. is_eq (row_order row other)) es) Unmarked) none
 
--- the marks of the combinations that count are those of all
+-- the marks of the combinations that count are the marks of all
 pub marked-counting : (choices : Choices) (query : Masked) (sets : List KeyedRows) (tables : List Place) (combinations : List Combination) (marks : Marks)
     → AreMarked row_order choices query sets tables (counting choices query combinations) marks → AreMarked row_order choices query sets tables combinations marks
 unfolding stays
@@ -116,7 +116,7 @@ marked-counting choices query sets tables combinations marks are row =
     (filter-implied (stays choices query) (makes_row choices query row)
     (λ rows makes. (and_parts (is_guarded choices query rows && masked_passes choices query rows) (same_row row (masked_items choices query rows)) makes).0) combinations)
 
--- ---- the marks that are kept, and those of the rows
+-- ---- the stored marks, and those of the rows
 any-at : {A : Type 0} (test : A → Bool) (xs : List A) → list_any test xs ≡ true → (i : ℕ) × (x : A) × (slice_get xs i ≡ Some x) × (test x ≡ true)
 any-at test [] any = absurd (false≢true any)
 any-at test (x ∷ xs) any = by (test x) refl any (any-at test xs)
@@ -157,7 +157,7 @@ module _ (choices : Choices) (query : Masked) (sets : List KeyedRows) (tables : 
       by None e wrong = absurd (false≢true wrong)
       by (Some mark) e good = any-looked_up _ (is_one places) marks.entries mark e good
 
--- ---- what the marks say of the tuples that are needed
+-- ---- the needed tuples that the marks name
 module _ (choices : Choices) (query : Masked) where
   abbrev counts : Combination → Bool
   counts rows = is_guarded choices query rows && masked_passes choices query rows
@@ -165,7 +165,7 @@ module _ (choices : Choices) (query : Masked) where
   abbrev pub rows_made : List Combination → List ShownRow
   rows_made combinations = answered (masked_items choices query) counts (λ rows. false) combinations
 
-  -- a row that passes a test, and is made
+  -- a row that passes a test and is made
   some_made : (test : ShownRow → Bool) (combinations : List Combination) → list_any test (rows_made combinations) ≡ true → (row : ShownRow) × (test row ≡ true) × (list_any (makes_row choices query row) combinations ≡ true)
   some_made test [] any = absurd (false≢true any)
   some_made test (rows ∷ combinations) any = by (counts rows) refl any (some_made test combinations)
@@ -183,7 +183,7 @@ module _ (choices : Choices) (query : Masked) where
           at false other any = let found = later any in (found.0, found.1, or_right (makes_row choices query found.0 rows) (list_any (makes_row choices query found.0) combinations) found.2)
       by false e any later = let found = later any in (found.0, found.1, or_right (makes_row choices query found.0 rows) (list_any (makes_row choices query found.0) combinations) found.2)
 
-  -- and a row that is made, among all
+  -- a row that is made, among all rows
   made_any : (test : ShownRow → Bool) (row : ShownRow) → test row ≡ true → (combinations : List Combination) → list_any (makes_row choices query row) combinations ≡ true → list_any test (rows_made combinations) ≡ true
   made_any test row good [] any = absurd (false≢true any)
   made_any test row good (rows ∷ combinations) any = by (counts rows) (same_row row here) refl any (made_any test row good combinations)
@@ -198,7 +198,7 @@ module _ (choices : Choices) (query : Masked) where
       by true false e any later = or_right (test here) (list_any test (rows_made combinations)) (later any)
       by false same e any later = later any
 
--- ---- the tuples whose rows stand at places that some row's mark names are those that are needed
+-- ---- the tuples at the places that some row's mark names are the needed ones
 module _ (choices : Choices) (query : Masked) (audit : List Name) (query_sets audit_sets : List KeyedRows) (long_query : length query_sets ≡ length query.tables) (long_audit : length audit_sets ≡ length audit)
     (same : HaveSameRows query.tables query_sets audit audit_sets) (ascend : All (λ set. IsAscending (map (key_in set.key) set.rows)) audit_sets) where
   abbrev all : List Combination
@@ -251,7 +251,7 @@ find-nothing : {A : Type 0} (test : A → Bool) → ((x : A) → test x ≡ fals
 find-nothing test none [] = refl
 find-nothing test none (x ∷ xs) = ap (λ b. cond b (Some x) (find test xs)) (none x) ∙ find-nothing test none xs
 
--- where no combination of the audit's rows counts, none is needed
+-- if no combination of the audit's rows counts, none is needed
 pub none-needed : (choices : Choices) (query : Masked) (form : Form) (audit : Audit) (seen : List Expr) (query_sets audit_sets : List KeyedRows) → ((tuple : List SharedRow) → audit_has audit audit_sets tuple ≡ false)
     → None ≡ first_needed choices query form audit seen query_sets audit_sets
 none-needed choices query form audit seen query_sets audit_sets none =
@@ -259,7 +259,7 @@ none-needed choices query form audit seen query_sets audit_sets none =
     (λ tuple. ap (λ b. needs_by choices query form query_sets tuple && query_has choices query seen query_sets tuple && b) (none tuple) ∙ and-false (needs_by choices query form query_sets tuple && query_has choices query seen query_sets tuple))
     (virtual_tuples_in audit.tables audit_sets (common_tables query.tables audit.tables)))
 
--- what an answer that is Ok says
+-- what an Ok result says
 pub ok-by : {A E : Type 0} (P Q : A → Type 0) → ((a : A) → P a → Q a) → (result : Result A E) → IfOk result P → IfOk result Q
 ok-by P Q then (Ok a) told = then a told
 ok-by P Q then (Err fault) told = tt

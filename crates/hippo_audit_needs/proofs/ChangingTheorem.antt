@@ -1,4 +1,4 @@
--- The tuples without which a query's groups change, by the marks of its groups.
+-- The tuples without which a query's groups change, by the marks of the groups.
 use Rattle.std.proofs.Common.{◌≡◌, Bool, true, false, not, ◌&&◌, List, [], ◌∷◌, map, length, refl, sym, ap, ◌∙◌}
 use Rattle.std.specs.List.{All, AllByRecursion, list_any}
 use Rattle.std.proofs.lemmas.Bool.{false≢true}
@@ -66,13 +66,13 @@ module _ (choices : Choices) (query : Masked) (shape : Shape) (audit : List Name
     abbrev is_changed : Bool
     is_changed = list_any (changes_without places) groups.marks.items
 
-    -- combinations with places that are in range are those that have their tuple
+    -- combinations with places that are in range are those that have the tuple of these places
     within : in_range sets places ≡ true → is_changed ≡ needs (tuple places)
     within in_sets =
         ap (list_any (changes_without places)) are.each
         ∙ query-changes places choices query query_sets tables (has_tuple_in query.tables query_sets (tuple places)) shape combinations (each-of (λ rows told. told.1 places in_sets) combinations told)
 
-    -- no combination has others
+    -- if the places are not in range, no combination has them
     none : in_range sets places ≡ false → (rows : Combination) → IsTold rows → false ≡ same_places (row_places query_sets tables rows) places
     none out rows told = by (same_places (row_places query_sets tables rows) places) refl
       where

@@ -1,4 +1,5 @@
--- What is needed first over rows at hand serves first in each history that they are those of.
+-- The first tuple that is needed over given rows is the first that serves, in each history that has
+-- these rows.
 use Rattle.std.proofs.Common.{◌≡◌, List, sym, ap, ◌∙◌, Option, Result}
 use Rattle.std.specs.Prelude.{IfOk}
 use Rattle.std.proofs.lemmas.Result.{IfOk-weaker}
@@ -20,7 +21,7 @@ use Rattle.hippo_audit_needs.specs.SharedLaws.{NeededServesFirst}
 use Rattle.hippo_audit_needs.specs.Examining.{ServesFirst}
 use Rattle.hippo_audit_needs.proofs.PlainTheorem.{first-plain}
 
--- what a plain query shares first it needs first
+-- the first tuple that a plain query shares is the first that it needs
 pub shared-needed : (choices : Choices) (query : Masked) (audit : Audit) (seen : List Expr) (query_sets audit_sets : List KeyedRows) (result : Result (Option (List SharedRow)) Memory)
     → IfOk result (λ shared. shared ≡ first_shared choices query audit seen query_sets audit_sets) → IfOk result (λ shared. shared ≡ first_needed choices query Plain audit seen query_sets audit_sets)
 shared-needed choices query audit seen query_sets audit_sets result =

@@ -1,4 +1,4 @@
--- The key columns of a virtual tuple's rows, over view rows and over rows as they are.
+-- The key columns of a virtual tuple's rows, over view rows and over unmasked rows.
 use Rattle.std.proofs.Common.{◌≡◌, zero, suc, true, List, [], ◌∷◌, map, get_or, refl, sym, ap, ◌∙◌, Option, Some, None}
 use Rattle.std.specs.Prelude.{bytes_eq}
 use Rattle.std.specs.List.{flat_map, list_any}

@@ -1,4 +1,4 @@
--- What is kept of a group to know without which tuples it changes, one member more.
+-- The marks of a group after one more member.
 use Rattle.std.proofs.Common.{◌≡◌, ℕ, ◌+◌, ◌<◌, arith, length, map, take, get_or, add-one, Bool, true, false, cond, ◌&&◌, ◌||◌, List, [], ◌∷◌, ◌++◌, refl, sym, ap, ◌∙◌}
 use Rattle.std.specs.List.{list_any}
 use Rattle.std.specs.Ordering.{is_eq}
@@ -23,7 +23,7 @@ use Rattle.hippo_audit_needs.specs.declared.group_marks.Best.{Best}
 use Rattle.hippo_audit_needs.specs.GroupMarks.{PlacedRow, placed_rows, shown_value, member_places, best_by, best_of, best_after}
 use Rattle.hippo_groups.proofs.BestTheorem.{IsBest, has, who_have_it, best-push, best-equal, who-equal, who-same, who-better}
 
--- the rows of the combinations that count are those of all
+-- the rows of the combinations that count are the rows of all
 pub placed-counting : (choices : Choices) (query : Masked) (sets : List KeyedRows) (tables : List Place) (combinations : List Combination)
     → placed_rows choices query sets tables (counting choices query combinations) ≡ placed_rows choices query sets tables combinations
 unfolding stays
@@ -31,13 +31,13 @@ placed-counting choices query sets tables combinations =
     ap (λ (some : List Combination). map (λ (rows : Combination). record { row = masked_items choices query rows; places = row_places sets tables rows }) some)
     (filter-implied (stays choices query) (λ rows. is_guarded choices query rows && masked_passes choices query rows) (λ rows counts. counts) combinations)
 
--- an output's best where there is no member yet
+-- an output's best value if there is no member yet
 pub no-best : (out : Out) → record { value = Null; mark = Unmarked } ≡ best_of [] out
 no-best (Column place) = refl
 no-best (Min place) = refl
 no-best (Max place) = refl
 
--- those of some outputs, one output more
+-- the best values of some outputs, and one more output
 pub no-best-more : (outs : List Out) (index : ℕ) (now later : List Best) → index < length outs → now ≡ map (best_of []) (take index outs) → later ≡ now ++ record { value = Null; mark = Unmarked } ∷ []
     → later ≡ map (best_of []) (take (index + 1) outs)
 no-best-more outs index now later within so_far pushed =
@@ -86,7 +86,7 @@ module _ (below : Value → Value → Bool) (lower : Value → Value → Value) 
         mark = mark_of (member_places (sym (who-same below lower best is value_of members member e lower_is) i));
       }
 
-  -- the best of one value more
+  -- the best value after one more value
   pub taken : (old : Best) (value : Value) (places : List Place) → old ≡ best_by best place members → value ≡ value_of member → places ≡ member.places
       → (is_better : Bool) → lower old.value value ≡ cond is_better value old.value
       → best_after old.value (member_places who) value is_better places ≡ best_by best place more
@@ -94,7 +94,7 @@ module _ (below : Value → Value → Bool) (lower : Value → Value → Value) 
       (λ i. best_after (old_is i).value (member_places who) (value_is i) is_better (places_is i))
       ∙ step is_better (sym (λ i. lower (old_is i).value (value_is i)) ∙ lower_is ∙ (λ i. cond is_better (value_is i) (old_is i).value))
 
--- one value more, by its comparisons with the best
+-- one more value, by its comparisons with the best
 module _ (old : Best) (who : List (List Place)) (value : Value) (places : List Place) where
   pub after-equal : (is_better : Bool) (mark : Mark) → is_eq (value_cmp value old.value) ≡ true → mark ≡ mark_of (who ++ places ∷ [])
       → record { value = old.value; mark = mark } ≡ best_after old.value who value is_better places

@@ -1,4 +1,4 @@
--- Without which tuples the groups of a query change, by their marks.
+-- The tuples without which the groups of a query change, by the marks of the groups.
 use Rattle.std.proofs.Common.{◌≡◌, append_assoc, Bool, true, false, not, cond, ◌&&◌, ◌||◌, List, [], ◌∷◌, ◌++◌, map, take, refl, sym, ap, ◌∙◌}
 use Rattle.std.specs.Prelude.{filter}
 use Rattle.std.specs.List.{AllByRecursion, list_any, list_all}
@@ -49,7 +49,7 @@ pub filter-all : {A : Type 0} (items : List A) → filter (λ item. true) items 
 filter-all [] = refl
 filter-all {A} (item ∷ items) = ap (λ (rest : List A). item ∷ rest) (filter-all items)
 
--- whether a list has a member
+-- whether a list has an element
 abbrev is_full : {A : Type 0} → List A → Bool
 is_full [] = false
 is_full (item ∷ items) = true
@@ -74,7 +74,7 @@ not_and : (x y : Bool) → not (x && y) ≡ (not x || not y)
 not_and true y = refl
 not_and false y = refl
 
--- a row becomes another where some cell does
+-- a row changes if some cell does
 row-changes : (f g : Out → Cell) (outs : List Out) → list_any (λ out. not (same_cell (f out) (g out))) outs ≡ not (same_row (map f outs) (map g outs))
 row-changes f g [] = refl
 row-changes f g (out ∷ outs) =
@@ -112,7 +112,7 @@ module _ (places : List Place) where
       by true e = one_if (list_all (same_places first) rest) e ∙ alike e ∙ sym (ap (λ (same : Bool). same && others) e)
       by false e = none_if (list_all (same_places first) rest) e ∙ sym (ap (λ (same : Bool). same && others) e)
 
-  -- members have one mark where all of them come from combinations with its places
+  -- members have one mark if all of them come from combinations with its places
   all-out : (members : List PlacedRow) → is_full members ≡ true → is_one places (mark_of (member_places members)) ≡ list_all is_out members
   all-out [] full = absurd cc
   all-out (first ∷ rest) full =
@@ -174,7 +174,7 @@ module _ (places : List Place) where
     abbrev its_members : ShownRow → List PlacedRow
     its_members = members_of row_in shape.keys found
 
-    -- whether a group goes, or has another row
+    -- whether a group is gone or has another row
     abbrev is_changed : ShownRow → Bool
     is_changed key =
         list_all is_out (its_members key)
@@ -188,7 +188,7 @@ module _ (places : List Place) where
         ∙ full-there (λ one. same_row (key_of member) (key_of one)) front member back (same_row-refl (key_of member))) i
         || each-group (front ++ member ∷ []) back (split ∙ sym (append_assoc front (member ∷ []) back)) i
 
-    -- the groups change without a tuple exactly where some marks say so
+    -- the groups change without a tuple exactly when some marks say so
     pub groups-change : list_any (changes_without places) (map marks_at (keys_of row_in shape.keys found))
         ≡ not (same_bag (grouped_rows shape (map row_in (filter is_left found))) (grouped_rows shape (map row_in found)))
     groups-change =
@@ -201,7 +201,7 @@ module _ (places : List Place) where
         ∙ ap (list_any is_changed) (ap (λ (all : List PlacedRow). map (take shape.keys) (map row_in all)) (filter-all found) ∙ map-map (take shape.keys) row_in found)
         )
 
-  -- what is left of rows comes from the combinations that are left
+  -- the remaining rows come from the remaining combinations
   module _ (choices : Choices) (query : Masked) (sets : List KeyedRows) (tables : List Place) (has : Combination → Bool) where
     abbrev placed : Combination → PlacedRow
     placed rows = record { row = masked_items choices query rows; places = row_places sets tables rows }
@@ -236,7 +236,8 @@ module _ (places : List Place) where
             rest
             ∙ sym (ap (λ (pass : Bool). map (masked_items choices query) (cond pass (rows ∷ filter passes (filter (λ rows. not (has rows)) combinations)) (filter passes (filter (λ rows. not (has rows)) combinations)))) e)
 
-    -- a grouped query's answer changes without some combinations exactly where the marks of its groups say so
+    -- a grouped query's answer changes without some combinations exactly when the marks of its
+    -- groups say so
     pub query-changes : (shape : Shape) (combinations : List Combination) → HaveAlike combinations
         → list_any (changes_without places) (map (marks_at shape (placed_rows choices query sets tables combinations)) (keys_of row_in shape.keys (placed_rows choices query sets tables combinations)))
         ≡ not (same_bag (grouped_rows shape (masked_rows choices query (filter (λ rows. not (has rows)) combinations))) (grouped_rows shape (masked_rows choices query combinations)))

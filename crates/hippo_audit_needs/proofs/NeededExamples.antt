@@ -1,4 +1,5 @@
--- What queries of each form need first, computed on a small table. Each example is named by what it shows.
+-- The first tuple that queries of each form need, computed on a small table. Each example is named
+-- by what it shows.
 use Rattle.std.proofs.Common.{◌≡◌, ℕ, ℤ, pos, List, [], ◌∷◌, map, Option, Some, None, false, codes}
 use Rattle.hippo_values.specs.declared.values.Value.TheVariants.{Int, Text}
 use Rattle.hippo_values.specs.declared.names.Name.{Name}
@@ -48,7 +49,7 @@ southern = record { from = first_moment; to = last_moment; exempt = []; shown = 
 abbrev silent : Choices
 silent number item = None
 
--- the first visit to the ward that a query with these items and form needs
+-- the first visit to the ward that a query with this select list and form needs
 abbrev first_of : List Ref → Form → Option (List SharedRow)
 first_of items form = first_needed silent (of_visits items) form southern [] (visits ∷ []) (visits ∷ [])
 

@@ -53,7 +53,7 @@ module _ (history : History) (number : ℕ) (valid : is_valid meaning history �
   pub front_valid : is_valid meaning (take number history) ≡ true
   front_valid = front_is_valid meaning (take number history) (drop number history) (ap (is_valid meaning) both_parts ∙ valid)
 
-  -- and a table keeps the schema that it had then
+  -- a table keeps the schema that it had then
   pub lasting : (table : Name) (schema : Schema) → schema_at (take number history) table ≡ Some schema → schema_at history table ≡ Some schema
   lasting table schema is =
       ap (λ (h : History). schema_at h table) (sym both_parts)
@@ -157,7 +157,7 @@ or_parts : (first second : Bool) → (first || second) ≡ true → (first ≡ f
 or_parts true second e is = absurd cc
 or_parts false second e is = e
 
--- a name that stands at a place stands in the list, or it is empty
+-- a name at a place is in the list, or it is empty
 stands : (names : List Name) (place : Place) (table : Name) → table ≢ [] → bytes_eq table (slice_index_or names place []) ≡ true → list_any (bytes_eq table) names ≡ true
 stands [] place table some same = absurd (some ((bytes_eq-Decides table []).0 same))
 stands (name ∷ names) zero table some same = or_left (bytes_eq table name) (list_any (bytes_eq table) names) same
@@ -188,7 +188,7 @@ module _ (history : History) (number : ℕ) (valid : is_valid meaning history �
       within table (Some schema) is passes =
           below column.column (length schema.columns) (sym (ap (λ found. option_map_or (λ (s : Schema). nat_lt column.column (length s.columns)) found false) (lasting history number valid table schema is)) ∙ passes)
 
--- the audited columns are those of tables that the query has, too
+-- the query has the tables of the audited columns
 pub are_common : (history : History) (number : ℕ) → is_valid meaning history ≡ true → (query : Query) (audit : Audit) → IsAuditOf history audit → names_all query audit ≡ true → AreCommonColumns (take number history) query audit
 are_common history number valid query audit its names = each audit.columns its.columns names
   where
@@ -198,7 +198,7 @@ are_common history number valid query audit its names = each audit.columns its.c
         let both = and_parts _ _ names in
         (is_common history number valid query audit column all.0 both.0, each columns all.1 both.1)
 
--- ---- what is empty makes nothing
+-- ---- empty lists
 pub no_length : {A : Type 0} (rows : List A) → nat_lt 0 (length rows) ≡ false → rows ≡ []
 no_length [] is = refl
 no_length (row ∷ rows) is = absurd (false≢true (sym is ∙ some_length (length rows)))

@@ -1,4 +1,4 @@
--- What any query needs it has, and what a plain query has it needs.
+-- A query has whatever it needs, and a plain query needs whatever it has.
 use Rattle.std.proofs.Common.{◌≡◌, Bool, true, false, not, ◌&&◌, ◌||◌, cond, List, [], ◌∷◌, ◌++◌, map, refl, sym, ap, ◌∙◌}
 use Rattle.std.specs.Prelude.{◌==◌, filter, find}
 use Rattle.std.specs.List.{list_all, list_any}
@@ -31,7 +31,7 @@ use Rattle.hippo_audit_search.specs.HistoryLaws.{sets_at}
 use Rattle.hippo_audit_needs.specs.Seen.{to_be_seen}
 use Rattle.hippo_audit_needs.specs.SharedLaws.{QueryNeedsOverRows, QueryNeedsWhatItHas, NeededServesFirst, SharedServesFirst}
 
--- where none of those that are out counts, as many count as are left
+-- if none of the removed elements counts, the same ones count after removing them
 same_left : {X : Type 0} (is_out counts : X → Bool) (xs : List X) → list_any (λ x. is_out x && counts x) xs ≡ false → filter counts (filter (λ x. not (is_out x)) xs) ≡ filter counts xs
 same_left is_out counts [] none = refl
 same_left {X} is_out counts (x ∷ xs) none = by (is_out x) none (same_left is_out counts xs)
@@ -74,7 +74,7 @@ module _ (choices : Choices) (query : Masked) (sets : List KeyedRows) (tuple : L
       ap (λ (left : List Combination). not (same_bag (rows_by_form form (map (masked_items choices query) left)) (rows_by_form form (masked_rows choices query combinations)))) (same_left is_out counts combinations (had_is ∙ none))
       ∙ ap not (same_counts (rows_by_form form (masked_rows choices query combinations)) (rows_by_form form (masked_rows choices query combinations) ++ rows_by_form form (masked_rows choices query combinations)))
 
-  -- a tuple that is needed is had by some combination that counts
+  -- some combination that counts has a needed tuple
   pub needed-had : (form : Form) → needs_by choices query form sets tuple ≡ true → query_has choices query [] sets tuple ≡ true
   needed-had form needed = by (query_has choices query [] sets tuple) refl
     where
@@ -82,11 +82,11 @@ module _ (choices : Choices) (query : Masked) (sets : List KeyedRows) (tuple : L
       by true is = refl
       by false is = sym (not_needed form is) ∙ needed
 
-  -- for a plain query, what is had is needed
+  -- a plain query needs what it has
   pub plain-needs : needs_by choices query Plain sets tuple ≡ query_has choices query [] sets tuple
   plain-needs = needs_what_is_lost (masked_items choices query) counts is_out combinations ∙ had_is
 
-  -- what has all that is to be seen is had
+  -- a tuple that a query has with all wanted cells shown, it has
   had_less : (seen : List Expr) → query_has choices query seen sets tuple ≡ true → query_has choices query [] sets tuple ≡ true
   had_less seen had = any_more (λ rows. is_out rows && (counts rows && are_shown choices seen rows)) (λ rows. is_out rows && (counts rows && true)) (λ rows. less (is_out rows) (counts rows) (are_shown choices seen rows)) combinations had
     where
@@ -95,7 +95,7 @@ module _ (choices : Choices) (query : Masked) (sets : List KeyedRows) (tuple : L
       less true false shown all = all
       less false counted shown all = all
 
--- what a plain query and an audit share first is what it needs first
+-- the first tuple that a plain query and an audit share is the first that it needs
 pub first-plain : (choices : Choices) (query : Masked) (audit : Audit) (seen : List Expr) (query_sets audit_sets : List KeyedRows)
     → first_needed choices query Plain audit seen query_sets audit_sets ≡ first_shared choices query audit seen query_sets audit_sets
 first-plain choices query audit seen query_sets audit_sets =

@@ -1,4 +1,4 @@
--- What a query needs over views is what the rewritten query needs over the rows as they are.
+-- What a query needs over its views is what the rewritten query needs over the unmasked rows.
 use Rattle.std.proofs.Common.{◌≡◌, ℕ, zero, suc, ◌+◌, ◌<◌, Bool, true, false, not, ◌&&◌, cond, List, [], ◌∷◌, ◌++◌, map, length, get_or, refl, sym, ap, subst, ◌∙◌, Option, Some, None, option_map, arith}
 use Rattle.std.specs.Prelude.{filter, slice_get, bytes_eq}
 use Rattle.std.specs.List.{AllByRecursion, list_all, list_any}
@@ -43,7 +43,7 @@ use Rattle.hippo_audit_search.proofs.HistoryLemmas.{rows_by}
 use Rattle.hippo_audit_needs.specs.SharedLaws.{QueryNeedsOverRows}
 use Rattle.hippo_audit_needs.proofs.KeyColumns.{at, key_by, key_columns, tuple_columns, key-seen, key-raw}
 
--- ---- a column that is shown has the row's value
+-- ---- a shown column has the row's value
 shown_test : (test : Bool) (value : Value) (rule : ℕ) → is_shown_cell (shown_if test value rule) ≡ true → value_in (shown_if test value rule) ≡ value
 shown_test true value rule shown = refl
 shown_test false value rule shown = absurd (false≢true shown)
@@ -103,7 +103,7 @@ module _ (history : History) where
       table_by_table history (λ tables schemas. tables_at history schemas ≡ rows_of (sets_at history tables)) refl (λ table schema tables schemas first later.
       λ i. (ap (λ (o : Option Schema). (rows_by history o).rows) (sym first)) i ∷ later i)
 
--- ---- lists whose members agree
+-- ---- lists whose elements agree
 filter-turned : {X : Type 0} (p q : X → Bool) (xs : List X) → filter p (filter q xs) ≡ filter q (filter p xs)
 filter-turned p q [] = refl
 filter-turned {X} p q (x ∷ xs) = by (p x) refl (q x) refl (filter-turned p q xs)
@@ -127,7 +127,7 @@ both_parts : {X : Type 0} (P : X → Type 0) (front back : List X) → AllByRecu
 both_parts P [] back all = (tt, all)
 both_parts P (x ∷ front) back all = let parts = both_parts P front back all.1 in ((all.0, parts.0), parts.1)
 
--- members that become the same are kept alike, and then become the same by another change
+-- elements with equal images are kept alike, and have equal images under another function too
 module _ {X Y Z W : Type 0} (f : X → Z) (g : Y → Z) (p : X → Bool) (q : Y → Bool) (left : X → W) (right : Y → W) (Counts : Y → Type 0)
     (agree : (x : X) (y : Y) → Counts y → f x ≡ g y → (p x ≡ q y) × (left x ≡ right y)) where
   left-same : (xs : List X) (ys : List Y) → AllByRecursion Counts ys → map f xs ≡ map g ys → map left (filter p xs) ≡ map right (filter q ys)
@@ -156,7 +156,7 @@ module _ (meaning : Meaning) (history : History) (context : Context) (query : Qu
   abbrev cell : Combination → Ref → Cell
   cell rows column = masked_cell choices rows (masked_column rules column)
 
-  -- where the guards are shown, the columns of keys have the rows' values
+  -- if the guards are shown, the key columns have the rows' values
   raw_key : (rows : Combination) → is_guarded choices (rewritten_query rules query) rows ≡ true → (table : Name) → list_any (bytes_eq table) query.tables ≡ true
       → AllByRecursion (λ column. value_in (cell rows (at (place_in query.tables table) column)) ≡ raw_value rows (at (place_in query.tables table) column)) (key_by history query.tables (schema_at history table))
   raw_key rows guarded table stands =
@@ -179,7 +179,7 @@ module _ (meaning : Meaning) (history : History) (context : Context) (query : Qu
         each table place is key shown.1,
       )
 
-  -- a combination as it is seen and one as it is, whose cells agree in some columns
+  -- a combination in the view and the unmasked one, whose cells agree in some columns
   module _ (seen : List ShownRow) (rows : Combination) where
     abbrev Agree : List Ref → Type 0
     Agree columns = AllByRecursion (λ column. cell_in seen column ≡ cell rows column) columns
@@ -215,7 +215,7 @@ module _ (meaning : Meaning) (history : History) (context : Context) (query : Qu
           let parts = both_parts (λ column. cell_in seen column ≡ cell rows column) (key_columns history query.tables shared.table) (tuple_columns history query.tables some) agree in
           λ i. same_cells (key_agrees shared.table all.0 parts.0 i) shared.key && tuple_agrees some all.1 parts.1 i
 
-  -- the query that answers the columns of the tuple's keys, too
+  -- the query with the key columns of the tuple added to its select list
   abbrev keyed : Query
   keyed = record { items = tuple_columns history query.tables tuple ++ query.items; tables = query.tables; cond = query.cond; form = query.form }
 
@@ -235,7 +235,8 @@ module _ (meaning : Meaning) (history : History) (context : Context) (query : Qu
       let parts = both_parts (λ column. cell_in seen column ≡ cell rows column) (tuple_columns history query.tables tuple) query.items (cells_agree seen rows keyed.items same) in
       (ap not (tuple_agrees seen rows guarded tuple stand parts.0), agreed_cells seen rows query.items parts.1)
 
-  -- what the rewritten query makes of the combinations that are left is what the query makes of those left of the views
+  -- the rewritten query over the remaining combinations gives what the query gives over those
+  -- remaining in the views
   rows_left : RewritingAnswers → answer_of query.items query.cond (filter is_left_seen (seen_combinations history context query)) ≡ masked_rows choices (rewritten_query rules query) (filter is_left (product (tables_at history schemas)))
   rows_left rewriting =
       let combinations = product (tables_at history schemas) in

@@ -1,4 +1,4 @@
--- The rows of two sides that are found by the tables' names.
+-- The rows of two sides, found by the names of the tables.
 use Rattle.std.proofs.Common.{◌≡◌, true, List, [], ◌∷◌, map, sym, ap, ◌∙◌}
 use Rattle.std.specs.Prelude.{bytes_eq}
 use Rattle.std.specs.List.{AllByRecursion, list_any}
@@ -16,7 +16,7 @@ module _ (rows : Name → KeyedRows) where
       let found = place-found tables table has in
       get_or-map rows tables (place_in tables table) [] (record { key = []; rows = [] }) found.0 ∙ ap rows found.1
 
-  -- where both sides have each table's rows by its name, they have the same rows
+  -- if both sides have each table's rows by its name, they have the same rows
   pub same_rows : (query audit : List Name) → HaveSameRows query (map rows query) audit (map rows audit)
   same_rows query audit =
       All-from_recursion (λ table. rows_named query (map rows query) table ≡ rows_named audit (map rows audit) table) (common_tables query audit)

@@ -1,4 +1,4 @@
--- Whether what stands for an audited column is shown, in a combination that has a virtual tuple.
+-- Whether the expression for an audited column is shown, in a combination that has a virtual tuple.
 use Rattle.std.proofs.Common.{◌≡◌, ℕ, zero, suc, ◌<◌, Bool, true, false, ◌||◌, cond, List, [], ◌∷◌, ◌++◌, map, length, get_or, refl, sym, ap, subst, ◌∙◌, Option, Some, arith}
 use Rattle.std.specs.Prelude.{find, slice_get, bytes_eq, option_and_then, IfSome}
 use Rattle.std.specs.List.{AllByRecursion, flat_map, list_all, list_any}
@@ -43,13 +43,13 @@ use Rattle.hippo_audit_search.proofs.HistoryLemmas.{rows_by, set_is}
 use Rattle.hippo_audit_search.proofs.TupleLemmas.{no_rows}
 use Rattle.hippo_audit_needs.proofs.QueryTheorem.{schema_found}
 
--- a name at a place stands among the names
+-- the name at a place is among the names
 pub stands-at : (names : List Name) (place : ℕ) → place < length names → list_any (bytes_eq (get_or names place [])) names ≡ true
 stands-at [] place within = absurd (omega arith)
 stands-at (name ∷ names) zero within = ap (λ b. b || list_any (bytes_eq name) names) (same_as_itself name)
 stands-at (name ∷ names) (suc place) within = or_right (bytes_eq (get_or names place []) name) (list_any (bytes_eq (get_or names place [])) names) (stands-at names place (omega arith))
 
--- what stands in both lists is common
+-- a table in both lists is common
 pub in-common : (query names : List Name) (table : Name) → list_any (bytes_eq table) query ≡ true → list_any (bytes_eq table) names ≡ true → list_any (bytes_eq table) (common_tables query names) ≡ true
 in-common query [] table here there = absurd (false≢true there)
 in-common query (name ∷ names) table here there = by (bytes_eq table name) refl (list_any (bytes_eq name) query) refl there (in-common query names table here)
@@ -61,7 +61,7 @@ in-common query (name ∷ names) table here there = by (bytes_eq table name) ref
     by false e true k there later = or_right (bytes_eq table name) (list_any (bytes_eq table) (common_tables query names)) (later there)
     by false e false k there later = later there
 
--- a row of each table stands in each of a product's combinations
+-- each of a product's combinations has a row of each table
 module _ (f : Name → List SharedRow) (named : (table : Name) → AllByRecursion (λ shared. bytes_eq shared.table table ≡ true) (f table)) (table : Name) where
   abbrev HasTable : List SharedRow → Type 0
   HasTable tuple = list_any (λ shared. bytes_eq shared.table table) tuple ≡ true
@@ -106,7 +106,7 @@ found_named (first ∷ tuple) table has = by (bytes_eq first.table table) refl h
     by true e has later = (first, refl, e, λ test all. (and_parts (test first) (list_all test tuple) all).0)
     by false e has later = let found = later has in (found.0, found.1, found.2, λ test all. found.3 test (and_parts (test first) (list_all test tuple) all).1)
 
--- the row with a row's key is that row
+-- the row that has a row's key is that row
 find_key : (key : List Place) (rows : List BornRow) (place : Place) → IsAscending (map (key_in key) rows) → place < length rows → find (λ kept. same_cells (key_in key kept) (key_in key (row_at_place rows place))) rows ≡ Some (row_at_place rows place)
 find_key key [] place ascends within = absurd (omega arith)
 find_key key (row ∷ rows) zero ascends within = ap (λ b. cond b (Some row) (find (λ kept. same_cells (key_in key kept) (key_in key row)) rows)) ((eq_by_cmp_equiv cells_total).refl (key_in key row))
@@ -118,7 +118,7 @@ shown_by : (verdict : Verdict) (value : Value) → is_shown_cell (cell_by verdic
 shown_by Shown value = refl
 shown_by (Denied rule) value = refl
 
--- what stands for an audited column is shown where the tuple's cell is seen
+-- the expression for an audited column is shown exactly when the tuple's cell is seen
 pub seen-column : ColumnsShowVerdicts → (history : History) (context : Context) (tables audits : List Name) (schemas : List Schema) (tuple : List SharedRow) (places : List Place) (column : Ref)
     → map (schema_at history) tables ≡ map Some schemas → in_range (sets_at history tables) places ≡ true → has_tuple_in tables (sets_at history tables) tuple (chosen_rows (sets_at history tables) places) ≡ true
     → list_any (λ shared. bytes_eq shared.table (get_or audits column.table [])) tuple ≡ true → list_any (bytes_eq (get_or audits column.table [])) tables ≡ true

@@ -39,7 +39,7 @@ use Rattle.hippo_audit_needs.specs.SharedLaws.{QueryNeedsOverRows, NeededServesF
 use Rattle.hippo_audit_needs.proofs.PlainTheorem.{needed-had}
 use Rattle.hippo_audit_needs.proofs.SeenTheorem.{stands-at, in-common, product-has, seen-column}
 
--- the members of a product's combinations are those of the lists
+-- the elements of a product's combinations are those of the lists
 module _ {X : Type 0} (P : X → Type 0) where
   abbrev Each : List X → Type 0
   Each xs = AllByRecursion P xs
@@ -156,7 +156,7 @@ module _ (history : History) (query : Query) (audit : Audit) where
       (product-has (rows_at_history history) named_rows (name_of column) (common_tables query.tables audit.tables) (in-common query.tables audit.tables (name_of column) all.0.1 (stands-at audit.tables column.table all.0.0)))
       (tuples_have columns all.1)
 
-  -- what is to be seen, in a combination that has a tuple
+  -- the wanted cells, in a combination that has a tuple
   seen_columns : ColumnsShowVerdicts → (context : Context) (schemas : List Schema) → map (schema_at history) query.tables ≡ map Some schemas → (tuple : List SharedRow) (places : List Place)
       → in_range (sets_at history query.tables) places ≡ true → has_tuple_in query.tables (sets_at history query.tables) tuple (chosen_rows (sets_at history query.tables) places) ≡ true
       → (columns : List Ref) → AllByRecursion (IsCommon history query audit) columns → HasColumns columns tuple

@@ -1,4 +1,5 @@
--- A list whose members are taken out one after the other: those left that pass a test, or what was found.
+-- A list whose elements are taken out one by one: those left that pass a test, or what was found so
+-- far.
 use Rattle.std.proofs.Common.{◌≡◌, ℕ, Bool, true, false, ◌||◌, List, [], ◌∷◌, length, sym, refl, ap, ◌∙◌, arith}
 use Rattle.std.specs.List.{list_any}
 
@@ -19,7 +20,7 @@ module _ {A : Type 0} (test : A → Bool) (items : List A) (now whole : Bool) (s
   pub none-left : items ≡ [] → now ≡ whole
   none-left none = sym (ap (λ (left : List A). list_any test left || now) none) ∙ so_far
 
-  -- the same by their number
+  -- the same, by the number of elements
   all-taken : (count : ℕ) → count ≡ length items → count ≡ 0 → now ≡ whole
   all-taken count is none = none-left (empty items (sym is ∙ none))
     where
@@ -27,7 +28,7 @@ module _ {A : Type 0} (test : A → Bool) (items : List A) (now whole : Bool) (s
       empty [] none = refl
       empty (item ∷ left) none = absurd (omega (arith, none))
 
--- the same of what depends on a place, such as a tuple's places
+-- the same for a test that depends on a place, such as a tuple's places
 module _ {P A : Type 0} (test : P → A → Bool) (items : List A) (now whole : P → Bool) (so_far : (place : P) → (list_any (test place) items || now place) ≡ whole place) where
   pub each-taken : (item : A) (rest : List A) (later : P → Bool) → items ≡ item ∷ rest → ((place : P) → later place ≡ (test place item || now place)) → (place : P) → (list_any (test place) rest || later place) ≡ whole place
   each-taken item rest later split added place = one-taken (test place) items (now place) (whole place) (so_far place) item rest (later place) split (added place)

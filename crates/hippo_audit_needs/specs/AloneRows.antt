@@ -1,4 +1,4 @@
--- The marks of the rows of an answer: which virtual tuple the combinations have that make a row.
+-- The marks of the rows of an answer: which virtual tuple the combinations that make a row have.
 use Rattle.std.specs.Prelude.{◌≡◌, Bool, ◌&&◌, List, map, filter, unwrap_or}
 use Rattle.std.specs.BTreeMap as tree
 use Rattle.hippo_model.specs.declared.query.Masked.{Masked}
@@ -11,7 +11,7 @@ use Rattle.hippo_audit_search.specs.declared.marks.Mark.TheVariants.{Unmarked}
 use Rattle.hippo_audit_search.specs.Marks.{row_places, mark_of}
 use Rattle.hippo_distinct.specs.DistinctRows.{RowOrder}
 
--- the marks of rows
+-- the mark of each row
 abbrev pub Marks : Type 0
 Marks = tree.BTreeMap ShownRow Mark
 
@@ -24,13 +24,13 @@ makes_row choices query row rows =
     is_guarded choices query rows && masked_passes choices query rows
     && same_row row (masked_items choices query rows)
 
--- the mark of the combinations that make a row, by the places of their rows of some tables
+-- the mark of the combinations that make a row, by the places of their rows in some tables
 abbrev pub row_mark : Choices → Masked → List KeyedRows → List Place → List Combination → ShownRow
     → Mark
 row_mark choices query sets tables combinations row =
     mark_of (map (row_places sets tables) (filter (makes_row choices query row) combinations))
 
--- each row has its mark
+-- each row has the mark of the combinations that make it
 abbrev pub AreMarked :
     RowOrder → Choices → Masked → List KeyedRows → List Place → List Combination → Marks → Type 0
 AreMarked order choices query sets tables combinations marks =

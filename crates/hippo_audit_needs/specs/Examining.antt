@@ -1,4 +1,4 @@
--- What rules in force, rows and choices at hand say of a query and an audit.
+-- What given rules in force, rows and choices say about a query and an audit.
 use Rattle.std.specs.Prelude.{◌≡◌, List, Option}
 use Rattle.hippo_model.specs.declared.audit.Audit.{Audit}
 use Rattle.hippo_model.specs.declared.audit.SharedRow.{SharedRow}
@@ -15,8 +15,8 @@ use Rattle.hippo_audit_search.specs.HistoryLaws.{sets_at}
 use Rattle.hippo_audit_needs.specs.Seen.{AreCommonColumns}
 use Rattle.hippo_model.specs.Audits.{first_serving}
 
--- rules, rows and choices are those of a valid history, for a query and an audit whose columns they
--- have in common
+-- the rules, rows and choices are those of a valid history; the query's tables are created, and it
+-- has the tables of the audited columns
 pub record AreOfHistory
     (meaning : Meaning) (history : History) (context : Context) (query : Query) (audit : Audit)
     (rules : List TableRules) (query_sets audit_sets : List KeyedRows) (choices : Choices)
@@ -29,7 +29,7 @@ pub record AreOfHistory
   pub audit_rows : audit_sets ≡ sets_at history audit.tables
   pub choices_are : choices ≡ choice_at history
 
--- a tuple is the first one that serves in each history that rules, rows and choices are those of
+-- the tuple is the first that serves in each history that has these rules, rows and choices
 abbrev pub ServesFirst :
     Query → Audit → List TableRules → List KeyedRows → List KeyedRows → Choices
     → Option (List SharedRow) → Type 0

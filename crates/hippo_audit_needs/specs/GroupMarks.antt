@@ -1,4 +1,4 @@
--- What is kept of a group's members, to know without which virtual tuples it changes.
+-- The marks of a group, from which follows without which virtual tuples the group changes.
 use Rattle.std.specs.Prelude.{◌≡◌, Bool, not, ◌&&◌, ◌||◌, List, [], ◌∷◌, ◌++◌, map, filter, take, drop, slice_index_or, if◌then◌else◌, Result, OnOk}
 use Rattle.std.specs.List.{list_any}
 use Rattle.std.specs.Ordering.{is_eq}
@@ -28,7 +28,7 @@ pub record PlacedRow : Type 0 where
   pub row : ShownRow
   pub places : List Place
 
--- the rows that a query makes of some combinations, with the places of these in some tables
+-- the rows that a query makes of some combinations, with the places of their rows in some tables
 abbrev pub placed_rows : Choices → Masked → List KeyedRows → List Place → List Combination
     → List PlacedRow
 placed_rows choices query sets tables combinations =
@@ -46,7 +46,7 @@ shown_value place row = value_in (slice_index_or row place (Denied 0))
 abbrev pub member_places : List PlacedRow → List (List Place)
 member_places members = map (λ member. member.places) members
 
--- the best of the members' values, and the mark of those that have it
+-- the best of the members' values, and the mark of the members that have it
 abbrev pub best_by : (List Value → Value) → Place → List PlacedRow → Best
 best_by best place members =
     let value : Value = best (map (λ member. shown_value place member.row) members) in
@@ -58,20 +58,20 @@ best_of members (Column place) = record { value = Null; mark = Unmarked }
 best_of members (Min place) = best_by least_value place members
 best_of members (Max place) = best_by greatest_value place members
 
--- the mark of all members, and what is the best of each output
+-- the mark of all members, and the best value for each output
 abbrev pub marks_of : List Out → List PlacedRow → GroupMarks
 marks_of outs members =
     record { mark = mark_of (member_places members); bests = map (best_of members) outs }
 
--- a best value with its mark, of one value more: who has it, too, adds to the mark; who has a
--- better one has it alone
+-- a best value and its mark after one more value: an equal value adds to the mark, and a better one
+-- replaces both
 abbrev pub best_after : Value → List (List Place) → Value → Bool → List Place → Best
 best_after old who value is_better places =
     if is_eq (value_cmp value old) then record { value = old; mark = mark_of (who ++ places ∷ []) }
     else if is_better then record { value = value; mark = mark_of (places ∷ []) }
     else record { value = old; mark = mark_of who }
 
--- the value of one member more is taken into the best of the members' values
+-- the value of one more member is added to the best of the members' values
 abbrev pub TakesMember : (List Value → Value) → Value → List Place → Result (Unit {0}) Memory
     → Best → Best → Type 0
 TakesMember best value places result old new =
@@ -80,22 +80,21 @@ TakesMember best value places result old new =
     → places ≡ member.places
     → OnOk result (new ≡ best_by best place (members ++ member ∷ []))
 
--- whether a best value becomes another without the tuple of some places
+-- whether a best value changes without the tuple of these places
 abbrev pub is_best_changed : List Place → Best → Bool
 is_best_changed places best = not (is_null best.value) && is_one places best.mark
 
--- whether a group goes, or a best value of it becomes another, without the tuple of some places
+-- whether a group is gone, or one of its best values changes, without the tuple of these places
 abbrev pub changes_without : List Place → GroupMarks → Bool
 changes_without places group =
     is_one places group.mark || list_any (is_best_changed places) group.bests
 
--- the best values before a place are those of more members, and the others those of the members
--- before
+-- the best values before a place include the new members; the others do not
 abbrev pub AreJoinedBests : List PlacedRow → List PlacedRow → List Out → Place → List Best → Type 0
 AreJoinedBests before after outs place bests =
     bests ≡ map (best_of after) (take place outs) ++ map (best_of before) (drop place outs)
 
--- the groups' marks are kept
+-- the marks of the groups are those of these members
 abbrev pub AreMarkedGroups : Shape → List PlacedRow → MarkedGroups → Type 0
 AreMarkedGroups shape found kept =
     AreKept (λ member. member.row) shape.keys

@@ -1,5 +1,4 @@
--- Laws that join what a query needs over rows, and what an audit has of them, to the model's
--- definitions.
+-- Laws that relate what a query needs and an audit has over given rows to the model's definitions.
 use Rattle.std.specs.Prelude.{◌≡◌, true, List, [], bytes_eq}
 use Rattle.std.specs.List.{AllByRecursion, list_any}
 use Rattle.hippo_model.specs.declared.audit.Audit.{Audit}
@@ -18,8 +17,8 @@ use Rattle.hippo_audit_search.specs.Needs.{needs_by, first_needed}
 use Rattle.hippo_audit_search.specs.HistoryLaws.{sets_at}
 use Rattle.hippo_audit_needs.specs.Seen.{to_be_seen, AreCommonColumns}
 
--- a query of any form needs a tuple of rows of its tables exactly where the query rewritten by the
--- rules in force does, judged by taking combinations out
+-- a query of any form needs a tuple of rows of its tables exactly when its query rewritten by the
+-- rules in force does, judged by removing combinations
 abbrev pub QueryNeedsOverRows : Type 0
 QueryNeedsOverRows =
     (meaning : Meaning) (history : History) (context : Context) (query : Query)
@@ -31,7 +30,7 @@ QueryNeedsOverRows =
     query.form
     (sets_at history query.tables) tuple
 
--- a plain query needs a tuple of rows of its tables exactly where the query rewritten by the rules
+-- a plain query needs a tuple of rows of its tables exactly when its query rewritten by the rules
 -- in force has it
 abbrev pub QueryNeedsWhatItHas : Type 0
 QueryNeedsWhatItHas =
@@ -43,8 +42,8 @@ QueryNeedsWhatItHas =
     ≡ query_has (choice_at history) (rewritten_query (rules_at history context schemas) query) []
     (sets_at history query.tables) tuple
 
--- what a query of any form needs and an audit has first over the rows of a valid history, the query
--- rewritten by the rules in force, is the first virtual tuple that serves
+-- over the rows of a valid history, with the query rewritten by the rules in force, the first tuple
+-- that a query of any form needs and an audit has is the first virtual tuple that serves
 abbrev pub NeededServesFirst : Type 0
 NeededServesFirst =
     (meaning : Meaning) (history : History) (context : Context) (query : Query)
@@ -56,8 +55,8 @@ NeededServesFirst =
     (sets_at history query.tables) (sets_at history audit.tables)
     ≡ first_serving history context query audit
 
--- what a plain query and an audit share first over the rows of a valid history, the query rewritten
--- by the rules in force, is the first virtual tuple that serves
+-- over the rows of a valid history, with the query rewritten by the rules in force, the first tuple
+-- that a plain query and an audit share is the first virtual tuple that serves
 abbrev pub SharedServesFirst : Type 0
 SharedServesFirst =
     (meaning : Meaning) (history : History) (context : Context) (query : Query)

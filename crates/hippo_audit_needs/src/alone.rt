@@ -1,5 +1,5 @@
-//! The first virtual tuple that a DISTINCT query needs and an audit has, found by marks in one
-//! walk.
+//! The first virtual tuple that a DISTINCT query needs and an audit has. One walk over the query's
+//! combinations marks the rows of its answer.
 ghost use Rattle.std.specs.Prelude.{◌≡◌, [], ◌∷◌, ◌++◌, List, IfOk, OnOk, cond};
 ghost use Rattle.std.specs.BTreeMap.{IsOrdered};
 ghost use Rattle.std.specs.List.{list_any};
@@ -23,7 +23,7 @@ use hippo_values::{Memory, Sequence};
 use std::alloc::Global;
 use std::collections::{BTreeMap, BTreeSet};
 
-// Marks one combination more, which makes this row and has the tuple of these places.
+// Adds a combination to the marks. It makes this row and has the tuple of these places.
 fn mark(marks: &mut BTreeMap<CellRow, Mark>, row: CellRow, places: Places) -> Result<(), Memory>
     ensures { (tuples : List (List Place))
         → mark_at ⟦<Sequence<Cell> as Ord>⟧.cmp marks.old row ≡ mark_of tuples
@@ -38,7 +38,7 @@ fn mark(marks: &mut BTreeMap<CellRow, Mark>, row: CellRow, places: Places) -> Re
     Ok(())
 }
 
-// Marks the rows of a query's answer, by the places of the combinations' rows of some tables.
+// Marks the rows of a query's answer, by the places of each combination's rows in some tables.
 #[derive(Drop)]
 struct Marker<'a, C> {
     query: &'a Masked,
@@ -93,7 +93,7 @@ fn row_marks<C: ChoiceView>(
     Ok(marks)
 }
 
-// The places of the tuples that stand alone behind some row.
+// The places of the tuples that some row of the answer comes from alone.
 fn alone(alloc: Global, marks: BTreeMap<CellRow, Mark>) -> Result<BTreeSet<Places>, Memory>
     ensures order { IsOrdered ⟦<Sequence<Cell> as Ord>⟧.cmp marks }
     ensures places { IfOk result (λ candidates. (places : List Place)
@@ -107,13 +107,15 @@ fn alone(alloc: Global, marks: BTreeMap<CellRow, Mark>) -> Result<BTreeSet<Place
     Ok(candidates)
 }
 
-/// The first virtual tuple (a row of each table in both FROM lists, by its key; in the audit's
-/// order) that a DISTINCT query needs, that some row of its answer has with each expression of
-/// `seen` a shown cell, and that some combination of the audit's rows has of which its condition is
-/// true; none exactly where there is none. A tuple is needed where some row of the answer comes
-/// from combinations with the tuple alone. Wants what `first_shared` wants. Takes the time of
-/// `walk_joined` over the query's rows, unless no combination of the audit's rows counts; and
-/// memory for the different rows.
+/// Returns the first virtual tuple that a DISTINCT query needs and an audit has, or `None` if there
+/// is none. A virtual tuple is a row of each table in both FROM lists, by its key, in the audit's
+/// order. The query needs a tuple if some row of its answer comes only from combinations with the
+/// tuple. The tuple must be in a combination that makes a row of the answer and in which every
+/// expression of `seen` is a shown cell. It must also be in a combination of the audit's rows of
+/// which the audit's condition is true. The requirements are those of `first_shared`.
+///
+/// The time is that of `walk_joined` over the query's rows, unless no combination of the audit's
+/// rows counts. The memory is proportional to the number of different rows.
 pub(crate) fn first_alone<C: ChoiceView>(
     alloc: Global,
     compared: &Compared<'_, C>,

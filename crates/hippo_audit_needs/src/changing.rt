@@ -10,14 +10,18 @@ use hippo_model::{ChoiceView, Shape, SharedTuple};
 use hippo_values::Memory;
 use std::alloc::Global;
 
-/// The first virtual tuple (a row of each table in both FROM lists, by its key; in the audit's
-/// order) without whose combinations a query's groups (SQL's GROUP BY) have other rows, that some
-/// combination of the query's rows has which counts and in which each expression of `seen` is a
-/// shown cell, and that some combination of the audit's rows has of which its condition is true;
-/// none exactly where there is none. Wants the rows of each side's tables, in the order of FROM,
-/// the same ones of a table that both have; and an audit that names no table twice. Takes memory
-/// for the groups, and the time of `walk_joined` over the query's rows, unless no combination of
-/// the audit's rows counts.
+/// Returns the first virtual tuple that a grouped query (SQL's GROUP BY) needs and an audit has, or
+/// `None` if there is none. A virtual tuple is a row of each table in both FROM lists, by its key,
+/// in the audit's order. The query needs a tuple if its groups have other rows without the
+/// combinations that have the tuple. The tuple must be in a combination of the query's rows that
+/// counts and in which every expression of `seen` is a shown cell. It must also be in a combination
+/// of the audit's rows of which the audit's condition is true.
+///
+/// The rows must be those of each side's tables, in the order of FROM. A table that both have must
+/// have the same rows on both. The audit must not name a table twice.
+///
+/// The memory is proportional to the number of groups. The time is that of `walk_joined` over the
+/// query's rows, unless no combination of the audit's rows counts.
 pub(crate) fn first_changing<C: ChoiceView>(
     alloc: Global,
     shape: &Shape,

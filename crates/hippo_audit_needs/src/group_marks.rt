@@ -1,5 +1,5 @@
-//! Without which virtual tuples a group changes: what is kept of its members to know it, one after
-//! the other.
+//! The marks of a group, from which follows without which virtual tuples the group changes. They
+//! are updated member by member.
 ghost use Rattle.std.specs.Prelude.{◌≡◌, ◌+◌, ◌<◌, [], ◌∷◌, ◌++◌, ◌||◌, List, length, map, IfOk, OnOk};
 ghost use Rattle.std.specs.List.{list_any};
 ghost use Rattle.hippo_model.specs.Terms.{Place};
@@ -17,7 +17,7 @@ use std::alloc::Global;
 use std::collections::BTreeSet;
 use std::mem;
 
-// The best of the values of a group's members, and the mark of those that have it.
+// The best value of a group's members, and the mark of the members that have it.
 #[derive(Drop)]
 pub(crate) struct Best {
     pub value: Value,
@@ -37,7 +37,7 @@ fn copied(alloc: Global, places: &Places) -> Result<Places, Memory>
     Sequence::from_slice(alloc, places.as_slice())
 }
 
-// Takes the places of one tuple more into a mark.
+// Adds the places of one more tuple to a mark.
 fn mark_with(alloc: Global, mark: &mut Mark, places: &Places) -> Result<(), Memory>
     ensures { (tuples : List (List Place)) → mark.old ≡ mark_of tuples
         → OnOk result (mark.new ≡ mark_of (tuples ++ places.now ∷ [])) }
@@ -46,7 +46,7 @@ fn mark_with(alloc: Global, mark: &mut Mark, places: &Places) -> Result<(), Memo
     Ok(())
 }
 
-// The best value where one member alone has it.
+// The best value if only one member has it.
 fn best_alone(alloc: Global, value: &Value, places: &Places) -> Result<Best, Memory>
     ensures { IfOk result (λ best. best ≡ record
         { value = value.now; mark = mark_of (places.now ∷ []) }) }
@@ -58,7 +58,8 @@ fn best_alone(alloc: Global, value: &Value, places: &Places) -> Result<Best, Mem
     })
 }
 
-// Takes in one value more: one that is equal adds to the mark, and one that is better begins anew.
+// Adds one more value to a best value. An equal value adds to the mark; a better one replaces the
+// value and the mark.
 fn take(
     alloc: Global,
     best: &mut Best,
@@ -78,7 +79,7 @@ fn take(
     Ok(())
 }
 
-// Takes the value of one member more into the least.
+// Adds the value of one more member to the least value.
 fn lower(alloc: Global, best: &mut Best, value: &Value, places: &Places) -> Result<(), Memory>
     ensures { TakesMember least_value value.now places.now result best.old best.new }
 {
@@ -86,7 +87,7 @@ fn lower(alloc: Global, best: &mut Best, value: &Value, places: &Places) -> Resu
     take(alloc, best, value, is_better, places)
 }
 
-// Takes the value of one member more into the greatest.
+// Adds the value of one more member to the greatest value.
 fn raise(alloc: Global, best: &mut Best, value: &Value, places: &Places) -> Result<(), Memory>
     ensures { TakesMember greatest_value value.now places.now result best.old best.new }
 {
@@ -94,7 +95,7 @@ fn raise(alloc: Global, best: &mut Best, value: &Value, places: &Places) -> Resu
     take(alloc, best, value, is_better, places)
 }
 
-// Takes one member more into the best value of an output.
+// Adds one more member to the best value of an output.
 fn join_best(
     alloc: Global,
     out: Out,
@@ -123,7 +124,8 @@ fn join_best(
     }
 }
 
-// Takes one member more into the best value at a place, where those before have it.
+// Adds one more member to the best value at `place`. The best values before it already have this
+// member.
 fn join_place(
     alloc: Global,
     outs: &Outs,
@@ -146,7 +148,7 @@ fn join_place(
     join_best(alloc, *outs.get(place), &mut bests[place], row, places)
 }
 
-// Takes one member more into the best values of its group.
+// Adds one more member to the best values of its group.
 fn join(
     alloc: Global,
     outs: &Outs,
@@ -164,7 +166,7 @@ fn join(
     Ok(())
 }
 
-// The marks of a group with one member more.
+// The marks of a group with one more member.
 fn joined(
     alloc: Global,
     outs: &Outs,
@@ -186,7 +188,7 @@ fn joined(
     })
 }
 
-// The marks of a group that has no member yet.
+// The marks of a group without members.
 fn no_marks(alloc: Global, outs: &Outs) -> Result<GroupMarks, Memory>
     ensures { IfOk result (λ group. group ≡ marks_of outs.now []) }
 {
@@ -203,7 +205,7 @@ fn no_marks(alloc: Global, outs: &Outs) -> Result<GroupMarks, Memory>
     })
 }
 
-// The marks of a group that has one member.
+// The marks of a group with one member.
 pub(crate) fn marks_of_first(
     alloc: Global,
     outs: &Outs,
@@ -217,7 +219,7 @@ pub(crate) fn marks_of_first(
     joined(alloc, outs, none, row, places)
 }
 
-// Takes one member more into the marks of the group at a place.
+// Adds one more member to the marks of the group at a place.
 pub(crate) fn join_at(
     alloc: Global,
     outs: &Outs,
@@ -244,7 +246,7 @@ pub(crate) fn join_at(
     Ok(())
 }
 
-// Adds the tuple without which a best value becomes another, if there is one.
+// Adds the tuple without which a best value changes, if there is one.
 fn add_of_best(best: Best, candidates: &mut BTreeSet<Places>) -> Result<(), Memory>
     ensures { OnOk result ((places : List Place) → has_places places candidates.new.keys
         ≡ (is_best_changed places best || has_places places candidates.old.keys)) }
@@ -255,7 +257,7 @@ fn add_of_best(best: Best, candidates: &mut BTreeSet<Places>) -> Result<(), Memo
     }
 }
 
-// Adds the tuples without which some best value becomes another.
+// Adds the tuples without which some best value changes.
 fn add_of_bests(bests: Vec<Best>, candidates: &mut BTreeSet<Places>) -> Result<(), Memory>
     ensures { OnOk result ((places : List Place) → has_places places candidates.new.keys
         ≡ (list_any (is_best_changed places) bests.items
@@ -267,7 +269,7 @@ fn add_of_bests(bests: Vec<Best>, candidates: &mut BTreeSet<Places>) -> Result<(
     Ok(())
 }
 
-// Adds the tuples without which a group goes, or a best value of it becomes another.
+// Adds the tuples without which a group is gone or one of its best values changes.
 fn add_of_group(group: GroupMarks, candidates: &mut BTreeSet<Places>) -> Result<(), Memory>
     ensures { OnOk result ((places : List Place) → has_places places candidates.new.keys
         ≡ (changes_without places group || has_places places candidates.old.keys)) }

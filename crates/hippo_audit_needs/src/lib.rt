@@ -1,4 +1,4 @@
-//! Which first virtual tuple serves, for a query of any form.
+//! Finds the first virtual tuple that serves, for a query of any form.
 #![tactic(auto)]
 
 mod alone;

@@ -1,4 +1,4 @@
-//! The marks of a query's groups, as a walk over the combinations that count finds them.
+//! The marks of a query's groups, found by a walk over the combinations that count.
 ghost use Rattle.std.specs.Prelude.{◌≡◌, [], ◌∷◌, ◌++◌, List, IfOk, OnOk};
 ghost use Rattle.std.specs.List.{list_any};
 ghost use Rattle.hippo_model.specs.declared.query.Shape as shapes;
@@ -21,7 +21,7 @@ use indexmap::IndexSet;
 use std::alloc::Global;
 use std::collections::BTreeSet;
 
-// The keys of the groups, in the order of their first members, and their marks at the same places.
+// The keys of the groups, in the order of their first members, with their marks at the same places.
 #[derive(Drop)]
 pub(crate) struct MarkedGroups {
     pub keys: IndexSet<Vec<Cell>>,
@@ -38,8 +38,8 @@ impl MarkedGroups {
         }
     }
 
-    // Takes in a row and the places of its combination, in its own group or as the first of a new
-    // one.
+    // Adds a row and the places of its combination to the row's group, or as the first member of a
+    // new group.
     fn add(
         &mut self,
         alloc: Global,
@@ -72,7 +72,7 @@ impl MarkedGroups {
     }
 }
 
-// Marks the groups of a query that a shape asks for, by the places of the rows of some tables.
+// Marks the groups of a query of this shape, by the places of the rows in some tables.
 #[derive(Drop)]
 struct Marker<'a, C> {
     query: &'a Masked,
@@ -108,7 +108,7 @@ impl<'a, C: ChoiceView> Visitor for Marker<'a, C> {
     }
 }
 
-// The marks of a query's groups, by the places of the rows of some of its tables.
+// The marks of a query's groups, by the places of the rows in some of its tables.
 pub(crate) fn marked_groups<C: ChoiceView>(
     alloc: Global,
     query: &Masked,

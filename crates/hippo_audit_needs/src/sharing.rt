@@ -1,4 +1,4 @@
-//! The first virtual tuple that serves, over rows at hand.
+//! The first virtual tuple that serves, over given rows.
 ghost use Rattle.std.specs.Prelude.{◌≡◌, IfOk, map};
 ghost use Rattle.hippo_audit_search.specs.Audited.{HasRowsFor};
 ghost use Rattle.hippo_audit_search.specs.Comparing.{HaveRows, needed_between};
@@ -16,7 +16,7 @@ use hippo_tables_rows::Sets;
 use hippo_values::{Memory, Name, Sequence};
 use std::alloc::Global;
 
-// An audited column, by its table's place in the query.
+// An audited column, with the place of its table in the query.
 fn column_in(query: &[Name], audit: &[Name], column: Ref) -> Ref
     ensures { result ≡ column_in_query query.now audit.now column }
 {
@@ -42,8 +42,8 @@ fn columns_in(alloc: Global, query: &[Name], audit: &Audit) -> Result<Refs, Memo
     Ok(columns)
 }
 
-/// What is to be seen of the query's rows, where the audit asks for cells that were shown: what
-/// stands for each audited column, by the rules in force.
+/// Returns the expressions that must be shown to the query: one for each audited column, by the
+/// rules in force, if the audit asks for cells that were shown; otherwise none.
 pub fn to_be_seen(
     alloc: Global,
     query: &Query,
@@ -75,12 +75,15 @@ fn first_needed<C: ChoiceView>(
     }
 }
 
-/// The first virtual tuple (a row of each table in both FROM lists, by its key; in the audit's
-/// order) that serves: that the query needs, as it was seen with the rules in force, and the audit
-/// needs, and, where the audit asks for cells that were shown, whose audited cells were; none
-/// exactly where none serves. Whether the query is a candidate is left to the caller. Wants the
-/// rules in force of the query's tables, the rows of each side's tables, in the order of FROM, the
-/// same ones of a table that both have, and an audit that names no table twice.
+/// Returns the first virtual tuple that serves, or `None` if none serves. A virtual tuple is a row
+/// of each table in both FROM lists, by its key, in the audit's order. It serves if the query (over
+/// its view under the rules in force) and the audit both need it and, when the audit asks for cells
+/// that were shown, its audited cells were shown. The caller must check that the query is a
+/// candidate.
+///
+/// The rules must be those in force for the query's tables. The rows must be those of each side's
+/// tables, in the order of FROM. A table that both have must have the same rows on both. The audit
+/// must not name a table twice.
 pub fn shared_of<C: ChoiceView>(
     alloc: Global,
     query: &Query,

@@ -1,4 +1,4 @@
--- The first of some places with which something holds.
+-- The first of some places for which a statement is true.
 use Rattle.std.proofs.Common.{◌≡◌, ℕ, zero, suc, ◌+◌, ◌<◌, ◌≤◌, Bool, true, false, cond, ◌&&◌, ◌||◌, List, [], ◌∷◌, length, drop, get_or, refl, sym, ap, subst, ◌∙◌, Option, Some, None, inl, inr, add-one, Result, Ok, Err, option_map, Vec, Global}
 use Rattle.std.specs.Prelude.{slice_get, filter, find, IfOk}
 use Rattle.std.specs.Ordering.{is_eq, nat_cmp}
@@ -45,7 +45,7 @@ those-of sets test candidates rising exact =
     same_rising candidates (filter test (places_of sets)) rising (IsStrictlySortedBy-filter (slice_cmp nat_cmp) test (places_of sets) (rising-places_of sets))
     (λ c. exact c ∙ ap (λ b. b && test c) (sym (has-places_of sets c)) ∙ sym (has-filter test c (places_of sets)))
 
--- ---- what is found among some is what a test finds
+-- ---- the first among some places is the first that a test finds
 module _ (holds : List Place → Type 0) where
   abbrev Agrees : (List Place → Bool) → List Place → Type 0
   Agrees test places = (holds places → test places ≡ true) × (test places ≡ true → holds places)
@@ -70,18 +70,18 @@ module _ (holds : List Place → Type 0) where
       by false e remaining (Some places) (inl is) = absurd (false≢true (sym e ∙ here.0 is.1))
       by false e remaining (Some places) (inr other) = ap (λ b. cond b (Some c) (find test candidates)) e ∙ remaining (Some places) other.1
 
-  -- one more of them with which it does not hold
+  -- one more place for which it is not true
   pub one-not : (first : List Place) (rest : List (List Place)) (found : Option (List Place)) → ¬ holds first → IsFirstAmong holds rest found → IsFirstAmong holds (first ∷ rest) found
   one-not first rest None wrong later = (wrong, later)
   one-not first rest (Some places) wrong later = inr (wrong, later)
 
-  -- what is found among some, holds
+  -- it is true of the place that is found
   pub among-holds : (candidates : List (List Place)) (places : List Place) → IsFirstAmong holds candidates (Some places) → holds places
   among-holds [] places first = absurd first
   among-holds (c ∷ candidates) places (inl is) = subst holds is.0 is.1
   among-holds (c ∷ candidates) places (inr other) = among-holds candidates places other.1
 
-  -- it is the one at a place, or one behind it
+  -- it is the one at a place, or a later one
   found-here : (candidates : List (List Place)) (i : ℕ) (places : List Place) → slice_get candidates i ≡ Some places → holds places → IsFirstAmong holds (drop i candidates) (Some places)
   found-here [] i places at held = absurd cc
   found-here (c ∷ candidates) zero places at held = inl (some_is at, subst holds (sym (some_is at)) held)
@@ -98,7 +98,7 @@ module _ (holds : List Place → Type 0) where
       some_is e = cc
   found-remaining (c ∷ candidates) (suc i) places at wrong found later = found-remaining candidates i places at wrong found later
 
-  -- a test of the next place tells
+  -- a test of the next place decides
   pub found-at : (candidates : List (List Place)) (i : ℕ) (places these : List Place) → i < length candidates → places ≡ get_or candidates i places → these ≡ places
       → (has : Bool) → has ≡ true → Decides (holds these) (Ok has) → IsFirstAmong holds (drop i candidates) (Some places)
   found-at candidates i places these within is same false wrong decided = absurd (false≢true wrong)
@@ -114,7 +114,7 @@ module _ (holds : List Place → Type 0) where
   pub found-none : (candidates : List (List Place)) (i : ℕ) → length candidates ≤ i → IsFirstAmong holds (drop i candidates) None
   found-none candidates i past = subst (λ (l : List (List Place)). IsFirstAmong holds l None) (sym (drop_all i candidates past)) tt
 
--- what is found is copied
+-- the place that is found is copied
 pub copied-first : (holds : List Place → Type 0) (candidates : List (List Place)) (found : Option (List Place)) (result : Result (Option (Vec ℕ Global)) Memory)
     → IfOk result (λ made. option_map (λ copy. copy.items) made ≡ found) → IsFirstAmong holds candidates found → IfOk result (λ made. IsFirstAmong holds candidates (option_map (λ copy. copy.items) made))
 copied-first holds candidates found (Ok made) same first = subst (IsFirstAmong holds candidates) (sym same) first

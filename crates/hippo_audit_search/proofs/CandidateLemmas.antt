@@ -1,4 +1,4 @@
--- The marks of a product's combinations, and the first of the tuples that stand alone.
+-- The marks of a product's combinations, and the first of the tuples that are alone.
 use Rattle.std.proofs.Common.{◌≡◌, ℕ, suc, ◌<◌, Bool, true, false, not, ◌&&◌, ◌||◌, List, [], ◌∷◌, map, length, get_or, refl, sym, ap, subst, ◌∙◌, Some, arith}
 use Rattle.std.specs.Prelude.{slice_get, filter, bytes_eq}
 use Rattle.std.specs.List.{All, AllByRecursion, list_any, list_all}
@@ -34,7 +34,7 @@ from_all : {X : Type 0} (P : X → Type 0) (xs : List X) → All P xs → AllByR
 from_all P [] all = tt
 from_all P (x ∷ xs) all = (all 0 x (omega arith), from_all P xs (λ k d within. all (suc k) d (omega arith)))
 
--- what holds of the combinations of a product's places holds of each of the product
+-- what is true of the combinations at a product's places is true of each combination of the product
 each_chosen : (sets : List KeyedRows) (P : Combination → Type 0) → ((places : List Place) → in_range sets places ≡ true → P (chosen_rows sets places)) → AllByRecursion P (product (rows_of sets))
 each_chosen sets P holds = subst (λ (all : List Combination). AllByRecursion P all) (sym (product-rows sets)) (each (places_of sets) (λ places has. holds places (sym (has-places_of sets places) ∙ has)))
   where
@@ -129,7 +129,7 @@ module _ (query audit : List Name) (query_sets audit_sets : List KeyedRows) (lon
       (λ equal. tuple-from-agrees query query_sets audit audit_sets long_query long_audit common in_query in_audit same_rows given places
       (subst (λ (l : List Place). AgreeAt query_places l places) (same-exact (places_at (chosen_rows query_sets places)) given equal) (own places within)))
 
-  -- what is told of each combination of the product
+  -- what is known of each combination of the product
   abbrev pub Told : Combination → Type 0
   Told rows = (in_range common_sets (places_at rows) ≡ true)
       × ((given : List Place) → in_range common_sets given ≡ true → has_tuple_in query query_sets (shared_at given) rows ≡ same_places (places_at rows) given)
@@ -153,7 +153,8 @@ module _ (query audit : List Name) (query_sets audit_sets : List KeyedRows) (lon
       by true any same later = subst (λ (l : List Place). in_range common_sets l ≡ true) (same-exact (places_at rows) given same) told.0.0
       by false any same later = later any
 
-  -- combinations of the product that pass a test have the mark of one virtual tuple exactly where there are some, and all of them have it
+  -- combinations of the product that pass a test have the mark of one virtual tuple exactly when
+  -- there are some and all have that tuple
   pub marked-alone : (test : Combination → Bool) (given : List Place)
       → is_one given (mark_of (map places_at (filter test (product (rows_of query_sets)))))
       ≡ (in_range common_sets given && (list_any test (product (rows_of query_sets))

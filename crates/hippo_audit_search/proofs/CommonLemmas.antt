@@ -21,7 +21,7 @@ one_after first tables place = let next : 1 + place ≡ suc place = omega arith 
 abbrev Found : Name → List Name → Name → ℕ → Type 0
 Found first tables table place = (place < suc (length tables)) × (get_or (first ∷ tables) place [] ≡ table)
 
--- a table that stands among others stands at its place
+-- a table in a list is at its place
 pub place-found : (tables : List Name) (table : Name) → list_any (bytes_eq table) tables ≡ true → (place_in tables table < length tables) × (get_or tables (place_in tables table) [] ≡ table)
 place-found [] table has = absurd (false≢true has)
 place-found (first ∷ tables) table has = by (bytes_eq table first) refl has (place-found tables table)
@@ -32,7 +32,7 @@ place-found (first ∷ tables) table has = by (bytes_eq table first) refl has (p
     by true e has later = (omega arith, sym (same_name table first e))
     by false e has later = let found = later has in (omega (arith, found.0), one_after first tables (place_in tables table) ∙ found.1)
 
--- what is said of both tables' lists
+-- what is true of a table in both lists
 abbrev pub InBoth : List Name → List Name → Name → Type 0
 InBoth query audit table = (list_any (bytes_eq table) query ≡ true) × (list_any (bytes_eq table) audit ≡ true)
 
@@ -65,7 +65,7 @@ common-in-query query audit = all_more (InBoth query audit) (λ table. list_any 
 pub common-in-audit : (query audit : List Name) → AllByRecursion (λ table. list_any (bytes_eq table) audit ≡ true) (common_tables query audit)
 common-in-audit query audit = all_more (InBoth query audit) (λ table. list_any (bytes_eq table) audit ≡ true) (λ name both. both.1) (common_tables query audit) (common-in-both query audit)
 
--- different tables stand at different places
+-- different tables are at different places
 kept_apart : (query : List Name) (name : Name) (names : List Name) → AllByRecursion (λ other. bytes_eq name other ≡ false) names → AllByRecursion (λ other. bytes_eq name other ≡ false) (common_tables query names)
 kept_apart query name [] apart = tt
 kept_apart query name (other ∷ names) apart = by (list_any (bytes_eq other) query) (kept_apart query name names apart.1)
@@ -83,7 +83,7 @@ common-distinct query (name ∷ names) distinct = by (list_any (bytes_eq name) q
     by true rest = (kept_apart query name names distinct.0, rest)
     by false rest = rest
 
--- places that are chosen nowhere, each once
+-- places at which nothing is chosen, each listed once
 set_beside : (slots : List (Option Place)) (table other : Place) (slot : Option Place) → ¬ (table ≡ other) → slice_get (slice_set slots table slot) other ≡ slice_get slots other
 set_beside [] table other slot apart = refl
 set_beside (first ∷ slots) zero zero slot apart = absurd (apart refl)
@@ -118,7 +118,7 @@ unchosen zero place within = absurd (omega arith)
 unchosen (suc n) zero within = refl
 unchosen (suc n) (suc place) within = unchosen n place (omega arith)
 
--- at the beginning the common tables' places are open
+-- at the start no row is chosen in the common tables
 pub common-open : (tables common : List Name) (n : ℕ) → IsDistinct bytes_eq common → AllByRecursion (λ table. list_any (bytes_eq table) tables ≡ true) common → length tables ≡ n → AreOpen (map (place_in tables) common) (replicate n None)
 common-open tables common n distinct all long =
     open_at tables (replicate n None) common distinct

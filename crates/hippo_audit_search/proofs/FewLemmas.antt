@@ -1,4 +1,4 @@
--- A few places of the one common table.
+-- Few places in the only common table.
 use Rattle.std.proofs.Common.{◌≡◌, ℕ, suc, ◌+◌, ◌<◌, ◌≤◌, List, [], ◌∷◌, ◌++◌, map, length, take, get_or, sym, ap, subst, ◌∙◌, Option, Some, None, inl, inr, arith}
 use Rattle.std.specs.List.{All, Contains}
 use Rattle.std.specs.List.Sorted.{IsNonDecreasing, IsPermutation}
@@ -39,7 +39,7 @@ few-of choices side tables table some here sorted only reaches same moved rises 
       Contains-permutation here sorted place moved (subst (λ (l : List Place). Contains l place) (sym same) (reach places counts place at));
 }
 
--- ---- the first of them
+-- ---- the first of these places
 module _ (holds : List Place → Type 0) where
   abbrev AllAmong : List Place → Type 0
   AllAmong few = (given : List Place) → holds given → (place : Place) × (given ≡ place ∷ []) × Contains few place
@@ -51,7 +51,7 @@ module _ (holds : List Place → Type 0) where
   later_rises : (x : Place) (few : List Place) → IsNonDecreasing (x ∷ few) → IsNonDecreasing few
   later_rises x few rises = λ i j d up within. rises (suc i) (suc j) d (omega (arith, up)) (omega (arith, within))
 
-  -- where it does not hold with the first, it is left to the others
+  -- if it is not true of the first place, one of the others is next
   left_among : (x : Place) (few : List Place) → AllAmong (x ∷ few) → ¬ holds (alone x) → AllAmong few
   left_among x few all wrong given held =
       let found = all given held in (

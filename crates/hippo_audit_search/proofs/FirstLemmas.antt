@@ -29,14 +29,14 @@ module _ (test : List Place → Bool) (some : List (List Place)) where
   find-remaining : (place : Place) → find test (remaining place some) ≡ option_map (λ others. place ∷ others) (find (λ others. test (place ∷ others)) some)
   find-remaining place = find-map test (λ others. place ∷ others) some
 
-  -- no place of a range
+  -- no place in a range
   none-remaining : (start n : ℕ) → ((place : Place) → start ≤ place → place < start + n → find test (remaining place some) ≡ None) → find test (after_each some start n) ≡ None
   none-remaining start zero none = refl
   none-remaining start (suc n) none =
       find-append test (remaining start some) (after_each some (start + 1) n)
       ∙ (λ i. option_or (none start (omega arith) (omega arith) i) (none-remaining (start + 1) n (λ place above below. none place (omega arith) (omega arith)) i))
 
-  -- the first place of a range
+  -- the first place in a range
   first-remaining : (start n : ℕ) (place : Place) (found : List Place) → start ≤ place → place < start + n → ((lower : Place) → start ≤ lower → lower < place → find test (remaining lower some) ≡ None)
       → find test (remaining place some) ≡ Some found → find test (after_each some start n) ≡ Some found
   first-remaining start zero place found above below none here = absurd (omega arith)
@@ -63,12 +63,12 @@ find-none (set ∷ sets) test none =
     in_front : (set : KeyedRows) (sets : List KeyedRows) (place : Place) (others : List Place) → place < length set.rows → in_range sets others ≡ true → in_range (set ∷ sets) (place ∷ others) ≡ true
     in_front set sets place others below within = let lower : nat_lt place (length set.rows) ≡ true = grind (arith, nat_tests) in λ i. lower i && within i
 
--- places that come first hold
+-- the statement is true of the places that come first
 pub first-holds : (holds : List Place → Type 0) (places : List Place) → AreFirst holds places → holds places
 first-holds holds [] first = first
 first-holds holds (place ∷ places) first = first-holds (λ others. holds (place ∷ others)) places first.0
 
--- the first places with which something holds are the first that pass a test for it
+-- the first places for which a statement is true are the first that pass a test of it
 pub find-first : (sets : List KeyedRows) (test : List Place → Bool) (holds : List Place → Type 0)
     → ((places : List Place) → holds places → in_range sets places ≡ true) → ((places : List Place) → holds places → test places ≡ true)
     → ((places : List Place) → in_range sets places ≡ true → test places ≡ true → holds places)

@@ -45,7 +45,7 @@ get_map f (x ∷ xs) zero d e within = refl
 get_map f (x ∷ xs) (suc k) d e within = get_map f xs k d e (omega arith)
 
 module _ (history : History) where
-  -- the rows of a table that may not be created
+  -- the rows of a table, which may not be created
   abbrev pub rows_by : Option Schema → KeyedRows
   rows_by schema = option_map_or (λ made. kept_at made history) schema no_rows
 

@@ -1,4 +1,4 @@
--- Rows in the order of their keys: equal keys are those of one row.
+-- In rows ordered by their keys, equal keys belong to one row.
 use Rattle.std.proofs.Common.{◌≡◌, ℕ, zero, suc, ◌<◌, List, [], ◌∷◌, map, length, refl, sym, ap, ◌∙◌, arith}
 use Rattle.std.specs.Ordering.{is_eq}
 use Rattle.std.specs.Cmp.{eq_by_cmp_equiv}

@@ -88,11 +88,11 @@ place_like-own set place ascends within =
     ap (λ (p : ℕ). unwrap_or (cond (nat_lt p (length set.rows)) (Some p) None) 0) (own_place set.key set.rows place ascends within)
     ∙ ap (λ b. unwrap_or (cond b (Some place) None) 0) test
 
--- ---- one combination more
+-- ---- one more combination
 all_more : (first : List Place) (rest : List (List Place)) (places : List Place) → list_all (same_places first) (rest ++ places ∷ []) ≡ (list_all (same_places first) rest && same_places first places)
 all_more first rest places = list_all-append (same_places first) rest (places ∷ []) ∙ ap (λ b. list_all (same_places first) rest && b) (and-true (same_places first places))
 
--- one that has the same tuple, or is the first
+-- one with the same tuple, or the first one
 pub mark-same : (mark : Mark) (tuples : List (List Place)) (places : List Place) → mark ≡ mark_of tuples → has_no_other places mark ≡ true → One places ≡ mark_of (tuples ++ places ∷ [])
 mark-same mark [] places e test = refl
 mark-same mark (first ∷ rest) places e test = by (list_all (same_places first) rest) refl (sym (ap (has_no_other places) e) ∙ test)
@@ -103,7 +103,7 @@ mark-same mark (first ∷ rest) places e test = by (list_all (same_places first)
         ∙ sym (ap (λ b. cond b (One first) Several) (all_more first rest places ∙ (λ i. is i && same i)))
     by false is wrong = absurd (false≢true wrong)
 
--- one that has another
+-- one with another tuple
 pub mark-other : (mark : Mark) (tuples : List (List Place)) (places : List Place) → mark ≡ mark_of tuples → has_no_other places mark ≡ false → Several ≡ mark_of (tuples ++ places ∷ [])
 mark-other mark [] places e test = absurd (false≢true (sym test ∙ ap (has_no_other places) e))
 mark-other mark (first ∷ rest) places e test = by (list_all (same_places first) rest) refl (sym (ap (has_no_other places) e) ∙ test)
@@ -146,7 +146,7 @@ is_one-mark_of places (first ∷ rest) = by (same_places first places) refl (lis
     by false e true is = e ∙ sym (ap (λ b. b && all_are places rest) e)
     by false e false is = sym (ap (λ b. b && all_are places rest) e)
 
--- of combinations that pass a test
+-- the mark of the combinations that pass a test
 module _ {C : Type 0} (places_at : C → List Place) (test : C → Bool) (places : List Place) where
   some-passing : (cs : List C) → some_are (map places_at (filter test cs)) ≡ list_any test cs
   some-passing [] = refl

@@ -1,4 +1,4 @@
--- The first places of the common tables that are left.
+-- The first places in the common tables that are left.
 use Rattle.std.proofs.Common.{◌≡◌, ℕ, zero, suc, ◌+◌, ◌<◌, ◌≤◌, Bool, true, false, List, [], ◌∷◌, map, length, get_or, refl, sym, ap, subst, ◌∙◌, Option, Some, None, unwrap_or, option_map, replicate, take, drop, inl, inr, ◌⊎◌, arith, Result, Ok, Vec, Global}
 use Rattle.std.specs.Prelude.{slice_get, slice_set, is_some}
 use Rattle.std.specs.List.{All, Contains}
@@ -40,7 +40,7 @@ in-either choices query sets slots table own other_choices other other_sets othe
       | inr same ↦ inr (reaches-moved other_choices other other_sets other_slots other_table others these sorted reached same moved)
     ]
 
--- a row that may be chosen stands among those that a stage reaches
+-- a row that may be chosen is among those that a stage reaches
 pub reach-one : (choices : Choices) (query : Masked) (seen : List Expr) (sets : List KeyedRows) (slots : List (Option Place)) (table : Place) (some : List Place) (place : Place) → slice_get slots table ≡ Some None → ReachesFrom choices query sets slots table some
     → HasOne choices query seen sets (slice_set slots table (Some place)) → Contains some place
 reach-one choices query seen sets slots table some place free reaches one =
@@ -49,7 +49,7 @@ reach-one choices query seen sets slots table some place free reaches one =
     let unchosen : is_chosen slots table ≡ false = ap (λ (o : Option (Option Place)). is_some (unwrap_or o None)) free in
     reaches one.places (Fits-unset slots one.places table place unchosen one.fits) one.counts place (Fits-at more one.places table place one.fits here)
 
--- none of a list's places up to one is the first of places by which both sides have a combination
+-- no place of a list before a certain one is the first for which both sides have a combination
 abbrev pub NoneSoFar : {C : Type 0} → (C → Choices) → Search C → List CommonStages → Slots → Slots → List Place → ℕ → Type 0
 NoneSoFar choices sides left query audit places i =
     (k : ℕ) → k < i → (others : List Place) → ¬ Shared choices sides left query audit (get_or places k 0 ∷ others)
@@ -59,7 +59,7 @@ length-tables [] = refl
 length-tables (stages ∷ left) = ap suc (length-tables left)
 
 module _ {C : Type 0} (choices : C → Choices) (sides : Search C) where
-  -- ---- what a search counts on
+  -- ---- what a search requires
   pub ready-none : (common : List CommonStages) (query audit : Slots) → IsSearchReady choices sides common query audit → IsSearchReady choices sides [] query audit
   ready-none common query audit ready = record {
     query_stages = ready.query_stages;
@@ -89,7 +89,7 @@ module _ {C : Type 0} (choices : C → Choices) (sides : Search C) where
   ready-same left query query_now audit audit_now same_query same_audit ready =
       subst (λ (slots : Slots). IsSearchReady choices sides left slots audit_now) (sym same_query) (subst (λ (slots : Slots). IsSearchReady choices sides left query slots) (sym same_audit) ready)
 
-  -- both sides have a combination with the rows that are chosen already
+  -- both sides have a combination with the rows that are already chosen
   share-ones : (left : List CommonStages) (query audit : Slots) (given : List Place) → AreOpen (query_tables left) query → AreOpen (audit_tables left) audit → Shared choices sides left query audit given
       → HasOneOf choices sides.query.now sides.seen.now query × HasOneOf choices sides.audit.now [] audit
   share-ones left query audit given query_open audit_open share =
@@ -137,7 +137,7 @@ module _ {C : Type 0} (choices : C → Choices) (sides : Search C) where
       named : (place k : ℕ) → k < length some → get_or some k place ≡ place → get_or some k 0 ≡ place
       named place k within at = sym (get_or_default some k 0 place within) ∙ at
 
-      -- the first place with which both sides have a combination
+      -- the first place for which both sides have a combination
       first-tried : (i : ℕ) → i < length some → NoneSoFar choices sides (stages ∷ rest) query audit some i → (given : List Place)
           → AreFirst (λ later. Shares (get_or some i 0 ∷ later)) given → AreFirst Shares (get_or some i 0 ∷ given)
       first-tried i within so_far given first = (
@@ -163,7 +163,7 @@ module _ {C : Type 0} (choices : C → Choices) (sides : Search C) where
       pub none-tried : (i : ℕ) → length some ≤ i → NoneSoFar choices sides (stages ∷ rest) query audit some i → IsFirst (Shared choices sides common query audit) None
       none-tried i past so_far given = subst (λ (left : List CommonStages). ¬ Shared choices sides left query audit given) (sym split) (none-here i past so_far given)
 
-      -- the same, of what a call answers over slots that are these
+      -- the same for the result of a call that leaves these slots
       module _ (query_now audit_now : Slots) (same_query : query_now ≡ query) (same_audit : audit_now ≡ audit) (found : Option (Vec ℕ Global)) (i : ℕ)
           (told : IsFirst (Shared choices sides rest (slice_set query_now stages.query.now.table (Some (get_or some i 0))) (slice_set audit_now stages.audit.now.table (Some (get_or some i 0)))) (option_map (λ (places : Vec ℕ Global). places.items) found))
           (so_far : NoneSoFar choices sides (stages ∷ rest) query audit some i) where
@@ -197,7 +197,7 @@ module _ {C : Type 0} (choices : C → Choices) (sides : Search C) where
               | inr here ↦ none given (subst (λ (j : ℕ). Shares (get_or some j 0 ∷ given)) here share)
             ]
 
-  -- what is found where no table is left
+  -- the result if no table is left
   pub none-left : (common : List CommonStages) (query audit query_after audit_after : Slots) (result : Result (Option (Vec ℕ Global)) Memory) → length common ≡ 0
       → FindsFirst choices sides [] query audit query_after audit_after result → FindsFirst choices sides common query audit query_after audit_after result
   none-left [] query audit query_after audit_after result none finds = finds
@@ -212,7 +212,7 @@ open-again (slot ∷ slots) zero at = ap (λ (s : Option Place). s ∷ slots) (s
     some_is e = cc
 open-again (slot ∷ slots) (suc table) at = ap (λ (l : List (Option Place)). slot ∷ l) (open-again slots table at)
 
--- a row that was chosen is not chosen any more
+-- a chosen row is no longer chosen
 pub reset : (slots now : Slots) (table place : Place) → slice_get slots table ≡ Some None → now ≡ slice_set slots table (Some place) → slice_set now table None ≡ slots
 reset slots now table place free is = ap (λ (s : Slots). slice_set s table None) is ∙ set-set slots table (Some place) None ∙ open-again slots table free
 
@@ -266,7 +266,7 @@ open-by n m tables given slots same none long free =
     let slots_are : slots ≡ replicate n None = none ∙ ap (λ (k : ℕ). replicate {A = Option Place} k None) long in
     subst (λ (s : List (Option Place)). AreOpen tables s) (sym slots_are) (subst (λ (l : List Place). AreOpen l (replicate {A = Option Place} n None)) (sym same) free)
 
--- the rows of some tables, one after the other
+-- rows chosen in some tables, one after the other
 pub with-one-more : (tables places : List Place) (i : ℕ) (slots whole : List (Option Place)) → i < length tables → i < length places → with_rows (drop i tables) (drop i places) slots ≡ whole
     → with_rows (drop (i + 1) tables) (drop (i + 1) places) (slice_set slots (get_or tables i 0) (Some (get_or places i 0))) ≡ whole
 with-one-more tables places i slots whole in_tables in_places so_far =

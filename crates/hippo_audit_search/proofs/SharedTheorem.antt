@@ -1,5 +1,5 @@
--- The first places with which both sides have a combination are those of the first shared tuple; and the first of some
--- places, those of the first virtual tuple that passes a test.
+-- The first places for which both sides have a combination are those of the first shared tuple. The
+-- first of given places are those of the first virtual tuple that passes a test.
 use Rattle.std.proofs.Common.{◌≡◌, ℕ, zero, suc, ◌<◌, Bool, true, false, ◌&&◌, List, [], ◌∷◌, map, length, refl, sym, ap, subst, ◌∙◌, Option, Some, None, option_map, replicate, arith}
 use Rattle.std.specs.Prelude.{bytes_eq, find, IfSome}
 use Rattle.std.specs.List.{All, AllByRecursion, IsDistinct, list_any}
@@ -56,7 +56,7 @@ all_places tables n long (table ∷ common) all = by (all_places tables n long c
     by later zero d within = subst (λ (m : ℕ). place_in tables table < m) long (place-found tables table all.0).0
     by later (suc k) d within = later k d (omega arith)
 
--- one side: it has a combination with the rows at given places exactly where it has one with their keys
+-- a side has a combination with the rows at given places exactly when it has one with their keys
 module _ (choices : Choices) (query : Masked) (seen : List Expr) (tables : List Name) (sets : List KeyedRows) (names : List Name) (others : List KeyedRows) (common : List Name)
     (long : length sets ≡ length tables) (long_others : length others ≡ length names) (here : AllStandIn tables common) (there : AllStandIn names common) (distinct : IsDistinct bytes_eq common)
     (same : AllByRecursion (λ table. rows_named tables sets table ≡ rows_named names others table) common)
@@ -188,7 +188,7 @@ module _ (choices : Choices) (query : Masked) (audit : Audit) (seen : List Expr)
   shared-is found first =
       sym (ap (find shares) (tuples-by-places audit.tables audit_sets common in_audit) ∙ find-map shares shared_at (places_of common_sets) ∙ ap (option_map shared_at) (found_is found first))
 
-  -- the first of some places, ascending, that are those of the virtual tuples that pass a test
+  -- the first of given ascending places, which are those of the virtual tuples that pass a test
   candidate-is : (test : List SharedRow → Bool) (candidates : List (List Place)) → IsRising candidates → AreCandidates test audit.tables audit_sets common candidates → (found : Option (List Place)) → IsFirstAmong Holds candidates found
       → option_map shared_at found ≡ first_passing test choices query audit seen query_sets audit_sets
   candidate-is test candidates rising those found first =
@@ -203,7 +203,7 @@ module _ (choices : Choices) (query : Masked) (audit : Audit) (seen : List Expr)
       ∙ find-map (λ tuple. test tuple && shares tuple) shared_at (places_of common_sets)
       ∙ ap (option_map shared_at) (find-filter chosen_by passes (places_of common_sets) ∙ ap (find passes) (sym (those-of common_sets chosen_by candidates rising those)) ∙ here))
 
--- the places of the common tables, in what a search wants
+-- the places of the common tables meet the requirements of a search
 module _ {C : Type 0} (query : Masked) (audited : Audited C) (rows : HasRowsFor query.tables audited) where
   abbrev both : List Name
   both = common_tables query.tables audited.audit.now.tables
@@ -237,7 +237,7 @@ module _ {C : Type 0} (query : Masked) (audited : Audited C) (rows : HasRowsFor 
       let these : All (λ place. place < length audited.audit.now.tables) items = subst (λ (l : List Place). All (λ place. place < length audited.audit.now.tables) l) (sym is) all in
       subst (λ (l : List Name). All (λ place. place < length l) items) (sym same_names) these
 
--- what a search over both sides answers
+-- the result of a search over both sides
 module _ {C : Type 0} (choices : C → Choices) (query : Masked) (seen : List Expr) (audited : Audited C) (rows : HasRowsFor query.tables audited)
     (ascend : All (λ (set : KeyedRows). IsAscending (map (key_in set.key) set.rows)) audited.audit_sets.now) (sides : Sides C) (are : AreSidesOf query seen audited sides) where
   abbrev now : Choices
@@ -279,7 +279,7 @@ module _ {C : Type 0} (choices : C → Choices) (query : Masked) (seen : List Ex
       shared-is now query audited.audit.now seen audited.query_sets.now audited.audit_sets.now rows.query_sets rows.audit_sets rows.tables rows.rows ascend found
       (subst (λ (holds : List Place → Type 0). IsFirst holds found) shared_here first)
 
-  -- the first of some places, ascending
+  -- the first of given ascending places
   pub candidate-told : (candidates : List (List Place)) → IsRising candidates → (found : Option (List Place)) → IsFirstAmong (SharedBy choices sides) candidates found → (test : List SharedRow → Bool)
       → AreCandidates test audited.audit.now.tables audited.audit_sets.now (common_tables query.tables audited.audit.now.tables) candidates
       → option_map tuple_here found ≡ first_passing test now query audited.audit.now seen audited.query_sets.now audited.audit_sets.now

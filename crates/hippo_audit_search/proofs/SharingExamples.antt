@@ -49,7 +49,7 @@ visits = record {
 abbrev at : ℕ → ℕ → Ref
 at table column = record { table = table; column = column }
 
--- a query of visits with their patients, where a condition is true
+-- a query of visits with their patients that meet a condition
 abbrev visitors : CondOf Expr → Masked
 visitors condition = record {
   items = [];
@@ -71,7 +71,7 @@ southern = audit_of (patient ∷ visit ∷ []) (All (Compare Eq (Column (at 0 0)
 abbrev silent : Choices
 silent number item = None
 
--- the first patient said no, the others said nothing
+-- the first patient said no, the others made no choice
 abbrev refusing : Choices
 refusing number item = then_some (int_le number (pos 1)) false
 

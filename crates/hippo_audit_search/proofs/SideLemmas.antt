@@ -69,7 +69,7 @@ any-of-product sets test places within good =
     ap (list_any test) (product-rows sets) ∙ list_any-map test (chosen_rows sets) (places_of sets)
     ∙ any_by (λ places. test (chosen_rows sets places)) (places_of sets) places (has-places_of sets places ∙ within) good
 
--- ---- rows of the common tables that are chosen
+-- ---- chosen rows of the common tables
 module _ (Query Audit : List (Option Place) → Type 0) where
   pub share-both : (tables others : List Place) (query audit : List (Option Place)) (given : List Place) → ShareAt Query Audit tables others query audit given
       → (length given ≡ length tables) × Query (with_rows tables given query) × Audit (with_rows others given audit)
@@ -94,7 +94,7 @@ module _ (Query Audit : List (Option Place) → Type 0) where
   both-share (table ∷ tables) (other ∷ others) query audit (place ∷ given) long same q a =
       both-share tables others (slice_set query table (Some place)) (slice_set audit other (Some place)) given (omega arith) (omega arith) q a
 
--- whether both sides have a combination, by one side after the other
+-- testing both sides for a combination, one side after the other
 module _ (Query Audit : List (Option Place) → Type 0) (tables others : List Place) (query audit : List (Option Place)) (given : List Place) where
   abbrev Both : Type 0
   Both = ShareAt Query Audit tables others query audit given
@@ -158,7 +158,7 @@ module _ (choices : Choices) (query : Masked) (seen : List Expr) (sets : List Ke
   unfolding stays
   parts-counted places counts = and_parts (in_range sets places) (is_guarded choices query (chosen_rows sets places) && masked_passes choices query (chosen_rows sets places)) counts
 
--- an audit's condition, as that of a query without guards
+-- an audit's condition as a query without guards
 abbrev pub unmasked_query : CondOf Operand → Masked
 unmasked_query condition = record { items = []; tables = []; guards = []; cond = unmasked_condition condition }
 
@@ -166,7 +166,7 @@ pub passes-unmasked_operand : (choices : Choices) (condition : CondOf Operand) (
 passes-unmasked_operand choices condition rows =
     ap is_true (agrees unmasked_operand (masked_value choices rows) condition ∙ ap (λ (value : Operand → Value). truth value condition) (λ i operand. value_is choices rows operand i))
 
--- where no combination of an audit's rows counts, none has a tuple
+-- if no combination of an audit's rows counts, none has a tuple
 pub audit-none : (choices : Choices) (audit : Audit) (sets : List KeyedRows) (unmasked : Masked) → unmasked ≡ unmasked_query audit.cond
     → (result : Result Bool Memory) → Decides (HasOne choices unmasked [] sets (replicate (length sets) None)) result
     → IfOk result (λ has. has ≡ false → (tuple : List SharedRow) → audit_has audit sets tuple ≡ false)

@@ -1,4 +1,4 @@
--- Places of the common tables that look-ups tell.
+-- Places in the common tables that lookups find.
 use Rattle.std.proofs.Common.{◌≡◌, ℕ, ◌+◌, ◌<◌, ◌≤◌, Bool, true, false, List, [], ◌∷◌, ◌++◌, length, drop, get_or, refl, sym, ap, subst, ◌∙◌, Option, Some, None, option_map, if◌then◌else◌, replicate, arith, append_assoc, Vec, Global, Ok}
 use Rattle.std.specs.Prelude.{slice_get, IfSome}
 use Rattle.std.proofs.lemmas.List.{append-nil, drop_all, drop_more}
@@ -19,7 +19,7 @@ use Rattle.hippo_audit_search.specs.Searching.{HasOneOf, HaveCommon, SharedBy}
 use Rattle.hippo_audit_search.specs.ToldPlaces.{AreToldOf, AreToldShared}
 use Rattle.hippo_audit_search.proofs.SideLemmas.{share-both, one-agrees}
 
--- ---- places that are chosen in some tables
+-- ---- chosen places in some tables
 pub chosen-more : (slots : List (Option Place)) (tables : List Place) (i : ℕ) (place : Place) (items more : List Place) → i < length tables → slot_at slots (get_or tables i 0) ≡ Some place → more ≡ items ++ place ∷ []
     → ((others : List Place) → AreChosen slots (drop i tables) others → AreChosen slots tables (items ++ others))
     → (others : List Place) → AreChosen slots (drop (i + 1) tables) others → AreChosen slots tables (more ++ others)
@@ -31,7 +31,7 @@ pub chosen-all : (slots : List (Option Place)) (tables : List Place) (i : ℕ) (
 chosen-all slots tables i items past so_far =
     subst (AreChosen slots tables) (append-nil items) (so_far [] (subst (λ (l : List Place). AreChosen slots l []) (sym (drop_all i tables past)) tt))
 
--- what fits has the places that are chosen
+-- what fits the slots has the chosen places
 chosen_agree : (slots : List (Option Place)) (tables told places : List Place) → Fits slots places → AreChosen slots tables told → AgreeAt tables told places
 chosen_agree slots [] [] places fits chosen = tt
 chosen_agree slots [] (place ∷ told) places fits chosen = absurd chosen
@@ -44,7 +44,7 @@ chosen-told choices query sets slots here tables items None settled same chosen 
 chosen-told choices query sets slots here tables items (Some told) settled same chosen = λ places counts.
     chosen_agree slots tables (items told) places (settled places counts) (subst (λ (s : List (Option Place)). AreChosen s tables (items told)) same chosen)
 
--- ---- what is shared has the places that are told
+-- ---- shared places agree with those that lookups find
 agree_once : (tables given told places : List Place) → AgreeAt tables given places → AgreeAt tables told places → given ≡ told
 agree_once [] [] [] places a b = refl
 agree_once [] [] (t ∷ told) places a b = absurd b
@@ -73,7 +73,7 @@ module _ {C : Type 0} (choices : C → Choices) (sides : Sides C) (common : Have
   abbrev pub audit_places : List Place
   audit_places = sides.common.now.audit.items
 
-  -- what is shared stands in a combination of each side
+  -- shared places are in a combination of each side
   in-query : (given : List Place) → SharedBy choices sides given
       → (one : HasOneOf choices sides.query sides.seen.now (replicate (length sides.query.sets.now) None)) × AgreeAt query_places given one.places
   in-query given share =
@@ -86,7 +86,8 @@ module _ {C : Type 0} (choices : C → Choices) (sides : Sides C) (common : Have
       let both = share-both (HasOneOf choices sides.query sides.seen.now) (HasOneOf choices sides.audit []) query_places audit_places (replicate (length sides.query.sets.now) None) (replicate (length sides.audit.sets.now) None) given share in
       one-agrees (choices sides.audit.choices.now) sides.audit.query.now [] sides.audit.sets.now audit_places given (replicate (length sides.audit.sets.now) None) common.audit_open (both.0 ∙ common.same) both.2
 
-  -- what a side tells is what is shared, where what is shared stands in a combination of it
+  -- the places that a side's lookups find are the shared ones, if these are in a combination of
+  -- that side
   module _ (side : Side C) (seen : List Expr) (tables : List Place)
       (in_side : (given : List Place) → SharedBy choices sides given → (one : HasOneOf choices side seen (replicate (length side.sets.now) None)) × AgreeAt tables given one.places) where
     told_by : (how_many : HowMany) (told : List Place) → AreToldOf how_many choices side tables told → AreToldShared how_many choices sides told
@@ -107,7 +108,7 @@ module _ {C : Type 0} (choices : C → Choices) (sides : Sides C) (common : Have
   by-either how_many items None told = tt
   by-either how_many items (Some places) told = told_by sides.audit [] audit_places in-audit how_many (items places) told
 
--- ---- what holds with these places alone, holds with them first
+-- ---- the only places with which a statement is true are the first
 only_first : (holds : List Place → Type 0) (told : List Place) → ((given : List Place) → holds given → given ≡ told) → holds told → AreFirst holds told
 only_first holds [] only held = held
 only_first holds (place ∷ told) only held = (

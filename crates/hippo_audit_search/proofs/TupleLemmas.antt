@@ -29,7 +29,7 @@ use Rattle.hippo_audit_search.proofs.KeyLemmas.{one-place}
 abbrev pub no_rows : KeyedRows
 no_rows = record { key = []; rows = [] }
 
--- names that stand among others
+-- names that are among others
 abbrev pub AllStandIn : List Name → List Name → Type 0
 AllStandIn names common = AllByRecursion (λ table. list_any (bytes_eq table) names ≡ true) common
 
@@ -80,7 +80,7 @@ module _ (tables : List Name) (sets : List KeyedRows) (names : List Name) (other
   abbrev AreSame : List Name → Type 0
   AreSame common = AllByRecursion (λ table. rows_named tables sets table ≡ rows_named names others table) common
 
-  -- a combination that has the keys of given places has these places
+  -- a combination with the keys of given places has these places
   pub agrees-from-tuple : (common : List Name) → AllStandIn tables common → AllStandIn names common → AreSame common → All (λ set. IsAscending (map (key_in set.key) set.rows)) others
       → (given places : List Place) → in_range sets places ≡ true → in_range (map (rows_named names others) common) given ≡ true
       → has_tuple_in tables sets (tuple_at names others (map (place_in names) common) given) (chosen_rows sets places) ≡ true → AgreeAt (map (place_in tables) common) given places
@@ -106,7 +106,7 @@ module _ (tables : List Name) (sets : List KeyedRows) (names : List Name) (other
       (ap (λ (s : KeyedRows). key_in s.key (row_at_place s.rows place)) (sym same.0) ∙ keys) in
       (at ∙ ap Some one, agrees-from-tuple common here.1 there.1 same.1 ascend given places within parts.1 both.1)
 
-  -- and one that has the places has their keys
+  -- a combination with given places has their keys
   pub tuple-from-agrees : (common : List Name) → AllStandIn tables common → AllStandIn names common → AreSame common
       → (given places : List Place) → AgreeAt (map (place_in tables) common) given places → has_tuple_in tables sets (tuple_at names others (map (place_in names) common) given) (chosen_rows sets places) ≡ true
   tuple-from-agrees [] here there same [] places agree = refl
@@ -135,7 +135,7 @@ agrees-in-range names sets long (table ∷ common) all (k ∷ given) places with
     let later = agrees-in-range names sets long common all.1 given places within agree.1 in
     λ i. lower i && later i
 
--- one row of a tuple more
+-- one more row of a tuple
 pub tuple-more : (names : List Name) (sets : List KeyedRows) (tables places : List Place) (i : ℕ) (tuple more whole : List SharedRow) (row : SharedRow) → i < length tables → i < length places
     → row ≡ row_shared names sets (get_or tables i 0) (get_or places i 0) → more ≡ tuple ++ row ∷ [] → tuple ++ tuple_at names sets (drop i tables) (drop i places) ≡ whole
     → more ++ tuple_at names sets (drop (i + 1) tables) (drop (i + 1) places) ≡ whole

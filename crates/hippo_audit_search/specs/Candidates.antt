@@ -1,4 +1,4 @@
--- The first virtual tuple of those that pass a test, where the places of these are at hand.
+-- The first virtual tuple that passes a test, when the places of those that pass are given.
 use Rattle.std.specs.Prelude.{◌≡◌, Bool, ◌&&◌, List, map, find, Option}
 use Rattle.hippo_values.specs.declared.names.Name.{Name}
 use Rattle.hippo_model.specs.declared.audit.Audit.{Audit}
@@ -14,7 +14,7 @@ use Rattle.hippo_audit_common.specs.Commons.{common_tables, place_in}
 use Rattle.hippo_audit_search.specs.Sharing.{rows_named, virtual_tuples_in, query_has, audit_has}
 use Rattle.hippo_audit_search.specs.Tuples.{tuple_at}
 
--- the places of the rows of the virtual tuples that pass a test are these
+-- these are the places of the rows of the virtual tuples that pass the test
 abbrev pub AreCandidates :
     (List SharedRow → Bool) → List Name → List KeyedRows → List Name → List (List Place) → Type 0
 AreCandidates test names sets common candidates =
@@ -22,7 +22,7 @@ AreCandidates test names sets common candidates =
     ≡ (in_range (map (rows_named names sets) common) places
     && test (tuple_at names sets (map (place_in names) common) places))
 
--- the first virtual tuple that passes a test and that a combination of each side has
+-- the first virtual tuple that passes the test and that a combination of each side has
 abbrev pub first_passing :
     (List SharedRow → Bool) → Choices → Masked → Audit → List Expr → List KeyedRows → List KeyedRows
     → Option (List SharedRow)

@@ -1,4 +1,4 @@
--- A query against an audit, over the rows of both: what they share.
+-- A query compared with an audit over the rows of both: what they share.
 use Rattle.std.specs.Prelude.{◌≡◌, Bool, List, Option}
 use Rattle.hippo_model.specs.declared.audit.SharedRow.{SharedRow}
 use Rattle.hippo_model.specs.declared.query.Form.{Form}
@@ -11,11 +11,11 @@ use Rattle.hippo_audit_search.specs.Candidates.{AreCandidates, first_passing}
 use Rattle.hippo_audit_search.specs.Needs.{first_needed}
 use Rattle.hippo_audit_search.specs.Sharing.{first_shared}
 
--- the rows beside the audit are those of both
+-- the rows are those of the query's tables and of the audit's
 abbrev pub HaveRows : {C : Type 0} → Compared C → Type 0
 HaveRows compared = HasRowsFor compared.query.now.tables compared.audited.now
 
--- the first virtual tuple that a combination of each has
+-- the first virtual tuple that a combination of each side has
 abbrev pub shared_between : {C : Type 0} → (C → Choices) → Compared C → Option (List SharedRow)
 shared_between choices compared =
     first_shared (choices compared.audited.now.choices.now) compared.query.now
@@ -30,8 +30,8 @@ needed_between choices form compared =
     compared.audited.now.audit.now compared.seen.now
     compared.audited.now.query_sets.now compared.audited.now.audit_sets.now
 
--- whatever test the virtual tuples at these places are those of, this is the first of them that a
--- combination of each has
+-- for every test that exactly the virtual tuples at these places pass, this is the first tuple that
+-- passes and that a combination of each side has
 abbrev pub IsFirstPassing : {C : Type 0} → (C → Choices) → Compared C → List (List Place)
     → Option (List SharedRow) → Type 0
 IsFirstPassing choices compared candidates shared =

@@ -1,4 +1,4 @@
--- Laws that join what is shared over rows at hand to the definitions over a history.
+-- Laws that relate tuples shared over given rows to the definitions over a history.
 use Rattle.std.specs.Prelude.{◌≡◌, true, List, [], map, bytes_eq}
 use Rattle.std.specs.List.{AllByRecursion, list_any}
 use Rattle.std.specs.Option.{option_map_or}
@@ -13,13 +13,13 @@ use Rattle.hippo_model.specs.Audits.{common, virtual_tuples as tuples_at, audit_
 use Rattle.hippo_audit_common.specs.Commons.{common_tables}
 use Rattle.hippo_audit_search.specs.Sharing.{virtual_tuples_in, audit_has}
 
--- the rows of tables after some entries; none of a table that is not created
+-- the rows of tables after some entries; a table that is not created has none
 abbrev pub sets_at : History → List Name → List KeyedRows
 sets_at history tables =
     map (λ table. option_map_or (λ schema. kept_at schema history) (schema_at history table)
     (record { key = []; rows = [] })) tables
 
--- over the rows of a history, virtual tuples are those of the history
+-- over the rows of a history, the virtual tuples are those of the history
 abbrev pub TuplesAreThoseOfHistory : Type 0
 TuplesAreThoseOfHistory =
     (history : History) (query : Query) (audit : Audit)
@@ -27,8 +27,8 @@ TuplesAreThoseOfHistory =
     (common_tables query.tables audit.tables)
     ≡ tuples_at history (common query audit)
 
--- an audit needs a tuple of rows of its tables exactly where its condition is true of some
--- combination that has it
+-- an audit needs a tuple of rows of its tables exactly when its condition is true of some
+-- combination that has the tuple
 abbrev pub AuditNeedsWhatItHas : Type 0
 AuditNeedsWhatItHas =
     (history : History) (audit : Audit) (tuple : List SharedRow)

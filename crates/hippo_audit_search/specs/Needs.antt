@@ -1,5 +1,5 @@
--- What a query of any form needs over the rows of its tables, judged by taking combinations out;
--- and the first virtual tuple that it needs and an audit has.
+-- Which tuples a query of any form needs over the rows of its tables, judged by removing
+-- combinations; and the first virtual tuple that the query needs and an audit has.
 use Rattle.std.specs.Prelude.{Bool, not, ◌&&◌, List, filter, find, Option}
 use Rattle.hippo_model.specs.declared.audit.Audit.{Audit}
 use Rattle.hippo_model.specs.declared.audit.SharedRow.{SharedRow}
@@ -17,7 +17,7 @@ use Rattle.hippo_eval.specs.Walks.{rows_of}
 use Rattle.hippo_audit_common.specs.Commons.{common_tables}
 use Rattle.hippo_audit_search.specs.Sharing.{virtual_tuples_in, has_tuple_in, query_has, audit_has}
 
--- whether a query's answer is another bag when the combinations that have the tuple are taken out
+-- whether a query's answer is a different bag when the combinations that have the tuple are removed
 abbrev pub needs_by : Choices → Masked → Form → List KeyedRows → List SharedRow → Bool
 needs_by choices query form sets tuple =
     let combinations : List Combination = product (rows_of sets) in
@@ -25,8 +25,8 @@ needs_by choices query form sets tuple =
     not (same_bag (rows_by_form form (masked_rows choices query left))
     (rows_by_form form (masked_rows choices query combinations)))
 
--- the first virtual tuple that the query needs, that a row of its answer has with all shown that is
--- to be seen, and that a combination of the audit has
+-- the first virtual tuple that the query needs, that a row of its answer has with all wanted cells
+-- shown, and that a combination of the audit has
 abbrev pub first_needed :
     Choices → Masked → Form → Audit → List Expr → List KeyedRows → List KeyedRows
     → Option (List SharedRow)

@@ -19,12 +19,12 @@ use Rattle.hippo_join.specs.Existence.{are_shown}
 use Rattle.hippo_join_lookups.specs.Places.{blank}
 use Rattle.hippo_audit_common.specs.Commons.{common_tables, place_in}
 
--- the rows of one of some tables, by its name
+-- the rows of the table with this name
 abbrev pub rows_named : List Name → List KeyedRows → Name → KeyedRows
 rows_named tables sets table =
     slice_index_or sets (place_in tables table) (record { key = []; rows = [] })
 
--- both sides have the same rows of the tables that they have in common
+-- both sides have the same rows in the tables that they have in common
 abbrev pub HaveSameRows : List Name → List KeyedRows → List Name → List KeyedRows → Type 0
 HaveSameRows query query_sets audit audit_sets =
     All (λ table. rows_named query query_sets table ≡ rows_named audit audit_sets table)
@@ -36,7 +36,7 @@ shared_rows_in tables sets table =
     let set = rows_named tables sets table in
     map (λ kept. record { table = table; key = key_in set.key kept }) set.rows
 
--- a virtual tuple is a row of each common table; they stand in the order of the product
+-- the virtual tuples: each is a row of each common table, and they are in the order of the product
 abbrev pub virtual_tuples_in : List Name → List KeyedRows → List Name → List (List SharedRow)
 virtual_tuples_in tables sets common = product (map (shared_rows_in tables sets) common)
 
@@ -50,8 +50,8 @@ abbrev pub has_tuple_in : List Name → List KeyedRows → List SharedRow → Co
 has_tuple_in tables sets tuple rows =
     list_all (λ shared. same_cells (shared_key_in tables sets rows shared.table) shared.key) tuple
 
--- whether some combination of a query's rows has the tuple and makes a row of its answer, with all
--- shown that is to be seen
+-- whether some combination of a query's rows has the tuple, makes a row of its answer and shows all
+-- wanted cells
 abbrev pub query_has : Choices → Masked → List Expr → List KeyedRows → List SharedRow → Bool
 query_has choices query seen sets tuple =
     let counts : Combination → Bool = λ rows.

@@ -1,4 +1,4 @@
--- What stands for an audit in a search, and the sides that are made of it.
+-- What represents an audit in a search, and the two sides that are made of it.
 use Rattle.std.specs.Prelude.{◌≡◌, List, [], map, length, Option, IfSome}
 use Rattle.hippo_values.specs.declared.names.Name.{Name}
 use Rattle.hippo_model.specs.declared.audit.Audit.{Audit}
@@ -15,23 +15,23 @@ use Rattle.hippo_audit_search.specs.declared.sides.Sides.{Sides}
 use Rattle.hippo_audit_common.specs.Commons.{common_tables, place_in}
 use Rattle.hippo_audit_search.specs.Tuples.{tuple_at}
 
--- an audit's condition as that of a query without guards
+-- an audit's condition as a query without guards
 abbrev pub condition_alone : Audit → Masked
 condition_alone audit =
     record { items = []; tables = []; guards = []; cond = unmasked_condition audit.cond }
 
--- the places of the common tables of a query and an audit among those of either
+-- the places, among some tables, of those that a query and an audit have in common
 abbrev pub common_in : List Name → Masked → Audit → List Place
 common_in tables query audit = map (place_in tables) (common_tables query.tables audit.tables)
 
--- a query stands for an audit, and the places of its common tables with another query are known
+-- a query represents an audit, and the places of its tables in common with another query are known
 pub record StandsForAudit (query : Masked) (audit : Audit) (side : AuditSide) : Type 0 where
   pub condition : side.unmasked ≡ condition_alone audit
   pub query_places : side.common.query.items ≡ common_in query.tables query audit
   pub audit_places : side.common.audit.items ≡ common_in audit.tables query audit
   pub blank_is : side.blank ≡ blank
 
--- the sides are those of a query and of an audit, over the rows beside it
+-- these are the sides of a query and of an audit, over the rows given with the audit
 pub record AreSidesOf {C : Type 0} (query : Masked) (shown : List Expr) (audited : Audited C)
     (sides : Sides C)
     : Type 0 where
@@ -46,12 +46,12 @@ pub record AreSidesOf {C : Type 0} (query : Masked) (shown : List Expr) (audited
   pub audit_places : sides.common.now.audit.items
       ≡ common_in audited.audit.now.tables query audited.audit.now
 
--- the places of the common tables among those of the audit
+-- the places of the common tables among the audit's tables
 abbrev pub places_beside : {C : Type 0} → Compared C → List Place
 places_beside compared =
     let audit = compared.audited.now.audit.now in common_in audit.tables compared.query.now audit
 
--- there is a place for each of the common tables, where there are some
+-- if places were found, there is one for each common table
 abbrev pub AreOfTuple : {C : Type 0} → Compared C → Option (List Place) → Type 0
 AreOfTuple compared found =
     IfSome found (λ places. length places ≡ length (places_beside compared))

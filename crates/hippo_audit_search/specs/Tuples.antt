@@ -16,7 +16,7 @@ row_shared names sets table place =
           (row_at_place set.rows place);
     }
 
--- the rows of some tables at these places
+-- the rows of some tables at these places, by their keys
 abbrev pub tuple_at : List Name → List KeyedRows → List Place → List Place → List SharedRow
 tuple_at names sets [] places = []
 tuple_at names sets (table ∷ tables) [] = []

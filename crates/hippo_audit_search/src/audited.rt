@@ -1,9 +1,9 @@
-//! An audit beside a query, over the rows of both.
+//! An audit and a query to compare, with the rows of both.
 use hippo_model::{Audit, Exprs, Masked};
 use hippo_tables_rows::Sets;
 
-/// An audit, the rows of a query's tables and of its own, each in the order of FROM, and the
-/// choices of patients.
+/// An audit, the rows of a query's tables and of the audit's own, each in the order of FROM, and
+/// the patients' choices.
 #[derive(Drop)]
 pub struct Audited<'a, C> {
     pub audit: &'a Audit,
@@ -12,7 +12,7 @@ pub struct Audited<'a, C> {
     pub choices: &'a C,
 }
 
-/// A query, and the expressions that are to be seen of its rows, against an audit.
+/// A query, the expressions that must be shown to it, and the audit that it is compared with.
 #[derive(Drop)]
 pub struct Compared<'a, C> {
     pub query: &'a Masked,

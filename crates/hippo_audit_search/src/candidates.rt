@@ -1,4 +1,4 @@
-//! The first virtual tuple that a query and an audit share, of those that pass a test.
+//! The first virtual tuple that a query and an audit share, among those that pass a test.
 ghost use Rattle.std.specs.Prelude.{◌≡◌, [], false, None, List, IfOk, length, replicate};
 ghost use Rattle.hippo_model.specs.declared.audit.SharedRow as shared_row;
 ghost use Rattle.hippo_join.specs.Existence.{HasOne, Decides};
@@ -19,7 +19,7 @@ use hippo_values::Memory;
 use std::alloc::Global;
 use std::collections::BTreeSet;
 
-// Whether some combination counts.
+// Whether some combination counts for a side.
 fn has_any<C: ChoiceView>(alloc: Global, side: &Side<'_, C>) -> Result<bool, Memory>
     ensures { Decides (HasOne (C.choices side.now.choices.now) side.now.query.now []
         side.now.sets.now
@@ -31,7 +31,7 @@ fn has_any<C: ChoiceView>(alloc: Global, side: &Side<'_, C>) -> Result<bool, Mem
     has(side, alloc, &stages, &[], &mut slots)
 }
 
-// Whether some combination of these rows counts for the query that stands for an audit.
+// Whether some combination of these rows counts for the query that represents an audit.
 fn any_counts<C: ChoiceView>(
     alloc: Global,
     unmasked: &Masked,
@@ -52,8 +52,8 @@ fn any_counts<C: ChoiceView>(
     has_any(alloc, &side)
 }
 
-/// Whether the audit's condition is true of some combination of its rows: if not, no virtual tuple
-/// serves.
+/// Returns whether the audit's condition is true of some combination of its rows. If not, no
+/// virtual tuple serves.
 pub fn audit_has_any<C: ChoiceView>(alloc: Global, audited: &Audited<'_, C>) -> Result<bool, Memory>
     requires { length audited.now.audit_sets.now ≡ length audited.now.audit.now.tables }
     ensures { IfOk result (λ has. has ≡ false → (tuple : List shared_row.SharedRow)
@@ -65,7 +65,7 @@ pub fn audit_has_any<C: ChoiceView>(alloc: Global, audited: &Audited<'_, C>) -> 
     has
 }
 
-// Places in ascending order.
+// The candidates as a list, in ascending order.
 fn listed(alloc: Global, candidates: BTreeSet<Places>) -> Result<Vec<Places>, Memory>
     ensures keys { IfOk result (λ listed. listed.items ≡ candidates.keys) }
     ensures order { IsRising candidates.keys }
@@ -73,7 +73,7 @@ fn listed(alloc: Global, candidates: BTreeSet<Places>) -> Result<Vec<Places>, Me
     Ok(candidates.into_iter().collect(alloc)?)
 }
 
-// What `first_of` answers for places in ascending order, by what stands for the audit.
+// The result of `first_of` for candidates in ascending order, given the audit's side.
 fn first_listed<C: ChoiceView>(
     alloc: Global,
     listed: &[Places],
@@ -92,7 +92,7 @@ fn first_listed<C: ChoiceView>(
     tuple_found(alloc, compared, side, found)
 }
 
-// What `first_of` answers for places in ascending order.
+// The result of `first_of` for candidates in ascending order.
 fn first_of_listed<C: ChoiceView>(
     alloc: Global,
     listed: &[Places],
@@ -108,10 +108,11 @@ fn first_of_listed<C: ChoiceView>(
     found
 }
 
-/// Of the virtual tuples whose rows stand at these places of the common tables, the first that some
-/// combination of the query's rows has which makes a row of its answer and in which each expression
-/// of `seen` is a shown cell, and that some combination of the audit's rows has of which its
-/// condition is true; none exactly where there is none. Wants what `first_shared` wants.
+/// Returns the first of some virtual tuples that the query and the audit share, or `None` if they
+/// share none of them. `candidates` gives the places of their rows in the common tables. The tuple
+/// must be in a combination of the query's rows that makes a row of the answer and in which every
+/// expression of `seen` is a shown cell. It must also be in a combination of the audit's rows of
+/// which the audit's condition is true. The requirements are those of `first_shared`.
 pub fn first_of<C: ChoiceView>(
     alloc: Global,
     candidates: BTreeSet<Places>,

@@ -1,4 +1,4 @@
-//! Which virtual tuple some combinations of rows have, by the places of its rows.
+//! The virtual tuple that a set of row combinations has in common, by the places of its rows.
 ghost use Rattle.std.specs.Prelude.{◌≡◌, [], ◌∷◌, ◌++◌, ◌||◌, List, IfOk, OnOk};
 ghost use Rattle.hippo_model.specs.Terms.{Place};
 ghost use Rattle.hippo_join_stages.specs.Finding.{has_places};
@@ -10,18 +10,18 @@ use hippo_values::{Memory, Sequence};
 use std::alloc::Global;
 use std::collections::BTreeSet;
 
-/// Which virtual tuple some combinations of rows have.
+/// Which virtual tuple a set of combinations has.
 #[derive(Drop)]
 pub enum Mark {
-    /// There are no combinations.
+    /// The set is empty.
     Unmarked,
-    /// All have the one whose rows stand at these places of the common tables.
+    /// All combinations have the same tuple. Its rows are at these places of the common tables.
     One(Places),
-    /// Two have different ones.
+    /// Two combinations have different tuples.
     Several,
 }
 
-// The place of a combination's row of a table.
+// The place of a combination's row in its table.
 fn row_place(sets: &Sets<'_>, rows: &Combo<'_>, table: usize) -> usize
     ensures { result ≡ row_place sets.now rows.now table }
 {
@@ -31,8 +31,8 @@ fn row_place(sets: &Sets<'_>, rows: &Combo<'_>, table: usize) -> usize
     sets.get(table).find_like(rows.row(table)).unwrap_or(0)
 }
 
-/// The places of a combination's rows of some tables, which are told by their places in FROM. A row
-/// is found by its key, in time that grows with the logarithm of its table.
+/// Returns the places of a combination's rows in some tables. `tables` gives the places of these
+/// tables in FROM. Finding a row by its key takes time logarithmic in the size of its table.
 pub fn row_places(
     alloc: Global,
     sets: &Sets<'_>,
@@ -49,7 +49,7 @@ pub fn row_places(
 }
 
 impl Mark {
-    // Whether the combinations have no other tuple than that of these places.
+    // Whether no combination has a tuple other than that of these places.
     fn has_no_other(&self, places: &Places) -> bool
         ensures { result ≡ has_no_other places.now self.now }
     {
@@ -60,7 +60,8 @@ impl Mark {
         }
     }
 
-    /// The mark of these combinations and of one more, which has the tuple of these places.
+    /// Returns the mark of these combinations together with one more, which has the tuple of these
+    /// places.
     pub fn with(&self, places: Places) -> Mark
         ensures { (tuples : List (List Place)) → self.now ≡ mark_of tuples
             → result ≡ mark_of (tuples ++ places ∷ []) }
@@ -72,7 +73,7 @@ impl Mark {
         }
     }
 
-    /// Adds the places of the tuple that all these combinations have, if there is one.
+    /// Adds the places of the tuple that all these combinations have, if they have one tuple.
     pub fn add_to(self, candidates: &mut BTreeSet<Places>) -> Result<(), Memory>
         ensures { OnOk result ((places : List Place)
             → has_places places candidates.new.keys

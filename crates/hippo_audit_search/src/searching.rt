@@ -1,4 +1,5 @@
-//! The first places of the common tables' rows with which both sides have a combination.
+//! The search for the first places of rows in the common tables for which both sides have a
+//! combination.
 ghost use Rattle.std.specs.Prelude.{◌≡◌, ◌<◌, [], ◌∷◌, None, Some, IfOk, length, option_copied, option_map, replicate, slice_set, true, ◌⊎◌};
 ghost use Rattle.std.specs.List.{All};
 ghost use Rattle.std.specs.List.Sorted.{IsNonDecreasing, IsPermutation};
@@ -14,7 +15,7 @@ use hippo_model::{ChoiceView, Expr, Places};
 use hippo_values::Memory;
 use std::alloc::Global;
 
-// A query and an audit, the stages of each, and what is to be seen of the query's rows.
+// A query and an audit, the stages of each, and the expressions that must be shown to the query.
 #[derive(Drop)]
 struct Search<'a, C> {
     query: &'a Side<'a, C>,
@@ -50,7 +51,7 @@ fn with_first(place: usize, mut others: Vec<usize>) -> Result<Vec<usize>, Memory
     Ok(others)
 }
 
-// Slots of some tables, where the rows of these are chosen.
+// The slots of `count` tables, with the rows of `tables` chosen at `places`.
 pub(crate) fn slots_with(
     alloc: Global,
     count: usize,
@@ -70,8 +71,8 @@ pub(crate) fn slots_with(
 }
 
 impl<'a, C: ChoiceView> Search<'a, C> {
-    // The places that a common table's row may have, in ascending order: those of the side that
-    // leaves fewer.
+    // The places that a common table's row may have, in ascending order. They are those of the side
+    // with fewer.
     fn places_of(
         &self,
         alloc: Global,
@@ -91,7 +92,7 @@ impl<'a, C: ChoiceView> Search<'a, C> {
         in_order(alloc, shorter(places, others))
     }
 
-    // Whether both sides may have a combination with the rows that are chosen, by the tests of two
+    // Whether both sides may have a combination with the chosen rows, by the tests of their two
     // stages.
     fn may_share(
         &self,
@@ -110,7 +111,8 @@ impl<'a, C: ChoiceView> Search<'a, C> {
         )
     }
 
-    // No place, where both sides have a combination with the rows that are chosen.
+    // The search when no table is left: an empty list of places, if both sides have a combination
+    // with the chosen rows.
     fn first_of_none(
         &self,
         alloc: Global,
@@ -125,8 +127,8 @@ impl<'a, C: ChoiceView> Search<'a, C> {
         Ok(if shares { Some(Vec::new(alloc)) } else { None })
     }
 
-    // The first places of the common tables that are left, behind a place of a stage's table: none
-    // if the tests of two stages allow none.
+    // The first places in the tables of `rest`, with the row at `place` chosen in this stage's
+    // table. `None` without a search if the tests of the two stages allow no combination.
     #[cycle(first)]
     fn first_onward(
         &self,
@@ -155,7 +157,7 @@ impl<'a, C: ChoiceView> Search<'a, C> {
         Ok(found)
     }
 
-    // The first places of the common tables that are left, in the order of the tables; with the
+    // The first places in the common tables that are left, in the order of the tables, given the
     // rows that are chosen.
     #[cycle(first)]
     fn first(
@@ -183,7 +185,7 @@ impl<'a, C: ChoiceView> Search<'a, C> {
 }
 
 impl<'a, C: ChoiceView> Search<'a, C> {
-    // Whether both sides have a combination with these places of the common tables.
+    // Whether both sides have a combination with these places in the common tables.
     fn shares(&self, alloc: Global, common: &CommonPlaces, places: &[usize]) -> Result<bool, Memory>
         requires common { AreCommon (length self.now.query.now.sets.now)
             (length self.now.audit.now.sets.now)
@@ -195,7 +197,7 @@ impl<'a, C: ChoiceView> Search<'a, C> {
             common.now.query.items common.now.audit.items places.now) result }
     {
         if places.len() != common.query.len() {
-            // They are those of no tuple.
+            // No tuple has this many places.
             return Ok(false);
         }
         let mut query = slots_with(alloc, self.query.sets.len(), &common.query, places)?;
@@ -206,7 +208,7 @@ impl<'a, C: ChoiceView> Search<'a, C> {
         Ok(false)
     }
 
-    // The first of some places of the common tables with which both sides have a combination.
+    // The first of the candidates for which both sides have a combination.
     fn first_of<'p>(
         &self,
         alloc: Global,
@@ -232,7 +234,7 @@ impl<'a, C: ChoiceView> Search<'a, C> {
     }
 }
 
-// The stages of a side's tables, those of some tables first.
+// The stages of a side's tables, with those of `first` at the front.
 fn stages_from<C: ChoiceView>(
     alloc: Global,
     side: &Side<'_, C>,
@@ -247,7 +249,8 @@ fn stages_from<C: ChoiceView>(
     side.stages(alloc, &order)
 }
 
-// The first of some places of the common tables' rows with which both sides have a combination.
+// The first of the candidates for which both sides have a combination. Makes the stages of all
+// tables first.
 pub(crate) fn first_staged<'p, C: ChoiceView>(
     alloc: Global,
     sides: &Sides<'_, C>,
@@ -269,7 +272,7 @@ pub(crate) fn first_staged<'p, C: ChoiceView>(
     search.first_of(alloc, sides.common, candidates)
 }
 
-// What `first_walked` answers, by the stages of both sides, those of the common tables first.
+// The result of `first_walked`, given the stages of both sides with the common tables first.
 fn first_along<C: ChoiceView>(
     alloc: Global,
     sides: &Sides<'_, C>,
@@ -297,7 +300,8 @@ fn first_along<C: ChoiceView>(
     search.first(alloc, &stages, &mut query_slots, &mut audit_slots)
 }
 
-// The first places of the common tables' rows with which both sides have a combination.
+// The first places of rows in the common tables for which both sides have a combination. Tries the
+// rows in order.
 pub(crate) fn first_walked<C: ChoiceView>(
     alloc: Global,
     sides: &Sides<'_, C>,

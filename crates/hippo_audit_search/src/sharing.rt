@@ -19,8 +19,8 @@ use hippo_tables_rows::Sets;
 use hippo_values::{Memory, Sequence};
 use std::alloc::Global;
 
-// What stands for an audit in a search: its condition as a query, and the tables that it has in
-// common with another.
+// What represents an audit in a search: its condition as a query, and the tables that it has in
+// common with the query.
 #[derive(Drop)]
 pub(crate) struct AuditSide {
     pub unmasked: Masked,
@@ -28,7 +28,7 @@ pub(crate) struct AuditSide {
     pub blank: BornRow,
 }
 
-// An audit's condition as that of a query without guards.
+// An audit's condition as a query without guards.
 pub(crate) fn unmasked_query(alloc: Global, audit: &Audit) -> Result<Masked, Memory>
     ensures { IfOk result (λ query. query ≡ condition_alone audit.now) }
 {
@@ -40,7 +40,7 @@ pub(crate) fn unmasked_query(alloc: Global, audit: &Audit) -> Result<Masked, Mem
     })
 }
 
-/// The rows of each table stand in the order of their keys: says so, and does nothing.
+/// Does nothing. Its contract says that the rows of each table are in the order of their keys.
 pub fn know_order(sets: &Sets<'_>)
     ensures { All (λ set. IsAscending (map (key_in set.key) set.rows)) sets.now }
 {
@@ -62,7 +62,7 @@ pub(crate) fn audit_side(alloc: Global, query: &Masked, audit: &Audit) -> Result
     })
 }
 
-// Both sides of a search, by what stands for the audit.
+// Both sides of a search, given what represents the audit.
 pub(crate) fn sides_of<'s, C: ChoiceView>(
     compared: &'s Compared<'_, C>,
     side: &'s AuditSide,
@@ -92,7 +92,7 @@ pub(crate) fn sides_of<'s, C: ChoiceView>(
     }
 }
 
-// The virtual tuple of the rows at some places of the common tables, where places were found.
+// The virtual tuple of the rows at some places of the common tables, if places were found.
 pub(crate) fn tuple_found<C: ChoiceView>(
     alloc: Global,
     compared: &Compared<'_, C>,
@@ -122,7 +122,7 @@ pub(crate) fn tuple_found<C: ChoiceView>(
     }
 }
 
-// What `first_shared` answers, by what stands for the audit.
+// The result of `first_shared`, given what represents the audit.
 fn first_beside<C: ChoiceView>(
     alloc: Global,
     compared: &Compared<'_, C>,
@@ -139,14 +139,18 @@ fn first_beside<C: ChoiceView>(
     tuple_found(alloc, compared, side, found)
 }
 
-/// The first virtual tuple (a row of each table in both FROM lists, by its key; in the audit's
-/// order) that some combination of the query's rows has which makes a row of its answer and in
-/// which each expression of `seen` is a shown cell, and that some combination of the audit's rows
-/// has of which its condition is true; none exactly where there is none. Wants the rows of each
-/// side's tables, in the order of FROM, the same ones of a table that both have; and an audit that
-/// names no table twice. Where look-ups on either side tell the only rows of the common tables, or
-/// few of one, takes time in proportion to what they find; else to the tables and to what matches
-/// on the way to the first tuple.
+/// Returns the first virtual tuple that a query and an audit share, or `None` if they share none. A
+/// virtual tuple is a row of each table in both FROM lists, by its key, in the audit's order. The
+/// tuple must be in a combination of the query's rows that makes a row of the answer and in which
+/// every expression of `seen` is a shown cell. It must also be in a combination of the audit's rows
+/// of which the audit's condition is true.
+///
+/// The rows must be those of each side's tables, in the order of FROM. A table that both sides have
+/// must have the same rows on both. The audit must not name a table twice.
+///
+/// If lookups on one side find the only possible rows of the common tables, or few rows of the only
+/// one, the time is proportional to what they find. Otherwise it is proportional to the size of the
+/// tables and to the matches on the way to the first tuple.
 pub fn first_shared<C: ChoiceView>(
     alloc: Global,
     compared: &Compared<'_, C>,

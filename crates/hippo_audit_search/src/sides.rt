@@ -3,7 +3,8 @@ use hippo_audit_common::CommonPlaces;
 use hippo_join_stages::Side;
 use hippo_model::Expr;
 
-// A query and an audit, what is to be seen of the query's rows, and the tables that both have.
+// A query and an audit, the expressions that must be shown to the query, and the tables that both
+// have.
 #[derive(Drop)]
 pub(crate) struct Sides<'a, C> {
     pub query: Side<'a, C>,

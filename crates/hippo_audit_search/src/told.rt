@@ -1,5 +1,4 @@
-//! The first places of the common tables' rows, where look-ups alone tell the only ones that both
-//! sides may have.
+//! The first places of rows in the common tables, using lookups that leave only few possible rows.
 ghost use Rattle.std.specs.Prelude.{◌≡◌, ◌<◌, [], ◌∷◌, None, Some, IfOk, IfSome, if◌then◌else◌, get_or, length, map, option_copied, option_map, replicate};
 ghost use Rattle.std.specs.List.{All};
 ghost use Rattle.hippo_join.specs.Existence.{Decides};
@@ -17,10 +16,11 @@ use hippo_model::{ChoiceView, Expr, Places};
 use hippo_values::{Memory, Sequence};
 use std::alloc::Global;
 
-// So many candidates are looked up one by one, before stages are made for all.
+// At or below this many candidates, look up each one instead of making the stages of all tables.
 const FEW: usize = 16;
 
-// What look-ups tell of the common tables: the only place of each, or few of the only table.
+// What lookups find for the common tables: the only possible place in each, or few places in the
+// only table.
 #[derive(Clone, Copy)]
 enum HowMany {
     Only,
@@ -36,7 +36,7 @@ fn place_in_slot(slots: &[Option<usize>], table: usize) -> Option<usize>
     }
 }
 
-// The places that are chosen in some tables, where one is in each.
+// The places chosen in some tables, if each of them has one.
 fn chosen_in(
     alloc: Global,
     tables: &[usize],
@@ -55,8 +55,8 @@ fn chosen_in(
     Ok(Some(places))
 }
 
-// The places of some tables that each combination has which counts for a side, where look-ups tell
-// them all.
+// The places in some tables that every counting combination of a side has, if lookups find one in
+// each table.
 fn told_places<C: ChoiceView>(
     alloc: Global,
     side: &Side<'_, C>,
@@ -70,8 +70,8 @@ fn told_places<C: ChoiceView>(
     Ok(found)
 }
 
-// Whether a side has a combination with these places of some tables: the others are joined behind
-// them.
+// Whether a side has a combination with these places in some tables. The other tables are joined
+// after them.
 fn has_at<C: ChoiceView>(
     alloc: Global,
     side: &Side<'_, C>,
@@ -89,7 +89,7 @@ fn has_at<C: ChoiceView>(
     has_joined(side, alloc, &order, seen, &mut slots)
 }
 
-// Whether both sides have a combination with these places of the common tables.
+// Whether both sides have a combination with these places in the common tables.
 fn share_at<C: ChoiceView>(
     alloc: Global,
     sides: &Sides<'_, C>,
@@ -99,7 +99,7 @@ fn share_at<C: ChoiceView>(
     ensures { Decides (SharedBy C.choices sides.now places.now) result }
 {
     if places.len() != sides.common.query.len() {
-        // They are those of no tuple.
+        // No tuple has this many places.
         return Ok(false);
     }
     if has_at(alloc, &sides.audit, &sides.common.audit, &[], places)? {
@@ -114,7 +114,7 @@ fn kept_if(test: bool, places: Vec<usize>) -> Option<Vec<usize>>
     if test { Some(places) } else { None }
 }
 
-// The first places with which both sides have a combination, where no others are shared.
+// `told` if both sides have a combination with it. No other places can be shared.
 fn first_told<C: ChoiceView>(
     alloc: Global,
     sides: &Sides<'_, C>,
@@ -129,7 +129,7 @@ fn first_told<C: ChoiceView>(
     Ok(kept_if(shares, told))
 }
 
-// The one table that there is.
+// The table, if there is exactly one.
 fn only_table(tables: &[usize]) -> Option<usize>
     ensures { IfSome result (λ table. (length tables.now ≡ 1) × (table ≡ get_or tables.now 0 0)) }
 {
@@ -140,8 +140,8 @@ fn only_table(tables: &[usize]) -> Option<usize>
     }
 }
 
-// The places of a table's rows, in ascending order, among which each combination has one that
-// counts for a side: where it is the only table, and look-ups find few.
+// Places of a table's rows, in ascending order, so that every counting combination of a side has
+// one of them. `None` unless it is the only table and lookups find few places.
 fn few_places<C: ChoiceView>(
     alloc: Global,
     side: &Side<'_, C>,
@@ -162,7 +162,7 @@ fn few_places<C: ChoiceView>(
     Ok(Some(sorted))
 }
 
-// The places that look-ups on a side tell of some tables, where they tell them.
+// The places that lookups on a side find in some tables, if they do.
 fn places_told<C: ChoiceView>(
     alloc: Global,
     side: &Side<'_, C>,
@@ -179,7 +179,7 @@ fn places_told<C: ChoiceView>(
     }
 }
 
-// The places of the common tables that look-ups on either side tell.
+// The places in the common tables that lookups on one side or the other find.
 fn told_by_either<C: ChoiceView>(
     alloc: Global,
     sides: &Sides<'_, C>,
@@ -204,7 +204,7 @@ fn single(alloc: Global, place: usize) -> Result<Places, Memory>
     Ok(single)
 }
 
-// Each place alone.
+// Each place as a list of its own.
 fn singles(alloc: Global, places: &[usize]) -> Result<Vec<Places>, Memory>
     ensures { IfOk result (λ singles. singles.items ≡ map (λ place. place ∷ []) places.now) }
 {
@@ -229,7 +229,7 @@ fn copied(alloc: Global, places: Option<&Places>) -> Result<Option<Vec<usize>>, 
     }
 }
 
-// The first of a few places of the one common table with which both sides have a combination.
+// The first of few places in the only common table for which both sides have a combination.
 fn first_of_few<C: ChoiceView>(
     alloc: Global,
     sides: &Sides<'_, C>,
@@ -244,7 +244,8 @@ fn first_of_few<C: ChoiceView>(
     first_candidate(alloc, sides, &candidates)
 }
 
-// The first places of the common tables' rows with which both sides have a combination.
+// The first places of rows in the common tables for which both sides have a combination. Uses
+// lookups if they leave few places.
 pub(crate) fn first_places<C: ChoiceView>(
     alloc: Global,
     sides: &Sides<'_, C>,
@@ -262,7 +263,7 @@ pub(crate) fn first_places<C: ChoiceView>(
     first_walked(alloc, sides)
 }
 
-// The first of some places with which both sides have a combination, where each is looked up.
+// The first of the candidates for which both sides have a combination. Looks up each candidate.
 fn first_looked_up<'p, C: ChoiceView>(
     alloc: Global,
     sides: &Sides<'_, C>,
@@ -280,7 +281,7 @@ fn first_looked_up<'p, C: ChoiceView>(
     Ok(None)
 }
 
-// The first of some places of the common tables' rows with which both sides have a combination.
+// The first of the candidates for which both sides have a combination.
 pub(crate) fn first_candidate<C: ChoiceView>(
     alloc: Global,
     sides: &Sides<'_, C>,

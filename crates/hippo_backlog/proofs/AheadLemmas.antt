@@ -1,4 +1,5 @@
--- What was read ahead of a history: at first, when one is used, when a piece is read, and when the history grows.
+-- The state of reading ahead in a history: at first, when an entry is used, when a batch is read,
+-- and when the history grows.
 use Rattle.std.proofs.Common.{◌≡◌, ◌∙◌, sym, ap, refl, subst, arith, ℕ, zero, suc, ◌+◌, ◌<◌, ◌≤◌, Bool, true, false, ◌&&◌, ◌||◌, [], ◌∷◌, ◌++◌, map, filter, length, take, drop, nat_lt, nat_le, cond, slice_get, append_assoc, length-append}
 use Rattle.std.specs.Prelude.{is_some}
 use Rattle.std.proofs.lemmas.Bool.{false≢true}
@@ -39,7 +40,7 @@ below_is low number below = grind (arith, nat_tests)
 not_below : (last number : ℕ) → number ≤ last → nat_lt last number ≡ false
 not_below last number within = grind (arith, nat_tests)
 
--- the entries above a number, where it parts those that are up to it from those above
+-- the entries above a number are those after the ones up to it
 above_only : (number after : ℕ) (later : History) → after ≤ number → RisesAbove number (map stored later) → filter (λ (e : Entry). nat_lt after e.seq) later ≡ later
 above_only number after [] le above = refl
 above_only number after (entry ∷ rest) le above =
@@ -53,7 +54,7 @@ above_parts after (entry ∷ used) later up_to above =
     let fails = not_below after entry.seq up_to.0 in
     rw fails (above_parts after used later up_to.1 above)
 
--- what stored forms say in a test, entries say
+-- a test of stored entries agrees with the test of entries
 filter-stored : (test : Entry → Bool) (stored_test : StoredEntry → Bool) → ((entry : Entry) → stored_test (stored entry) ≡ test entry) → (history : History) → filter stored_test (map stored history) ≡ map stored (filter test history)
 filter-stored test stored_test agrees [] = refl
 filter-stored test stored_test agrees (entry ∷ rest) =
@@ -64,7 +65,7 @@ filter-stored test stored_test agrees (entry ∷ rest) =
       | false ↦ later
     ])
 
--- one test after the other, in either order
+-- two filters in either order
 filter-both : (one other : Entry → Bool) (history : History) → filter one (filter other history) ≡ filter other (filter one history)
 filter-both one other [] = refl
 filter-both one other (entry ∷ rest) =
@@ -80,7 +81,7 @@ filter-both one other (entry ∷ rest) =
       ] refl)
     ] refl
 
--- a front of rising numbers, and those behind it
+-- a front of rising numbers, and the numbers after it
 after_rises : (number max : ℕ) (later : History) → RisesAbove number (map stored later) → RisesAbove (last_number number (map stored (take max later))) (map stored (drop max later))
 after_rises number zero later above = above
 after_rises number (suc max) [] above = tt
@@ -91,7 +92,7 @@ take_rises number zero later above = tt
 take_rises number (suc max) [] above = tt
 take_rises number (suc max) (entry ∷ rest) above = (above.0, take_rises entry.seq max rest above.1)
 
--- a front that is shorter than was asked for is the whole
+-- a front that is shorter than requested is everything
 short_front : (max : ℕ) (later : History) → length (map stored (take max later)) < max → drop max later ≡ []
 short_front zero later short = absurd (omega arith)
 short_front (suc max) [] short = refl
@@ -108,7 +109,7 @@ both_true : (a b : Bool) → (a && b) ≡ true → (a ≡ true) × (b ≡ true)
 both_true true b e = (refl, e)
 both_true false b e = absurd (false≢true e)
 
--- up to which number all is read, at least and at most
+-- bounds of the number up to which everything is read
 pub reached_by-least : (max end : ℕ) (piece : Store) (reached : ℕ) → last_number reached piece ≤ reached_by max end piece reached
 reached_by-least max end piece reached =
     let last = last_number reached piece in
@@ -124,7 +125,7 @@ reached_by-most max end piece reached limit last_within end_within =
       | false ↦ last_within
     ]
 
--- a piece of entries gets further, and where there is none the end is reached
+-- a batch with entries moves that number up, and an empty one moves it to the end
 pub reached_by-further : (max end : ℕ) (piece : Store) (reached : ℕ) → 0 < max → RisesAbove reached piece → reached < end → reached < reached_by max end piece reached
 reached_by-further max end [] reached some rises below =
     let short : nat_lt 0 max ≡ true = below_is 0 max some in
@@ -136,7 +137,7 @@ reached_by-further max end (entry ∷ rest) reached some rises below =
     let least = reached_by-least max end (entry ∷ rest) reached in
     omega arith
 
--- a member that is used, or none that is left
+-- one more entry is used, or none is left
 pub one_used : (next : ℕ) (piece : Store) → drop (next + 1) piece ≡ drop 1 (drop next piece)
 one_used next piece = sym (drop-drop 1 next piece)
 
@@ -146,7 +147,7 @@ none_left (suc next) [] past = refl
 none_left zero (kept ∷ rest) past = absurd (omega arith)
 none_left (suc next) (kept ∷ rest) past = none_left next rest (omega arith)
 
--- what was handed over is within what is read, with a piece more
+-- the versions handed over are at most the number that is read, after one more batch
 pub handed_within : (max end handed reached : ℕ) (piece : Store) → handed ≤ reached → RisesAbove reached piece
     → (count next : ℕ) → count ≡ stored_versions piece → next ≡ reached_by max end piece reached → handed + count ≤ next
 handed_within max end handed reached piece within rises count next count_is next_is =
@@ -178,7 +179,7 @@ module _ (test : Entry → Bool) where
       )
 
   module _ (place : ℕ) (ahead : ReadAhead) (history : History) (split : IsAhead test place ahead history) where
-    -- the first of those that wait is used
+    -- the first entry that waits is used
     pub IsAhead-used : (entry : Entry) (rest : History) → split.waiting ≡ entry ∷ rest → ((new : IsAhead test entry.seq (without_first ahead) history) × (new.used ≡ split.used ++ entry ∷ []))
     IsAhead-used entry rest first =
         let above = subst (λ (w : History). RisesAbove place (map stored (w ++ split.later))) first split.left_above in
@@ -220,7 +221,7 @@ module _ (test : Entry → Bool) where
         ]) refl read
     none_waits number (kept ∷ rest) read none = absurd cc
 
-    -- the place moves on to a number up to which nothing waits
+    -- the place moves to a number up to which nothing waits
     pub IsAhead-moved : (number : ℕ) → place ≤ number → BeginsAbove number ahead.waiting → has_read number ahead ≡ true → ((new : IsAhead test number ahead history) × (new.used ≡ split.used))
     IsAhead-moved number forward begins read =
         let begins_so = subst (λ (w : Store). BeginsAbove number w) split.forms begins in
@@ -242,7 +243,7 @@ module _ (test : Entry → Bool) where
           refl,
         )
 
-    -- a piece of those that are still to be read is handed over, where nothing waits
+    -- a batch of entries that are not read yet is handed over; nothing waited before
     pub IsAhead-read : (stored_test : StoredEntry → Bool) → ((entry : Entry) → stored_test (stored entry) ≡ test entry) → (meaning : Meaning) → is_valid meaning history ≡ true → (max end : ℕ) (piece : Store) → ahead.waiting ≡ [] → piece ≡ handed_over stored_test ahead.reached max (map stored history) → end ≤ length history → ((new : IsAhead test place (with_piece max end piece ahead) history) × (new.used ≡ split.used))
     IsAhead-read stored_test agrees meaning valid max end piece none handed within =
         let nothing : split.waiting ≡ [] = none_stored split.waiting (sym split.forms ∙ none) in

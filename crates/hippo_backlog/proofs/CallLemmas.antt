@@ -1,4 +1,4 @@
--- Faults of a read, as those of its calls.
+-- Faults of a read, as faults of its keeper's calls.
 use Rattle.std.proofs.Common.{◌≡◌, refl, ℕ, false, Result, Ok, Err}
 use Rattle.std.specs.Prelude.{◌≢◌}
 use Rattle.hippo_keeper.specs.declared.faults.KeeperFault.{KeeperFault}
@@ -9,7 +9,7 @@ use Rattle.hippo_backlog.specs.declared.faults.ReadFault.{ReadFault}
 use Rattle.hippo_backlog.specs.declared.faults.ReadFault.TheVariants.{Keeper, Damaged, Memory}
 use Rattle.hippo_backlog.specs.Calls.{read_fault, reading_as_call}
 
--- no keeper's fault is none of its calls' failures
+-- without a keeper's fault, none of its calls failed
 pub reading_as_call-unfailed : {A : Type 0} (result : Result A ReadFault) → result ≢ Err Keeper → has_failed (reading_as_call result) ≡ false
 reading_as_call-unfailed (Ok value) other = refl
 reading_as_call-unfailed (Err Keeper) other = absurd (other refl)
@@ -19,7 +19,7 @@ reading_as_call-unfailed (Err Memory) other = refl
 pub same_Err : {A B : Type 0} (x y : B) → err_of A x ≡ Err y → x ≡ y
 same_Err x y e = cc
 
--- a fault of one call is the same call's fault whatever it was to answer
+-- a fault of a call is the same fault at any result type
 pub reading_as_call-fault : (A B : Type 0) (fault : ReadFault) → reading_as_call (err_of A fault) ≡ reading_as_call (err_of B fault)
 reading_as_call-fault A B Keeper = refl
 reading_as_call-fault A B (Damaged number) = refl

@@ -22,7 +22,7 @@ IsNumbered-append : (number : ℕ) (history : History) (entry : Entry) → IsNum
 IsNumbered-append number [] entry so_far next = (omega arith, tt)
 IsNumbered-append number (first ∷ rest) entry so_far next = (so_far.0, IsNumbered-append (number + 1) rest entry so_far.1 (omega arith))
 
--- those of a valid history have
+-- the entries of a valid history are numbered so
 pub valid-IsNumbered : (meaning : Meaning) (history : History) → is_valid meaning history ≡ true → IsNumbered 0 history
 valid-IsNumbered meaning history valid =
     holds_of_each_valid meaning (λ h. IsNumbered 0 h) (λ h entry good so_far may. let next = next_number meaning h entry may in IsNumbered-append 0 h entry so_far (omega arith)) tt history valid
@@ -33,7 +33,7 @@ IsNumbered-rises number (first ∷ rest) numbered =
     let seq : first.seq ≡ number + 1 = numbered.0 in
     (omega arith, subst (λ (n : ℕ). RisesAbove n (map stored rest)) (sym seq) (IsNumbered-rises (number + 1) rest numbered.1))
 
--- numbers up to one are up to a higher one
+-- numbers that are at most one number are at most each higher one
 pub AreUpTo-higher : (low high : ℕ) (history : History) → low ≤ high → AreUpTo low history → AreUpTo high history
 AreUpTo-higher low high [] le up_to = tt
 AreUpTo-higher low high (entry ∷ rest) le up_to = let first : entry.seq ≤ low = up_to.0 in (omega arith, AreUpTo-higher low high rest le up_to.1)
@@ -50,7 +50,7 @@ filter-AreUpTo test number (entry ∷ rest) up_to =
       | false ↦ filter-AreUpTo test number rest up_to.1
     ]
 
--- some of the entries
+-- a filtered list of rising numbers rises
 pub filter-rises : (test : Entry → Bool) (number : ℕ) (history : History) → RisesAbove number (map stored history) → RisesAbove number (map stored (filter test history))
 filter-rises test number [] rises = tt
 filter-rises test number (entry ∷ rest) rises =
@@ -61,7 +61,7 @@ filter-rises test number (entry ∷ rest) rises =
       | false ↦ RisesAbove-lower number entry.seq (map stored (filter test rest)) (omega arith) later
     ]
 
--- the last of rising numbers
+-- the last of rising numbers is the highest
 pub last-above : (number : ℕ) (entries : Store) → RisesAbove number entries → number + length entries ≤ last_number number entries
 last-above number [] rises = omega arith
 last-above number (entry ∷ rest) rises =
@@ -80,7 +80,7 @@ last-AreUpTo number (entry ∷ rest) rises =
     let above = last-above entry.seq (map stored rest) rises.1 in
     (omega arith, last-AreUpTo entry.seq rest rises.1)
 
--- and where each is at most a number, the last is
+-- if each number is at most another, so is the last
 pub AreUpTo-last : (number high : ℕ) (history : History) → number ≤ high → AreUpTo high history → last_number number (map stored history) ≤ high
 AreUpTo-last number high [] le up_to = le
 AreUpTo-last number high (entry ∷ rest) le up_to = AreUpTo-last entry.seq high rest up_to.0 up_to.1
@@ -98,7 +98,7 @@ valid-AreUpTo meaning history valid = AreUpTo-higher (0 + length history) (lengt
 pub valid-rises : (meaning : Meaning) (history : History) → is_valid meaning history ≡ true → RisesAbove 0 (map stored history)
 valid-rises meaning history valid = IsNumbered-rises 0 history (valid-IsNumbered meaning history valid)
 
--- the first entries and those behind
+-- the first entries and those after them
 first_up_to : (number place : ℕ) (history : History) → IsNumbered number history → AreUpTo (number + place) (take place history)
 first_up_to number zero history numbered = tt
 first_up_to number (suc place) [] numbered = tt
@@ -115,7 +115,7 @@ others_above number (suc place) (entry ∷ rest) numbered =
 cons_same : (first : Entry) (xs ys : History) → xs ≡ ys → first ∷ xs ≡ first ∷ ys
 cons_same first xs ys same = ap (λ rest. first ∷ rest) same
 
--- there is one place where rising numbers pass from those up to a number to those above it
+-- rising numbers have one place at which they pass a number
 split_same : (place : ℕ) (low high front rest : History) → low ++ high ≡ front ++ rest → AreUpTo place low → AreUpTo place front → RisesAbove place (map stored high) → RisesAbove place (map stored rest) → low ≡ front
 split_same place [] high [] rest same up_to front_up_to above rest_above = refl
 split_same place [] [] (entry ∷ front) rest same up_to front_up_to above rest_above = absurd cc
@@ -138,7 +138,7 @@ split_same place (entry ∷ low) high (other ∷ front) rest same up_to front_up
     let rest_is = split_same place low high front rest others up_to.1 front_up_to.1 above rest_above in
     λ i. one i ∷ rest_is i
 
--- of the entries that pass a test, those up to a place are those of the first so many entries
+-- of the entries that pass a test, those up to a place are those among the first entries
 pub passed_at : (meaning : Meaning) (history : History) (test : Entry → Bool) (place : ℕ) (used left : History) → is_valid meaning history ≡ true → filter test history ≡ used ++ left → AreUpTo place used → RisesAbove place (map stored left) → used ≡ filter test (take place history)
 passed_at meaning history test place used left valid parts up_to above =
     let numbered = valid-IsNumbered meaning history valid in

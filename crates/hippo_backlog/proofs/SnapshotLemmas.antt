@@ -1,4 +1,5 @@
--- What is held of a history: at first, at its place, when the history grows; and a snapshot.
+-- The state of a table's versions in a history: at first, at its place, and when the history grows;
+-- and a snapshot.
 use Rattle.std.proofs.Common.{◌≡◌, ◌∙◌, sym, ap, refl, subst, arith, ℕ, ◌+◌, ◌≤◌, Bool, true, false, cond, List, [], ◌∷◌, ◌++◌, length, take, Some, Result, Ok, Err, append_assoc, length-append}
 use Rattle.std.specs.Prelude.{bytes_eq}
 use Rattle.std.proofs.lemmas.Bool.{and_parts}
@@ -45,13 +46,13 @@ all_versions table (entry ∷ rest) =
     ] refl
 
 module _ (schema : Schema) (meaning : Meaning) where
-  -- nothing is read of a history in which the table has this schema
+  -- nothing is read yet, in a history in which the table has this schema
   pub AreAt-first : (history : History) → is_valid meaning history ≡ true → schema_at history schema.name ≡ Some schema → AreAt schema history (no_versions schema.key)
   AreAt-first history valid created =
       let split = IsAhead-first (is_version_of schema.name) meaning history valid in
       record { created = created; split = split.0; rows_are = ap (kept_at schema) (sym split.1) }
 
-  -- what is held of a history is held of it with one entry more
+  -- the state of a history is the state of the history with one more entry
   pub AreAt-grown : (history : History) (entry : Entry) (held : HeldVersions) → is_valid meaning (history ++ entry ∷ []) ≡ true → AreAt schema history held → AreAt schema (history ++ entry ∷ []) held
   AreAt-grown history entry held valid there =
       let split = IsAhead-grown (is_version_of schema.name) held.place held.ahead history there.split meaning entry valid in
@@ -70,7 +71,7 @@ module _ (schema : Schema) (meaning : Meaning) where
         ∙ ap (kept_at schema) (passed_at meaning history (is_version_of schema.name) held.place split.used (split.waiting ++ split.later) valid split.parts split.used_up_to split.left_above)
         ∙ sym (kept_at-versions schema (take held.place history))
 
-    -- as many versions were handed over as the table has up to the number that is reached
+    -- the keeper handed over as many versions as the table has up to the number that is reached
     pub handed_is : held.ahead.handed ≡ length (versions_of schema.name (take held.ahead.reached history))
     handed_is =
         let split = there.split in
@@ -78,7 +79,7 @@ module _ (schema : Schema) (meaning : Meaning) where
         let front = passed_at meaning history (is_version_of schema.name) held.ahead.reached (split.used ++ split.waiting) split.later valid (split.parts ∙ sym (append_assoc split.used split.waiting split.later)) read split.later_above in
         split.counted ∙ ap versions front ∙ all_versions schema.name (take held.ahead.reached history)
 
-    -- no more versions were handed over than the table has
+    -- the keeper handed over no more versions than the table has
     pub handed_within : held.ahead.handed ≤ length (versions_of schema.name history)
     handed_within =
         let split = there.split in
@@ -97,7 +98,7 @@ module _ (schema : Schema) (number : ℕ) (before after : KeeperState) (steps_ol
         let within = handed_within schema meaning history new valid there in
         omega (arith, steps, counted, within)
 
-    -- the rows as they were
+    -- the rows as they were in the past
     pub Snapshots-ok : BringsUp {A = Unit {0}} schema number number (Ok tt) (no_versions schema.key) new before after steps_old steps_new → Snapshots schema number (Ok new.rows) before after steps_old steps_new
     Snapshots-ok brings = record {
       handed = brings.reads.handed;
@@ -112,7 +113,7 @@ module _ (schema : Schema) (number : ℕ) (before after : KeeperState) (steps_ol
           };
     }
 
-    -- or a fault
+    -- a fault
     pub Snapshots-err : (fault : ReadFault) → BringsUp {A = Unit {0}} schema number number (Err fault) (no_versions schema.key) new before after steps_old steps_new → Snapshots schema number (Err fault) before after steps_old steps_new
     Snapshots-err fault brings = record {
       handed = brings.reads.handed;
@@ -131,7 +132,7 @@ module _ (schema : Schema) (number : ℕ) (before after : KeeperState) (steps_ol
         as_unit place is = ap (err_of (Unit {0})) (same_Err {A = KeyedRows} fault (Damaged place) is)
 
 module _ (schema : Schema) (number : ℕ) (before after : KeeperState) (steps_old steps_new : ℕ) (key : List Place) (first new : HeldVersions) (key_is : key ≡ schema.key) (first_is : first ≡ no_versions key) where
-  -- the same, by what each part is
+  -- the same, with each part given separately
   pub snapshot_ok : (rows : KeyedRows) → rows ≡ new.rows → BringsUp {A = Unit {0}} schema number number (Ok tt) first new before after steps_old steps_new → Snapshots schema number (Ok rows) before after steps_old steps_new
   snapshot_ok rows same brings =
       subst (λ (r : KeyedRows). Snapshots schema number (Ok r) before after steps_old steps_new) (sym same)
@@ -141,7 +142,7 @@ module _ (schema : Schema) (number : ℕ) (before after : KeeperState) (steps_ol
   snapshot_err fault brings =
       Snapshots-err schema number before after steps_old steps_new new fault (subst (λ (held : HeldVersions). BringsUp {A = Unit {0}} schema number number (Err fault) held new before after steps_old steps_new) (first_is ∙ ap no_versions key_is) brings)
 
--- memory was short before anything was read
+-- memory ran out before anything was read
 pub Snapshots-none : (schema : Schema) (number : ℕ) (keeper : KeeperState) (steps : ℕ) → IsReady true keeper → Snapshots schema number (Err Memory) keeper keeper steps steps
 Snapshots-none schema number keeper steps ready = record {
   handed = [];

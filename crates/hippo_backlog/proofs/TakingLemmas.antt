@@ -1,4 +1,4 @@
--- What a version makes of rows, by the tests that are made of it.
+-- The effect of a version on rows, by the tests that the code makes.
 use Rattle.std.proofs.Common.{◌≡◌, ◌∙◌, sym, ap, refl, ℕ, Bool, true, false, ◌&&◌, not, List, Option, Some, None, Result, Ok, Err, OnOk}
 use Rattle.std.specs.Prelude.{is_some, option_map, option_and_then, slice_get, bytes_eq}
 use Rattle.std.specs.Bool.{then_some}
@@ -21,11 +21,11 @@ use Rattle.hippo_backlog.specs.declared.faults.ReadFault.TheVariants.{Damaged}
 use Rattle.hippo_backlog.specs.Taking.{put_with, Becomes, result_of_fit, TakesVersion}
 use Rattle.hippo_keeper.proofs.Results.{err_of}
 
--- a place is found where a row is
+-- a place is found exactly when there is a row
 pub found_live : (rows : KeyedRows) (key : Key) (found : Option Place) → found ≡ find_row rows.key key rows.rows → is_some found ≡ is_some (row_with key rows)
 found_live rows key found is = ap is_some is ∙ is_some-find_row rows.key key rows.rows
 
--- the birth of the row at the place that is found
+-- the birth of the row at the place that was found
 pub birth_none : (rows : KeyedRows) (key : Key) → None ≡ find_row rows.key key rows.rows → None ≡ option_map (λ (kept : BornRow). kept.born) (row_with key rows)
 birth_none rows key is = ap (λ (found : Option Place). option_map (λ (kept : BornRow). kept.born) (option_and_then (slice_get rows.rows) found)) is ∙ ap (option_map (λ (kept : BornRow). kept.born)) (slice_get-find_row rows.key key rows.rows)
 
@@ -35,7 +35,7 @@ birth_some rows key place born is there =
     ∙ ap (option_map (λ (kept : BornRow). kept.born)) (slice_get-find_row rows.key key rows.rows)
 
 module _ (schema : Schema) (moment : Moment) (table : Name) (old : KeyedRows) (key_is : old.key ≡ schema.key) where
-  -- an insert puts a row, with its moment as the birth where its key is not live
+  -- an insert puts a row whose birth is its moment, if its key is not live
   by_newness : (row : Row) (fits new : Bool) → then_some (fits && new) (with_row (record { row = row; born = moment }) old) ≡ option_and_then (λ (born : Moment). then_some fits (with_row (record { row = row; born = born }) old)) (then_some new moment)
   by_newness row true true = refl
   by_newness row true false = refl
@@ -63,12 +63,12 @@ module _ (schema : Schema) (moment : Moment) (table : Name) (old : KeyedRows) (k
       by_birth row (bytes_eq table schema.name && row_fits schema row) (row_with (key_of schema.key row) old)
       ∙ ap (λ (b : Option Moment). put_with schema table row b old) (sym found)
 
--- what was put, or want of memory
+-- the row was put, or memory ran out
 pub becomes_put : (after : Option KeyedRows) (old put new : KeyedRows) (result : Result (Unit {0}) Memory) → after ≡ Some put → OnOk result (new ≡ put) → result ≡ Ok tt → after ≡ Some new
 becomes_put after old put new (Ok done) is made e = is ∙ ap Some (sym made)
 becomes_put after old put new (Err memory) is made e = absurd cc
 
--- what taking in an entry comes to
+-- the result of applying an entry
 pub taken_by : (schema : Schema) (kept : StoredEntry) (entry : Entry) (change : Result Bool Memory) (old new : KeyedRows) → IsEntryOf kept (Some entry) → Becomes (changed schema entry.moment entry.act old) change old new → TakesVersion {A = Unit {0}} schema kept (result_of_fit kept.seq change) old new
 taken_by schema kept entry (Ok true) old new found becomes = record {
   ok = record { entry = entry; form = found.sound; change = becomes };
@@ -100,7 +100,7 @@ taken_by schema kept entry (Err memory) old new found becomes = record {
   unfailed = λ is. absurd cc;
 }
 
--- no entry has the form
+-- no entry has this stored form
 pub none_has : (schema : Schema) (kept : StoredEntry) (rows : KeyedRows) → IsEntryOf kept None → TakesVersion {A = Unit {0}} schema kept (Err (Damaged kept.seq)) rows rows
 none_has schema kept rows found = record {
   ok = tt;

@@ -1,4 +1,4 @@
--- A table's rows and what is read ahead, as versions are taken in and pieces are read.
+-- A table's rows and the entries read ahead, while versions are applied and batches are read.
 use Rattle.std.proofs.Common.{◌≡◌, ◌∙◌, sym, ap, refl, subst, arith, ℕ, ◌+◌, ◌<◌, ◌≤◌, Bool, true, false, ◌&&◌, List, [], ◌∷◌, ◌++◌, map, length, drop, nat_lt, cond, slice_get, Some, None, Result, Ok, Err, append_assoc}
 use Rattle.std.specs.Prelude.{◌≢◌, is_some, nat_le, bytes_eq, option_and_then}
 use Rattle.std.specs.Bool.{then_some}
@@ -51,7 +51,7 @@ then_some-Some : {A : Type 0} (test : Bool) (word other : A) → then_some test 
 then_some-Some true word other e = cc
 then_some-Some false word other e = cc
 
--- a change keeps the places of the key
+-- a change keeps the key columns
 changed_key : (schema : Schema) (moment : Moment) (act : Act) (old new : KeyedRows) → changed schema moment act old ≡ Some new → new.key ≡ old.key
 changed_key schema moment (Insert table row) old new is = sym (ap (λ (k : KeyedRows). k.key) (then_some-Some _ (with_row (record { row = row; born = moment }) old) new is))
 changed_key schema moment (Update table row) old new is =
@@ -66,7 +66,8 @@ changed_key schema moment act old new is = absurd cc
 abbrev pub placed : ℕ → HeldVersions → HeldVersions
 placed number held = record { rows = held.rows; ahead = held.ahead; place = number }
 
--- what was handed over is taken in step by step: first nothing, whatever the place is moved to
+-- the versions that were handed over are applied one by one: none at first, whatever the place is
+-- moved to
 TakesInVersions-moved : (schema : Schema) (number place : ℕ) (held : HeldVersions) → held.place ≤ place → (held.place ≤ number → place ≤ number) → TakesInVersions schema number [] held (placed place held)
 TakesInVersions-moved schema number place held rises limit = record {
   taken = [];
@@ -101,7 +102,7 @@ module _ (schema : Schema) (number : ℕ) where
   pub TakesInVersions-more : (handed : Store) (old mid new : HeldVersions) → TakesInVersions schema number handed old mid → TakesInVersions schema number [] mid new → TakesInVersions schema number handed old new
   TakesInVersions-more handed old mid new one other = subst (λ (s : Store). TakesInVersions schema number s old new) (append-nil handed) (TakesInVersions-then handed [] old mid new one other)
 
-  -- what is unfit then was handed over behind what is taken in
+  -- an entry that does not fit then was handed over after those that are applied
   HasUnfit-then : (handed : Store) (old mid : HeldVersions) (one : TakesInVersions schema number handed old mid) (earlier : History) (place : ℕ) → HasUnfit schema (earlier ++ one.taken) mid.ahead.waiting place → HasUnfit schema earlier (old.ahead.waiting ++ handed) place
   HasUnfit-then handed old mid one earlier place there = record {
     taken = one.taken ++ there.taken;
@@ -117,7 +118,7 @@ module _ (schema : Schema) (number : ℕ) where
   pub NamesUnfit-then : {A : Type 0} (result : Result A ReadFault) (handed : Store) (old mid : HeldVersions) → TakesInVersions schema number handed old mid → NamesUnfit schema result mid.ahead.waiting mid → NamesUnfit schema result (old.ahead.waiting ++ handed) old
   NamesUnfit-then result handed old mid one names place is earlier same = HasUnfit-then handed old mid one earlier place (names place is (earlier ++ one.taken) (one.rows earlier same))
 
-  -- what waits is taken in, and then more of it
+  -- some versions that wait are applied, and then more of them
   pub TakesWaiting-here : (held : HeldVersions) → TakesWaiting schema number (well ReadFault) held held
   TakesWaiting-here held = record {
     taken = TakesInVersions-here schema number held;
@@ -158,7 +159,7 @@ module _ (schema : Schema) (number : ℕ) where
     unfailed = λ is. takes.unfailed (ap (err_of A) (same_Err {A = B} fault Keeper is));
   }
 
--- a list by its first member
+-- a list from its first element
 first_rest : (waiting : Store) (kept : StoredEntry) → slice_get waiting 0 ≡ Some kept → waiting ≡ kept ∷ drop 1 waiting
 first_rest [] kept is = absurd cc
 first_rest (first ∷ rest) kept is = let same : first ≡ kept = cc in λ i. same i ∷ rest
@@ -217,11 +218,11 @@ raised_most place number limit one other =
     ]
 
 module _ (schema : Schema) (old : HeldVersions) (kept : StoredEntry) (first : slice_get old.ahead.waiting 0 ≡ Some kept) where
-  -- what a change of rows is, where they are those of a history
+  -- the change of the rows, if they are those of a history
   change_at : (earlier : History) (entry : Entry) → old.rows ≡ kept_at schema earlier → changed schema entry.moment entry.act old.rows ≡ then_some (version_fits schema earlier entry.act) (kept_at schema (earlier ++ entry ∷ []))
   change_at earlier entry same = ap (changed schema entry.moment entry.act) same ∙ changed-kept_at schema earlier entry
 
-  -- the first that waits is the next version of a history
+  -- the first entry that waits is the next version of a history
   record IsNextOf (history : History) (there : AreAt schema history old) : Type 0 where
     next : Entry
     rest : History
@@ -282,7 +283,7 @@ module _ (schema : Schema) (old : HeldVersions) (kept : StoredEntry) (first : sl
           rows_are = rows_after there.split.used there.rows_are ∙ ap (λ (e : Entry). kept_at schema (there.split.used ++ e ∷ [])) same ∙ ap (kept_at schema) (sym there_now.1);
         }
 
-    -- the first is taken in
+    -- the first version is applied
     pub takes_first-ok : TakesWaiting {A = Bool} schema number (Ok true) old after
     takes_first-ok = record {
       taken = takes_one;
@@ -298,7 +299,7 @@ module _ (schema : Schema) (old : HeldVersions) (kept : StoredEntry) (first : sl
       let after = kept_at schema (earlier ++ entry ∷ []) in
       none-some after (sym none ∙ change_at earlier entry same ∙ ap (λ (b : Bool). then_some b after) fits)
 
-  -- or it is unfit, or memory was short
+  -- it does not fit, or memory ran out
   pub takes_first-err : (number : ℕ) (fault : ReadFault) (rows : KeyedRows) → TakesVersion {A = Unit {0}} schema kept (Err fault) old.rows rows → TakesWaiting {A = Bool} schema number (Err fault) old old
   takes_first-err number fault rows takes = record {
     taken = TakesInVersions-here schema number old;
@@ -323,13 +324,13 @@ module _ (schema : Schema) (old : HeldVersions) (kept : StoredEntry) (first : sl
     unfailed = λ is. takes.unfailed (ap (err_of (Unit {0})) (same_Err {A = Bool} fault Keeper is));
   }
 
--- the first is taken in, by what each part then is
+-- the first version is applied, with each part given separately
 pub first_taken : (schema : Schema) (inside old : HeldVersions) → inside ≡ old → (number : ℕ) (kept : StoredEntry) (rows : KeyedRows) (ahead : ReadAhead) (place : ℕ) → slice_get inside.ahead.waiting 0 ≡ Some kept → kept.seq ≤ number → HasTaken schema kept inside.rows rows → ahead ≡ without_first inside.ahead → place ≡ higher_of inside.place kept.seq → TakesWaiting {A = Bool} schema number (Ok true) old (record { rows = rows; ahead = ahead; place = place })
 first_taken schema inside old same number kept rows ahead place first within taken ahead_is place_is =
     subst (λ (held : HeldVersions). TakesWaiting {A = Bool} schema number (Ok true) held (record { rows = rows; ahead = ahead; place = place })) same
     (subst (λ (held : HeldVersions). TakesWaiting {A = Bool} schema number (Ok true) inside held) (λ i. record { rows = rows; ahead = sym ahead_is i; place = sym place_is i }) (takes_first-ok schema inside kept first number rows within taken))
 
--- or it is not
+-- it is not applied
 pub first_untaken : (schema : Schema) (inside old : HeldVersions) → inside ≡ old → (number : ℕ) (kept : StoredEntry) (fault : ReadFault) (rows : KeyedRows) → slice_get inside.ahead.waiting 0 ≡ Some kept → TakesVersion {A = Unit {0}} schema kept (Err fault) inside.rows rows → TakesWaiting {A = Bool} schema number (Err fault) old (record { rows = rows; ahead = inside.ahead; place = inside.place })
 first_untaken schema inside old same number kept fault rows first takes =
     subst (λ (held : HeldVersions). TakesWaiting {A = Bool} schema number (Err fault) held (record { rows = rows; ahead = inside.ahead; place = inside.place })) same
@@ -339,7 +340,7 @@ same_test : (table : List ℕ) (entry : Entry) → is_stored_version_of table (s
 same_test table entry = ap (λ passes. passes && bytes_eq (table_changed entry.act) table) (is_stored_version-stored entry)
 
 module _ (schema : Schema) (max end : ℕ) (old : HeldVersions) (before after : KeeperState) (steps_old steps_new : ℕ) (used : old.ahead.waiting ≡ []) where
-  -- a piece is read
+  -- a batch is read
   pub reads_piece : (piece : Store) → ReadsEntries (is_stored_version_of schema.name) old.ahead.reached max (Ok piece) before after → steps_new ≡ steps_old + stored_versions piece → (number : ℕ) → ReadsOn schema number end (reading_as_call (well ReadFault)) old (record { rows = old.rows; ahead = with_piece max end piece old.ahead; place = old.place }) before after steps_old steps_new
   reads_piece piece reads steps number = record {
     handed = piece;
@@ -364,7 +365,7 @@ module _ (schema : Schema) (max end : ℕ) (old : HeldVersions) (before after : 
         record { created = there.created; split = read.0; rows_are = there.rows_are ∙ ap (kept_at schema) (sym read.1) };
   }
 
-  -- or the read failed
+  -- the read fails
   pub reads_fault : (fault : KeeperFault) → ReadsEntries (is_stored_version_of schema.name) old.ahead.reached max (Err fault) before after → steps_new ≡ steps_old + 0 → (number : ℕ) → ReadsOn schema number end (reading_as_call (err_of (Unit {0}) (read_fault fault))) old old before after steps_old steps_new
   reads_fault fault reads steps number = record {
     handed = [];
@@ -377,7 +378,7 @@ module _ (schema : Schema) (max end : ℕ) (old : HeldVersions) (before after : 
     keeps = λ tells meaning history store within there. there;
   }
 
--- the same, by what each part is
+-- the same, with each part given separately
 module _ (schema : Schema) (max end : ℕ) (old : HeldVersions) (before after : KeeperState) (steps_old steps_new reached : ℕ) (used : old.ahead.waiting ≡ []) (reached_is : reached ≡ old.ahead.reached) where
   pub read_ok : (inside : HeldVersions) → inside ≡ old → (piece : Store) (ahead : ReadAhead) → ahead ≡ with_piece max end piece inside.ahead → ReadsEntries (is_stored_version_of schema.name) reached max (Ok piece) before after → steps_new ≡ steps_old + stored_versions piece → (number : ℕ) → ReadsOn schema number end (well KeeperFault) old (record { rows = inside.rows; ahead = ahead; place = inside.place }) before after steps_old steps_new
   read_ok inside same piece ahead ahead_is reads steps number =
@@ -397,7 +398,7 @@ module _ (schema : Schema) (max end : ℕ) (old : HeldVersions) (before after : 
   read_err fault reads steps number = reads_fault schema max end old before after steps_old steps_new used fault (subst (λ (n : ℕ). ReadsEntries (is_stored_version_of schema.name) n max (Err fault) before after) reached_is reads) steps number
 
 module _ (schema : Schema) (number end : ℕ) where
-  -- nothing is read at first
+  -- nothing is read yet
   pub ReadsOn-first : (held : HeldVersions) (keeper : KeeperState) (steps : ℕ) → IsReady true keeper → ReadsOn schema number end (well KeeperFault) held held keeper keeper steps steps
   ReadsOn-first held keeper steps ready = record {
     handed = [];
@@ -411,7 +412,7 @@ module _ (schema : Schema) (number end : ℕ) where
   }
 
   module _ (old mid new : HeldVersions) (before now : KeeperState) (steps_old steps_now : ℕ) (so_far : ReadsOn schema number end (well KeeperFault) old mid before now steps_old steps_now) where
-    -- then what waits is taken in
+    -- then the versions that wait are applied
     abbrev pub ReadsOn-waiting : {A : Type 0} (result : Result A ReadFault) → TakesWaiting schema number result mid new → ReadsOn schema number end (reading_as_call result) old new before now steps_old steps_now
     ReadsOn-waiting result takes = record {
       handed = so_far.handed;
@@ -434,7 +435,7 @@ module _ (schema : Schema) (number end : ℕ) where
     }
 
     module _ (after : KeeperState) (steps_new : ℕ) where
-      -- or a piece is read
+      -- or a batch is read
       abbrev pub ReadsOn-then : {A : Type 0} (call : Result A KeeperFault) → ReadsOn schema number end call mid new now after steps_now steps_new → ReadsOn schema number end call old new before after steps_old steps_new
       ReadsOn-then call reads = record {
         handed = so_far.handed ++ reads.handed;
@@ -458,15 +459,15 @@ module _ (schema : Schema) (number end : ℕ) where
       }
 
   module _ (old held mid new : HeldVersions) (before now after : KeeperState) (one two three : ℕ) (so_far : ReadsOn schema number end (well KeeperFault) old held before now one two) (takes : TakesWaiting schema number (well ReadFault) held mid) where
-    -- what waits is taken in, and a piece is read
+    -- the versions that wait are applied, and a batch is read
     pub ReadsOn-piece : ReadsOn schema number end (well KeeperFault) mid new now after two three → ReadsOn schema number end (well KeeperFault) old new before after one three
     ReadsOn-piece reads = ReadsOn-then old mid new before now one two (ReadsOn-waiting old held mid before now one two so_far (well ReadFault) takes) after three (well KeeperFault) reads
 
-    -- or not
+    -- or the read fails
     pub BringsUp-unread : (fault : ReadFault) → ReadsOn schema number end (reading_as_call (err_of (Unit {0}) fault)) mid new now after two three → ((place : ℕ) → err_of (Unit {0}) fault ≢ Err (Damaged place)) → BringsUp {A = Unit {0}} schema number end (Err fault) old new before after one three
     BringsUp-unread fault reads undamaged = BringsUp-fault old mid new before now one two (ReadsOn-waiting old held mid before now one two so_far (well ReadFault) takes) after three fault reads undamaged
 
-  -- all up to the number is taken in
+  -- all versions up to the number are applied
   pub BringsUp-end : (old mid : HeldVersions) (before now : KeeperState) (steps_old steps_now : ℕ) → ReadsOn schema number end (well KeeperFault) old mid before now steps_old steps_now → mid.place ≤ number → BeginsAbove number mid.ahead.waiting → has_read number mid.ahead ≡ true → BringsUp {A = Unit {0}} schema number end (Ok tt) old (placed number mid) before now steps_old steps_now
   BringsUp-end old mid before now steps_old steps_now so_far forward begins read = record {
     reads = ReadsOn-waiting old mid (placed number mid) before now steps_old steps_now so_far (well ReadFault) moved;
@@ -488,15 +489,15 @@ module _ (schema : Schema) (number end : ℕ) where
       }
 
 module _ (schema : Schema) (number : ℕ) (old mid new : HeldVersions) (so_far : TakesWaiting schema number (well ReadFault) old mid) (result : Result Bool ReadFault) (takes : TakesWaiting {A = Bool} schema number result mid new) where
-  -- one more was taken in, or none
+  -- one more version was applied, or none
   pub waits_ok : (any : Bool) → result ≡ Ok any → TakesWaiting schema number (well ReadFault) old new
   waits_ok any is = TakesWaiting-then schema number (well ReadFault) old mid new so_far (TakesWaiting-ok schema number any tt mid new (subst (λ (r : Result Bool ReadFault). TakesWaiting {A = Bool} schema number r mid new) is takes))
 
-  -- or one is unfit
+  -- or one does not fit
   pub waits_err : (fault : ReadFault) → result ≡ Err fault → TakesWaiting {A = Unit {0}} schema number (Err fault) old new
   waits_err fault is = TakesWaiting-then schema number (err_of (Unit {0}) fault) old mid new so_far (TakesWaiting-err schema number {A = Bool} {B = Unit {0}} fault mid new (subst (λ (r : Result Bool ReadFault). TakesWaiting {A = Bool} schema number r mid new) is takes))
 
--- what has_read says
+-- the meaning of `has_read`
 pub is_not_read : (number : ℕ) (ahead : ReadAhead) → has_read number ahead ≡ false → (ahead.reached < number) × (ahead.waiting ≡ [])
 is_not_read number ahead is =
     let parts = or_parts (nat_le number ahead.reached) (is_some (slice_get ahead.waiting 0)) is in

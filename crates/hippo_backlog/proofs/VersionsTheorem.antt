@@ -1,4 +1,5 @@
--- The rows of a table come from its versions alone, and in a valid history each of these fits those before it.
+-- The rows of a table depend only on its versions, and in a valid history each version fits those
+-- before it.
 use Rattle.std.proofs.Common.{◌≡◌, ◌∙◌, sym, ap, refl, Bool, true, false, ◌&&◌, not, [], ◌∷◌, ◌++◌, filter, filter_map, cond, Option, Some, None, option_map, unwrap_or, append_assoc}
 use Rattle.std.specs.Prelude.{is_none, is_some, option_and_then, bytes_eq}
 use Rattle.std.specs.Bool.{then_some}
@@ -30,7 +31,7 @@ option_or-None : {A : Type 0} (word : Option A) → option_or word None ≡ word
 option_or-None None = refl
 option_or-None (Some word) = refl
 
--- what says nothing may be left out
+-- entries that say nothing may be left out
 last_word-filter : {A : Type 0} (word : Entry → Option A) (test : Entry → Bool) → ((entry : Entry) → test entry ≡ false → word entry ≡ None) → (history : History) → last_word word (filter test history) ≡ last_word word history
 last_word-filter word test silent [] = refl
 last_word-filter word test silent (entry ∷ later) =
@@ -47,7 +48,7 @@ module _ (schema : Schema) where
   named_by (Delete table key) other = rw other
   named_by act other = refl
 
-  -- what is no version of the table names none of its keys
+  -- an entry that is not a version of the table names none of its keys
   names_none : (entry : Entry) → is_version_of schema.name entry ≡ false → key_named schema entry.act ≡ None
   names_none entry other = named_by entry.act other
 
@@ -78,11 +79,11 @@ module _ (schema : Schema) where
   table_rows-versions : (history : History) → table_rows schema (versions_of schema.name history) ≡ table_rows schema history
   table_rows-versions history = λ i. filter_map (λ key. born_row_at-versions history key i) (keys_named-filter history i)
 
-  -- the rows are those of the versions
+  -- the rows are those after the versions alone
   pub kept_at-versions : (history : History) → kept_at schema history ≡ kept_at schema (versions_of schema.name history)
   kept_at-versions history = λ i. record { key = schema.key; rows = sym (table_rows-versions history) i }
 
-  -- a version fits a history where it fits the versions of its table alone
+  -- a version fits a history exactly when it fits the versions of its table alone
   pub version_fits-versions : (history : History) (act : Act) → version_fits schema (versions_of schema.name history) act ≡ version_fits schema history act
   version_fits-versions history (Insert table row) =
       ap (λ found. bytes_eq table schema.name && row_fits schema row && not (is_some found)) (row_at-versions history (key_of schema.key row))
@@ -133,7 +134,7 @@ module _ (meaning : Meaning) where
       sym (ap (λ h. schema_at h table) regrouped)
       ∙ schemas_last (front ++ entry ∷ []) later table schema (ap (is_valid meaning) regrouped ∙ valid) (schema_lasts front entry table schema may is)
 
--- where a member of those that pass a test stands
+-- the place in the history of an entry that passes a test
 pub record StandsAt (test : Entry → Bool) (history passed : History) (entry : Entry) : Type 0 where
   pub front : History
   pub remaining : History

@@ -1,4 +1,4 @@
--- Laws on the versions of a table.
+-- Laws about the versions of a table.
 use Rattle.std.specs.Prelude.{◌≡◌, true, ◌∷◌, ◌++◌, Some}
 use Rattle.hippo_values.specs.declared.names.Name.{Name}
 use Rattle.hippo_model.specs.declared.entry.Entry.{Entry}
@@ -10,7 +10,7 @@ use Rattle.hippo_model.specs.Validity.{is_valid}
 use Rattle.hippo_model.specs.Versions.{version_fits}
 use Rattle.hippo_backlog.specs.Backlogs.{versions_of}
 
--- the rows of a table after some entries are those after its versions among them
+-- the rows of a table after some entries are those after the table's versions among them alone
 abbrev pub RowsAreThoseOfVersions : Type 0
 RowsAreThoseOfVersions =
     (schema : Schema) (history : History)
@@ -23,7 +23,7 @@ SchemasLast =
     → is_valid meaning (front ++ later) ≡ true → schema_at front table ≡ Some schema
     → schema_at (front ++ later) table ≡ Some schema
 
--- in a valid history each version of a table fits the versions of the table before it
+-- in a valid history each version of a table fits the table's earlier versions
 abbrev pub VersionsFit : Type 0
 VersionsFit =
     (meaning : Meaning) (history : History) (schema : Schema) → is_valid meaning history ≡ true

@@ -1,4 +1,4 @@
--- The rows of a table as they were at a place in the history, and the versions behind that wait.
+-- The rows of a table at a place in the history, and the later versions that wait.
 use Rattle.std.specs.Prelude.{◌≡◌, ◌≢◌, ℕ, ◌+◌, ◌≤◌, Bool, true, false, ◌&&◌, List, [], ◌∷◌, ◌++◌, map, filter, length, take, Result, Err, Some, nat_lt, if◌then◌else◌, bytes_eq, OnOk, IfOk}
 use Rattle.hippo_values.specs.declared.names.Name.{Name}
 use Rattle.hippo_model.specs.declared.entry.Entry.{Entry}
@@ -30,32 +30,31 @@ versions_of table history = filter (is_version_of table) history
 pub record HeldVersions : Type 0 where
   pub rows : KeyedRows
   pub ahead : ReadAhead
-  -- the number up to which versions are taken in
+  -- the number up to which versions are applied
   pub place : ℕ
 
 abbrev pub no_versions : List Place → HeldVersions
 no_versions key = record { rows = record { key = key; rows = [] }; ahead = nothing_read; place = 0 }
 
--- the higher of a place and a number
+-- the larger of a place and a number
 abbrev pub higher_of : ℕ → ℕ → ℕ
 higher_of place number = if nat_lt place number then number else place
 
--- what is held is that of a history: the rows are those of the versions up to the place, and the
--- next ones wait
+-- the rows are those of a history's versions up to the place, and the next versions wait
 pub record AreAt (schema : Schema) (history : History) (held : HeldVersions) : Type 0 where
   pub created : schema_at history schema.name ≡ Some schema
   pub split : IsAhead (is_version_of schema.name) held.place held.ahead history
   pub rows_are : held.rows ≡ kept_at schema split.used
 
--- what is held of each valid history stays that of the history
+-- whenever the old state is that of a valid history, the new state is that of the same history
 abbrev pub KeepsFit : Schema → HeldVersions → HeldVersions → Type 0
 KeepsFit schema old new =
     (meaning : Meaning) (history : History) → is_valid meaning history ≡ true
     → AreAt schema history old
     → AreAt schema history new
 
--- of what waited and of what was handed over the first ones were taken in, up to a number, and the
--- others wait
+-- of the versions that waited and those that were handed over, the first ones are applied, up to a
+-- number, and the others wait
 pub record TakesInVersions (schema : Schema) (number : ℕ) (handed : Store) (old new : HeldVersions)
     : Type 0 where
   pub taken : History
@@ -68,8 +67,8 @@ pub record TakesInVersions (schema : Schema) (number : ℕ) (handed : Store) (ol
   pub rises : old.place ≤ new.place
   pub limit : old.place ≤ number → new.place ≤ number
 
--- among entries that were handed over one with this number is unfit, behind others that were taken
--- in
+-- the entry with this number does not fit, in a list of entries that were handed over; those before
+-- it are applied
 pub record HasUnfit (schema : Schema) (earlier : History) (entries : Store) (place : ℕ)
     : Type 0 where
   pub taken : History
@@ -79,14 +78,14 @@ pub record HasUnfit (schema : Schema) (earlier : History) (entries : Store) (pla
   pub number_is : entry.seq ≡ place
   pub unfit : ¬ (IsFit (is_wanted_version schema 0 (earlier ++ taken)) entry)
 
--- Damaged names an unfit entry of these
+-- `Damaged` names one of these entries, which does not fit
 abbrev pub NamesUnfit : {A : Type 0} → Schema → Result A ReadFault → Store → HeldVersions → Type 0
 NamesUnfit schema result entries old =
     (number : ℕ) → result ≡ Err (Damaged number) → (earlier : History)
     → old.rows ≡ kept_at schema earlier
     → HasUnfit schema earlier entries number
 
--- what waits is taken in up to a number, or up to an entry that is unfit
+-- the versions that wait are applied up to a number, or up to an entry that does not fit
 pub record TakesWaiting {A : Type 0} (schema : Schema) (number : ℕ) (result : Result A ReadFault)
     (old new : HeldVersions) : Type 0 where
   pub taken : TakesInVersions schema number [] old new
@@ -97,8 +96,9 @@ pub record TakesWaiting {A : Type 0} (schema : Schema) (number : ℕ) (result : 
       → AreAt schema history old → (number : ℕ) → result ≢ Err (Damaged number)
   pub unfailed : result ≢ Err Keeper
 
--- pieces are read and taken in: one step for each version that is handed over; and what is held
--- stays that of the kept history, where the keeper tells it and it is as long as was said
+-- batches are read and applied, with one step for each version that is handed over. If the store's
+-- contents are known and the history has at least the given length, the state stays that of the
+-- history.
 pub record ReadsOn {A : Type 0} (schema : Schema) (number end : ℕ) (call : Result A KeeperFault)
     (old new : HeldVersions)
     (before after : KeeperState) (steps_old steps_new : ℕ) : Type 0 where
@@ -109,8 +109,8 @@ pub record ReadsOn {A : Type 0} (schema : Schema) (number end : ℕ) (call : Res
       → IsStoreOf meaning before.kept history
       → end ≤ length history → AreAt schema history old → AreAt schema history new
 
--- what is held is brought up to a number; or Damaged names an entry that is unfit, which is never
--- one of a valid history that the keeper tells
+-- the rows are moved forward to a number, or `Damaged` names an entry that does not fit; it never
+-- does if the store's contents are known and are a valid history
 pub record BringsUp {A : Type 0} (schema : Schema) (number end : ℕ) (result : Result A ReadFault)
     (old new : HeldVersions)
     (before after : KeeperState) (steps_old steps_new : ℕ) : Type 0 where
@@ -123,7 +123,8 @@ pub record BringsUp {A : Type 0} (schema : Schema) (number end : ℕ) (result : 
       → end ≤ length history → AreAt schema history old → (number : ℕ)
       → result ≢ Err (Damaged number)
 
--- the rows of a table after the first entries of the kept history, and steps
+-- the rows of a table after the first entries of the history in the store, and the steps of reading
+-- them
 pub record IsSnapshot (schema : Schema) (number : ℕ) (result : Result KeyedRows ReadFault)
     (history : History)
     (steps_old steps_new : ℕ) : Type 0 where
@@ -131,7 +132,7 @@ pub record IsSnapshot (schema : Schema) (number : ℕ) (result : Result KeyedRow
   pub steps : steps_new ≤ steps_old + length (versions_of schema.name history)
   pub undamaged : (place : ℕ) → result ≢ Err (Damaged place)
 
--- what a snapshot reads and answers
+-- what a snapshot reads and returns
 pub record Snapshots (schema : Schema) (number : ℕ) (result : Result KeyedRows ReadFault)
     (before after : KeeperState)
     (steps_old steps_new : ℕ) : Type 0 where

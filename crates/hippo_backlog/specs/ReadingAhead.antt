@@ -1,4 +1,4 @@
--- What was read ahead of the place up to which it is used.
+-- The entries that were read before they are used.
 use Rattle.std.specs.Prelude.{◌≡◌, ℕ, ◌+◌, ◌<◌, ◌≤◌, Bool, ◌&&◌, ◌||◌, [], ◌∷◌, ◌++◌, map, filter, length, drop, nat_lt, nat_le, slice_get, is_some, if◌then◌else◌, ⊤}
 use Rattle.hippo_model.specs.declared.entry.Entry.{Entry}
 use Rattle.hippo_model.specs.Terms.{History}
@@ -8,28 +8,28 @@ use Rattle.hippo_keeper.specs.Keeping.{Store, RisesAbove, last_number}
 use Rattle.hippo_keeper.specs.Selecting.{stored_versions}
 
 pub record ReadAhead : Type 0 where
-  -- what was handed over last and is not used yet
+  -- the entries that were handed over last and are not used yet
   pub waiting : Store
-  -- up to which number all was read that was asked for
+  -- the number up to which all requested entries are read
   pub reached : ℕ
-  -- how many versions were handed over in all
+  -- the total number of versions that were handed over
   pub handed : ℕ
 
 abbrev pub nothing_read : ReadAhead
 nothing_read = record { waiting = []; reached = 0; handed = 0 }
 
--- the first one is used
+-- the first entry is used
 abbrev pub without_first : ReadAhead → ReadAhead
 without_first ahead = record ahead { waiting = drop 1 ahead.waiting }
 
--- up to which number all is read after a piece: to its last one, and where it is shorter than was
--- asked for, to the end
+-- the number up to which everything is read after a batch: its last one, or the end if the batch is
+-- shorter than requested
 abbrev pub reached_by : ℕ → ℕ → Store → ℕ → ℕ
 reached_by max end piece reached =
     let last = last_number reached piece in
     if nat_lt (length piece) max && nat_lt last end then end else last
 
--- a piece of at most so many entries is handed over, where what is kept has numbers up to an end
+-- a batch of at most `max` entries is handed over from a history of length `end`
 abbrev pub with_piece : ℕ → ℕ → Store → ReadAhead → ReadAhead
 with_piece max end piece ahead = record {
   waiting = piece;
@@ -42,17 +42,17 @@ abbrev pub AreUpTo : ℕ → History → Type 0
 AreUpTo number [] = ⊤
 AreUpTo number (entry ∷ rest) = (entry.seq ≤ number) × AreUpTo number rest
 
--- the first stored entry, if there is one, is above a number
+-- the first stored entry, if there is one, has a number above this
 abbrev pub BeginsAbove : ℕ → Store → Type 0
 BeginsAbove number [] = ⊤
 BeginsAbove number (entry ∷ rest) = number < entry.seq
 
--- all up to a number is read, or something waits
+-- everything up to a number is read, or some entry waits
 abbrev pub has_read : ℕ → ReadAhead → Bool
 has_read number ahead = nat_le number ahead.reached || is_some (slice_get ahead.waiting 0)
 
--- what was read ahead of a history: of its entries that pass a test, those up to a place are used,
--- some wait, and those above the number that is reached are still to be read
+-- the state of reading ahead in a history: of the entries that pass a test, those up to a place are
+-- used, some wait, and those above the number that is reached are not read yet
 pub record IsAhead (test : Entry → Bool) (place : ℕ) (ahead : ReadAhead) (history : History)
     : Type 0 where
   pub used : History

@@ -1,4 +1,4 @@
--- What taking a version into a table's rows comes to.
+-- The result of applying a version to a table's rows.
 use Rattle.std.specs.Prelude.{◌≡◌, ◌≢◌, ◌&&◌, ℕ, Bool, true, false, Result, Ok, Err, Option, Some, None, OnOk, OnErr, option_and_then, bytes_eq}
 use Rattle.std.specs.Bool.{then_some}
 use Rattle.hippo_values.specs.declared.memory.Memory.{Memory}
@@ -16,33 +16,33 @@ use Rattle.hippo_backlog.specs.declared.faults.ReadFault.{ReadFault}
 use Rattle.hippo_backlog.specs.declared.faults.ReadFault.TheVariants.{Keeper, Damaged}
 use Rattle.hippo_backlog.specs.declared.faults.ReadFault.TheVariants as read_faults
 
--- rows with one of this birth, in the place of that with its key; none where there is no birth, or
--- the row does not fit the table
+-- the rows with this row and birth put in, in which it replaces the row with its key; `None` if
+-- there is no birth or the row does not fit the table
 abbrev pub put_with : Schema → Name → Row → Option Moment → KeyedRows → Option KeyedRows
 put_with schema table row birth kept =
     option_and_then (λ born. then_some (bytes_eq table schema.name && row_fits schema row)
     (with_row (record { row = row; born = born }) kept)) birth
 
--- rows become what a change makes of them; or there is no such change, or memory was short, and
--- they stay
+-- the rows become the result of a change; or there is no such change, or memory ran out, and they
+-- stay the same
 abbrev pub Becomes : Option KeyedRows → Result Bool Memory → KeyedRows → KeyedRows → Type 0
 Becomes after (Ok true) old new = after ≡ Some new
 Becomes after (Ok false) old new = (after ≡ None) × (new ≡ old)
 Becomes after (Err memory) old new = new ≡ old
 
--- what taking in the entry with a number comes to, by whether it fits
+-- the result of applying the entry with a number, by whether it fits
 abbrev pub result_of_fit : ℕ → Result Bool Memory → Result (Unit {0}) ReadFault
 result_of_fit number (Ok true) = Ok tt
 result_of_fit number (Ok false) = Err (Damaged number)
 result_of_fit number (Err memory) = Err read_faults.Memory
 
--- the entry of a stored form has changed the rows
+-- the entry that this stored form decodes to has changed the rows
 pub record HasTaken (schema : Schema) (kept : StoredEntry) (old new : KeyedRows) : Type 0 where
   pub entry : Entry
   pub form : HasForm kept entry
   pub change : changed schema entry.moment entry.act old ≡ Some new
 
--- a stored form is taken into rows; or no entry of this form changes them
+-- a stored entry is applied to the rows, or no entry with this stored form changes them
 pub record TakesVersion {A : Type 0} (schema : Schema) (kept : StoredEntry)
     (result : Result A ReadFault)
     (old new : KeyedRows) : Type 0 where

@@ -1,4 +1,4 @@
-//! What was read ahead from a keeper, piece by piece.
+//! Stored entries that were read ahead from a keeper, a batch at a time.
 ghost use Rattle.std.specs.Prelude.{◌≡◌, ◌≤◌, length, option_copied, slice_get};
 ghost use Rattle.hippo_keeper.specs.Keeping.{RisesAbove, last_number};
 ghost use Rattle.hippo_keeper.specs.Selecting.{is_stored_version, stored_versions};
@@ -15,7 +15,7 @@ const UPDATE: u8 = 3;
 
 const DELETE: u8 = 4;
 
-// The number of the last entry, or this one where there is none.
+// The number of the last entry, or `number` if there is none.
 fn last_number(number: u64, entries: &[StoredEntry]) -> u64
     ensures { result ≡ last_number number entries.now }
 {
@@ -45,7 +45,7 @@ fn versions_among(entries: &[StoredEntry]) -> u64
     count
 }
 
-// Up to which number all is read after a piece.
+// The number up to which everything is read after a batch.
 fn reached_by(max: u64, end: u64, piece: &[StoredEntry], reached: u64) -> u64
     ensures { result ≡ reached_by max end piece.now reached }
 {
@@ -57,15 +57,14 @@ fn reached_by(max: u64, end: u64, piece: &[StoredEntry], reached: u64) -> u64
     }
 }
 
-/// Entries of one kind that a keeper handed over, read ahead of where they are used, piece by
-/// piece.
+/// Stored entries of one kind that a keeper handed over in batches, read before they are used.
 ///
-/// Each is used once, in the order of their numbers. It knows up to which number all such entries
-/// were read, so that nothing is asked for twice.
+/// Each entry is used once, in the order of the numbers. The structure knows up to which number all
+/// such entries were read, so nothing is requested twice.
 #[derive(Drop)]
 pub struct Ahead {
     piece: StoredList,
-    // How many members of the piece are used.
+    // How many entries of the batch are used.
     next: usize,
     reached: u64,
     handed: u64,
@@ -88,7 +87,7 @@ impl Model for Ahead {
 }
 
 impl Ahead {
-    /// Nothing is read yet; takes no memory.
+    /// Nothing is read yet. Allocates nothing.
     pub fn new(alloc: Global) -> Ahead
         ensures { result ≡ nothing_read }
     {
@@ -100,28 +99,28 @@ impl Ahead {
         }
     }
 
-    /// The number up to which all is read that was asked for: 0 at first.
+    /// The number up to which all requested entries are read. It is 0 at first.
     pub fn reached(&self) -> u64
         ensures { result ≡ self.now.reached }
     {
         self.reached
     }
 
-    /// How many versions of rows were handed over.
+    /// How many versions of rows the keeper handed over.
     pub fn handed(&self) -> u64
         ensures { result ≡ self.now.handed }
     {
         self.handed
     }
 
-    /// The first entry that is not used yet.
+    /// The first entry that is not used yet, if there is one.
     pub fn first(&self) -> Option<&StoredEntry>
         ensures { option_copied result ≡ slice_get self.now.waiting 0 }
     {
         self.piece.as_slice().get(self.next)
     }
 
-    /// Uses the first entry, if there is one.
+    /// Marks the first entry as used, if there is one.
     pub fn pass(&mut self)
         ensures { self.new ≡ without_first self.old }
     {
@@ -130,8 +129,8 @@ impl Ahead {
         }
     }
 
-    /// Puts a piece of at most `max` entries, handed over above the number that is reached, in the
-    /// place of the one before. `end` says how long the history is: a piece of fewer entries
+    /// Replaces the batch by the next one, which has at most `max` entries, all above the number
+    /// that is reached. `end` is the length of the history: a batch of fewer than `max` entries
     /// reaches up to there.
     pub fn put(&mut self, piece: StoredList, max: u64, end: u64)
         requires order { RisesAbove self.old.reached piece }

@@ -1,4 +1,4 @@
-//! A version taken into a table's rows.
+//! Applies a version to the rows of a table.
 ghost use Rattle.std.specs.Prelude.{◌≡◌, ◌&&◌, not, Ok, is_some, option_map, bytes_eq};
 ghost use Rattle.std.specs.Bool.{then_some};
 ghost use Rattle.hippo_model.specs.declared.entry.Act.TheVariants.{Delete};
@@ -16,35 +16,35 @@ use hippo_tables_rows::RowSet;
 use hippo_values::{Memory, Moment, Name};
 use std::alloc::Global;
 
-// Whether a table's name is that of the schema, and a row fits it.
+// Whether the table has the schema's name and the row fits the schema.
 fn fits(schema: &Schema, table: &Name, row: &Cells) -> bool
     ensures { result ≡ (bytes_eq table.now schema.now.name && row_fits schema.now row.now) }
 {
     *table == schema.name && row_fits(schema, row)
 }
 
-// Whether a table's name is that of the schema, and a key fits it.
+// Whether the table has the schema's name and the key fits the schema.
 fn fits_key(schema: &Schema, table: &Name, key: &Cells) -> bool
     ensures { result ≡ (bytes_eq table.now schema.now.name && key_fits schema.now key.now) }
 {
     *table == schema.name && key_fits(schema, key)
 }
 
-// Whether a row has this key.
+// Whether there is a row with this key.
 fn is_live(rows: &RowSet, key: &Cells) -> bool
     ensures { result ≡ is_some (row_with key.now rows.now) }
 {
     rows.find(key).is_some()
 }
 
-// Whether a row has the key of this one.
+// Whether there is a row with the key of this one.
 fn is_live_like(rows: &RowSet, row: &Cells) -> bool
     ensures { result ≡ is_some (row_with (key_of rows.now.key row.now) rows.now) }
 {
     rows.find_like(row).is_some()
 }
 
-// The birth of the row that has the key of this one.
+// The birth of the row that has the key of this one, if there is one.
 fn birth_like(rows: &RowSet, row: &Cells) -> Option<Moment>
     ensures { result ≡ option_map (λ kept. kept.born)
         (row_with (key_of rows.now.key row.now) rows.now) }
@@ -55,7 +55,7 @@ fn birth_like(rows: &RowSet, row: &Cells) -> Option<Moment>
     }
 }
 
-// The moment, as the birth of a row whose key is not live.
+// The moment as the birth of a new row, if no row has its key yet.
 fn birth_of_new(rows: &RowSet, row: &Cells, moment: Moment) -> Option<Moment>
     ensures { result ≡ then_some (not (is_some (row_with (key_of rows.now.key row.now) rows.now)))
         moment }
@@ -67,7 +67,7 @@ fn birth_of_new(rows: &RowSet, row: &Cells, moment: Moment) -> Option<Moment>
     }
 }
 
-// Puts a row with its birth, in the place of the one that has its key; whether it has a birth and
+// Puts a row with its birth, and replaces the row with its key. Returns whether it has a birth and
 // fits.
 fn put(
     schema: &Schema,
@@ -89,7 +89,7 @@ fn put(
     Ok(false)
 }
 
-// Takes away the row of a key that is live; whether it fits.
+// Removes the row with this key. Returns whether the key fits and the row is there.
 fn delete(schema: &Schema, table: &Name, key: &Cells, _moment: Moment, rows: &mut RowSet) -> bool
     requires key { rows.old.key ≡ schema.now.key }
     ensures { Becomes (changed schema.now _moment (Delete table.now key.now) rows.old) (Ok result)
@@ -103,7 +103,7 @@ fn delete(schema: &Schema, table: &Name, key: &Cells, _moment: Moment, rows: &mu
     false
 }
 
-// Takes in what an act does to a table's rows; whether it is a version that fits.
+// Applies an act to a table's rows. Returns whether it is a version that fits.
 fn change(schema: &Schema, moment: Moment, act: Act, rows: &mut RowSet) -> Result<bool, Memory>
     requires key { rows.old.key ≡ schema.now.key }
     ensures { Becomes (changed schema.now moment act rows.old) result rows.old rows.new }
@@ -125,7 +125,7 @@ fn change(schema: &Schema, moment: Moment, act: Act, rows: &mut RowSet) -> Resul
     }
 }
 
-// What taking in the entry with a number comes to.
+// The result of applying the entry with a number.
 fn judged(number: u64, change: Result<bool, Memory>) -> Result<(), ReadFault>
     ensures { result ≡ result_of_fit number change }
 {
@@ -136,8 +136,8 @@ fn judged(number: u64, change: Result<bool, Memory>) -> Result<(), ReadFault>
     }
 }
 
-/// Takes the entry of a stored form into a table's rows: `Damaged` with its number where no entry
-/// of this form is a version of the table that fits the rows.
+/// Applies a stored entry to a table's rows. `Damaged` with its number if the stored entry does not
+/// decode to a version of the table that fits the rows.
 pub(crate) fn take(
     alloc: Global,
     schema: &Schema,

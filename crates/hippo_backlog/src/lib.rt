@@ -1,5 +1,5 @@
-//! The rows of a table as they were after any number of entries, from the versions that a keeper
-//! hands over.
+//! The rows of a table as they were after any number of entries, computed from the versions that a
+//! keeper hands over.
 #![tactic(auto)]
 
 mod ahead;

@@ -1,4 +1,4 @@
-//! The rows of a table as they were.
+//! The rows of a table as they were in the past.
 ghost use Rattle.std.specs.Prelude.{true};
 ghost use Rattle.hippo_keeper.specs.Keeping.{IsReady};
 ghost use Rattle.hippo_backlog.specs.Backlogs.{Snapshots};
@@ -12,13 +12,14 @@ use hippo_values::{Duplicate, Memory};
 use std::alloc::Global;
 use std::sync::ledger::Ledger;
 
-/// The rows of a table, with their births, as they were after the first `number` entries of the
-/// history that is kept.
+/// Returns the rows of a table, with their births, as they were after the first `number` entries of
+/// the history in the store.
 ///
-/// That is said where the keeper tells a valid history of at least so many entries, in which the
-/// table has this schema; then `Damaged` never comes. Over other keepers `Damaged` has the number
-/// of an entry that was handed over and does not fit. `Keeper` comes only where the keeper's count
-/// of faults rose. Each version that is handed over is one step.
+/// The result is guaranteed if the store's contents are known and are a valid history of at least
+/// `number` entries in which the table has this schema. `Damaged` is then never returned. For other
+/// stores `Damaged` has the number of an entry that was handed over and does not fit. `Keeper` is
+/// returned only if the keeper's count of faults rose. Each version that the keeper hands over is
+/// one step.
 pub fn snapshot<P: Keeper, L: Ledger>(
     keeper: &mut P,
     alloc: Global,

@@ -1,4 +1,4 @@
-//! The rows of a table at a place in the history, and the versions that were read ahead of it.
+//! The rows of a table at a place in the history, and the later versions that were read ahead.
 ghost use Rattle.std.specs.Prelude.{◌≡◌, ◌≢◌, ℕ, ◌≤◌, ◌<◌, true, false, [], length, Ok, Err, OnOk};
 ghost use Rattle.hippo_keeper.specs.Keeping.{IsReady};
 ghost use Rattle.hippo_backlog.specs.Calls.{reading_as_call};
@@ -16,7 +16,7 @@ use std::alloc::Global;
 use std::marker::Model;
 use std::sync::ledger::Ledger;
 
-// How many versions are read at once.
+// How many versions one read returns.
 const PIECE: u64 = 1000;
 
 fn raised(place: u64, number: u64) -> u64
@@ -25,8 +25,8 @@ fn raised(place: u64, number: u64) -> u64
     if place < number { number } else { place }
 }
 
-/// The rows of a table as they were after the entries up to a place, and the versions behind it
-/// that wait.
+/// The rows of a table as they were after the entries up to a place, and the versions after the
+/// place that wait.
 #[derive(Drop)]
 pub struct Versions {
     rows: RowSet,
@@ -43,7 +43,7 @@ impl Model for Versions {
 }
 
 impl Versions {
-    /// No version yet, of a table whose key has these places; takes no memory.
+    /// The state before any version, of a table whose key has these columns. Allocates nothing.
     pub fn new(alloc: Global, key: Places) -> Versions
         ensures { result ≡ no_versions key }
     {
@@ -54,7 +54,7 @@ impl Versions {
         }
     }
 
-    /// The number up to which versions are taken in.
+    /// The number up to which versions are applied.
     pub fn place(&self) -> u64
         ensures { result ≡ self.now.place }
     {
@@ -75,22 +75,23 @@ impl Versions {
         rows
     }
 
-    /// Keeps, from now on, an order of the rows by a column, so that rows are found by it; they
-    /// stay what they are.
+    /// Keeps an index of the rows by a column from now on, so that lookups by that column can use
+    /// it. The rows do not change.
     pub fn order_by(&mut self, alloc: Global, column: usize)
         ensures { self.new ≡ self.old }
     {
         self.rows.order_by(alloc, column);
     }
 
-    /// How many versions were handed over, those that wait included.
+    /// How many versions the keeper handed over, including those that wait.
     pub fn handed(&self) -> u64
         ensures { result ≡ self.now.ahead.handed }
     {
         self.ahead.handed()
     }
 
-    // Takes in the first version that waits, if it is numbered up to this; whether there was one.
+    // Applies the first version that waits, if its number is at most `number`. Returns whether it
+    // did.
     fn take_first(&mut self, alloc: Global, schema: &Schema, number: u64) -> Result<bool, ReadFault>
         requires key { self.old.rows.key ≡ schema.now.key }
         ensures takes { TakesWaiting schema.now number result self.old self.new }
@@ -115,7 +116,7 @@ impl Versions {
         }
     }
 
-    // Takes in what waits and is numbered up to this.
+    // Applies the versions that wait and whose numbers are at most `number`.
     fn take_waiting(&mut self, alloc: Global, schema: &Schema, number: u64) -> Result<(), ReadFault>
         requires key { self.old.rows.key ≡ schema.now.key }
         ensures takes { TakesWaiting schema.now number result self.old self.new }
@@ -130,7 +131,7 @@ impl Versions {
         }
     }
 
-    // Reads the next piece, where nothing waits.
+    // Reads the next batch. Nothing must be waiting.
     fn read_piece<P: Keeper, L: Ledger>(
         &mut self,
         keeper: &mut P,
@@ -157,20 +158,21 @@ impl Versions {
         }
     }
 
-    // Whether all versions up to a number are read, or a later one waits.
+    // Whether every version up to a number is read, or some version waits.
     fn has_read(&self, number: u64) -> bool
         ensures { result ≡ has_read number self.now.ahead }
     {
         number <= self.ahead.reached() || self.ahead.first().is_some()
     }
 
-    /// Brings the rows up to a number, reading from a keeper what is not read yet. `end` says how
-    /// long the history is that is kept.
+    /// Moves the rows forward to the first `number` entries, and reads from the keeper what is not
+    /// read yet. `end` is the length of the history in the store.
     ///
-    /// Ok: the rows are those after the first `number` entries. Where it fails, the place lies
-    /// between. `Keeper` comes only where the keeper's count of faults rose, and `Damaged` with the
-    /// number of an entry that was handed over and does not fit: never where the keeper tells a
-    /// valid history. Each version is read once, and is then one step.
+    /// On success the rows are those after the first `number` entries. On failure the place is
+    /// somewhere in between. `Keeper` is returned only if the keeper's count of faults rose.
+    /// `Damaged` has the number of an entry that was handed over and does not fit. It is never
+    /// returned if the store's contents are known and are a valid history. Each version is read
+    /// once and is then one step.
     pub fn bring_up<P: Keeper, L: Ledger>(
         &mut self,
         keeper: &mut P,

@@ -1,4 +1,4 @@
--- Tables that are brought forward, call by call.
+-- Tables that are moved forward, call by call.
 use Rattle.std.proofs.Common.{◌≡◌, ◌≢◌, ◌∙◌, sym, ap, refl, subst, arith, ℕ, zero, suc, ◌+◌, ◌<◌, ◌≤◌, Bool, true, false, cond, not, List, [], ◌∷◌, ◌++◌, map, length, Option, None, Some, option_map, Result, Ok, Err}
 use Rattle.std.specs.Prelude.{slice_get, slice_set, slice_index_or, bytes_eq, is_some, OnOk, nat_eq}
 use Rattle.std.specs.List.{IsDistinct, position_or_len}
@@ -43,7 +43,7 @@ module _ (table : Name) where
   none_found : (found : Option HeldLives) → found ≡ None → is_some found ≡ false
   none_found found is = ap is_some is
 
--- a table that stays what it is
+-- a table that stays the same
 pub set_same : (tables : List HeldLives) (place : ℕ) (lives new : HeldLives) → slice_get tables place ≡ Some lives → new ≡ lives → slice_set tables place new ≡ tables
 set_same [] zero lives new at same = absurd cc
 set_same [] (suc place) lives new at same = absurd cc
@@ -64,7 +64,7 @@ module _ (schema : Schema) where
       let found = find_at (has_name schema.name) tables ∙ ap (slice_get tables) (sym is) ∙ slice_get-get_or tables place any within in
       (ap (λ (there : Bool). cond there tables (tables ++ no_lives schema ∷ [])) (ap is_some found), record { first = is; within = within })
 
-  -- a table that is held by none, put behind the others
+  -- a table that is not held is appended
   pub IsPlaceOf-new : (tables : List HeldLives) (place : ℕ) → place ≡ first_place tables → place ≡ length tables → (with_table schema tables ≡ tables ++ no_lives schema ∷ []) × IsPlaceOf schema.name place (tables ++ no_lives schema ∷ [])
   IsPlaceOf-new tables place is end =
       let missing = find_at (has_name schema.name) tables ∙ ap (slice_get tables) (sym is) ∙ slice_get_past tables place (omega (arith, end)) in
@@ -101,7 +101,7 @@ module _ (past : Past) (number : ℕ) where
     undamaged = λ tells history kept its fits place. whole place;
   }
 
-  -- one call after another that did not fail
+  -- a call after another that succeeded
   pub Brings-then : {A B : Type 0} (first : Result A ReadFault) (second : Result B ReadFault) (old mid new : List HeldLives) (before between after : KeeperState) (s0 s1 s2 : ℕ) → has_failed (reading_as_call first) ≡ false → Brings past number first old mid before between s0 s1 → Brings past number second mid new between after s1 s2 → Brings past number second old new before after s0 s2
   Brings-then first second old mid new before between after s0 s1 s2 good one other =
       let counted = one.ledger in
@@ -120,7 +120,7 @@ module _ (past : Past) (number : ℕ) where
             other.undamaged tells history (kept ∙ sym (one.stays first_told).same) its (one.told first_told history kept its fits);
       }
 
-  -- the same call, as another answer that failed where it did
+  -- the same call with another result, which failed exactly when it did
   pub Brings-as : {A B : Type 0} (one : Result A ReadFault) (other : Result B ReadFault) (old new : List HeldLives) (before after : KeeperState) (s0 s1 : ℕ) → has_failed (reading_as_call other) ≡ has_failed (reading_as_call one) → ((place : ℕ) → other ≡ Err (Damaged place) → one ≡ Err (Damaged place)) → Brings past number one old new before after s0 s1 → Brings past number other old new before after s0 s1
   Brings-as one other old new before after s0 s1 same whole brings = record {
     is_after = IsAfterCall-as true false (reading_as_call one) (reading_as_call other) before after same brings.is_after;
@@ -138,7 +138,7 @@ module _ (past : Past) (number : ℕ) where
         let found : schema_at history table ≡ Some schema = sym ((valid_names meaning history its.valid).tables table) ∙ ap (λ (names : KnownNames). table_of names table) (sym its.names) ∙ known in
         ap (schema_at history) (schema_named history table schema found) ∙ found
 
-    -- a table more
+    -- one more table
     Brings-push : (tables : List HeldLives) (keeper : KeeperState) (steps : ℕ) → lives_of tables schema.name ≡ None → IsReady true keeper → Brings past number (well ReadFault) tables (tables ++ no_lives schema ∷ []) keeper keeper steps steps
     Brings-push tables keeper steps none ready =
         let count : all_taken (tables ++ no_lives schema ∷ []) ≡ all_taken tables + 0 = sum_by_push taken_by tables (no_lives schema) in
@@ -155,7 +155,7 @@ module _ (past : Past) (number : ℕ) where
           undamaged = λ tells history kept its fits place is. absurd cc;
         }
 
-    -- a table more, where it is not held
+    -- one more table, if it is not held
     pub Brings-with : (tables : List HeldLives) (keeper : KeeperState) (steps : ℕ) → IsReady true keeper → Brings past number (well ReadFault) tables (with_table schema tables) keeper keeper steps steps
     Brings-with tables keeper steps ready =
         elim (lives_of tables schema.name) as (λ found. lives_of tables schema.name ≡ found → Brings past number (well ReadFault) tables (cond (is_some found) tables (tables ++ no_lives schema ∷ [])) keeper keeper steps steps) [
@@ -165,7 +165,7 @@ module _ (past : Past) (number : ℕ) where
 
   module _ {A : Type 0} (result : Result A ReadFault) (tables : List HeldLives) (place : ℕ) (old new : HeldLives) (before after : KeeperState) (s0 s1 : ℕ)
       (at : slice_get tables place ≡ Some old) (advances : Advances number past.count result old new before after s0 s1) where
-    -- a table's rows are brought forward
+    -- a table's rows are moved forward
     pub Brings-set : Brings past number result tables (slice_set tables place new) before after s0 s1
     Brings-set =
         let forward = advances.forward in
@@ -194,7 +194,7 @@ module _ (past : Past) (number : ℕ) where
         fits_there : (history : History) → TablesFit tables history → LivesFit old history
         fits_there history fits = all-at (λ (lives : HeldLives). LivesFit lives history) tables place old at fits.each
 
-    -- and stand at the number
+    -- and are at the number
     pub held_at : (table : Name) → place ≡ position_or_len (has_name table) tables → place < length tables → OnOk result (new.versions.place ≡ number) → OnOk result (AreHeldAt number (table ∷ []) (slice_set tables place new))
     held_at table first within there =
         let its : old ≡ slice_index_or tables place old = sym (get_or_from_slice_get tables place old old at) in
@@ -207,7 +207,7 @@ module _ (past : Past) (number : ℕ) where
         by_result (Ok value) found there = (found ∙ ap Some there, tt)
         by_result (Err fault) found there = tt
 
--- a place that is not behind the others
+-- a place within the list
 pub place_within : (schema : Schema) (tables : List HeldLives) (place : ℕ) → place ≡ position_or_len (λ (l : HeldLives). bytes_eq l.schema.name schema.name) tables → place ≢ length tables → place < length tables
 place_within schema tables place is other =
     let most = prefix_len-le-length (λ (l : HeldLives). not (bytes_eq l.schema.name schema.name)) tables in
@@ -216,11 +216,11 @@ place_within schema tables place is other =
     lt_of_le_of_ne : {a b : ℕ} → a ≤ b → a ≢ b → a < b
     lt_of_le_of_ne {a} {b} le ne = grind (arith, le, ne)
 
--- what stands at a place
+-- the table at a place
 pub value_at : (tables : List HeldLives) (place : ℕ) (lives : HeldLives) → place < length tables → lives ≡ slice_index_or tables place lives → slice_get tables place ≡ Some lives
 value_at tables place lives within is = slice_get-get_or tables place lives within ∙ ap Some (sym is)
 
--- the place of a table that is held by none
+-- the place of a table that is not held
 pub new_place : (schema : Schema) (old new : List HeldLives) (place : ℕ) (lives : HeldLives) → place ≡ position_or_len (λ (l : HeldLives). bytes_eq l.schema.name schema.name) old → place ≡ length old → lives ≡ no_lives schema → new ≡ old ++ lives ∷ [] → (new ≡ with_table schema old) × IsPlaceOf schema.name place new
 new_place schema old new place lives is end first longer =
     let both = IsPlaceOf-new schema old place is end in
@@ -229,14 +229,14 @@ new_place schema old new place lives is end first longer =
 
 module _ (past : Past) (number : ℕ) {A : Type 0} (result : Result A ReadFault) (schema : Schema) (tables mid : List HeldLives) (with : mid ≡ with_table schema tables) (place : ℕ) (is_place : IsPlaceOf schema.name place mid)
     (old new : HeldLives) (at : slice_get mid place ≡ Some old) (before after : KeeperState) (s0 s1 : ℕ) (advances : Advances number past.count result old new before after s0 s1) where
-  -- a table is put behind the others, where it is not held, and brought forward
+  -- a table is appended if it is not held, and moved forward
   pub brings_one : IsReady true before → (table : Name) → table_of past.catalog.now.names table ≡ Some schema → Brings past number result tables (slice_set mid place new) before after s0 s1
   brings_one ready table known =
       Brings-then past number (well ReadFault) result tables mid (slice_set mid place new) before before after s0 s0 s1 refl
       (subst (λ (m : List HeldLives). Brings past number (well ReadFault) tables m before before s0 s0) (sym with) (Brings-with past number schema table known tables before s0 ready))
       (Brings-set past number result mid place old new before after s0 s1 at advances)
 
-  -- and stands at the number then
+  -- and is at the number then
   pub holds_one : OnOk result (AreHeldAt number (schema.name ∷ []) (slice_set mid place new))
   holds_one = held_at past number result mid place old new before after s0 s1 at advances schema.name is_place.first is_place.within advances.place_is
 

@@ -1,4 +1,5 @@
--- What each examiner's proof wants: answers whose one fault is want of memory, an entry that is none of the history, and where nothing serves.
+-- What the proof of each examiner needs: results whose only fault is `Memory`, an entry that is not
+-- in the history, and cases in which nothing serves.
 use Rattle.std.proofs.Common.{◌≡◌, ◌≢◌, ◌⊎◌, inl, inr, ◌∙◌, sym, ap, subst, refl, arith, ℕ, ◌<◌, Bool, true, false, ◌&&◌, List, [], ◌∷◌, Option, None, Result, Ok, Err}
 use Rattle.std.specs.Prelude.{IfErr, IfOk, find}
 use Rattle.std.proofs.lemmas.Option.{slice_get_within}
@@ -26,7 +27,7 @@ use Rattle.hippo_audit_job.specs.Examining.{IsPastOf}
 abbrev pub Shared : Type 0
 Shared = Result (Option (List SharedRow)) ReadFault
 
--- ---- the one fault is want of memory
+-- ---- the only fault is `Memory`
 pub only_memory : (result : Shared) → IfErr result (λ fault. fault ≡ Memory) → has_failed (reading_as_call result) ≡ false
 only_memory (Ok shared) memory = refl
 only_memory (Err fault) memory = ap (λ (f : ReadFault). has_failed (reading_as_call (err_of (Option (List SharedRow)) f))) memory
@@ -40,7 +41,7 @@ pub as_read-holds : {A : Type 0} (Holds : A → Type 0) (made : Result A NoRoom)
 as_read-holds Holds made (Ok value) same holds = subst (λ (m : Result _ NoRoom). IfOk m Holds) same holds
 as_read-holds Holds made (Err fault) same holds = tt
 
--- ---- an entry that is none of the history
+-- ---- an entry that is not in the history
 pub no_entry : (past : Past) (entry : Entry) (history : History) → IsPastOf past history → (entry.seq ≡ 0) ⊎ (past.count < entry.seq) → StandsIn meaning history entry → ⊥
 no_entry past entry history its (inl zero) stands =
     let number = entry_has_its_number meaning history its.valid stands.place entry stands.stands in omega (arith, zero, number)
@@ -50,7 +51,7 @@ no_entry past entry history its (inr beyond) stands =
     let count = its.count in
     omega (arith, beyond, number, within, count)
 
--- ---- where no row of the audit's is there, nothing serves
+-- ---- if the audit has no rows, nothing serves
 pub find_none : {A : Type 0} (test : A → Bool) → ((x : A) → test x ≡ false) → (xs : List A) → find test xs ≡ None
 find_none test fails [] = refl
 find_none test fails (x ∷ xs) = rw (fails x) (find_none test fails xs)

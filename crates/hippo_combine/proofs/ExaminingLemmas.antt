@@ -1,4 +1,4 @@
--- From tables that are brought forward, and what is shared over them, to what examining a question does.
+-- From tables that are moved forward, and what is shared over them, to examining a logged query.
 use Rattle.std.proofs.Common.{◌≡◌, ◌⊎◌, ◌∙◌, sym, ap, refl, subst, arith, ℕ, ◌+◌, ◌<◌, ◌≤◌, true, false, ◌&&◌, List, [], map, filter_map, length, take, Option, None, Some, option_map, Result, Ok, Err}
 use Rattle.std.specs.Prelude.{◌-◌, ℤ, IfOk, IfErr, is_some, bytes_eq}
 use Rattle.std.specs.List.{AllByRecursion, IsDistinct}
@@ -52,7 +52,7 @@ use Rattle.hippo_combine.proofs.UnreadLemmas.{taken_and_unread}
 use Rattle.hippo_audit_needs.proofs.PastLemmas.{front_valid, lasting, created_by_meaning, are_common}
 use Rattle.hippo_combine.proofs.SharingLemmas.{as_many, same_rows, stand_so, sets_are, schemas_are}
 
--- ---- what is shared over the rows that are held
+-- ---- what is shared over the held rows
 module _ (tables : List HeldLives) (query audit : List Name) (query_sets audit_sets : List KeyedRows) (query_is : query_sets ≡ filter_map (rows_held tables) query) (audit_is : audit_sets ≡ filter_map (rows_held tables) audit)
     (rows : (are_held tables audit && are_held tables query) ≡ true) where
   both_rows : (are_held tables audit ≡ true) × (are_held tables query ≡ true)
@@ -71,7 +71,7 @@ module _ (tables : List HeldLives) (query audit : List Name) (query_sets audit_s
       subst (λ (sets : List KeyedRows). HaveSameRows query sets audit audit_sets) (sym query_is)
       (subst (λ (sets : List KeyedRows). HaveSameRows query (filter_map (rows_held tables) query) audit sets) (sym audit_is) (same_rows tables query audit both_rows.1 both_rows.0))
 
--- what is held is that of the history before the entry
+-- the held tables are those of the history before the entry
 module _ (book : PolicyBook) (tables : List HeldLives) (number : ℕ) (query : Query) (audit : Audit) (query_sets audit_sets : List KeyedRows) (query_is : query_sets ≡ filter_map (rows_held tables) query.tables) (audit_is : audit_sets ≡ filter_map (rows_held tables) audit.tables)
     (rows : (are_held tables audit.tables && are_held tables query.tables) ≡ true) (schemas : List Schema) (schemas_is : schemas ≡ filter_map (schema_held tables) query.tables) where
   pub those_of : (history : History) → HoldsBoth book tables number history query audit → (context : Context) (rules : List TableRules) (choices : Choices) → rules ≡ rules_at (take number history) context schemas
@@ -113,7 +113,7 @@ some_lasts : (history : History) (number : ℕ) → is_valid meaning history ≡
 some_lasts history number valid table None is some = absurd cc
 some_lasts history number valid table (Some schema) is some = ap is_some (lasting history number valid table schema is)
 
--- what is sound is brought no further than to the entry before the one that is asked about
+-- a sound examiner's tables are at most at the entry before the one it is asked about
 pub up_to_number : (combine : Combine) (seq number : ℕ) → IsSoundCombine combine → combine.asked ≤ seq → number + 1 ≡ seq → AreHeldUpTo number combine.tables.items
 up_to_number combine seq number sound order next =
     all-from (λ (lives : HeldLives). lives.versions.place < combine.asked) (λ (lives : HeldLives). lives.versions.place ≤ number) (λ lives below. omega (arith, below, order, next)) combine.tables.items sound
@@ -151,7 +151,7 @@ module _ (past : Past) (audit : Audit) (entry : Entry) (query : Query) (old new 
       answer : Option (List SharedRow) → Result (Option (List SharedRow)) ReadFault
       answer shared = Ok shared
 
-  -- ---- tables that are brought forward
+  -- ---- tables that are moved forward
   module _ {B : Type 0} (number : ℕ) (next : number + 1 ≡ entry.seq) (one : Result B ReadFault) (after : KeeperState) (s1 : ℕ)
       (brings : Brings past number one old.tables.items new.tables.items before after s0 s1) where
     within : AreHeldUpTo number old.tables.items
@@ -196,7 +196,7 @@ module _ (past : Past) (audit : Audit) (entry : Entry) (query : Query) (old new 
         (λ place e. one_is ∙ ap (err_of B) (same_Err {A = Option (List SharedRow)} fault (Damaged place) (sym is ∙ e)))
         (λ tells history kept its audit_is fits stands. subst (FindsServing history audit entry query) (sym is) (λ user purpose recipient text asked means. tt))
 
-    -- what is found, from what is shared over the rows that are held
+    -- the result, from what is shared over the held rows
     finds_by : (tables : List HeldLives) → tables ≡ new.tables.items → names_all query audit ≡ true → AreHeldIfKnown past number audit.tables new.tables.items → AreHeldIfKnown past number query.tables new.tables.items
         → (result : Result (Option (List SharedRow)) ReadFault)
         → IfOk result (λ shared. (history : History) → HoldsBoth past.book.now tables number history query audit → IsServing (take number history) audit entry query shared)
@@ -220,7 +220,7 @@ module _ (past : Past) (audit : Audit) (entry : Entry) (query : Query) (old new 
         } in
         shares history (subst (λ (t : List HeldLives). HoldsBoth past.book.now t number history query audit) (sym same) holds) user purpose recipient text is ∙ ap (λ n. first_serving (take n history) context query audit) place
 
-    -- what is shared over the rows that are held, is found
+    -- what is shared over the held rows is found
     pub examines_shared : (value : B) → one ≡ Ok value → (tables : List HeldLives) → tables ≡ new.tables.items → names_all query audit ≡ true
         → AreHeldIfKnown past number audit.tables new.tables.items → AreHeldIfKnown past number query.tables new.tables.items
         → (result : Result (Option (List SharedRow)) ReadFault) → IfErr result (λ fault. fault ≡ Memory)

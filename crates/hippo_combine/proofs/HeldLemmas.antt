@@ -1,4 +1,4 @@
--- What is held of tables, with that of one table changed, and with one table more.
+-- Held tables with one of them changed, and with one more.
 use Rattle.std.proofs.Common.{◌≡◌, ◌∙◌, sym, ap, refl, subst, arith, ℕ, zero, suc, ◌+◌, ◌<◌, Bool, true, false, cond, List, [], ◌∷◌, ◌++◌, map, length, Option, None, Some, option_map}
 use Rattle.std.specs.Prelude.{slice_get, slice_set, bytes_eq}
 use Rattle.std.specs.List.{AllByRecursion, IsDistinct, position_or_len, sum_by}
@@ -11,7 +11,7 @@ use Rattle.hippo_model.specs.declared.schema.Schema.{Schema}
 use Rattle.hippo_intervals.specs.Living.{HeldLives}
 use Rattle.hippo_combine.specs.Held.{lives_of, AreHeldAt}
 
--- ---- lists with one member changed, or one more
+-- ---- lists with one element changed, or one more
 pub all-set : {X : Type 0} (P : X → Type 0) (xs : List X) (place : ℕ) (new : X) → P new → AllByRecursion P xs → AllByRecursion P (slice_set xs place new)
 all-set P [] place new one all = all
 all-set P (x ∷ xs) zero new one all = (one, all.1)
@@ -59,7 +59,7 @@ module _ (table : Name) where
   abbrev has_name : HeldLives → Bool
   has_name lives = bytes_eq lives.schema.name table
 
-  -- what none of the tables has is another name than theirs
+  -- a name that no held table has differs from all their names
   pub others-differ : (tables : List HeldLives) → lives_of tables table ≡ None → AllByRecursion (λ (name : Name). bytes_eq name table ≡ false) (map name_of tables)
   others-differ [] none = tt
   others-differ (first ∷ rest) none =
@@ -68,15 +68,15 @@ module _ (table : Name) where
         | false ↦ λ is none. (is, others-differ rest none)
       ] refl none
 
-  -- one table more is found where no other has its name
+  -- one more table is found if no other has its name
   pub lives_of-push : (tables : List HeldLives) (lives : HeldLives) → lives_of (tables ++ lives ∷ []) table ≡ option_or (lives_of tables table) (lives_of (lives ∷ []) table)
   lives_of-push tables lives = find-append has_name tables (lives ∷ [])
 
-  -- what stands first for the table and is changed, is found
+  -- the first table with the name is found after it is changed
   pub lives_of-set : (tables : List HeldLives) (place : ℕ) (new : HeldLives) → place ≡ position_or_len has_name tables → place < length tables → has_name new ≡ true → lives_of (slice_set tables place new) table ≡ Some new
   lives_of-set tables place new is within named = find-set has_name tables place new is within named
 
--- names stay apart with one more that none of them is
+-- distinct names stay distinct with one more that is not among them
 pub apart-push : (names : List Name) (name : Name) → AllByRecursion (λ (other : Name). bytes_eq other name ≡ false) names → IsDistinct bytes_eq names → IsDistinct bytes_eq (names ++ name ∷ [])
 unfolding IsDistinct
 apart-push [] name others apart = (tt, tt)
@@ -109,7 +109,7 @@ module _ (number : ℕ) (table : Name) (old new : HeldLives) (same : new.schema 
         | false ↦ λ e. later e
       ] held
 
--- tables whose rows stand at a number stand there still, where one is changed that does not leave it
+-- tables at a number are still there when a table is changed that stays there
 pub held-set : (number : ℕ) (names : List Name) (tables : List HeldLives) (place : ℕ) (old new : HeldLives) → slice_get tables place ≡ Some old → new.schema ≡ old.schema → (old.versions.place ≡ number → new.versions.place ≡ number) → AreHeldAt number names tables → AreHeldAt number names (slice_set tables place new)
 held-set number names tables place old new at same stays held =
     all-from (λ (table : Name). place_in tables table ≡ Some number) (λ (table : Name). place_in (slice_set tables place new) table ≡ Some number)
@@ -119,7 +119,7 @@ place-kept : (number : ℕ) (found more : Option HeldLives) → option_map (λ (
 place-kept number None more held = absurd (none-some number held)
 place-kept number (Some lives) more held = held
 
--- and where there is one more
+-- and when there is one more
 pub held-push : (number : ℕ) (names : List Name) (tables : List HeldLives) (lives : HeldLives) → AreHeldAt number names tables → AreHeldAt number names (tables ++ lives ∷ [])
 held-push number names tables lives held =
     all-from (λ (table : Name). place_in tables table ≡ Some number) (λ (table : Name). place_in (tables ++ lives ∷ []) table ≡ Some number)

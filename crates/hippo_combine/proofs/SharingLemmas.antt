@@ -1,4 +1,5 @@
--- What is held of tables at a place, as the sets and schemas of the history there; and where nothing is shared.
+-- Held tables at a place, as the sets and schemas of the history there; and cases in which nothing
+-- is shared.
 use Rattle.std.proofs.Common.{◌≡◌, ◌⊎◌, inl, inr, ◌∙◌, sym, ap, refl, subst, arith, ℕ, zero, suc, ◌<◌, Bool, true, false, cond, ◌&&◌, List, [], ◌∷◌, map, filter_map, length, take, Option, None, Some, option_map, get_or}
 use Rattle.std.specs.Prelude.{nat_lt, bytes_eq, flat_map}
 use Rattle.std.specs.List.{AllByRecursion, cons_option, list_any}
@@ -38,7 +39,7 @@ use Rattle.hippo_audit_needs.proofs.PastLemmas.{front_valid, lasting, no_rows_ye
 abbrev no_set : KeyedRows
 no_set = record { key = []; rows = [] }
 
--- ---- sets that are held, whatever the keeper said
+-- ---- held sets, whether or not the store's contents are known
 module _ (tables : List HeldLives) where
   abbrev set_of : Name → KeyedRows
   set_of table = option_map_or (λ (set : KeyedRows). set) (rows_held tables table) no_set
@@ -82,11 +83,11 @@ module _ (tables : List HeldLives) where
     each_same (table ∷ common) in_query in_audit =
         (named_set query query_have table in_query.0 ∙ sym (named_set audit audit_have table in_audit.0), each_same common in_query.1 in_audit.1)
 
-    -- both sides have the same rows, since one list lends them
+    -- both sides have the same rows, since both borrow from one list
     pub same_rows : HaveSameRows query (filter_map (rows_held tables) query) audit (filter_map (rows_held tables) audit)
     same_rows = All-from_recursion SameRows (common_tables query audit) (each_same (common_tables query audit) (common-in-query query audit) (common-in-audit query audit))
 
--- ---- what is held of a table of a history
+-- ---- a held table of a history
 pub record HeldTable (tables : List HeldLives) (number : ℕ) (history : History) (table : Name) : Type 0 where
   pub schema : Schema
   pub schema_is : schema_held tables table ≡ Some schema
@@ -118,7 +119,7 @@ module _ (number : ℕ) (history : History) (valid : is_valid meaning history �
         named = named;
       }
 
-  -- tables that are held at a place have the history's rows there
+  -- held tables at a place have the history's rows there
   held_table : (tables : List HeldLives) → TablesFit tables history → place_held tables table ≡ Some number → HeldTable tables number history table
   held_table tables fits place = held_as tables fits (lives_of tables table) refl place
 
@@ -161,7 +162,7 @@ module _ (tables : List HeldLives) (number : ℕ) (history : History) (valid : i
       (λ i. all.0.at i ∷ rest i)
       ∙ sym (λ i. map Some (cons_option (all.0.held.schema_is i) (filter_map (schema_held tables) names)))
 
--- ---- what is empty shares nothing
+-- ---- empty tables share nothing
 product_none : {A : Type 0} (first : List A) (rest : List (List A)) → product rest ≡ [] → product (first ∷ rest) ≡ []
 product_none first rest none = flat_map_none (λ member. map (λ others. member ∷ others) (product rest)) (λ member. ap (map (λ others. member ∷ others)) none) first
 
@@ -212,7 +213,7 @@ module _ (tables : List HeldLives) (number : ℕ) (history : History) (valid : i
   no_query : (mine others shown : Bool) → mine ≡ false → (mine && others && shown) ≡ false
   no_query mine others shown is = rw is refl
 
-  -- where a table of either has no rows, nothing serves
+  -- if a table of either side has no rows, nothing serves
   nothing_of_query : seen_combinations before context query ≡ [] → first_serving before context query audit ≡ None
   nothing_of_query none = find_none (serves before context query audit) (λ tuple. no_query (query_needs before context query tuple) (audit_needs before audit tuple) _ (query_unneeded none tuple)) _
 

@@ -1,4 +1,4 @@
--- What is taken and what is not read yet are all versions of a history.
+-- The versions that were taken and those that are not read yet are all versions of a history.
 use Rattle.std.proofs.Common.{◌≡◌, ◌∙◌, sym, ap, refl, arith, ℕ, zero, suc, ◌+◌, ◌≤◌, Bool, true, false, cond, not, ◌&&◌, ◌||◌, List, [], ◌∷◌, map, filter, length, take, zero-add}
 use Rattle.std.specs.Prelude.{count_by, nat_le, bytes_eq}
 use Rattle.std.specs.List.{AllByRecursion, IsDistinct}
@@ -29,7 +29,8 @@ counts test entry history = sum_by-cons (λ e. one_if (test e)) entry history
 count_same : (one other : Entry → Bool) → ((entry : Entry) → one entry ≡ other entry) → (history : History) → count_by one history ≡ count_by other history
 count_same one other same history = ap (λ (test : Entry → Bool). count_by test history) (λ i entry. same entry i)
 
--- where each entry passes just one of two tests or neither, and a third one where it passes one
+-- if each entry passes at most one of two tests, and passes a third exactly when it passes one of
+-- them
 count_both : (one other either : Entry → Bool) → ((entry : Entry) → one_if (one entry) + one_if (other entry) ≡ one_if (either entry)) → (history : History) → count_by one history + count_by other history ≡ count_by either history
 count_both one other either split [] = refl
 count_both one other either split (entry ∷ later) =
@@ -40,7 +41,7 @@ count_both one other either split (entry ∷ later) =
     let third = counts either entry later in
     omega (arith, rest, here, first, second, third)
 
--- ---- the versions of a table that are reached
+-- ---- the versions of a table that were reached
 module _ (test : Entry → Bool) where
   abbrev up_to : ℕ → Entry → Bool
   up_to limit entry = test entry && nat_le entry.seq limit
@@ -78,7 +79,7 @@ module _ (test : Entry → Bool) where
       let rest : count_by (up_to (number + suc place)) later ≡ length (filter test (take place later)) = ap (λ n. count_by (up_to n) later) moved ∙ reached_are place (number + 1) later numbered.1 in
       counts (up_to (number + suc place)) entry later ∙ (λ i. one_if (passes i) + rest i) ∙ filtered (test entry) entry (filter test (take place later))
 
--- ---- one table after the other
+-- ---- one table after another
 abbrev is_reached_by : HeldLives → Entry → Bool
 is_reached_by lives entry = is_version_of lives.schema.name entry && nat_le entry.seq lives.versions.ahead.reached
 
@@ -88,7 +89,7 @@ reached_by meaning history lives valid fits =
     ∙ reached_are (is_version_of lives.schema.name) lives.versions.ahead.reached 0 history (valid-IsNumbered meaning history valid)
     ∙ sym (LivesAreThoseOf-fits meaning lives history valid fits).taken_is
 
--- a version of a table is none of tables of other names
+-- a version of a table is not one of tables with other names
 not_theirs : (table : Name) (entry : Entry) (tables : List HeldLives) → AllByRecursion (λ (name : Name). bytes_eq table name ≡ false) (map name_of tables) → is_version_of table entry ≡ true → is_reached tables entry ≡ false
 not_theirs table entry [] apart is = refl
 not_theirs table entry (first ∷ rest) apart is =
@@ -98,7 +99,7 @@ not_theirs table entry (first ∷ rest) apart is =
     let later = not_theirs table entry rest apart.1 is in
     λ i. (no_version i && nat_le entry.seq first.versions.ahead.reached) || later i
 
--- an entry is new with the first table, or it was reached by it, where it was new without
+-- an entry that is unread without the first table is unread with it, or that table has reached it
 split : (version mine others : Bool) → (mine ≡ true → version ≡ true) → (mine ≡ true → others ≡ false) → one_if (version && not (mine || others)) + one_if mine ≡ one_if (version && not others)
 split true true true is apart = absurd (false≢true (sym (apart refl)))
 split true true false is apart = refl
@@ -125,6 +126,6 @@ module _ (meaning : Meaning) (history : History) (valid : is_valid meaning histo
       let sum = sum_by-cons taken_by lives rest in
       omega (arith, both, own, others, sum)
 
-  -- what is taken and what is not read yet are all versions
+  -- the versions that were taken and those that are not read yet are all versions
   pub taken_and_unread : (tables : List HeldLives) → TablesFit tables history → all_taken tables + unread_count tables history ≡ versions history
   taken_and_unread tables fit = by_tables tables fit.apart fit.each

@@ -1,4 +1,4 @@
--- The rules by which a question was asked.
+-- The rules for a logged query.
 use Rattle.std.specs.Prelude.{◌≡◌, ℕ, List, take, Option, Some}
 use Rattle.hippo_values.specs.Texts.{Txt}
 use Rattle.hippo_values.specs.declared.names.Name.{Name}
@@ -13,7 +13,7 @@ use Rattle.hippo_policy.specs.Books.{BookStandsFor}
 use Rattle.hippo_rewrite.specs.RewritingLaws.{rules_at}
 
 -- the rules of tables after the first entries of a history, for the purpose, the recipient and the
--- moment of a question
+-- moment of a logged query
 abbrev pub AreRulesAsked : PolicyBook → ℕ → Entry → List Schema → Option (List TableRules) → Type 0
 AreRulesAsked book number entry schemas rules =
     (history : History) → BookStandsFor book history

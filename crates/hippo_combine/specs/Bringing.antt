@@ -1,4 +1,4 @@
--- What bringing tables forward does to what is held of them, and to the keeper.
+-- What moving tables forward does to the held tables, and to the keeper.
 use Rattle.std.specs.Prelude.{◌≡◌, ◌≢◌, ◌⊎◌, ℕ, true, false, ◌+◌, ◌<◌, ◌≤◌, ◌++◌, [], ◌∷◌, List, map, length, is_some, Option, Some, None, option_map, if◌then◌else◌, bytes_eq, Result, Err, OnOk}
 use Rattle.std.specs.List.{AllByRecursion, position_or_len}
 use Rattle.hippo_values.specs.declared.names.Name.{Name}
@@ -16,7 +16,7 @@ use Rattle.hippo_audit_job.specs.Examining.{IsPastOf}
 use Rattle.hippo_combine.specs.declared.bringing.Forward.{Forward}
 use Rattle.hippo_combine.specs.Held.{lives_of, AreHeldAt, AreHeldUpTo, all_taken, TablesFit}
 
--- the tables that are held, with a new one behind where none has this schema's name
+-- the held tables, with a new one appended if none has this schema's name
 abbrev pub with_table : Schema → List HeldLives → List HeldLives
 with_table schema tables =
     if is_some (lives_of tables schema.name) then tables else tables ++ no_lives schema ∷ []
@@ -32,24 +32,25 @@ AreKnown known names =
     AllByRecursion (λ table. option_map (λ schema. schema.name) (table_of known table) ≡ Some table)
     names
 
--- these tables are held at a number, where they are all known
+-- these tables are held at a number, if all are known
 abbrev pub AreHeldIfKnown : Past → ℕ → List Name → List HeldLives → Type 0
 AreHeldIfKnown past number names tables =
     AreKnown past.catalog.now.names names → AreHeldAt number names tables
 
--- tables may be brought forward to a number
+-- the tables may be moved forward to a number
 pub record MayBring (past : Past) (number : ℕ) (tables : List HeldLives) (keeper : KeeperState)
     : Type 0 where
   pub ready : IsReady true keeper
   pub up_to : AreHeldUpTo number tables
   pub within : number ≤ past.count
 
--- the number of the entry before this one, which is among the first so many; none where it is not
+-- the number of the entry before entry `seq`; `None` if `seq` is not the number of one of the first
+-- `count` entries
 abbrev pub IsNumberBefore : ℕ → ℕ → Option ℕ → Type 0
 IsNumberBefore seq count (Some number) = (number + 1 ≡ seq) × (seq ≤ count)
 IsNumberBefore seq count None = (seq ≡ 0) ⊎ (count < seq)
 
--- tables are brought forward, to a number at most; each version that is read is a step, and is read
+-- tables are moved forward to a number at most; each version that is read is a step, and is read
 -- once
 pub record Brings {A : Type 0} (past : Past) (number : ℕ) (result : Result A ReadFault)
     (old new : List HeldLives)
@@ -66,7 +67,7 @@ pub record Brings {A : Type 0} (past : Past) (number : ℕ) (result : Result A R
       → IsPastOf past history
       → TablesFit old history → (place : ℕ) → result ≢ Err (Damaged place)
 
--- the same of a number up to which tables are brought
+-- the tables may be moved forward to the number of `forward`
 abbrev pub MayGo : Forward → List HeldLives → KeeperState → Type 0
 MayGo forward tables keeper = MayBring forward.past.now forward.number tables keeper
 
@@ -78,7 +79,7 @@ BringsOn forward result old new before after steps_old steps_new =
 abbrev pub AreBrought : Forward → List Name → List HeldLives → Type 0
 AreBrought forward names tables = AreHeldIfKnown forward.past.now forward.number names tables
 
--- tables are brought on, and these, where they are all known, are held at the number
+-- tables are moved forward; if all of these are known, they are then held at the number
 pub record BringsNamed {A : Type 0} (forward : Forward) (names : List Name)
     (result : Result A ReadFault) (old new : List HeldLives) (before after : KeeperState)
     (steps_old steps_new : ℕ) : Type 0 where

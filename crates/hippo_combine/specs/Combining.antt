@@ -1,4 +1,4 @@
--- The examiner that holds tables, and what is said of it.
+-- The examiner that holds tables, and its contract.
 use Rattle.std.specs.Prelude.{◌≡◌, ◌+◌, ◌<◌, ◌≤◌, Bool, true, false, cond, not, ◌&&◌, List, [], ◌∷◌, ◌++◌, Some}
 use Rattle.std.specs.List.{AllByRecursion}
 use Rattle.std.proofs.Common.{sym, subst, le_refl, le-add_right, add-le-add}
@@ -14,16 +14,16 @@ use Rattle.hippo_audit_job.specs.Examining.{Examination}
 use Rattle.hippo_combine.specs.declared.combine.Combine.{Combine}
 use Rattle.hippo_combine.specs.Held.{all_taken, is_reached, unread_count, TablesFit}
 
--- its rows are those before the last entry that it was asked about
+-- its tables are at places before the entry that it was asked about last
 abbrev pub IsSoundCombine : Combine → Type 0
 IsSoundCombine combine =
     AllByRecursion (λ lives. lives.versions.place < combine.asked) combine.tables.items
 
--- it holds what a history says of its tables
+-- its tables are those of a history
 abbrev pub CombineFits : Combine → History → Type 0
 CombineFits combine history = TablesFit combine.tables.items history
 
--- what is held of tables stays that of the history when an entry is added
+-- the held tables remain those of the history when an entry is added
 abbrev each_grown : (tables : List HeldLives) (history : History) (entry : Entry)
     → is_valid meaning (history ++ entry ∷ []) ≡ true
     → AllByRecursion (λ lives. LivesFit lives history) tables
@@ -35,7 +35,7 @@ each_grown (lives ∷ rest) history entry valid each = (
       each.1,
 )
 
--- an entry is at most one version more that is not read
+-- one more entry is at most one more unread version
 abbrev at_most_one : (version reached : Bool)
     → cond (version && not reached) 1 0 ≤ 0 + cond version 1 0
 at_most_one true true = le-add_right 0 1
@@ -52,7 +52,7 @@ unread_grows tables history entry =
     (add-le-add (le_refl (unread_count tables history))
     (at_most_one (is_version entry.act) (is_reached tables entry)))
 
--- what is said of the examiner, whatever keeper it reads from
+-- the contract of the examiner, for any keeper that it reads from
 abbrev pub combine_terms : Examination Combine
 combine_terms = record {
   sound = IsSoundCombine;

@@ -1,4 +1,4 @@
--- What is held where a question is examined.
+-- The tables that are held when a logged query is examined.
 use Rattle.std.specs.Prelude.{◌≡◌, ℕ, true, take, is_some, List}
 use Rattle.std.specs.List.{AllByRecursion}
 use Rattle.hippo_model.specs.declared.audit.Audit.{Audit}
@@ -14,8 +14,8 @@ use Rattle.hippo_audit_job.specs.Examining.{IsAuditOf}
 use Rattle.hippo_intervals.specs.Living.{HeldLives}
 use Rattle.hippo_combine.specs.Held.{AreHeldAt, TablesFit}
 
--- the tables of an audit and of a query that names its columns are held as they were after the
--- first entries of a valid history, when those of the query were created
+-- the tables of an audit, and of a query that names its columns, are held as they were after the
+-- first entries of a valid history; the query's tables were created then
 pub record HoldsBoth (book : PolicyBook) (tables : List HeldLives) (number : ℕ) (history : History)
     (query : Query)
     (audit : Audit) : Type 0 where

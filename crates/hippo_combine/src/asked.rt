@@ -1,4 +1,4 @@
-//! What each examiner wants of a question's entry, and how it answers.
+//! What every examiner needs from the entry of a logged query, and how it returns its result.
 ghost use Rattle.std.specs.Prelude.{◌≡◌, Ok as Good, IfOk, IfErr};
 ghost use Rattle.hippo_backlog.specs.declared.faults.ReadFault.TheVariants.{Memory as NoMemory};
 ghost use Rattle.hippo_combine.specs.Asked.{AreRulesAsked};
@@ -9,8 +9,8 @@ use hippo_policy::PolicyBook;
 use hippo_values::Memory;
 use std::alloc::Global;
 
-/// The rules in force of each table for whom and for what a question was asked, when it was asked,
-/// by the first `number` entries; none of an entry that is no question.
+/// Returns the rules in force of each table, by the first `number` entries, for the purpose, the
+/// recipient and the moment of a logged query. `None` if the entry is not a logged query.
 pub fn rules_asked(
     alloc: Global,
     book: &PolicyBook,
@@ -32,7 +32,7 @@ pub fn rules_asked(
     Ok(Some(rules))
 }
 
-/// What was made in memory, as what is read: want of memory is its one fault.
+/// The result of an allocating call as that of a read. Its only fault is `Memory`.
 pub fn as_read<T>(made: Result<T, Memory>) -> Result<T, ReadFault>
     ensures memory { IfErr result (λ fault. fault ≡ NoMemory) }
     ensures same { IfOk result (λ value. made ≡ Good value) }

@@ -1,4 +1,4 @@
-//! Tables that are brought forward to a place in the history.
+//! Moves tables forward to a place in the history.
 ghost use Rattle.std.specs.Prelude.{◌≡◌, IfOk, OnOk, OnErr};
 ghost use Rattle.hippo_combine.specs.Bringing.{with_table, IsPlaceOf};
 
@@ -12,7 +12,7 @@ use hippo_values::{Memory, Name};
 use std::alloc::Global;
 use std::sync::ledger::Ledger;
 
-// The place of a table, which is put behind the others where it is not held yet.
+// The place of a table in the list. A table that is not held yet is appended.
 fn place_for(tables: &mut Vec<Lives>, alloc: Global, schema: &Schema) -> Result<usize, Memory>
     ensures with { OnOk result (tables.new.items ≡ with_table schema.now tables.old.items) }
     ensures place { IfOk result (λ place. IsPlaceOf schema.now.name place tables.new.items) }
@@ -25,7 +25,7 @@ fn place_for(tables: &mut Vec<Lives>, alloc: Global, schema: &Schema) -> Result<
     Ok(place)
 }
 
-/// A number up to which tables are brought forward, and what is known of the history.
+/// The number up to which tables are moved forward, and what is known of the history.
 #[derive(Clone, Copy)]
 pub(crate) struct Forward<'a> {
     pub past: &'a Past<'a>,
@@ -36,7 +36,7 @@ impl<'a> Forward<'a> {
     ghost use Rattle.std.specs.Prelude.{◌∷◌, [], OnOk};
     ghost use Rattle.hippo_combine.specs.Bringing.{AreBrought, BringsNamed, BringsOn, MayGo};
 
-    // Brings a table forward, where it is known.
+    // Moves a table forward, if it is known.
     fn bring<P: Keeper, L: Ledger>(
         &self,
         tables: &mut Vec<Lives>,
@@ -59,7 +59,7 @@ impl<'a> Forward<'a> {
         tables[place].advance(keeper, alloc, self.number, self.past.count, steps)
     }
 
-    // Brings the tables with these names forward, of those that are known.
+    // Moves the known ones of the tables with these names forward.
     fn bring_all<P: Keeper, L: Ledger>(
         &self,
         tables: &mut Vec<Lives>,
@@ -78,7 +78,7 @@ impl<'a> Forward<'a> {
         Ok(())
     }
 
-    /// Brings the tables of an audit and of a query forward, of those that are known.
+    /// Moves the known ones of an audit's and a query's tables forward.
     pub(crate) fn bring_both<P: Keeper, L: Ledger>(
         &self,
         tables: &mut Vec<Lives>,

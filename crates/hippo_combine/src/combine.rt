@@ -1,4 +1,4 @@
-//! An examiner that brings the rows of the tables that it needs forward.
+//! An examiner that keeps the rows of the tables that it needs and moves them forward.
 ghost use Rattle.hippo_combine.specs.Bringing.{IsNumberBefore};
 
 use crate::asked::as_read;
@@ -14,9 +14,9 @@ use hippo_model::{Audit, Entry, Query, SharedTuple};
 use std::alloc::Global;
 use std::sync::ledger::Ledger;
 
-/// Examines logged questions in the order of their numbers, over the rows of each table that it
-/// needed so far. They are brought forward from question to question, so each version of a row is
-/// read once.
+/// Examines logged queries in the order of their numbers, over the rows of each table that it has
+/// needed so far. It moves these rows forward from query to query, so each version of a row is read
+/// once.
 #[derive(Drop)]
 pub struct Combine {
     tables: Vec<Lives>,
@@ -28,7 +28,7 @@ impl Combine {
     ghost use Rattle.hippo_audit_job.specs.Examining.{IsNew};
     ghost use Rattle.hippo_combine.specs.Combining.{combine_terms};
 
-    /// An examiner that was asked nothing and holds nothing; takes no memory.
+    /// An examiner that was not asked yet and holds nothing. Allocates nothing.
     pub fn new(alloc: Global) -> Combine
         ensures { IsNew combine_terms result }
     {
@@ -39,7 +39,8 @@ impl Combine {
     }
 }
 
-/// The number of the entry before this one, where this one is among the first so many.
+/// The number of the entry before entry `seq`, if `seq` is the number of one of the first `count`
+/// entries.
 pub fn number_before(seq: u64, count: u64) -> Option<u64>
     ensures { IsNumberBefore seq count result }
 {

@@ -1,4 +1,4 @@
-//! What is held of tables, by their names.
+//! The tables that an examiner holds, by their names.
 ghost use Rattle.std.specs.Prelude.{◌≡◌, bytes_eq, filter_map, option_copied, IfOk};
 ghost use Rattle.std.specs.List.{position_or_len};
 ghost use Rattle.hippo_audit_job.specs.Examining.{shown_count};
@@ -10,7 +10,7 @@ use hippo_tables_rows::Sets;
 use hippo_values::{Memory, Name};
 use std::alloc::Global;
 
-/// The first place with a table of this name, or the number of tables where there is none.
+/// The first place with a table of this name, or the number of tables if there is none.
 pub(crate) fn place_of(tables: &[Lives], table: &Name) -> usize
     ensures { result ≡ position_or_len (λ lives. bytes_eq lives.schema.name table.now) tables.now }
 {
@@ -24,14 +24,14 @@ pub(crate) fn place_of(tables: &[Lives], table: &Name) -> usize
     place
 }
 
-/// What is held of a table.
+/// The held table of this name, if there is one.
 pub(crate) fn lives_of<'a>(tables: &'a [Lives], table: &Name) -> Option<&'a Lives>
     ensures { option_copied result ≡ lives_of tables.now table.now }
 {
     tables.iter().find(|lives| lives.schema().name == *table)
 }
 
-// Whether rows of a table are held, and there are some.
+// Whether the table is held and has rows.
 fn has_rows(tables: &[Lives], table: &Name) -> bool
     ensures { result ≡ has_some (rows_held tables.now table.now) }
 {
@@ -41,21 +41,21 @@ fn has_rows(tables: &[Lives], table: &Name) -> bool
     }
 }
 
-/// Whether there are rows of each of these tables.
+/// Whether each of these tables is held and has rows.
 pub(crate) fn have_rows(tables: &[Lives], names: &[Name]) -> bool
     ensures { result ≡ are_held tables.now names.now }
 {
     names.iter().all(|table| has_rows(tables, table))
 }
 
-/// What is lent of tables: their schemas, and their rows.
+/// Borrowed schemas and rows of tables.
 #[derive(Drop)]
 pub(crate) struct LentTables<'a> {
     pub schemas: LentSchemas<'a>,
     pub sets: Sets<'a>,
 }
 
-/// The schemas and the rows of tables, of those that are held.
+/// Borrows the schemas and the rows of those of the named tables that are held.
 pub(crate) fn tables_of<'a>(
     alloc: Global,
     tables: &'a [Lives],
@@ -77,7 +77,7 @@ pub(crate) fn tables_of<'a>(
     Ok(LentTables { schemas, sets })
 }
 
-/// The rows of tables, of those that are held.
+/// Borrows the rows of those of the named tables that are held.
 pub(crate) fn sets_of<'a>(
     alloc: Global,
     tables: &'a [Lives],
@@ -94,7 +94,7 @@ pub(crate) fn sets_of<'a>(
     Ok(sets)
 }
 
-/// How many versions were handed over for all tables, as far as 64 bits show it.
+/// How many versions were handed over for all tables. The count stops at 2^64 - 1.
 pub(crate) fn all_taken(tables: &[Lives]) -> u64
     ensures { result ≡ shown_count (all_taken tables.now) }
 {

@@ -1,5 +1,5 @@
-//! An examiner that holds the rows of each table that it needed so far, and brings them forward
-//! between questions.
+//! An examiner that holds the rows of each table that it has needed so far, and moves them forward
+//! between logged queries.
 #![tactic(auto)]
 
 mod asked;

@@ -1,5 +1,4 @@
-//! Orders that are kept of the rows of tables, for the columns of which an audit or a query says the
-//! value.
+//! Indexes of the rows of tables, by the columns whose values an audit or a query gives.
 ghost use Rattle.std.specs.Prelude.{◌≡◌};
 
 use crate::held::place_of;
@@ -8,7 +7,7 @@ use hippo_model::{Audit, CondOf, Names, Operand, Query, Ref};
 use hippo_values::{CompareOp, Name};
 use std::alloc::Global;
 
-// Keeps an order of the rows of a table by a column, where they are held.
+// Keeps an index of a table's rows by a column, if the table is held.
 fn order_table(tables: &mut Vec<Lives>, alloc: Global, table: &Name, column: usize)
     ensures { tables.new.items ≡ tables.old.items }
 {
@@ -19,7 +18,7 @@ fn order_table(tables: &mut Vec<Lives>, alloc: Global, table: &Name, column: usi
     tables[place].order_by(alloc, column);
 }
 
-// Keeps an order by a column of a table of these names.
+// Keeps an index by a column of one of the tables with these names.
 fn order_by(tables: &mut Vec<Lives>, alloc: Global, names: &Names, column: Ref)
     ensures { tables.new.items ≡ tables.old.items }
 {
@@ -28,7 +27,7 @@ fn order_by(tables: &mut Vec<Lives>, alloc: Global, names: &Names, column: Ref)
     }
 }
 
-// Whether an operand says a value where rows of a table are sought: a literal does, and a column of
+// Whether an operand gives a value for lookups in a table: a literal does, and so does a column of
 // another table.
 fn says_value(operand: &Operand, table: usize) -> bool {
     match operand {
@@ -37,7 +36,7 @@ fn says_value(operand: &Operand, table: usize) -> bool {
     }
 }
 
-// Keeps an order by the column on one side of an equality, where the other side says its value.
+// Keeps an index by the column on one side of an equality, if the other side gives its value.
 fn order_beside(
     tables: &mut Vec<Lives>,
     alloc: Global,
@@ -54,7 +53,7 @@ fn order_beside(
     }
 }
 
-// Keeps orders by the columns of which a part of a condition says the value.
+// Keeps indexes by the columns whose values a part of a condition gives.
 fn order_for_part(tables: &mut Vec<Lives>, alloc: Global, names: &Names, part: &CondOf<Operand>)
     ensures { tables.new.items ≡ tables.old.items }
 {
@@ -77,8 +76,7 @@ fn order_for_parts(tables: &mut Vec<Lives>, alloc: Global, names: &Names, parts:
     }
 }
 
-// Keeps orders by the columns of which the parts of a condition that all have to hold say the
-// value.
+// Keeps indexes by the columns whose values the conjuncts of a condition give.
 fn order_for_condition(
     tables: &mut Vec<Lives>,
     alloc: Global,
@@ -93,8 +91,8 @@ fn order_for_condition(
     }
 }
 
-/// Keeps orders, from now on, of the rows that are held, by the columns that an audit and a query
-/// compare by `=` with a literal or with a column of another table; the rows stay what they are.
+/// Keeps indexes of the held rows from now on, by the columns that an audit and a query compare by
+/// `=` with a literal or with a column of another table. The rows do not change.
 pub(crate) fn order_for(tables: &mut Vec<Lives>, alloc: Global, query: &Query, audit: &Audit)
     ensures { tables.new.items ≡ tables.old.items }
 {

@@ -1,4 +1,4 @@
-//! What a query and an audit share over the rows that are held.
+//! What a query and an audit share over the held rows.
 ghost use Rattle.std.specs.Prelude.{◌≡◌, ◌&&◌, bytes_eq, take, IfOk};
 ghost use Rattle.std.specs.List.{IsDistinct};
 ghost use Rattle.hippo_model.specs.Terms.{History};
@@ -15,7 +15,7 @@ use hippo_policy::PolicyBook;
 use hippo_values::Memory;
 use std::alloc::Global;
 
-// Whether there are rows of each table of an audit and of a query.
+// Whether each table of an audit and of a query is held and has rows.
 fn have_all_rows(tables: &[Lives], query: &Query, audit: &Audit) -> bool
     ensures { result ≡ (are_held tables.now audit.now.tables
         && are_held tables.now query.now.tables) }
@@ -23,8 +23,8 @@ fn have_all_rows(tables: &[Lives], query: &Query, audit: &Audit) -> bool
     have_rows(tables, audit.tables.as_slice()) && have_rows(tables, query.tables.as_slice())
 }
 
-/// The first virtual tuple that serves, of a question with this meaning and an audit, over rows
-/// that are those before the entry; none where there are no rows of a table.
+/// Returns the first virtual tuple that serves, for a logged query with this meaning and an audit,
+/// over the rows before the entry. `None` if a table has no rows.
 pub(crate) fn shared_with(
     alloc: Global,
     tables: &[Lives],

@@ -1,4 +1,4 @@
--- The least and the greatest of values, one value more.
+-- The least and the greatest of some values, and of one more.
 use Rattle.std.proofs.Common.{◌≡◌, Bool, true, cond, List, [], ◌∷◌, ◌++◌, refl, sym, ap, ◌∙◌}
 use Rattle.std.specs.Prelude.{slice_index_or}
 use Rattle.std.specs.Ordering.{is_eq, is_le, is_lt, ordering_reverse}
@@ -49,7 +49,8 @@ null-greater (Int number) = refl
 null-greater (Text text) = refl
 null-greater (Day day) = refl
 
--- the lesser and the greater of two values, by whether the second stands strictly before or behind
+-- the lesser and the greater of two values, by whether the second is strictly before or after the
+-- first
 known_lesser : (least value : Value) → (least ≡ Null → ⊥) → (value ≡ Null → ⊥) → lesser least value ≡ cond (is_le (value_cmp least value)) least value
 known_lesser Null value some others = absurd (some refl)
 known_lesser least Null some others = absurd (others refl)
@@ -82,7 +83,7 @@ pub greatest-push : (values : List Value) (value : Value) → greatest_value (va
 greatest-push [] value = greater-null value ∙ sym (null-greater value)
 greatest-push (first ∷ rest) value = ap (greater first) (greatest-push rest value) ∙ associates below_for_max greater greater_is_lower first (greatest_value rest) value
 
--- the cells of a group's row, one member more
+-- the cells of a group's row with one more member
 module _ (key : ShownRow) (rows : List ShownRow) (row : ShownRow) (place : Place) where
   abbrev value : Value
   value = value_in (slice_index_or row place (Denied 0))

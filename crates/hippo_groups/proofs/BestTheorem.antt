@@ -1,4 +1,5 @@
--- When the best of some values becomes another, as some of them are taken out; and who has it, with one value more.
+-- When the best of some values changes because some are removed; and which members have it, with
+-- one more value.
 use Rattle.std.proofs.Common.{◌≡◌, Bool, true, false, not, cond, ◌&&◌, ◌||◌, ◌⊎◌, inl, inr, List, [], ◌∷◌, ◌++◌, map, refl, sym, ap, ◌∙◌}
 use Rattle.std.specs.Prelude.{filter}
 use Rattle.std.specs.List.{list_any, list_all}
@@ -17,7 +18,7 @@ use Rattle.hippo_distinct.proofs.DifferentLemmas.{value_exact}
 use Rattle.hippo_distinct.proofs.BestValues.{IsLower, below_for_min, below_for_max, lesser_is_lower, greater_is_lower}
 use Rattle.hippo_groups.proofs.BestLemmas.{least-push, greatest-push}
 
--- an order with null above all, and the lowest of values in it
+-- an order with null at the top, and the lowest of some values in it
 pub record IsBest (below : Value → Value → Bool) (lower : Value → Value → Value) (best : List Value → Value) : Type 0 where
   pub laws : IsLower below lower
   pub top : (a : Value) → below a Null ≡ true
@@ -67,7 +68,7 @@ not_or : (x y : Bool) → not (x || y) ≡ (not x && not y)
 not_or true y = refl
 not_or false y = refl
 
--- what passes a test among those that are kept
+-- the elements that pass a test, among those that are kept
 module _ {C : Type 0} (test keeps : C → Bool) where
   any-kept : (members : List C) → list_any test (filter keeps members) ≡ list_any (λ c. test c && keeps c) members
   any-kept [] = refl
@@ -89,7 +90,7 @@ module _ {C : Type 0} (test keeps : C → Bool) where
       by true kept later some = refl
       by false kept later some = later some
 
--- none of some is kept where all of them are out
+-- no element is kept if all are out
 none-kept : {C : Type 0} (test is_out : C → Bool) (members : List C) → not (list_any (λ c. test c && not (is_out c)) members) ≡ list_all is_out (filter test members)
 none-kept test is_out [] = refl
 none-kept {C} test is_out (c ∷ members) = by (test c) (is_out c) refl (none-kept test is_out members)
@@ -160,7 +161,7 @@ module _ {C : Type 0} (below : Value → Value → Bool) (lower : Value → Valu
     same : best_of kept ≡ best_of members → is_eq (value_cmp (best_of kept) (best_of members)) ≡ true
     same e = ap (λ (value : Value). is_eq (value_cmp (best_of kept) value)) (sym e) ∙ value-itself (best_of kept)
 
-    -- the best stays exactly where it is null, or somebody who has it is kept
+    -- the best value stays the same exactly when it is null or a member that has it is kept
     stays : is_eq (value_cmp (best_of kept) (best_of members)) ≡ (is_null (best_of members) || list_any (λ c. has (best_of members) c && keeps c) members)
     stays = both_ways _ _ so back
       where
@@ -184,7 +185,7 @@ module _ {C : Type 0} (below : Value → Value → Bool) (lower : Value → Valu
             by true n some = same (is.laws.exact (best_of kept) (best_of members) (ap (below (best_of kept)) (null-exact (best_of members) n) ∙ is.top (best_of kept)) below-kept)
             by false n some = same (is.laws.exact (best_of kept) (best_of members) (below-each (best_of members) kept (any-kept (has (best_of members)) keeps members ∙ some)) below-kept)
 
-  -- it becomes another exactly where it is not null, and all who have it are out
+  -- it changes exactly when it is not null and all members that have it are out
   pub changes : (is_out : C → Bool) (members : List C)
       → not (is_eq (value_cmp (best_of (filter (λ c. not (is_out c)) members)) (best_of members))) ≡ (not (is_null (best_of members)) && list_all is_out (who_have_it members))
   changes is_out members =
@@ -192,7 +193,7 @@ module _ {C : Type 0} (below : Value → Value → Bool) (lower : Value → Valu
       ∙ not_or (is_null (best_of members)) (list_any (λ c. has (best_of members) c && not (is_out c)) members)
       ∙ ap (λ (none : Bool). not (is_null (best_of members)) && none) (none-kept (has (best_of members)) is_out members)
 
-  -- one member more
+  -- one more member
   module _ (members : List C) (c : C) where
     abbrev more : List C
     more = members ++ c ∷ []
@@ -203,7 +204,7 @@ module _ {C : Type 0} (below : Value → Value → Bool) (lower : Value → Valu
     who-have : (wanted : Value) (test : Bool) → has wanted c ≡ test → filter (has wanted) more ≡ filter (has wanted) members ++ cond test (c ∷ []) []
     who-have wanted test e = filter-append (has wanted) members (c ∷ []) ∙ ap (λ (test : Bool). filter (has wanted) members ++ cond test (c ∷ []) []) e
 
-    -- it has the best value, too
+    -- it has the best value too
     module _ (equal : has (best_of members) c ≡ true) where
       pub best-equal : best_of more ≡ best_of members
       best-equal = best-push ∙ by (is.one (best_of members) (value_of c))
@@ -216,7 +217,7 @@ module _ {C : Type 0} (below : Value → Value → Bool) (lower : Value → Valu
       who-equal = ap (λ (value : Value). filter (has value) more) best-equal ∙ who-have (best_of members) true equal
 
     module _ (apart : has (best_of members) c ≡ false) where
-      -- it has another value, that is not better
+      -- it has another value, which is not better
       pub who-same : lower (best_of members) (value_of c) ≡ best_of members → who_have_it more ≡ who_have_it members
       who-same lower_is = ap (λ (value : Value). filter (has value) more) (best-push ∙ lower_is) ∙ who-have (best_of members) false apart ∙ append-nil (who_have_it members)
 

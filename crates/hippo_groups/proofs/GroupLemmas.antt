@@ -1,4 +1,4 @@
--- The groups of what was found, one member more.
+-- The groups of some members, and one more member.
 use Rattle.std.proofs.Common.{◌≡◌, Bool, true, false, not, cond, ◌&&◌, ◌||◌, List, [], ◌∷◌, ◌++◌, map, take, refl, sym, ap, ◌∙◌}
 use Rattle.std.specs.Prelude.{filter}
 use Rattle.std.specs.List.{list_all}
@@ -18,7 +18,7 @@ pub stands-there : (row : ShownRow) (front back : List ShownRow) → stands_in r
 stands-there row [] back = or_left (same_row row row) (stands_in row back) (same_row-refl row)
 stands-there row (first ∷ front) back = or_right (same_row first row) (stands_in row (front ++ row ∷ back)) (stands-there row front back)
 
--- whether no row stands twice
+-- whether no row occurs twice
 abbrev are_apart : List ShownRow → Bool
 are_apart [] = true
 are_apart (first ∷ rest) = list_all (λ row. not (same_row first row)) rest && are_apart rest
@@ -72,7 +72,7 @@ not-at : (first row : ShownRow) (front back : List ShownRow) → list_all (λ ot
 not-at first row [] back all = false-from_not (same_row first row) (and_parts (not (same_row first row)) (list_all (λ other. not (same_row first other)) back) all).0
 not-at first row (one ∷ front) back all = not-at first row front back (and_parts (not (same_row first one)) (list_all (λ other. not (same_row first other)) (front ++ row ∷ back)) all).1
 
--- a row of rows that are apart stands neither before nor behind its place
+-- a row of distinct rows is neither before nor after its place
 apart-at : (row : ShownRow) (front back : List ShownRow) → are_apart (front ++ row ∷ back) ≡ true → (stands_in row front ≡ false) × (stands_in row back ≡ false)
 apart-at row [] back apart = (refl, no-others row back (and_parts (list_all (λ other. not (same_row row other)) back) (are_apart back) apart).0)
 apart-at row (first ∷ front) back apart =
@@ -81,7 +81,7 @@ apart-at row (first ∷ front) back apart =
     ((λ i. not-at first row front back both.0 i || later.0 i), later.1)
 
 module _ {M K : Type 0} (row_of : M → ShownRow) (keys : Place) (kept_of : ShownRow → List M → K) where
-  -- what is kept of the group with a key
+  -- what is stored for the group with a key
   abbrev pub kept_at : List M → ShownRow → K
   kept_at found key = kept_of key (members_of row_of keys found key)
 
@@ -101,7 +101,7 @@ module _ {M K : Type 0} (row_of : M → ShownRow) (keys : Place) (kept_of : Show
     members-push : (key : ShownRow) → members_of row_of keys more key ≡ members_of row_of keys found key ++ cond (same_row key its_key) (member ∷ []) []
     members-push key = filter-append (λ one. same_row key (key_of one)) found (member ∷ [])
 
-    -- a group with another key stays
+    -- a group with another key stays the same
     other_stays : (other : ShownRow) → same_row other its_key ≡ false → kept_at more other ≡ kept_at found other
     other_stays other apart = ap (kept_of other)
         (members-push other ∙ ap (λ (same : Bool). members_of row_of keys found other ++ cond same (member ∷ []) []) apart ∙ append-nil (members_of row_of keys found other))
@@ -115,7 +115,7 @@ module _ {M K : Type 0} (row_of : M → ShownRow) (keys : Place) (kept_of : Show
     its_members : members_of row_of keys more its_key ≡ members_of row_of keys found its_key ++ member ∷ []
     its_members = members-push its_key ∙ ap (λ (same : Bool). members_of row_of keys found its_key ++ cond same (member ∷ []) []) (same_row-refl its_key)
 
-    -- a key that is new has no members yet
+    -- a new key has no members yet
     none_yet : (some : List M) → stands_in its_key (map key_of some) ≡ false → members_of row_of keys some its_key ≡ []
     none_yet [] none = refl
     none_yet (one ∷ some) none =
@@ -129,7 +129,7 @@ module _ {M K : Type 0} (row_of : M → ShownRow) (keys : Place) (kept_of : Show
         ∙ different_rows-push (map key_of found) its_key
         ∙ ap (λ (stands : Bool). keys_found ++ if_new stands its_key) (sym (stands-different_rows its_key (map key_of found)))
 
-    -- a member with a new key is a group of its own, behind the others
+    -- a member with a new key is a group of its own, after the others
     pub keys-new : stands_in its_key keys_found ≡ false → keys_of row_of keys more ≡ keys_found ++ its_key ∷ []
     keys-new none = keys-push ∙ ap (λ (stands : Bool). keys_found ++ if_new stands its_key) none
 
@@ -141,7 +141,7 @@ module _ {M K : Type 0} (row_of : M → ShownRow) (keys : Place) (kept_of : Show
         ∙ map-append (kept_at more) keys_found (its_key ∷ [])
         ∙ λ i. others_stay keys_found none i ++ kept_of its_key (alone i) ∷ []
 
-    -- a member with a key that is there joins that group
+    -- a member with a known key joins that group
     module _ (front back : List ShownRow) (split : keys_found ≡ front ++ its_key ∷ back) where
       pub keys-same : keys_of row_of keys more ≡ keys_found
       keys-same =

@@ -1,4 +1,4 @@
--- A list whose members are changed one after the other.
+-- A list whose elements are changed one after the other.
 use Rattle.std.proofs.Common.{◌≡◌, ℕ, suc, ◌+◌, ◌<◌, ◌≤◌, List, [], ◌∷◌, ◌++◌, map, take, drop, length, get_or, set, sym, ap, ◌∙◌, arith, append_assoc, add-one}
 use Rattle.std.proofs.Math.Seq.{set-append_seam, get_or-append_seam, drop-cons, take-suc}
 use Rattle.std.proofs.lemmas.List.{append-nil, length-map, length-take-le, map-append, take_all, drop_all}
@@ -18,14 +18,14 @@ module _ {A B : Type 0} (before after : A → B) (items : List A) (place : ℕ) 
       e ∙ ap (λ (rest : List A). front ++ map before rest) (drop-cons items place item within)
       ∙ ap (λ (one : A). front ++ before one ∷ back) is
 
-  -- the member at a place
+  -- the element at a place
   pub now_at : (list : List B) (other : B) → list ≡ map after (take place items) ++ map before (drop place items) → get_or list place other ≡ before item
   now_at list other e =
       ap (λ (all : List B). get_or all place other) (whole list e)
       ∙ ap (λ (at : ℕ). get_or (front ++ before item ∷ back) at other) (sym length-front)
       ∙ get_or-append_seam front (before item) back other
 
-  -- the list, once it is changed
+  -- the list after that element is changed
   pub then_set : (list : List B) (new : B) → list ≡ map after (take place items) ++ map before (drop place items) → new ≡ after item
       → set list place new ≡ map after (take (place + 1) items) ++ map before (drop (place + 1) items)
   then_set list new e is_new =
@@ -41,13 +41,13 @@ module _ {A B : Type 0} (before after : A → B) (items : List A) (place : ℕ) 
       ∙ append_assoc front (after item ∷ []) back
       )
 
--- once all are changed
+-- the list after all are changed
 pub all_changed : {A B : Type 0} (before after : A → B) (items : List A) (place : ℕ) → length items ≤ place → (list : List B)
     → list ≡ map after (take place items) ++ map before (drop place items) → list ≡ map after items
 all_changed before after items place past list e =
     e ∙ (λ i. map after (take_all place items past i) ++ map before (drop_all place items past i)) ∙ append-nil (map after items)
 
--- the member at a place between others, and once it is changed
+-- the element at a place between others, and the list after it is changed
 module _ {A : Type 0} (front back : List A) (old : A) where
   pub found_at : (list : List A) (place : ℕ) → list ≡ front ++ old ∷ back → place ≡ length front → (other : A) → get_or list place other ≡ old
   found_at list place split at other = (λ i. get_or (split i) (at i) other) ∙ get_or-append_seam front old back other

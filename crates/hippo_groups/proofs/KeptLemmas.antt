@@ -1,4 +1,4 @@
--- What is kept of groups, one member more.
+-- What is stored of groups, with one more member.
 use Rattle.std.proofs.Common.{◌≡◌, ℕ, suc, ◌<◌, ◌≤◌, Bool, false, cond, ◌||◌, List, [], ◌∷◌, ◌++◌, map, take, drop, length, Some, Vec, Global, refl, sym, ap, ◌∙◌, arith, length-append}
 use Rattle.std.specs.Prelude.{slice_get, get_or, option_map, position, Result, Ok, Err, OnOk}
 use Rattle.std.specs.List.{list_any}
@@ -17,7 +17,7 @@ use Rattle.hippo_distinct.proofs.KeptLemmas.{row_eq, row_eq-same, asks-stands_in
 use Rattle.hippo_groups.specs.KeptGroups.{members_of, keys_of, GroupKeys, AreKept}
 use Rattle.hippo_groups.proofs.GroupLemmas.{kept_at, keys-new, kept-new, keys-same, kept-before, kept-joined}
 
--- a list, cut around the place of a member
+-- a list, split at the place of an element
 cut_at : (rows : List ShownRow) (place : ℕ) (row : ShownRow) → slice_get rows place ≡ Some row → rows ≡ take place rows ++ row ∷ drop (suc place) rows
 cut_at rows place row there =
     split_at rows place row (slice_get_within rows place row there)
@@ -29,7 +29,7 @@ KeyCells = Vec Cell Global
 abbrev pub cells_of : GroupKeys → List ShownRow
 cells_of groups = map (λ key. key.items) groups
 
--- where the cells of a key are found, the key stands
+-- if the cells of a key are found, the key is there
 stands-found : (groups : GroupKeys) (key : ShownRow) (place : ℕ) → position (λ cells. row_eq key cells.items) groups ≡ Some place → slice_get (cells_of groups) place ≡ Some key
 stands-found [] key place at = absurd cc
 stands-found (first ∷ groups) key place at =
@@ -39,12 +39,12 @@ stands-found (first ∷ groups) key place at =
     ∙ ap (option_map (λ (cells : KeyCells). cells.items)) (slice_get-get_or (first ∷ groups) place first told.0)
     ∙ ap Some (sym (same_row-exact key cells.items (sym (row_eq-same key cells.items) ∙ told.1)))
 
--- whether a key's cells are kept is whether it stands among the keys
+-- a key's cells are stored exactly when the key is among the keys
 stands-among : (groups : GroupKeys) (key : ShownRow) → list_any (λ cells. row_eq key cells.items) groups ≡ list_any (row_eq key) (cells_of groups)
 stands-among [] key = refl
 stands-among (first ∷ groups) key = ap (λ (later : Bool). row_eq key first.items || later) (stands-among groups key)
 
--- a key that is not kept goes last
+-- a key that is not stored is appended
 put_last : (groups : GroupKeys) (cells : KeyCells) → list_any (λ other. row_eq cells.items other.items) groups ≡ false → insert_key (λ one other. row_eq one.items other.items) groups cells ≡ groups ++ cells ∷ []
 put_last groups cells missing = ap (λ kept. cond kept groups (groups ++ cells ∷ [])) missing
 
@@ -56,7 +56,7 @@ module _ {M K : Type 0} (row_of : M → ShownRow) (keys : Place) (kept_of : Show
   abbrev before : List ShownRow
   before = keys_of row_of keys found
 
-  -- a member of a group that is there
+  -- a member of a group that exists
   module _ (place : ℕ) (known : position (λ cells. row_eq key cells.items) groups ≡ Some place) where
     joined : (after : List K)
         → ((front back : List K) (key : ShownRow) (members : List M) → kept ≡ front ++ kept_of key members ∷ back → place ≡ length front → after ≡ front ++ kept_of key (members ++ member ∷ []) ∷ back)
@@ -82,7 +82,7 @@ module _ {M K : Type 0} (row_of : M → ShownRow) (keys : Place) (kept_of : Show
     joined-if (Ok value) after joins = joined after joins
     joined-if (Err fault) after joins = tt
 
-  -- a member of a group that is new
+  -- a member of a new group
   pub begun : list_any (λ cells. row_eq key cells.items) groups ≡ false → (after : List K) (later : GroupKeys) (cells : KeyCells) → cells.items ≡ key
       → after ≡ kept ++ kept_of key (member ∷ []) ∷ []
       → later ≡ insert_key (λ one other. row_eq one.items other.items) groups cells

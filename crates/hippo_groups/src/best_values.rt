@@ -1,4 +1,4 @@
-//! The least and the greatest value of a group, one member after the other.
+//! The least and the greatest value of a group, updated member by member.
 ghost use Rattle.std.specs.Prelude.{◌≡◌, if◌then◌else◌, option_copied, slice_index_or, IfOk, OnOk};
 ghost use Rattle.hippo_values.specs.declared.values.Value as values;
 ghost use Rattle.hippo_model.specs.declared.cells.Cell.TheVariants.{Shown, Denied};
@@ -9,7 +9,7 @@ use hippo_model::{Cell, CellRow};
 use hippo_values::{Duplicate, Memory, Value};
 use std::alloc::Global;
 
-// The value of a cell; none, for null, where it is denied.
+// The value of a cell. `None` stands for null: the cell is denied.
 fn value_in(cell: &Cell) -> Option<&Value>
     ensures { or_null (option_copied result) ≡ value_in cell.now }
 {
@@ -19,7 +19,8 @@ fn value_in(cell: &Cell) -> Option<&Value>
     }
 }
 
-/// The value at a place of a row; none, for null, where the cell is denied or no cell stands there.
+/// Returns the value at a place in a row. `None` stands for null: the cell is denied, or the row
+/// has no such place.
 pub fn value_at(row: &CellRow, place: usize) -> Option<&Value>
     ensures { or_null (option_copied result) ≡ value_in (slice_index_or row.now place (Denied 0)) }
 {
@@ -29,7 +30,7 @@ pub fn value_at(row: &CellRow, place: usize) -> Option<&Value>
     }
 }
 
-/// Whether a value takes the place of the least so far, where null yields to each other value.
+/// Returns whether a value replaces the least value so far. Any other value replaces null.
 pub fn is_lesser(value: &Value, least: &Value) -> bool
     ensures { lesser least.now value.now ≡ (if result then value.now else least.now) }
 {
@@ -40,7 +41,7 @@ pub fn is_lesser(value: &Value, least: &Value) -> bool
     }
 }
 
-/// Whether a value takes the place of the greatest so far.
+/// Returns whether a value replaces the greatest value so far.
 pub fn is_greater(value: &Value, greatest: &Value) -> bool
     ensures { greater greatest.now value.now ≡ (if result then value.now else greatest.now) }
 {
@@ -53,7 +54,7 @@ fn shown(alloc: Global, value: &Value) -> Result<Cell, Memory>
     Ok(Cell::Shown(value.copy(alloc)?))
 }
 
-/// Takes one value more into the least of some.
+/// Adds one more value to the least of some values.
 pub fn lower(alloc: Global, least: &mut Cell, value: &Value) -> Result<(), Memory>
     ensures { (before : values.Value) → least.old ≡ Shown before
         → OnOk result (least.new ≡ Shown (lesser before value.now)) }
@@ -64,7 +65,7 @@ pub fn lower(alloc: Global, least: &mut Cell, value: &Value) -> Result<(), Memor
     Ok(())
 }
 
-/// Takes one value more into the greatest of some.
+/// Adds one more value to the greatest of some values.
 pub fn raise(alloc: Global, greatest: &mut Cell, value: &Value) -> Result<(), Memory>
     ensures { (before : values.Value) → greatest.old ≡ Shown before
         → OnOk result (greatest.new ≡ Shown (greater before value.now)) }

@@ -1,4 +1,4 @@
-//! The row of a group, one member after the other.
+//! The row of a group, updated member by member.
 ghost use Rattle.std.specs.Prelude.{◌≡◌, ◌+◌, ◌<◌, [], ◌∷◌, ◌++◌, List, length, map, slice_index_or, IfOk, OnOk};
 ghost use Rattle.hippo_values.specs.declared.values.Value.TheVariants.{Null};
 ghost use Rattle.hippo_model.specs.declared.cells.Cell.TheVariants.{Denied};
@@ -13,7 +13,7 @@ use hippo_values::{Duplicate, Memory, Sequence, Value};
 use std::alloc::Global;
 use std::mem;
 
-// The cell at a place of a group's key.
+// The cell at a place in a group's key.
 fn key_cell(alloc: Global, key: &[Cell], place: usize) -> Result<Cell, Memory>
     ensures { IfOk result (λ cell. cell ≡ slice_index_or key.now place (Denied 0)) }
 {
@@ -23,7 +23,7 @@ fn key_cell(alloc: Global, key: &[Cell], place: usize) -> Result<Cell, Memory>
     }
 }
 
-// A cell of the row of a group that has no member yet.
+// A cell in the row of a group without members.
 fn first_cell(alloc: Global, out: &Out, key: &[Cell]) -> Result<Cell, Memory>
     ensures { IfOk result (λ cell. cell ≡ group_cell key.now [] out.now) }
 {
@@ -33,7 +33,7 @@ fn first_cell(alloc: Global, out: &Out, key: &[Cell]) -> Result<Cell, Memory>
     }
 }
 
-// The row of a group that has no member yet.
+// The row of a group without members.
 fn first_row(alloc: Global, outs: &Outs, key: &[Cell]) -> Result<CellRow, Memory>
     ensures { IfOk result (λ cells. cells ≡ map (group_cell key.now []) outs.now) }
 {
@@ -44,7 +44,7 @@ fn first_row(alloc: Global, outs: &Outs, key: &[Cell]) -> Result<CellRow, Memory
     Ok(Sequence::from_vec(cells))
 }
 
-// The value at a place of a row.
+// The value at a place in a row.
 fn value_of<'b, R: LentRow>(row: &'b R, place: usize, null: &'b Value) -> &'b Value
     requires { null.now ≡ Null }
     ensures { result.now ≡ value_in (slice_index_or (R.cells row.now) place (Denied 0)) }
@@ -52,7 +52,7 @@ fn value_of<'b, R: LentRow>(row: &'b R, place: usize, null: &'b Value) -> &'b Va
     row.value(place).unwrap_or(null)
 }
 
-// Takes one member more into a cell of its group's row.
+// Adds one more member to a cell of its group's row.
 fn join_cell<R: LentRow>(alloc: Global, out: Out, cell: &mut Cell, row: &R) -> Result<(), Memory>
     ensures { (key : ShownRow) (members : List ShownRow) → cell.old ≡ group_cell key members out
         → OnOk result (cell.new ≡ group_cell key (members ++ R.cells row.now ∷ []) out) }
@@ -64,7 +64,7 @@ fn join_cell<R: LentRow>(alloc: Global, out: Out, cell: &mut Cell, row: &R) -> R
     }
 }
 
-// Takes one member more into the cell at a place, where those before have it.
+// Adds one more member to the cell at `place`. The cells before it already have this member.
 fn join_place<R: LentRow>(
     alloc: Global,
     outs: &Outs,
@@ -84,7 +84,7 @@ fn join_place<R: LentRow>(
     join_cell(alloc, *outs.get(place), &mut cells[place], row)
 }
 
-// Takes one member more into its group's row.
+// Adds one more member to its group's row.
 fn join<R: LentRow>(alloc: Global, outs: &Outs, cells: &mut [Cell], row: &R) -> Result<(), Memory>
     ensures { (key : ShownRow) (members : List ShownRow)
         → cells.old ≡ map (group_cell key members) outs.now
@@ -96,7 +96,7 @@ fn join<R: LentRow>(alloc: Global, outs: &Outs, cells: &mut [Cell], row: &R) -> 
     Ok(())
 }
 
-// The row of a group with one member more.
+// The row of a group with one more member.
 fn joined<R: LentRow>(
     alloc: Global,
     outs: &Outs,
@@ -112,7 +112,7 @@ fn joined<R: LentRow>(
     Ok(Sequence::from_vec(cells))
 }
 
-/// The row of a group that has one member.
+/// Returns the row of a group with one member.
 pub fn row_of_first<R: LentRow>(
     alloc: Global,
     outs: &Outs,
@@ -125,7 +125,7 @@ pub fn row_of_first<R: LentRow>(
     joined(alloc, outs, first, row)
 }
 
-/// Takes one member more into the row of the group at a place.
+/// Adds one more member to the row of the group at a place.
 pub fn join_at<R: LentRow>(
     alloc: Global,
     outs: &Outs,

@@ -1,4 +1,4 @@
-//! The groups of a query's answer, as a walk over the combinations that count finds them.
+//! The groups of a query's answer, found by a walk over the combinations that count.
 ghost use Rattle.std.specs.Prelude.{◌≡◌, [], ◌∷◌, ◌++◌, List, take, OnOk};
 ghost use Rattle.hippo_model.specs.declared.query.Shape as shapes;
 ghost use Rattle.hippo_model.specs.Terms.{ShownRow};
@@ -19,8 +19,9 @@ use indexmap::IndexSet;
 use std::alloc::Global;
 use std::mem;
 
-// The keys of the groups, in the order of their first members, and their rows at the same places;
-// and the key at hand: for speed alone, since a further member of a group then takes no memory.
+// The keys of the groups, in the order of their first members, and their rows at the same places.
+// `key` is the key of the current row; it is kept only for speed, so that a further member of a
+// group needs no allocation.
 #[derive(Drop)]
 struct Groups {
     keys: IndexSet<Vec<Cell>>,
@@ -34,14 +35,14 @@ fn first_of<T>(members: &[T], count: usize) -> &[T]
     &members[..count.min(members.len())]
 }
 
-/// The first cells of a row, so many; all, where it has fewer.
+/// Returns the first `keys` cells of a row, or all if it has fewer.
 pub fn front(row: &CellRow, keys: usize) -> &[Cell]
     ensures { result.now ≡ take keys row.now }
 {
     first_of(row.as_slice(), keys)
 }
 
-/// The first cells of a row, so many, in the row's own memory.
+/// Returns the first `keys` cells of a row, in the row's own memory.
 pub fn into_front(row: CellRow, keys: usize) -> Vec<Cell>
     ensures { result.items ≡ take keys row }
 {
@@ -61,7 +62,7 @@ impl Groups {
         }
     }
 
-    // Takes in a row that has the key at hand, in its own group or as the first of a new one.
+    // Adds a row, whose key is in `key`, to its group, or as the first member of a new group.
     fn add<R: LentRow>(&mut self, alloc: Global, shape: &Shape, row: &R) -> Result<(), Memory>
         ensures { (found : List ShownRow) → AreGroups shape.now found self.old
             → self.old.key ≡ take shape.now.keys (R.cells row.now)
@@ -80,7 +81,7 @@ impl Groups {
     }
 }
 
-// Gathers the groups that a shape asks for.
+// Gathers the groups of a shape.
 #[derive(Drop)]
 struct ByShape<'a> {
     shape: &'a Shape,
@@ -129,12 +130,14 @@ impl<'a> Gatherer for ByShape<'a> {
     }
 }
 
-/// The groups of a query's answer (SQL's GROUP BY), each at the place of its first combination,
-/// over unmasked rows and patients' choices: rows whose first cells are the same values shown, or
-/// denied by the same rules, are of one group. A group's row has its key's cells, and the least or
-/// greatest of its members' values; nulls and denied cells do not count for these, and where there
-/// is nothing else it is null. TooManyRows exactly where there are more than 100,000 groups. Takes
-/// memory for the groups, and not for their members.
+/// Returns the groups of a query's answer (SQL's GROUP BY) over unmasked rows and patients'
+/// choices, each at the place of its first combination. Rows belong to one group if their first
+/// cells show the same values or are denied by the same rules. A group's row has the cells of its
+/// key, and the least or greatest of its members' values. Nulls and denied cells do not count for
+/// these; if there is nothing else, the value is null.
+///
+/// `TooManyRows` if and only if there are more than 100,000 groups. The memory is proportional to
+/// the number of groups, not of their members.
 pub fn grouped<C: ChoiceView>(
     alloc: Global,
     query: &Masked,

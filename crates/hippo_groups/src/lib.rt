@@ -1,4 +1,4 @@
-//! Queries that answer a row for each group.
+//! Grouped queries, whose answers have one row for each group.
 #![tactic(auto)]
 
 mod best_values;

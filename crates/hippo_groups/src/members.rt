@@ -1,11 +1,11 @@
-//! The members of groups, whose cells stand elsewhere.
+//! The members of groups, whose cells are stored elsewhere.
 ghost use Rattle.hippo_eval.specs.LentCells.{or_null};
 
 use hippo_eval::cell;
 use hippo_model::{ChoiceView, Combo, Expr};
 use hippo_values::Value;
 
-/// A row whose values are lent.
+/// A row whose values are borrowed.
 pub trait LentRow {
     ghost use Rattle.std.specs.Prelude.{◌≡◌, option_copied, slice_index_or};
     ghost use Rattle.hippo_model.specs.declared.cells.Cell.TheVariants.{Denied};
@@ -15,7 +15,8 @@ pub trait LentRow {
 
     ghost cells: { Self → ShownRow };
 
-    /// The value at a place; none, for null, where the cell is denied or no cell stands there.
+    /// Returns the value at a place. `None` stands for null: the cell is denied, or the row has no
+    /// such place.
     fn value(&self, place: usize) -> Option<&Value>
         ensures { or_null (option_copied result)
             ≡ value_in (slice_index_or (cells self.now) place (Denied 0)) };

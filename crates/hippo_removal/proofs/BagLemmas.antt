@@ -1,4 +1,4 @@
--- Rows and answers, one member after the other.
+-- Rows and answers, one element after the other.
 use Rattle.std.proofs.Common.{◌≡◌, ℕ, ◌+◌, ◌∙◌, Bool, true, false, ◌&&◌, List, ◌++◌, drop, Some, sym, ap}
 use Rattle.std.specs.Prelude.{slice_get}
 use Rattle.std.specs.List.{list_all}
@@ -8,7 +8,7 @@ use Rattle.hippo_eval.proofs.WalkLemmas.{drop_at}
 pub all_of_both : {A : Type 0} (test : A → Bool) (left right : List A) → list_all test (left ++ right) ≡ (list_all test left && list_all test right)
 all_of_both test left right = list_all-append test left right
 
--- one member more of a list whose members all pass
+-- one more element of a list whose elements all pass
 module _ {A : Type 0} (test : A → Bool) (xs : List A) (i : ℕ) (x : A) (x_at : slice_get xs i ≡ Some x) (all : Bool) (so_far : list_all test (drop i xs) ≡ all) where
   step : (test x && list_all test (drop (i + 1) xs)) ≡ all
   step = sym (ap (list_all test) (drop_at xs i x x_at)) ∙ so_far

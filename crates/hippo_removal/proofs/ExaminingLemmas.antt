@@ -1,4 +1,4 @@
--- From rows that are read, and what is shared over them, to what examining a question does.
+-- From the rows that are read, and what is shared over them, to examining a logged query.
 use Rattle.std.proofs.Common.{◌≡◌, ◌⊎◌, ◌∙◌, sym, ap, refl, subst, arith, ℕ, ◌+◌, ◌<◌, ◌≤◌, true, false, List, map, length, take, Option, None, Some, Result, Ok, Err}
 use Rattle.std.specs.Prelude.{◌-◌, IfOk, IfErr}
 use Rattle.hippo_model.specs.declared.audit.Audit.{Audit}
@@ -31,7 +31,7 @@ abbrev found : Option (List SharedRow) → Shared
 found shared = Ok shared
 
 module _ (past : Past) (audit : Audit) (entry : Entry) (query : Query) (old new : Removal) (before : KeeperState) (s0 : ℕ) where
-  -- an entry that is none of the history
+  -- an entry that is not in the history
   pub examines_nothing : IsReady true before → (entry.seq ≡ 0) ⊎ (past.count < entry.seq) → Examines removal_terms past audit entry query (Ok None) old new before before s0 s0
   examines_nothing ready none = record {
     moves = record {
@@ -99,7 +99,7 @@ module _ (past : Past) (audit : Audit) (entry : Entry) (query : Query) (old new 
         } in
         shares history those user purpose recipient text is ∙ ap (λ n. first_serving (take n history) context query audit) place
 
-    -- what is shared over the rows that are read, is found
+    -- what is shared over the rows that were read is found
     pub examines_shared : (both : BothRows) → one ≡ Ok both → names_all query audit ≡ true → (result : Shared) → IfErr result (λ fault. fault ≡ Memory)
         → IfOk result (λ shared. (history : History) → AreThen past number history query audit both.query both.audit → IsServing (take number history) audit entry query shared)
         → Examines removal_terms past audit entry query result old new before after s0 s1

@@ -1,4 +1,4 @@
--- What is left of combinations, one more; and what needing comes to.
+-- The remaining combinations, and one more; and whether a tuple is needed.
 use Rattle.std.proofs.Common.{◌≡◌, ◌∙◌, Bool, true, false, not, cond, ◌&&◌, ◌||◌, List, [], ◌∷◌, ◌++◌, refl, sym, ap, Option, Some, None}
 use Rattle.std.specs.Prelude.{filter}
 use Rattle.std.specs.List.{list_any}
@@ -34,7 +34,7 @@ module _ (choices : Choices) (query : Masked) (sets : List KeyedRows) (out : Opt
       → filter stays (before ++ combo ∷ []) ≡ filter stays before ++ cond (not out_of) (combo ∷ []) []
   one_more before combo out_of is = filter-append stays before (combo ∷ []) ∙ ap (λ (b : Bool). filter stays before ++ cond (not b) (combo ∷ []) []) is
 
-  -- one that is taken out
+  -- one that is removed
   pub left_out : (before : List Combination) (combo : Combination) → is_out query.tables sets out combo ≡ true → rows_left choices query sets out (before ++ combo ∷ []) ≡ rows_left choices query sets out before
   left_out before combo is = ap (masked_rows choices query) (one_more before combo true is ∙ append-nil (filter stays before))
 
@@ -52,24 +52,24 @@ all_stay : (combinations : List Combination) → filter (λ rows. not false) com
 all_stay [] = refl
 all_stay (first ∷ rest) = ap (λ (others : List Combination). first ∷ others) (all_stay rest)
 
--- what is answered with a tuple taken out, and with none
+-- the answers with a tuple removed, and with none
 pub needs_is : (choices : Choices) (query : Masked) (form : Form) (sets : List KeyedRows) (tuple : List SharedRow) (left whole : List ShownRow)
     → left ≡ answer_left choices query form sets (Some tuple) → whole ≡ answer_left choices query form sets None → (same : Bool) → same ≡ same_bag left whole → not same ≡ needs_by choices query form sets tuple
 needs_is choices query form sets tuple left whole left_is whole_is same is =
     ap not is ∙ (λ i. not (same_bag (left_is i) (whole_is i)))
     ∙ ap (λ (all : List Combination). not (same_bag (answer_left choices query form sets (Some tuple)) (rows_by_form form (masked_rows choices query all)))) (all_stay (product (rows_of sets)))
 
--- one combination more that may be what is looked for
+-- one more combination, which may be the wanted one
 pub any_more : (test : Combination → Bool) (before : List Combination) (combo : Combination) (so_far found : Bool) → so_far ≡ list_any test before → so_far ≡ false → found ≡ test combo → found ≡ list_any test (before ++ combo ∷ [])
 any_more test before combo so_far found is none found_is =
     found_is ∙ sym (or-false (test combo)) ∙ sym (ap (λ (b : Bool). b || list_any test (combo ∷ [])) (sym is ∙ none)) ∙ sym (list_any-append test before (combo ∷ []))
 
--- and whatever follows one that was found
+-- once one is found, further ones do not matter
 pub any_enough : (test : Combination → Bool) (before more : List Combination) (so_far : Bool) → so_far ≡ list_any test before → so_far ≡ true → so_far ≡ list_any test (before ++ more)
 any_enough test before more so_far is found =
     found ∙ sym (ap (λ (b : Bool). b || list_any test more) (sym is ∙ found)) ∙ sym (list_any-append test before more)
 
--- an audit needs a tuple by removal exactly where it has it
+-- by removal, an audit needs a tuple exactly when it has it
 module _ (choices : Choices) (audit : Audit) (sets : List KeyedRows) (tuple : List SharedRow) where
   pub audit_needs_by : needs_by choices (unmasked_query audit) Plain sets tuple ≡ audit_has audit sets tuple
   audit_needs_by =

@@ -45,7 +45,7 @@ module _ (number : ℕ) (history : History) (valid : is_valid meaning history �
   abbrev IsCreated : Name → Type 0
   IsCreated table = is_some (schema_at front table) ≡ true
 
-  -- a table that is created has its schema still
+  -- a created table keeps its schema
   same_by : (table : Name) (found : Option Schema) → schema_at front table ≡ found → is_some found ≡ true → schema_at history table ≡ found
   same_by table None is some = absurd cc
   same_by table (Some schema) is some = lasting history number valid table schema is
@@ -75,7 +75,7 @@ module _ (number : ℕ) (history : History) (valid : is_valid meaning history �
       let both = and_parts (nat_lt 0 (length (set_of (schema_at history name)).rows)) (have_rows (rows_then number history names)) have in
       (created_by name (schema_at history name) refl both.0, created_all names both.1)
 
-  -- where a table has no rows there are no combinations
+  -- if a table has no rows there are no combinations
   empty_by : (table : Name) (found : Option Schema) → schema_at front table ≡ found → (set_of (schema_at history table)).rows ≡ [] → unmasked_at front table ≡ []
   empty_by table None is rows = rw is refl
   empty_by table (Some schema) is rows =
@@ -96,7 +96,7 @@ module _ (number : ℕ) (history : History) (valid : is_valid meaning history �
     pub nothing_serves : have_rows (rows_then number history audit.tables) ≡ false → first_serving front context query audit ≡ None
     nothing_serves none = nothing_of_audit front context query audit (none_of_all audit.tables none)
 
-  -- the schemas that are known
+  -- the known schemas
   known_same : (known : KnownNames) → known ≡ known_at history → (table : Name) → IsCreated table → table_of known table ≡ schema_at front table
   known_same known is table some = ap (λ (names : KnownNames). table_of names table) is ∙ (valid_names meaning history valid).tables table ∙ same_schema table some
 

@@ -1,4 +1,4 @@
--- Rows of tables that are read one after the other.
+-- The rows of tables, read one table after the other.
 use Rattle.std.proofs.Common.{◌≡◌, ◌≢◌, ◌∙◌, sym, ap, refl, subst, arith, ℕ, ◌+◌, true, false, List, [], ◌∷◌, ◌++◌, length, take, append_assoc, append-nil, length-append, Option, None, Some, Result, Ok, Err}
 use Rattle.std.specs.Prelude.{OnOk}
 use Rattle.std.specs.Option.{option_map_or}
@@ -105,7 +105,7 @@ module _ (past : Past) (number : ℕ) (table : Name) where
           unhurt (rows_then number history (table ∷ [])) fault old old (λ place e. undamaged place (ap (err_of KeyedRows) e));
     }
 
--- ---- tables one after the other
+-- ---- one table after another
 module _ (past : Past) (number : ℕ) where
   pub reads_none : (rows : List KeyedRows) (keeper : KeeperState) → IsReady true keeper → ReadsRows past number [] (well ReadFault) rows rows keeper keeper
   reads_none rows keeper ready = record {
@@ -157,7 +157,7 @@ module _ (past : Past) (number : ℕ) (query : Query) (audit : Audit) where
   unharmed (Damaged other) rows old new added place e = absurd added
   unharmed Memory rows old new added place e = cc
 
-  -- one of them is not read
+  -- one side is not read
   pub both_fault : (names : List Name) (fault : ReadFault) (old new : List KeyedRows) (before after : KeeperState) (result : Result BothRows ReadFault) → result ≡ Err fault
       → ReadsRows past number names (Err fault) old new before after → ReadsBoth past number query audit result before after
   both_fault names fault old new before after result is reads = subst (λ (r : Result BothRows ReadFault). ReadsBoth past number query audit r before after) (sym is) (record {
@@ -184,7 +184,7 @@ module _ (past : Past) (number : ℕ) (query : Query) (audit : Audit) where
         undamaged = λ tells history kept its within place e. absurd cc;
       }
 
-  -- the query's were, and the audit's are not
+  -- the query's tables were read, and the audit's are not
   pub both_fault_then : (fault : ReadFault) (query_rows old new : List KeyedRows) (before middle after : KeeperState) (result : Result BothRows ReadFault) → result ≡ Err fault
       → ReadsRows past number query.tables (well ReadFault) [] query_rows before middle → ReadsRows past number audit.tables (Err fault) old new middle after
       → ReadsBoth past number query audit result before after

@@ -1,4 +1,4 @@
--- Virtual tuples, as the combinations of the common tables' rows make them.
+-- Virtual tuples, made from the combinations of the common tables' rows.
 use Rattle.std.proofs.Common.{◌≡◌, ℕ, ◌+◌, ◌≤◌, ◌⊎◌, inl, inr, ◌∙◌, Bool, true, false, cond, ◌&&◌, List, [], ◌∷◌, ◌++◌, map, drop, length, refl, sym, ap, append_assoc, Option, Some, None}
 use Rattle.std.specs.Prelude.{slice_get, find, filter_map, is_some}
 use Rattle.std.specs.List.{flat_map, cons_option}
@@ -56,7 +56,7 @@ module _ (names : List Name) (sets : List KeyedRows) where
       ∙ ap (map (λ more. by_key kept ∷ more)) (tuples_of common)) set.rows
       ∙ sym (flat_map-map after by_key set.rows)
 
--- ---- one row of a tuple more
+-- ---- one more row of a tuple
 module _ (tables : List Name) (sets : List KeyedRows) (rows : Combination) (i : ℕ) where
   abbrev rest : ℕ → List SharedRow
   rest n = tuple_of (drop n tables) (drop n sets) (drop n rows)
@@ -86,7 +86,7 @@ module _ (tables : List Name) (sets : List KeyedRows) (rows : Combination) (i : 
       none (inl past) = ap (λ (others : List KeyedRows). tuple_of (drop i tables) others (drop i rows)) (drop_all i sets past) ∙ no_sets (drop i tables) (drop i rows)
       none (inr past) = ap (λ (kept : Combination). tuple_of (drop i tables) (drop i sets) kept) (drop_all i rows past) ∙ no_rows_left (drop i tables) (drop i sets)
 
--- ---- one tuple more
+-- ---- one more tuple
 module _ (test : List SharedRow → Bool) (make : Combination → List SharedRow) (before : List Combination) (found : Option (List SharedRow)) (is : found ≡ find test (map make before)) where
   pub found_already : (more : List Combination) → is_some found ≡ true → found ≡ find test (map make (before ++ more))
   found_already more some = by found some is
@@ -117,7 +117,7 @@ module _ (test : List SharedRow → Bool) (make : Combination → List SharedRow
       by None none = refl
       by (Some tuple) none = absurd cc
 
--- ---- what is found by removal is what is needed first
+-- ---- the tuple found by removal is the first that is needed
 module _ (choices : Choices) (query : Masked) (form : Form) (audit : Audit) (seen : List Expr) (query_sets audit_sets : List KeyedRows) where
   abbrev these : List Name
   these = common_tables query.tables audit.tables

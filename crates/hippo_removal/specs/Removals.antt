@@ -1,4 +1,4 @@
--- The examiner by removal, the rows that it reads, and what is said of it.
+-- The examiner that removes virtual tuples, the rows that it reads, and its contract.
 use Rattle.std.specs.Prelude.{◌≡◌, ◌≢◌, ℕ, ◌+◌, ◌≤◌, Bool, true, false, List, [], ◌∷◌, ◌++◌, map, length, take, nat_lt, is_some, None, Result, Ok, Err, IfOk, OnOk}
 use Rattle.std.specs.List.{AllByRecursion, list_all}
 use Rattle.std.specs.Option.{option_map_or}
@@ -19,18 +19,18 @@ use Rattle.hippo_audit_job.specs.Examining.{IsPastOf, IsAuditOf, Examination}
 use Rattle.hippo_removal.specs.declared.removal.Removal.{Removal}
 use Rattle.hippo_removal.specs.declared.snapshots.BothRows.{BothRows}
 
--- whether there are rows of each table
+-- whether each table has rows
 abbrev pub have_rows : List KeyedRows → Bool
 have_rows sets = list_all (λ set. nat_lt 0 (length set.rows)) sets
 
--- the rows of tables after the first entries of a history, in which they may be created later
+-- the rows of tables after the first entries of a history; the tables may be created later
 abbrev pub rows_then : ℕ → History → List Name → List KeyedRows
 rows_then number history tables =
     map (λ table. option_map_or (λ schema. kept_at schema (take number history))
     (schema_at history table)
     (record { key = []; rows = [] })) tables
 
--- rows are added, or they are not for another reason than damage
+-- rows are added, or they are not, for a reason other than damage
 abbrev pub AreAdded : List KeyedRows → Result (Unit {0}) ReadFault → List KeyedRows → List KeyedRows
     → Type 0
 AreAdded rows (Ok tt) old new = new ≡ old ++ rows
@@ -38,14 +38,13 @@ AreAdded rows (Err Keeper) old new = Unit {0}
 AreAdded rows (Err (Damaged number)) old new = ⊥
 AreAdded rows (Err Memory) old new = Unit {0}
 
--- a set of rows is added, or memory was short
+-- a set of rows is added, or memory ran out
 abbrev pub IsPushed : KeyedRows → Result (Unit {0}) ReadFault → List KeyedRows → List KeyedRows
     → Type 0
 IsPushed set (Ok tt) old new = new ≡ old ++ set ∷ []
 IsPushed set (Err fault) old new = fault ≡ Memory
 
--- the rows of tables are read, as they were after the first entries of a history that the keeper
--- tells
+-- the rows of tables are read as they were after the first entries of the history in the store
 pub record ReadsRows (past : Past) (number : ℕ) (tables : List Name)
     (result : Result (Unit {0}) ReadFault)
     (old new : List KeyedRows) (before after : KeeperState) : Type 0 where
@@ -62,7 +61,7 @@ pub record AreBoth (number : ℕ) (history : History) (query : Query) (audit : A
   pub query_rows : both.query ≡ rows_then number history query.tables
   pub audit_rows : both.audit ≡ rows_then number history audit.tables
 
--- the rows of a query's and of an audit's tables are read
+-- the rows of a query's tables and of an audit's are read
 pub record ReadsBoth (past : Past) (number : ℕ) (query : Query) (audit : Audit)
     (result : Result BothRows ReadFault)
     (before after : KeeperState) : Type 0 where
@@ -76,8 +75,8 @@ pub record ReadsBoth (past : Past) (number : ℕ) (query : Query) (audit : Audit
       → IsPastOf past history
       → number ≤ length history → (place : ℕ) → result ≢ Err (Damaged place)
 
--- rows are those of a query's and of an audit's tables after the first entries of a history, when
--- the query's were created
+-- the rows are those of a query's tables and of an audit's after the first entries of a history;
+-- the query's tables were created then
 pub record AreThen (past : Past) (number : ℕ) (history : History) (query : Query) (audit : Audit)
     (query_rows audit_rows : List KeyedRows) : Type 0 where
   pub past_is : IsPastOf past history
@@ -88,7 +87,8 @@ pub record AreThen (past : Past) (number : ℕ) (history : History) (query : Que
   pub query_rows_are : query_rows ≡ rows_then number history query.tables
   pub audit_rows_are : audit_rows ≡ rows_then number history audit.tables
 
--- what is said of the examiner, whatever keeper it reads from: it holds nothing, and counts nothing
+-- the contract of the examiner, for any keeper that it reads from: it holds nothing and counts
+-- nothing
 abbrev pub removal_terms : Examination Removal
 removal_terms = record {
   sound = λ removal. Unit {0};

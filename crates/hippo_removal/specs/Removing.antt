@@ -1,5 +1,5 @@
--- What is left of a query's answer when the combinations that have a virtual tuple are taken out;
--- and the virtual tuple of some rows.
+-- A query's answer without the combinations that have a virtual tuple; and the virtual tuple of
+-- some rows.
 use Rattle.std.specs.Prelude.{Bool, false, not, ◌&&◌, List, [], ◌∷◌, filter, filter_map, find, map, slice_get, Option, None, Some}
 use Rattle.hippo_values.specs.declared.names.Name.{Name}
 use Rattle.hippo_model.specs.declared.audit.Audit.{Audit}
@@ -22,19 +22,19 @@ use Rattle.hippo_join.specs.Existence.{are_shown}
 use Rattle.hippo_audit_search.specs.Needs.{needs_by}
 use Rattle.hippo_audit_search.specs.Sharing.{has_tuple_in, query_has}
 
--- whether a combination is taken out: where it has the tuple, if there is one to be taken out
+-- whether a combination is removed: it has the tuple, if there is one to remove
 abbrev pub is_out : List Name → List KeyedRows → Option (List SharedRow) → Combination → Bool
 is_out tables sets None rows = false
 is_out tables sets (Some tuple) rows = has_tuple_in tables sets tuple rows
 
--- the rows that a query makes of the combinations that are left of some
+-- the rows that a query makes of the remaining combinations
 abbrev pub rows_left :
     Choices → Masked → List KeyedRows → Option (List SharedRow) → List Combination → List ShownRow
 rows_left choices query sets out combinations =
     masked_rows choices query (filter (λ rows. not (is_out query.tables sets out rows))
     combinations)
 
--- what a query answers of what is left of the product
+-- a query's answer over the remaining combinations of the product
 abbrev pub answer_left : Choices → Masked → Form → List KeyedRows → Option (List SharedRow)
     → List ShownRow
 answer_left choices query form sets out =
@@ -49,8 +49,7 @@ unmasked_query audit = record {
   cond = unmasked_condition audit.cond;
 }
 
--- whether a combination has a tuple, makes a row of a query's answer, and shows all that is to be
--- seen
+-- whether a combination has a tuple, makes a row of a query's answer, and shows all wanted cells
 abbrev pub is_seen_in : Choices → Masked → List Expr → List KeyedRows → List SharedRow → Combination
     → Bool
 is_seen_in choices query seen sets tuple rows =
@@ -58,8 +57,8 @@ is_seen_in choices query seen sets tuple rows =
     && (is_guarded choices query rows && masked_passes choices query rows
     && are_shown choices seen rows)
 
--- whether a query and an audit need a tuple, judged by taking it out of both, and all that is to be
--- seen is shown
+-- whether a query and an audit need a tuple, judged by removing it from both, and all wanted cells
+-- are shown
 abbrev pub is_shared : Choices → Masked → Form → Masked → List Expr → List KeyedRows
     → List KeyedRows → List SharedRow → Bool
 is_shared choices query form audit seen query_sets audit_sets tuple =
@@ -74,8 +73,8 @@ tuple_of (table ∷ tables) (set ∷ sets) [] = []
 tuple_of (table ∷ tables) (set ∷ sets) (kept ∷ rows) =
     record { table = table; key = key_in set.key kept } ∷ tuple_of tables sets rows
 
--- the first tuple of the common tables that a query and an audit share, each in turn taken out of
--- both
+-- the first tuple of the common tables that a query and an audit share, judged by removing each in
+-- turn from both
 abbrev pub first_removed : Choices → Masked → Form → Audit → List Expr → List KeyedRows
     → List KeyedRows → Option (List SharedRow)
 first_removed choices query form audit seen query_sets audit_sets =

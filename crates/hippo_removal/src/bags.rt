@@ -5,7 +5,7 @@ ghost use Rattle.hippo_model.specs.Bags.{same_cell, same_row, occurrences, same_
 
 use hippo_model::{Cell, CellRow};
 
-// Whether two cells show one value, or are denied by one rule.
+// Whether two cells show the same value, or are denied by the same rule.
 fn same_cell(cell: &Cell, other: &Cell) -> bool
     ensures { result ≡ same_cell cell.now other.now }
 {
@@ -31,7 +31,7 @@ pub(crate) fn same_row(row: &[Cell], other: &[Cell]) -> bool
     true
 }
 
-// How often a row stands among others.
+// How often a row occurs in a list.
 fn occurrences(row: &[Cell], rows: &[CellRow]) -> usize
     ensures { result ≡ occurrences row.now rows.now }
 {
@@ -50,7 +50,7 @@ fn stands_as_often(row: &[Cell], left: &[CellRow], right: &[CellRow]) -> bool
     occurrences(row, left) == occurrences(row, right)
 }
 
-// Whether each of some rows stands in both answers as often.
+// Whether each of these rows occurs equally often in both answers.
 fn are_balanced(rows: &[CellRow], left: &[CellRow], right: &[CellRow]) -> bool
     ensures { result ≡ list_all (λ row. occurrences row left.now == occurrences row right.now)
         rows.now }
@@ -63,7 +63,7 @@ fn are_balanced(rows: &[CellRow], left: &[CellRow], right: &[CellRow]) -> bool
     true
 }
 
-/// Whether each row stands as often in the one answer as in the other.
+/// Whether each row occurs equally often in both answers.
 #[tactic(auto, using(crate::proofs::BagLemmas::all_of_both))]
 pub(crate) fn same_bag(left: &[CellRow], right: &[CellRow]) -> bool
     ensures { result ≡ same_bag left.now right.now }

@@ -1,4 +1,4 @@
-//! The rows of an answer by its form, as the definitions make them.
+//! The rows of an answer by its form, computed as the definitions say.
 ghost use Rattle.std.specs.Prelude.{◌≡◌, ◌∷◌, not, filter, IfOk};
 ghost use Rattle.hippo_model.specs.Bags.{same_row};
 ghost use Rattle.hippo_model.specs.Forms.{different_rows, rows_by_form};
@@ -9,7 +9,7 @@ use hippo_model::{Answer, CellRow, Form};
 use hippo_values::{Duplicate, Memory, Sequence};
 use std::alloc::Global;
 
-// A row, and behind it those of others that are not equal to it.
+// A row, followed by those of the other rows that are not equal to it.
 fn in_front(alloc: Global, first: &CellRow, others: &Answer) -> Result<Answer, Memory>
     ensures { IfOk result (λ rows. rows ≡ first.now
         ∷ filter (λ row. not (same_row first.now row)) others.now) }

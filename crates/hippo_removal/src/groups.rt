@@ -1,4 +1,4 @@
-//! A row for each group, as the definitions make it.
+//! One row for each group, computed as the definition says.
 ghost use Rattle.std.specs.Prelude.{◌≡◌, map, slice_index_or, take, IfOk};
 ghost use Rattle.hippo_model.specs.declared.cells.Cell.TheVariants.{Shown as ShownCell, Denied as DeniedCell};
 ghost use Rattle.hippo_model.specs.Bags.{same_row};
@@ -11,7 +11,7 @@ use hippo_model::{Answer, Cell, CellRow, Cells, Out, Shape};
 use hippo_values::{Duplicate, Memory, Sequence, Value};
 use std::alloc::Global;
 
-// The lesser of two values; a null yields to the other.
+// The lesser of two values. Null counts as above every other value.
 fn lesser<'a>(value: &'a Value, other: &'a Value) -> &'a Value
     ensures { result.now ≡ lesser value.now other.now }
 {
@@ -78,7 +78,7 @@ fn value_at(alloc: Global, row: &[Cell], place: usize) -> Result<Value, Memory>
     }
 }
 
-// The values at a place of some rows.
+// The values at a place in some rows.
 fn values_in(alloc: Global, place: usize, rows: &Answer) -> Result<Cells, Memory>
     ensures { IfOk result (λ values. values ≡ values_in place rows.now) }
 {
@@ -89,7 +89,7 @@ fn values_in(alloc: Global, place: usize, rows: &Answer) -> Result<Cells, Memory
     Ok(values)
 }
 
-// The cell at a place of a group's key.
+// The cell at a place in a group's key.
 fn key_cell(alloc: Global, key: &[Cell], place: usize) -> Result<Cell, Memory>
     ensures { IfOk result (λ cell. cell ≡ slice_index_or key.now place (DeniedCell 0)) }
 {
@@ -123,7 +123,7 @@ fn group_cell(alloc: Global, key: &CellRow, rows: &Answer, out: &Out) -> Result<
     }
 }
 
-// The first cells of a row.
+// The first `keys` cells of a row.
 fn front(alloc: Global, row: &CellRow, keys: usize) -> Result<CellRow, Memory>
     ensures { IfOk result (λ key. key ≡ take keys row.now) }
 {
@@ -149,7 +149,7 @@ fn has_key(alloc: Global, row: &CellRow, key: &CellRow, keys: usize) -> Result<b
     Ok(same_row(key.as_slice(), front.as_slice()))
 }
 
-// The rows whose first cells are these.
+// The rows that begin with these cells.
 fn members(alloc: Global, rows: &Answer, key: &CellRow, keys: usize) -> Result<Answer, Memory>
     ensures { IfOk result (λ kept. kept ≡ members rows.now key.now keys) }
 {
@@ -175,7 +175,7 @@ fn group_row(alloc: Global, shape: &Shape, rows: &Answer, key: &CellRow) -> Resu
     Ok(row)
 }
 
-// A row for the group of each key.
+// One row for the group of each key.
 fn group_rows(alloc: Global, shape: &Shape, rows: &Answer, keys: &Answer) -> Result<Answer, Memory>
     ensures { IfOk result (λ groups. groups
         ≡ map (λ key. map (group_cell key (members rows.now key shape.now.keys)) shape.now.outs)
@@ -188,7 +188,7 @@ fn group_rows(alloc: Global, shape: &Shape, rows: &Answer, keys: &Answer) -> Res
     Ok(groups)
 }
 
-/// One row for each different list of the first cells, at the place of its first.
+/// One row for each different list of first cells, at the place of the first row that has it.
 pub(crate) fn grouped(alloc: Global, shape: &Shape, rows: &Answer) -> Result<Answer, Memory>
     ensures { IfOk result (λ groups. groups ≡ grouped_rows shape.now rows.now) }
 {

@@ -1,6 +1,6 @@
-//! An examiner by removal: each virtual tuple in turn is taken out of the query's product and of
-//! the audit's, and both are answered again. It is the definition, carried out; nothing but tests
-//! asks it.
+//! An examiner that removes virtual tuples: it takes each in turn out of the query's product and of
+//! the audit's, and computes both answers again. It carries out the definition literally. Only
+//! tests use it.
 #![tactic(auto)]
 
 mod bags;

@@ -1,5 +1,5 @@
-//! Whether a query needs a virtual tuple: its answer, and its answer without the combinations that
-//! have the tuple.
+//! Whether a query needs a virtual tuple: compares its answer with its answer without the
+//! combinations that have the tuple.
 ghost use Rattle.std.specs.Prelude.{◌≡◌, option_copied, IfOk};
 ghost use Rattle.hippo_audit_search.specs.Needs.{needs_by};
 ghost use Rattle.hippo_removal.specs.Removing.{is_out, answer_left};
@@ -13,7 +13,7 @@ use hippo_tables_rows::Sets;
 use hippo_values::{Memory, Sequence};
 use std::alloc::Global;
 
-// Whether a combination is taken out.
+// Whether a combination is removed.
 fn is_out(
     alloc: Global,
     tables: &Names,
@@ -30,7 +30,7 @@ fn is_out(
     }
 }
 
-// Gathers the rows that a query makes of the combinations that are left.
+// Gathers the rows that a query makes of the remaining combinations.
 #[derive(Drop)]
 struct Left<'a, C> {
     query: &'a Masked,
@@ -65,7 +65,7 @@ impl<'a, C: ChoiceView> Visitor for Left<'a, C> {
     }
 }
 
-// What a query answers where the combinations with a tuple are taken out, if there is one.
+// A query's answer without the combinations that have the tuple, if there is one to remove.
 fn answer_left<C: ChoiceView>(
     alloc: Global,
     query: &Masked,
@@ -89,7 +89,7 @@ fn answer_left<C: ChoiceView>(
     formed(alloc, form, rows)
 }
 
-/// Whether a query's answer is another bag when the combinations that have a tuple are taken out.
+/// Whether a query's answer is a different bag without the combinations that have a tuple.
 pub(crate) fn needs<C: ChoiceView>(
     alloc: Global,
     query: &Masked,

@@ -1,4 +1,4 @@
-//! The examiner by removal.
+//! The examiner that removes virtual tuples.
 ghost use Rattle.std.specs.Prelude.{◌≡◌, ◌<◌, length, take, IfOk};
 ghost use Rattle.hippo_model.specs.Terms.{History};
 ghost use Rattle.hippo_audit_job.specs.Examining.{IsServing};
@@ -15,10 +15,10 @@ use hippo_values::Memory;
 use std::alloc::Global;
 use std::sync::ledger::Ledger;
 
-/// Examines logged questions over snapshots of the tables that each needs, by taking each virtual
-/// tuple in turn out of both products and answering again. It holds nothing between questions,
-/// reads each version again for each, and walks whole products: it is there to be believed, and for
-/// tests that compare.
+/// Examines logged queries over snapshots of the tables that each needs. It removes each virtual
+/// tuple in turn from both products and computes both answers again. It holds nothing between
+/// logged queries, reads every version again for each, and walks whole products. It exists because
+/// it is easy to believe, and for tests that compare results with it.
 #[derive(Drop)]
 pub struct Removal;
 
@@ -26,7 +26,7 @@ impl Removal {
     ghost use Rattle.hippo_audit_job.specs.Examining.{IsNew};
     ghost use Rattle.hippo_removal.specs.Removals.{removal_terms};
 
-    /// An examiner; takes no memory.
+    /// Returns an examiner. Allocates nothing.
     pub fn new() -> Removal
         ensures { IsNew removal_terms result }
     {
@@ -34,15 +34,15 @@ impl Removal {
     }
 }
 
-// Whether there are rows of each table.
+// Whether each table has rows.
 fn have_rows(rows: &Rows) -> bool
     ensures { result ≡ have_rows rows.now }
 {
     rows.as_slice().iter().all(|set| 0 < set.len())
 }
 
-// The first virtual tuple that serves, of a question with this meaning and an audit, over rows that
-// are those before the entry; none where there are no rows of one of the audit's tables.
+// The first virtual tuple that serves, for a logged query with this meaning and an audit, over the
+// rows before the entry. `None` if one of the audit's tables has no rows.
 fn shared_over(
     alloc: Global,
     past: &Past<'_>,

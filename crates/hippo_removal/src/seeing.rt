@@ -1,4 +1,4 @@
-//! Whether what an audit asks to be seen was shown.
+//! Whether the cells that an audit asks for were shown.
 ghost use Rattle.std.specs.Prelude.{◌≡◌, IfOk};
 ghost use Rattle.hippo_model.specs.Masking.{is_shown_cell, masked_cell};
 ghost use Rattle.hippo_join.specs.Existence.{are_shown};
@@ -28,7 +28,7 @@ fn are_shown<C: ChoiceView>(seen: &Exprs, rows: &Combo<'_>, choices: &C) -> bool
     true
 }
 
-// Looks for a combination that has a tuple, makes a row, and shows what is to be seen.
+// Looks for a combination that has a tuple, makes a row, and shows all wanted cells.
 #[derive(Drop)]
 struct Seeker<'a, C> {
     query: &'a Masked,
@@ -78,8 +78,8 @@ impl<'a, C: ChoiceView> Visitor for Seeker<'a, C> {
     }
 }
 
-/// Whether some combination that makes a row of a query's answer has a tuple and shows what is to
-/// be seen.
+/// Returns whether some combination that makes a row of a query's answer has a tuple and shows all
+/// wanted cells.
 pub(crate) fn has_seen<C: ChoiceView>(
     alloc: Global,
     query: &Masked,

@@ -1,4 +1,4 @@
-//! The first virtual tuple that serves, each in turn taken out of both products.
+//! The first virtual tuple that serves, found by removing each in turn from both products.
 ghost use Rattle.std.specs.Prelude.{◌≡◌, map, IfOk, bytes_eq, filter_map, slice_get, option_copied, length};
 ghost use Rattle.std.specs.List.{list_any};
 ghost use Rattle.hippo_model.specs.declared.query.Expr.TheVariants.{Keep};
@@ -67,7 +67,7 @@ fn common_tables(alloc: Global, query: &[Name], audit: &[Name]) -> Result<Names,
     Ok(common)
 }
 
-// The rows of a table by its name.
+// The rows of the table with this name.
 fn set_named<'a>(tables: &[Name], sets: &Sets<'a>, name: &Name) -> Option<&'a RowSet>
     ensures { option_copied result ≡ slice_get sets.now (place_in tables.now name.now) }
 {
@@ -79,7 +79,7 @@ fn set_named<'a>(tables: &[Name], sets: &Sets<'a>, name: &Name) -> Option<&'a Ro
     }
 }
 
-// The rows of some of the tables, by their names.
+// The rows of those of the tables that have these names.
 fn sets_named<'a>(
     alloc: Global,
     tables: &[Name],
@@ -119,7 +119,7 @@ fn tuple_of(
     Ok(tuple)
 }
 
-// A query and an audit, over the rows of their tables, and the tables that they have in common.
+// A query and an audit over the rows of their tables, and the tables that they have in common.
 #[derive(Drop)]
 struct Sides<'a, C> {
     query: &'a Masked,
@@ -139,7 +139,7 @@ impl<'a, C: ChoiceView> Sides<'a, C> {
     ghost use Rattle.hippo_eval.specs.Walks.{rows_of};
     ghost use Rattle.hippo_removal.specs.Removing.{is_shared, tuple_of};
 
-    // Whether both need a tuple, and what is to be seen was shown.
+    // Whether both need a tuple, and all wanted cells were shown.
     fn is_shared(&self, alloc: Global, tuple: &SharedTuple) -> Result<bool, Memory>
         ensures { IfOk result (λ is. is ≡ is_shared (C.choices self.now.choices.now)
             self.now.query.now
@@ -176,7 +176,7 @@ impl<'a, C: ChoiceView> Sides<'a, C> {
         )
     }
 
-    // The first tuple of the common tables that both need.
+    // The first tuple of the common tables that both need, with all wanted cells shown.
     fn first_shared(&self, alloc: Global) -> Result<Option<SharedTuple>, Memory>
         ensures { IfOk result (λ shared. shared
             ≡ find (is_shared (C.choices self.now.choices.now) self.now.query.now
@@ -220,8 +220,8 @@ impl<'a, C: ChoiceView> Visitor for Sides<'a, C> {
     }
 }
 
-// The first tuple of the common tables that a query of this form and an audit need, with all shown
-// that is to be seen: each in turn is taken out of both.
+// The first tuple of the common tables that a query of this form and an audit need, with all wanted
+// cells shown. Removes each tuple in turn from both.
 fn first_removed<C: ChoiceView>(
     alloc: Global,
     form: &Form,
@@ -252,9 +252,9 @@ fn first_removed<C: ChoiceView>(
     sides.first_shared(alloc)
 }
 
-/// The first virtual tuple (a row of each table in both FROM lists, by its key; in the audit's
-/// order) that serves, in each history that rules, rows and choices are those of; none exactly
-/// where none serves.
+/// Returns the first virtual tuple that serves, in each history that has these rules, rows and
+/// choices, or `None` if none serves. A virtual tuple is a row of each table in both FROM lists, by
+/// its key, in the audit's order.
 pub(crate) fn first_serving<C: ChoiceView>(
     alloc: Global,
     query: &Query,

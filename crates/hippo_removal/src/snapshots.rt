@@ -1,4 +1,4 @@
-//! The rows of tables as they were, each by a snapshot.
+//! The rows of tables as they were in the past, each from a snapshot.
 ghost use Rattle.std.specs.Prelude.{◌≡◌, ◌∷◌, [], true, filter_map, IfOk};
 ghost use Rattle.hippo_keeper.specs.Keeping.{IsReady};
 ghost use Rattle.hippo_typing_catalog.specs.Catalogs.{table_of};
@@ -34,7 +34,7 @@ fn push(rows: &mut Rows, set: RowSet) -> Result<(), ReadFault>
     }
 }
 
-// Adds the rows of a table as they were; none of one that is not known.
+// Adds the rows of a table as they were. A table that is not known has none.
 fn read_named<P: Keeper, L: Ledger>(
     keeper: &mut P,
     alloc: Global,
@@ -58,7 +58,7 @@ fn read_named<P: Keeper, L: Ledger>(
     }
 }
 
-// Adds the rows of tables as they were.
+// Adds the rows of several tables as they were.
 fn read_rows<P: Keeper, L: Ledger>(
     keeper: &mut P,
     alloc: Global,
@@ -82,7 +82,8 @@ fn read_rows<P: Keeper, L: Ledger>(
     Ok(())
 }
 
-/// The rows of a query's tables and of an audit's, as they were after the first entries.
+/// Returns the rows of a query's tables and of an audit's, as they were after the first `number`
+/// entries.
 pub(crate) fn read_both<P: Keeper, L: Ledger>(
     keeper: &mut P,
     alloc: Global,
@@ -107,14 +108,14 @@ pub(crate) fn read_both<P: Keeper, L: Ledger>(
     Ok(both)
 }
 
-/// The rows of both, lent.
+/// The borrowed rows of a query's tables and of an audit's.
 #[derive(Drop)]
 pub(crate) struct BothSets<'a> {
     pub query: Sets<'a>,
     pub audit: Sets<'a>,
 }
 
-// Lends the rows of each table.
+// Borrows the rows of each table.
 fn lent(alloc: Global, rows: &Rows) -> Result<Sets<'_>, Memory>
     ensures { IfOk result (λ sets. sets ≡ rows.now) }
 {
@@ -125,7 +126,7 @@ fn lent(alloc: Global, rows: &Rows) -> Result<Sets<'_>, Memory>
     Ok(sets)
 }
 
-/// Lends the rows of a query's tables and of an audit's.
+/// Borrows the rows of a query's tables and of an audit's.
 pub(crate) fn lend_both(alloc: Global, both: &BothRows) -> Result<BothSets<'_>, Memory>
     ensures query { IfOk result (λ sets. sets.query ≡ both.now.query) }
     ensures audit { IfOk result (λ sets. sets.audit ≡ both.now.audit) }
@@ -135,7 +136,7 @@ pub(crate) fn lend_both(alloc: Global, both: &BothRows) -> Result<BothSets<'_>, 
     Ok(BothSets { query, audit })
 }
 
-/// The schemas of tables, of those that are known.
+/// Returns the schemas of those of the tables that are known.
 pub(crate) fn schemas_of<'a>(
     alloc: Global,
     catalog: &'a Catalog,

@@ -1,4 +1,4 @@
-//! Virtual tuples of rows at hand, and the combinations that have them.
+//! Virtual tuples of given rows, and the combinations that have them.
 ghost use Rattle.std.specs.Prelude.{◌≡◌, [], slice_index_or, option_copied, IfOk};
 ghost use Rattle.hippo_values.specs.Order.{same_cells};
 ghost use Rattle.hippo_model.specs.Rows.{cell_at};
@@ -13,7 +13,7 @@ use hippo_tables_rows::Sets;
 use hippo_values::{Duplicate, Memory, Sequence, Value};
 use std::alloc::Global;
 
-// The columns of the key of a table's rows; none where no table stands at the place.
+// The key columns of the table at a place; empty if there is no table at the place.
 fn key_columns<'a>(sets: &Sets<'a>, place: usize) -> &'a [usize]
     ensures { result.now ≡ (slice_index_or sets.now place (record { key = []; rows = [] })).key }
 {
@@ -24,8 +24,8 @@ fn key_columns<'a>(sets: &Sets<'a>, place: usize) -> &'a [usize]
     }
 }
 
-// The value in a column of a combination's row of a table; none, for null, where there is no such
-// row or column.
+// The value in a column of a combination's row. `None` stands for null: there is no such row or
+// column.
 fn value_at<'a>(rows: &Combo<'a>, place: usize, column: usize) -> Option<&'a Value>
     ensures { or_null (option_copied result)
         ≡ cell_at (slice_index_or rows.now place blank).row column }
@@ -54,7 +54,7 @@ pub(crate) fn key_of(
     Ok(key)
 }
 
-// Whether a combination's row of a table has a key.
+// Whether a combination's row in a table has this key.
 fn has_row(
     alloc: Global,
     tables: &Names,

@@ -1,4 +1,4 @@
--- One table more.
+-- One more table.
 use Rattle.std.proofs.Common.{ap, ◌∙◌, map, length, nat_lt, if◌then◌else◌, ◌++◌, ◌∷◌, [], ℕ}
 use Rattle.hippo_audit_common.specs.Commons.{common_tables, place_in}
 use Rattle.hippo_audit_common.proofs.LoopLemmas.{one-more}

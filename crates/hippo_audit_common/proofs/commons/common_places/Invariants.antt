@@ -1,4 +1,4 @@
--- The places so far, with those of the common tables that are left behind them, are all.
+-- The places so far, followed by those of the common tables that are left, are all places.
 use Rattle.std.proofs.Common.{◌≡◌, ◌++◌, map, drop}
 use Rattle.hippo_audit_common.specs.Commons.{common_tables, place_in}
 use Rattle.hippo_audit_common.proofs.commons.common_places.Given as goal

@@ -1,4 +1,4 @@
--- The stages so far are those of the first places.
+-- The stages so far are those at the first places.
 use Rattle.std.proofs.Common.{◌≡◌, map, take}
 use Rattle.hippo_audit_common.proofs.commons.common_stages.Given as goal
 

@@ -1,4 +1,4 @@
--- The place is among those that are left exactly where it is among all.
+-- The place is among the remaining ones exactly when it is among all.
 use Rattle.std.proofs.Common.{◌≡◌, drop, nat_eq}
 use Rattle.std.specs.List.{list_any}
 use Rattle.hippo_audit_common.proofs.commons.is_among.Given as goal

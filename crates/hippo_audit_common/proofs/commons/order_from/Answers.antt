@@ -1,4 +1,4 @@
--- What is moved has the tables that it had.
+-- A permutation has the same tables.
 use Rattle.std.proofs.Common.{ℕ, ◌<◌, length, subst, sym}
 use Rattle.std.specs.List.{All}
 use Rattle.std.proofs.lemmas.List.Sorted.{All-permutation, Contains-permutation}

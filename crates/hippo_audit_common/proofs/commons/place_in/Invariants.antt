@@ -1,4 +1,4 @@
--- The table stands at none of the places so far.
+-- The table is at none of the places so far.
 use Rattle.std.proofs.Common.{◌≡◌, ◌+◌, drop}
 use Rattle.hippo_audit_common.specs.Commons.{place_in}
 use Rattle.hippo_audit_common.proofs.commons.place_in.Given as goal

@@ -1,4 +1,4 @@
--- One table more.
+-- One more table.
 use Rattle.std.proofs.Common.{List, ap, ◌∙◌, nat_eq, not, arith}
 use Rattle.std.specs.List.{list_any}
 use Rattle.hippo_model.specs.Terms.{Place}

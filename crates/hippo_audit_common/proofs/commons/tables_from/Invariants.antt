@@ -1,4 +1,4 @@
--- The order so far has each table below the next one, behind the first ones.
+-- The order so far begins with the first tables, and has each table below the next one.
 use Rattle.std.proofs.Common.{◌≡◌, ◌<◌, take, length}
 use Rattle.std.specs.List.{All, Contains}
 use Rattle.hippo_model.specs.Terms.{Place}

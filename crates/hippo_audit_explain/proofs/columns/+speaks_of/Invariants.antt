@@ -1,4 +1,4 @@
--- None so far.
+-- No part so far names the column.
 use Rattle.std.proofs.Common.{◌≡◌, drop}
 use Rattle.std.specs.List.{list_any}
 use Rattle.hippo_model.specs.Columns.{condition_columns}

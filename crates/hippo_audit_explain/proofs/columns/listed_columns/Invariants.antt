@@ -1,4 +1,4 @@
--- The columns so far, and those that are left.
+-- The columns so far, followed by the remaining ones.
 use Rattle.std.proofs.Common.{◌≡◌, ◌++◌, drop, filter}
 use Rattle.std.specs.List.{enumerate_from}
 use Rattle.hippo_model.specs.Denials.{is_listed}

@@ -1,4 +1,4 @@
--- The rows were read, and their denied cells listed; or not.
+-- The rows were read and their denied cells listed, or a fault came first.
 use Rattle.std.proofs.Common.{Ok, Err}
 use Rattle.hippo_audit_explain.proofs.DenyingLemmas.{table_read, table_unread}
 use Rattle.hippo_audit_explain.proofs.denials.read_table.Goals as goal

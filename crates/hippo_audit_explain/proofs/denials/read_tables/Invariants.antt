@@ -1,4 +1,4 @@
--- The tables so far.
+-- The tables so far are done.
 use Rattle.std.proofs.Common.{◌≤◌, length}
 use Rattle.hippo_audit_explain.proofs.DenyingLemmas.{ok, ReadsFront}
 use Rattle.hippo_audit_explain.proofs.denials.read_tables.Given as goal

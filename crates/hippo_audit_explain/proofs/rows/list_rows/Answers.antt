@@ -1,4 +1,4 @@
--- One row more, or more cells than are wanted.
+-- One more row, or more cells than the limit.
 use Rattle.std.proofs.Common.{◌≤◌, ◌++◌, length, take, drop, ◌∙◌, sym, ap, arith, length-append, ◌+◌, List}
 use Rattle.hippo_model.specs.Denials.{Denial}
 use Rattle.hippo_audit_explain.specs.Listing.{rules_context, rows_denials}

@@ -1,4 +1,4 @@
--- The cells so far, and those of the rows that are left.
+-- The cells so far, followed by those of the remaining rows.
 use Rattle.std.proofs.Common.{◌≡◌, ◌≤◌, ◌++◌, length, take, drop}
 use Rattle.hippo_model.specs.Terms.{History}
 use Rattle.hippo_policy.specs.Books.{BookStandsFor}

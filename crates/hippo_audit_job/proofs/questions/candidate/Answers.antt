@@ -1,4 +1,4 @@
--- The query that the text means is handed on where it names each column.
+-- The query that the text means is returned if it names every audited column.
 use Rattle.std.proofs.Common.{◌∙◌, sym, ap}
 use Rattle.hippo_typing.specs.Meanings.{meaning_in}
 use Rattle.hippo_audit_job.proofs.questions.candidate.Goals as goal

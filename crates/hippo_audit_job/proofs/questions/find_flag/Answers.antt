@@ -1,4 +1,4 @@
--- What is shared becomes a flag, or a fault is passed on.
+-- The shared tuple becomes a flag, or the fault is returned.
 use Rattle.std.proofs.Common.{refl, ap, Ok, Err}
 use Rattle.hippo_audit_job.proofs.questions.find_flag.Goals as goal
 

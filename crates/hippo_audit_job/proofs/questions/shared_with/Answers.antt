@@ -1,4 +1,4 @@
--- The question is taken apart and its text is read; or something is not right.
+-- The logged query is taken apart and its text is read; or the entry is damaged.
 use Rattle.std.proofs.Common.{sym, ◌∙◌}
 use Rattle.hippo_audit_job.proofs.QuestionLemmas.{LooksAt-meant, LooksAt-examined, LooksAt-unnamed}
 use Rattle.hippo_audit_job.proofs.questions.shared_with.Goals as goal

@@ -1,4 +1,4 @@
--- None waits up to the number, or the first one is decoded, or it is not.
+-- None waits up to the number; or the first is decoded, or decoding it fails.
 use Rattle.std.proofs.Common.{sym, ap, ◌∙◌, arith}
 use Rattle.std.specs.Option.{option_copied}
 use Rattle.hippo_audit_job.proofs.FirstLemmas.{begins_before}

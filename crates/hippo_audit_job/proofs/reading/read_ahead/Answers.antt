@@ -1,4 +1,4 @@
--- A piece is read, or the read failed.
+-- A batch is read, or the read fails.
 use Rattle.std.proofs.Common.{arith}
 use Rattle.hippo_audit_job.proofs.ReadingLemmas.{ReadsAhead-piece, ReadsAhead-fault}
 use Rattle.hippo_audit_job.proofs.reading.read_ahead.Goals as goal

@@ -1,4 +1,4 @@
--- The places so far and those of the marks that are left are those of all.
+-- The places so far and those of the remaining marks are those of all marks.
 use Rattle.std.proofs.Common.{◌≡◌, ◌||◌, List}
 use Rattle.std.specs.List.{list_any}
 use Rattle.hippo_model.specs.Terms.{Place}

@@ -1,4 +1,5 @@
--- The tuples that the marks name are those that are needed; where no combination of the audit's rows counts, none is.
+-- The tuples that the marks name are the needed ones. If no combination of the audit's rows counts,
+-- none is needed.
 use Rattle.std.proofs.Common.{List, map, ◌≡◌, ◌∙◌}
 use Rattle.std.specs.Prelude.{Bool, Option}
 use Rattle.hippo_model.specs.declared.audit.SharedRow.{SharedRow}

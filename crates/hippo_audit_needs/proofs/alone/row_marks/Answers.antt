@@ -1,4 +1,4 @@
--- The walk begins with no mark, and visits all that makes rows.
+-- The walk begins without marks, and visits every combination that makes a row.
 use Rattle.std.proofs.Common.{[]}
 use Rattle.hippo_model.specs.Answers.{product}
 use Rattle.hippo_eval.specs.Walks.{rows_of}

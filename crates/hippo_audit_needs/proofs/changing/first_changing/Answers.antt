@@ -1,4 +1,5 @@
--- The places that the marks give are those of the tuples that the query needs; where no combination of the audit's rows counts, none is.
+-- The places that the marks give are those of the tuples that the query needs. If no combination of
+-- the audit's rows counts, none is needed.
 use Rattle.std.proofs.Common.{◌≡◌, List, map, subst, ◌∙◌}
 use Rattle.std.proofs.lemmas.Result.{IfOk-weaker}
 use Rattle.hippo_model.specs.declared.query.Form.TheVariants.{Grouped}

@@ -1,4 +1,4 @@
--- Some of what is left changes, or is there: as at the start.
+-- Some of the remaining best values change, or the tuple is already there, exactly as at the start.
 use Rattle.std.proofs.Common.{◌≡◌, List, ◌||◌}
 use Rattle.std.specs.List.{list_any}
 use Rattle.std.specs.Vec.Iter.{into_iter_items}

@@ -1,4 +1,4 @@
--- All best values have one member more.
+-- All best values include one more member.
 use Rattle.std.proofs.Common.{[], ◌∷◌, ◌++◌, arith}
 use Rattle.hippo_audit_needs.specs.GroupMarks.{PlacedRow, best_of}
 use Rattle.hippo_groups.proofs.JoinLemmas.{all_changed}

@@ -1,4 +1,4 @@
--- The best values before this place have one member more.
+-- The best values before this place include one more member.
 use Rattle.std.proofs.Common.{◌≡◌, List, [], ◌∷◌, ◌++◌, map}
 use Rattle.hippo_audit_needs.specs.GroupMarks.{PlacedRow, best_of, AreJoinedBests}
 use Rattle.hippo_audit_needs.proofs.group_marks.join.Given as goal

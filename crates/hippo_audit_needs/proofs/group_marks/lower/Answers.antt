@@ -1,4 +1,4 @@
--- The least of one value more.
+-- The least value after one more value.
 use Rattle.std.proofs.Common.{ap, ◌∙◌}
 use Rattle.std.proofs.lemmas.Result.{on_ok_weaker}
 use Rattle.hippo_model.specs.Forms.{lesser, least_value}

@@ -1,4 +1,4 @@
--- The first member joins none.
+-- The first member joins an empty group.
 use Rattle.std.proofs.Common.{[]}
 use Rattle.hippo_audit_needs.proofs.group_marks.marks_of_first.Goals as goal
 

@@ -1,4 +1,4 @@
--- One output more.
+-- One more output.
 use Rattle.std.proofs.Common.{arith, ap, length}
 use Rattle.hippo_audit_needs.proofs.MarkLemmas.{no-best-more}
 use Rattle.hippo_audit_needs.proofs.group_marks.no_marks.Goals as goal

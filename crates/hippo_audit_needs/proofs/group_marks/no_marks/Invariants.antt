@@ -1,4 +1,4 @@
--- The best values so far are those of no member.
+-- The best values so far are those of no members.
 use Rattle.std.proofs.Common.{◌≡◌, [], map, take}
 use Rattle.hippo_audit_needs.specs.GroupMarks.{best_of}
 use Rattle.hippo_audit_needs.proofs.group_marks.no_marks.Given as goal

@@ -1,4 +1,4 @@
--- The greatest of one value more.
+-- The greatest value after one more value.
 use Rattle.std.proofs.Common.{ap, ◌∙◌}
 use Rattle.std.proofs.lemmas.Result.{on_ok_weaker}
 use Rattle.hippo_model.specs.Forms.{greater, greatest_value}

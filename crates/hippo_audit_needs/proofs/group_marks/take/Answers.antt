@@ -1,4 +1,4 @@
--- A value that is equal, one that is better, and another.
+-- An equal value, a better one, and any other.
 use Rattle.std.proofs.Common.{sym, ◌∙◌}
 use Rattle.std.proofs.lemmas.Result.{on_ok_weaker}
 use Rattle.hippo_values.specs.OrderLaws.{value_ties}

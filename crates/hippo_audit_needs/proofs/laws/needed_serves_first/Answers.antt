@@ -1,4 +1,4 @@
--- Each virtual tuple serves exactly where the query needs it and both sides have it.
+-- A virtual tuple serves exactly when the query needs it and both sides have it.
 use Rattle.hippo_audit_needs.proofs.ServingTheorem.{needed-serves}
 use Rattle.hippo_audit_needs.proofs.laws.needed_serves_first.Goals as goal
 

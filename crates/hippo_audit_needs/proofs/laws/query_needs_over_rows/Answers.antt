@@ -1,4 +1,4 @@
--- What the rewritten query makes of the combinations that are left.
+-- The rewritten query's answer over the remaining combinations.
 use Rattle.hippo_audit_needs.proofs.QueryTheorem.{query-needs-over-rows}
 use Rattle.hippo_audit_needs.proofs.laws.query_needs_over_rows.Goals as goal
 

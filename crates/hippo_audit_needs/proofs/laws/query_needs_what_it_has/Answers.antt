@@ -1,4 +1,4 @@
--- What a plain query has over rows it needs.
+-- A plain query needs what it has over the rows.
 use Rattle.hippo_audit_needs.proofs.PlainTheorem.{query-needs}
 use Rattle.hippo_audit_needs.proofs.laws.query_needs_what_it_has.Goals as goal
 

@@ -1,4 +1,4 @@
--- What a plain query shares first is what it needs first.
+-- The first tuple that a plain query shares is the first that it needs.
 use Rattle.hippo_audit_needs.proofs.PlainTheorem.{shared-serves}
 use Rattle.hippo_audit_needs.proofs.laws.shared_serves_first.Goals as goal
 

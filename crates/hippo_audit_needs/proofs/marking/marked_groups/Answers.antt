@@ -1,4 +1,4 @@
--- All combinations that count are visited, and they make all rows.
+-- Every combination that counts is visited, and these make all rows.
 use Rattle.std.proofs.Common.{List, [], subst}
 use Rattle.hippo_model.specs.Answers.{product}
 use Rattle.hippo_eval.specs.Walks.{rows_of}

@@ -1,4 +1,4 @@
--- What a plain query shares first it needs first.
+-- The first tuple that a plain query shares is the first that it needs.
 use Rattle.hippo_audit_needs.proofs.ExaminingLemmas.{shared-needed}
 use Rattle.hippo_audit_needs.proofs.sharing.first_needed.Goals as goal
 

@@ -1,4 +1,5 @@
--- What is needed first serves first in each history that rules, rows and choices are those of.
+-- The first tuple that is needed is the first that serves, in each history that has these rules,
+-- rows and choices.
 use Rattle.hippo_audit_needs.proofs.ExaminingLemmas.{needed-serves-first}
 use Rattle.hippo_audit_needs.proofs.sharing.shared_of.Goals as goal
 

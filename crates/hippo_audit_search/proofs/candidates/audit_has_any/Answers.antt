@@ -1,4 +1,4 @@
--- What counts for the query that stands for the audit.
+-- Combinations count for the query that represents the audit.
 use Rattle.hippo_audit_search.proofs.SideLemmas.{audit-none}
 use Rattle.hippo_audit_search.proofs.candidates.audit_has_any.Goals as goal
 

@@ -1,4 +1,4 @@
--- The places in order are those that were handed in.
+-- The ordered places are those that were passed in.
 use Rattle.hippo_audit_search.proofs.candidates.first_of.Goals as goal
 
 pub returns : goal.returns

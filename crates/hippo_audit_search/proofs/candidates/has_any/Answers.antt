@@ -1,4 +1,4 @@
--- All tables have a stage.
+-- Every table has a stage.
 use Rattle.std.proofs.Common.{ℕ, ◌≡◌, ◌<◌, length, refl, ap, subst, ◌∙◌, inr, Option, None}
 use Rattle.std.proofs.lemmas.List.{length-replicate}
 use Rattle.hippo_audit_search.proofs.SearchLemmas.{whole-stages}

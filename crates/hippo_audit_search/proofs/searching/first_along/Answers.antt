@@ -11,7 +11,7 @@ use Rattle.hippo_audit_search.specs.Searching.{HasOneOf, BeginWith, query_tables
 use Rattle.hippo_audit_search.proofs.SearchLemmas.{common-are-stages, common-tables-are, four, open-by}
 use Rattle.hippo_audit_search.proofs.searching.first_along.Goals as goal
 
--- the tables of the first stages are those that the stages begin with
+-- the first stages are those of the tables that the list begins with
 first-tables : (h : CommonStages → Stage) (common listed : List CommonStages) (stages : List Stage) (n : ℕ) (given : List Place) → common ≡ listed → map h listed ≡ take n stages → BeginWith stages given → n ≡ length given → map (λ x. (h x).table) common ≡ given
 first-tables h common listed stages n given same taken front long =
     common-tables-are h common listed stages stages n same taken refl

@@ -1,4 +1,4 @@
--- What is sorted does not fall.
+-- The sorted list does not descend.
 use Rattle.std.proofs.lemmas.List.Sorted.{IsNonDecreasingBy-from_sort}
 use Rattle.hippo_audit_search.proofs.searching.in_order.Goals as goal
 

@@ -1,4 +1,4 @@
--- One table's row more, and all.
+-- One more row is chosen, and finally all.
 use Rattle.std.proofs.Common.{arith, ap, ◌∙◌, length, length-set, None}
 use Rattle.std.proofs.lemmas.List.{length-replicate}
 use Rattle.hippo_audit_search.specs.FirstPlaces.{with_rows}

@@ -1,4 +1,4 @@
--- With the rows of the tables that are left, the slots are those of all.
+-- With the rows of the remaining tables, the slots are those with all rows chosen.
 use Rattle.std.proofs.Common.{◌≡◌, length, drop, replicate, None}
 use Rattle.hippo_audit_search.specs.FirstPlaces.{with_rows}
 use Rattle.hippo_audit_search.proofs.searching.slots_with.Given as goal

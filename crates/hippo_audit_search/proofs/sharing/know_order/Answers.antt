@@ -1,4 +1,4 @@
--- One table more, and all.
+-- One more table, and finally all.
 use Rattle.std.proofs.Common.{map, arith}
 use Rattle.hippo_tables_keyed.specs.RowSets.{KeyedRows, IsAscending, key_in}
 use Rattle.hippo_audit_common.proofs.LoopLemmas.{all-one-more, all-of-them}

@@ -1,4 +1,4 @@
--- The rows of the tables so far stand in the order of their keys.
+-- The rows of the tables so far are in the order of their keys.
 use Rattle.std.proofs.Common.{map, take}
 use Rattle.std.specs.List.{All}
 use Rattle.hippo_tables_keyed.specs.RowSets.{IsAscending, key_in}

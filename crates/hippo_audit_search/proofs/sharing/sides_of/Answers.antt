@@ -1,4 +1,4 @@
--- The sides are made of what stands for the audit.
+-- The sides are made of what represents the audit.
 use Rattle.std.proofs.Common.{refl}
 use Rattle.hippo_audit_search.proofs.SharedTheorem.{common-served}
 use Rattle.hippo_audit_search.proofs.sharing.sides_of.Goals as goal

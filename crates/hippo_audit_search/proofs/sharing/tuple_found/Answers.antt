@@ -1,4 +1,4 @@
--- The tuple of the rows at these places, which are as many as the common tables.
+-- The tuple of the rows at these places, one for each common table.
 use Rattle.std.proofs.Common.{◌≡◌, length, sym, ap, ◌∙◌, Some}
 use Rattle.hippo_audit_search.specs.Sides.{places_beside}
 use Rattle.hippo_audit_search.specs.Tuples.{tuple_at}

@@ -1,4 +1,4 @@
--- One place more, and all.
+-- One more place, and finally all.
 use Rattle.std.proofs.Common.{sym, ◌∙◌, arith}
 use Rattle.hippo_audit_search.proofs.ToldLemmas.{chosen-more, chosen-all}
 use Rattle.hippo_audit_search.proofs.told.chosen_in.Goals as goal

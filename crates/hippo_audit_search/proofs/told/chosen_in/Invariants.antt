@@ -1,4 +1,4 @@
--- With the places of the tables that are left, the places are those of all.
+-- The places so far, followed by those in the remaining tables, are all places.
 use Rattle.std.proofs.Common.{List, ◌++◌, drop}
 use Rattle.hippo_model.specs.Terms.{Place}
 use Rattle.hippo_audit_search.specs.FirstPlaces.{AreChosen}

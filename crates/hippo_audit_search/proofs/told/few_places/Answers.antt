@@ -1,4 +1,4 @@
--- The places that look-ups find, in order.
+-- The places that lookups find, in ascending order.
 use Rattle.std.proofs.Common.{length}
 use Rattle.hippo_audit_search.proofs.FewLemmas.{table-below, few-of}
 use Rattle.hippo_audit_search.proofs.told.few_places.Goals as goal

@@ -1,4 +1,4 @@
--- What is found is copied.
+-- The places that are found are copied.
 use Rattle.std.specs.Prelude.{option_copied}
 use Rattle.hippo_audit_search.specs.Searching.{SharedBy}
 use Rattle.hippo_audit_search.proofs.AmongLemmas.{copied-first}

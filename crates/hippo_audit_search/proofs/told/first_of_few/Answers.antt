@@ -1,4 +1,4 @@
--- The first of a few places is the first of all.
+-- The first of the few places is the first of all.
 use Rattle.std.proofs.Common.{ℕ, List, map, Option, Vec, Global, option_map, subst, ◌∙◌}
 use Rattle.std.proofs.lemmas.Result.{IfOk-weaker}
 use Rattle.hippo_model.specs.Terms.{Place}

@@ -1,4 +1,4 @@
--- No others are shared.
+-- No other places are shared.
 use Rattle.std.proofs.Common.{ℕ, Vec, Global}
 use Rattle.hippo_audit_search.specs.Searching.{SharedBy}
 use Rattle.hippo_audit_search.proofs.ToldLemmas.{told-first}

@@ -1,4 +1,4 @@
--- All tables stand in the order, and the rows at the places are chosen.
+-- The order has all tables, and the rows at the places are chosen.
 use Rattle.std.proofs.Common.{◌<◌, ℕ, List, Option, None, length, replicate, sym, ap, subst, ◌∙◌}
 use Rattle.std.specs.List.{All, Contains}
 use Rattle.std.proofs.lemmas.List.{length-replicate}

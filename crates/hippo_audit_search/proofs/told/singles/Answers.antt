@@ -1,4 +1,4 @@
--- One place more, and all.
+-- One more place, and finally all.
 use Rattle.std.proofs.Common.{arith}
 use Rattle.hippo_audit_search.proofs.FewLemmas.{singles-more, singles-all}
 use Rattle.hippo_audit_search.proofs.told.singles.Goals as goal

@@ -1,4 +1,4 @@
--- The places so far, each alone.
+-- The places so far, each in a list of its own.
 use Rattle.std.proofs.Common.{◌≡◌, map, take}
 use Rattle.hippo_audit_search.proofs.FewLemmas.{alone}
 use Rattle.hippo_audit_search.proofs.told.singles.Given as goal

@@ -1,4 +1,4 @@
--- What either side tells.
+-- The places that lookups on one side or the other find.
 use Rattle.std.proofs.Common.{ℕ, List, Vec, Global, subst}
 use Rattle.std.specs.Prelude.{IfSome}
 use Rattle.hippo_model.specs.Terms.{Place}

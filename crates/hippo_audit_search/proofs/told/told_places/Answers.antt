@@ -1,4 +1,4 @@
--- The rows that are settled are those of each combination that counts.
+-- The settled rows are in every combination that counts.
 use Rattle.std.proofs.Common.{ℕ, Vec, Global}
 use Rattle.hippo_audit_search.proofs.ToldLemmas.{chosen-told}
 use Rattle.hippo_audit_search.proofs.told.told_places.Goals as goal

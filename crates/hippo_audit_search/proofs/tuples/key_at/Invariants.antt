@@ -1,4 +1,4 @@
--- The key so far, with the values of the columns that are left behind it, is the row's.
+-- The key so far, followed by the values in the remaining columns, is the row's key.
 use Rattle.std.proofs.Common.{◌≡◌, ◌++◌, map, drop}
 use Rattle.hippo_tables_keyed.specs.RowSets.{key_in}
 use Rattle.hippo_join_lookups.specs.Places.{row_at_place}

@@ -1,4 +1,4 @@
--- One row more.
+-- One more row.
 use Rattle.std.proofs.Common.{get_or, arith, ◌∙◌}
 use Rattle.hippo_audit_search.specs.Tuples.{tuple_at}
 use Rattle.hippo_audit_search.proofs.TupleLemmas.{tuple-more, row-made, name-read}

@@ -1,4 +1,4 @@
--- The rows so far, with those of the tables that are left behind them, are all.
+-- The rows so far, followed by those of the remaining tables, are all rows.
 use Rattle.std.proofs.Common.{◌≡◌, ◌++◌, drop}
 use Rattle.hippo_audit_search.specs.Tuples.{tuple_at}
 use Rattle.hippo_audit_search.proofs.tuples.tuple_at.Given as goal

@@ -1,4 +1,4 @@
--- The versions so far, and those that are left.
+-- The number of versions so far, plus that of the remaining ones.
 use Rattle.std.proofs.Common.{◌≡◌, ◌+◌, ◌≤◌, drop}
 use Rattle.hippo_keeper.specs.Selecting.{stored_versions}
 use Rattle.hippo_backlog.proofs.ahead.versions_among.Given as goal

@@ -1,4 +1,4 @@
--- The row at the place that is found is the row with the key.
+-- The row at the place that was found is the row with the key.
 use Rattle.hippo_model.specs.Rows.{key_of}
 use Rattle.hippo_backlog.proofs.TakingLemmas.{birth_none, birth_some}
 use Rattle.hippo_backlog.proofs.changes.birth_like.Goals as goal

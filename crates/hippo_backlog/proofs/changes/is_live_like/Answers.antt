@@ -1,4 +1,4 @@
--- A place is found where a row is.
+-- A place is found exactly when there is a row.
 use Rattle.std.proofs.Common.{◌∙◌}
 use Rattle.hippo_model.specs.Rows.{key_of}
 use Rattle.hippo_backlog.proofs.TakingLemmas.{found_live}

@@ -1,4 +1,4 @@
--- The rows are brought up from none.
+-- The rows are moved forward from an empty table.
 use Rattle.hippo_backlog.proofs.SnapshotLemmas.{snapshot_ok, snapshot_err, Snapshots-none}
 use Rattle.hippo_backlog.proofs.snapshots.snapshot.Goals as goal
 

@@ -1,4 +1,4 @@
--- The place of a table that is held, or of one more.
+-- The place of a held table, or of one more.
 use Rattle.std.proofs.Common.{rules, ◌∙◌, sym}
 use Rattle.hippo_combine.proofs.BringingLemmas.{IsPlaceOf-found, place_within, new_place}
 use Rattle.hippo_combine.proofs.bringing.place_for.Goals as goal

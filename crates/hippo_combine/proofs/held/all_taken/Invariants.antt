@@ -1,4 +1,4 @@
--- The sum so far, and what is left to be added, as far as 64 bits show it.
+-- The sum so far plus the remaining terms, cut off at the largest number of 64 bits.
 use Rattle.std.proofs.Common.{◌≡◌, ◌+◌, ◌≤◌, drop}
 use Rattle.hippo_audit_job.specs.Examining.{shown_count}
 use Rattle.hippo_combine.specs.Held.{all_taken}

@@ -1,4 +1,4 @@
--- The table stands at none of the places so far.
+-- The table is at none of the places so far.
 use Rattle.std.proofs.Common.{◌≡◌, ◌+◌, drop}
 use Rattle.std.specs.Prelude.{bytes_eq}
 use Rattle.std.specs.List.{position_or_len}

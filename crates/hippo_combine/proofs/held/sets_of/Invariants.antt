@@ -1,4 +1,4 @@
--- The rows so far, and those of the tables that are left.
+-- The rows so far, followed by those of the remaining tables.
 use Rattle.std.proofs.Common.{◌≡◌, ◌++◌, drop, filter_map}
 use Rattle.hippo_combine.specs.Held.{rows_held}
 use Rattle.hippo_combine.proofs.held.sets_of.Given as goal

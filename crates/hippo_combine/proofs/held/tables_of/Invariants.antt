@@ -1,4 +1,4 @@
--- The schemas and the rows so far, and those of the tables that are left.
+-- The schemas and the rows so far, followed by those of the remaining tables.
 use Rattle.std.proofs.Common.{◌≡◌, ◌++◌, drop, filter_map}
 use Rattle.hippo_combine.specs.Held.{schema_held, rows_held}
 use Rattle.hippo_combine.proofs.held.tables_of.Given as goal

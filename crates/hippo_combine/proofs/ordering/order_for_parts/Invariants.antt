@@ -1,4 +1,4 @@
--- The tables are what they were.
+-- The tables do not change.
 use Rattle.std.proofs.Common.{◌≡◌}
 use Rattle.hippo_combine.proofs.ordering.order_for_parts.Given as goal
 

@@ -1,4 +1,4 @@
--- An order changes nothing of what is held.
+-- An index does not change the held tables.
 use Rattle.std.proofs.Common.{rules}
 use Rattle.hippo_combine.proofs.BringingLemmas.{value_at, set_same}
 use Rattle.hippo_combine.proofs.ordering.order_table.Goals as goal

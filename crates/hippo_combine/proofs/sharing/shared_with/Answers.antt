@@ -1,4 +1,5 @@
--- The rows that are held are those of the history, and the same on both sides; where there are none of a table, nothing serves.
+-- The held rows are those of the history, and the same on both sides. If a table has none, nothing
+-- serves.
 use Rattle.std.proofs.Common.{rules, ◌≡◌, ◌&&◌, true, ◌∙◌, List, Option, take, sym}
 use Rattle.std.proofs.lemmas.Option.{none-some, same_Some}
 use Rattle.std.proofs.lemmas.Result.{IfOk-weaker}

@@ -1,4 +1,4 @@
--- All cells have one member more.
+-- All cells include one more member.
 use Rattle.std.proofs.Common.{[], ◌∷◌, ◌++◌, arith}
 use Rattle.hippo_model.specs.Forms.{group_cell}
 use Rattle.hippo_groups.proofs.JoinLemmas.{all_changed}

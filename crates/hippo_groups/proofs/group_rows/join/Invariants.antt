@@ -1,4 +1,4 @@
--- The cells before this one have one member more.
+-- The cells before this one include one more member.
 use Rattle.std.proofs.Common.{◌≡◌, List, [], ◌∷◌, ◌++◌, map}
 use Rattle.hippo_model.specs.Terms.{ShownRow}
 use Rattle.hippo_model.specs.Forms.{group_cell}

@@ -1,4 +1,4 @@
--- The least or the greatest of one value more.
+-- The least or the greatest after one more value.
 use Rattle.std.proofs.Common.{[], ◌∷◌, ◌++◌, sym, ap, ◌∙◌}
 use Rattle.std.proofs.lemmas.Result.{on_ok_weaker}
 use Rattle.hippo_values.specs.declared.values.Value.{Value}

@@ -1,4 +1,4 @@
--- The rows so far are balanced, so those behind decide.
+-- The rows so far are balanced, so the remaining ones decide.
 use Rattle.std.proofs.Common.{◌≡◌, drop}
 use Rattle.std.specs.Prelude.{◌==◌}
 use Rattle.std.specs.List.{list_all}

@@ -1,4 +1,4 @@
--- Those so far, and those that are left.
+-- The occurrences so far, plus the remaining ones.
 use Rattle.std.proofs.Common.{◌≡◌, ◌+◌, ◌≤◌, drop}
 use Rattle.hippo_model.specs.Bags.{occurrences}
 use Rattle.hippo_removal.proofs.bags.occurrences.Given as goal

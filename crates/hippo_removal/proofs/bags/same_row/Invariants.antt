@@ -1,4 +1,4 @@
--- The cells so far are the same, so those behind decide.
+-- The cells so far are the same, so the remaining ones decide.
 use Rattle.std.proofs.Common.{◌≡◌, drop}
 use Rattle.std.specs.Cmp.Lexicographic.{pointwise}
 use Rattle.hippo_model.specs.Bags.{same_cell}

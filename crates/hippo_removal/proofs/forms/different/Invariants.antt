@@ -1,4 +1,4 @@
--- The different rows of those behind.
+-- The different rows of the remaining ones.
 use Rattle.std.proofs.Common.{◌≡◌, ◌-◌, drop, length}
 use Rattle.hippo_model.specs.Forms.{different_rows}
 use Rattle.hippo_removal.proofs.forms.different.Given as goal

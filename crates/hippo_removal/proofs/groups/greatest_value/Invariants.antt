@@ -1,4 +1,4 @@
--- The greatest of the values behind.
+-- The greatest of the remaining values.
 use Rattle.std.proofs.Common.{◌≡◌, ◌-◌, drop, length}
 use Rattle.hippo_model.specs.Forms.{greatest_value}
 use Rattle.hippo_removal.proofs.groups.greatest_value.Given as goal

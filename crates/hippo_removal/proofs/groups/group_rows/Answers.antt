@@ -1,4 +1,4 @@
--- One group more.
+-- One more group.
 use Rattle.std.proofs.Common.{refl, length, map}
 use Rattle.std.proofs.lemmas.Option.{slice_get_read}
 use Rattle.hippo_model.specs.Forms.{group_cell, members}

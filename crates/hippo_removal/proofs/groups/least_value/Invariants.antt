@@ -1,4 +1,4 @@
--- The least of the values behind.
+-- The least of the remaining values.
 use Rattle.std.proofs.Common.{◌≡◌, ◌-◌, drop, length}
 use Rattle.hippo_model.specs.Forms.{least_value}
 use Rattle.hippo_removal.proofs.groups.least_value.Given as goal

@@ -1,4 +1,4 @@
--- What is left of the whole product.
+-- The rows of the combinations that remain of the whole product.
 use Rattle.std.proofs.Common.{[], ap, ◌∙◌}
 use Rattle.std.proofs.lemmas.Result.{IfOk-weaker}
 use Rattle.hippo_model.specs.Forms.{rows_by_form}

@@ -1,4 +1,4 @@
--- What is answered without the tuple, and with it.
+-- The answers without the tuple and with it.
 use Rattle.std.proofs.Common.{rules}
 use Rattle.hippo_removal.proofs.NeedingLemmas.{needs_is}
 use Rattle.hippo_removal.proofs.needing.needs.Goals as goal

@@ -1,4 +1,4 @@
--- The rows that were read are those of the history; where a table has none, nothing serves.
+-- The rows that were read are those of the history. If a table has none, nothing serves.
 use Rattle.std.proofs.Common.{rules, ◌≡◌, ◌∙◌, List, Option, sym, ap, take}
 use Rattle.std.proofs.lemmas.Option.{none-some, same_Some}
 use Rattle.std.proofs.lemmas.Result.{IfOk-weaker}

@@ -1,4 +1,4 @@
--- Those so far are shown, so those behind decide.
+-- Those so far are shown, so the remaining ones decide.
 use Rattle.std.proofs.Common.{◌≡◌, drop}
 use Rattle.hippo_join.specs.Existence.{are_shown}
 use Rattle.hippo_removal.proofs.seeing.are_shown.Given as goal

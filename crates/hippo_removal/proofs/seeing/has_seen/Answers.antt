@@ -1,4 +1,4 @@
--- The whole product is looked through.
+-- The whole product is searched.
 use Rattle.std.proofs.Common.{[], refl}
 use Rattle.hippo_removal.proofs.seeing.has_seen.Goals as goal
 

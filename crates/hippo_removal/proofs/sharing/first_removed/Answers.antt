@@ -1,4 +1,4 @@
--- All virtual tuples are gone through.
+-- All virtual tuples are tried.
 use Rattle.std.proofs.Common.{◌≡◌, List, Option, rules, subst}
 use Rattle.std.specs.Prelude.{IfOk}
 use Rattle.hippo_model.specs.declared.audit.SharedRow.{SharedRow}

@@ -1,4 +1,5 @@
--- What is found by removal is needed first, and serves first in each history that rules, rows and choices are those of.
+-- The tuple found by removal is the first that is needed. It is the first that serves, in each
+-- history that has these rules, rows and choices.
 use Rattle.std.proofs.Common.{◌≡◌, List, Option, subst}
 use Rattle.std.specs.Prelude.{IfOk}
 use Rattle.hippo_model.specs.declared.audit.SharedRow.{SharedRow}

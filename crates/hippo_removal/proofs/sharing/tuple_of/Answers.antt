@@ -1,4 +1,4 @@
--- One row more, or none.
+-- One more row, or none.
 use Rattle.std.proofs.Common.{rules, refl, length, inl, inr}
 use Rattle.std.specs.Prelude.{slice_index_or}
 use Rattle.std.proofs.lemmas.Option.{slice_get_read, slice_get-get_or}

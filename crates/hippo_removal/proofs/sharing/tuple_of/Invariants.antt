@@ -1,4 +1,4 @@
--- The rows so far, and those of the tables that are left.
+-- The rows so far, followed by those of the remaining tables.
 use Rattle.std.proofs.Common.{◌≡◌, ◌++◌, drop}
 use Rattle.hippo_removal.specs.Removing.{tuple_of}
 use Rattle.hippo_removal.proofs.sharing.tuple_of.Given as goal

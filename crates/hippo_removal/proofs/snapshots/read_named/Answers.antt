@@ -1,4 +1,4 @@
--- A table that is not known has no rows; of another a snapshot is taken.
+-- A table that is not known has no rows; the rows of a known one come from a snapshot.
 use Rattle.std.proofs.Common.{sym, ap, subst, ◌∙◌}
 use Rattle.hippo_tables_keyed.specs.RowSets.{KeyedRows}
 use Rattle.hippo_removal.specs.Removals.{IsPushed}

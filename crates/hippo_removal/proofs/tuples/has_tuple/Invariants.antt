@@ -1,4 +1,4 @@
--- The rows so far are had, so those behind decide.
+-- The combination has the rows so far, so the remaining ones decide.
 use Rattle.std.proofs.Common.{◌≡◌, drop}
 use Rattle.hippo_audit_search.specs.Sharing.{has_tuple_in}
 use Rattle.hippo_removal.proofs.tuples.has_tuple.Given as goal

@@ -1,4 +1,4 @@
--- The key so far, and the values of the columns that are left.
+-- The key so far, followed by the values in the remaining columns.
 use Rattle.std.proofs.Common.{◌≡◌, ◌++◌, map, drop}
 use Rattle.std.specs.Prelude.{slice_index_or}
 use Rattle.hippo_model.specs.Rows.{cell_at}

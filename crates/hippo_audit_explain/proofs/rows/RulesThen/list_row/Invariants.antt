@@ -1,4 +1,4 @@
--- The cells so far, and those of the columns that are left.
+-- The cells so far, followed by those of the remaining columns.
 use Rattle.std.proofs.Common.{◌≡◌, ◌++◌, take, drop}
 use Rattle.hippo_model.specs.Terms.{History}
 use Rattle.hippo_policy.specs.Books.{BookStandsFor}

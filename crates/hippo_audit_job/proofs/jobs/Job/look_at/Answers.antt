@@ -1,4 +1,4 @@
--- The flag is found and added; or it is not found, or there is no memory for it.
+-- The flag is found and added; or it is not found, or memory for it runs out.
 use Rattle.std.proofs.Common.{refl, arith}
 use Rattle.hippo_audit_job.proofs.FlagLemmas.{number_above, LooksOn-flagged, LooksOn-short, LooksOn-failed}
 use Rattle.hippo_audit_job.proofs.jobs.Job.look_at.Goals as goal

@@ -1,4 +1,4 @@
--- One question after the other is looked at.
+-- The logged queries are looked at one after the other.
 use Rattle.std.proofs.Common.{refl, Ok, length, ◌<◌}
 use Rattle.hippo_backlog.specs.declared.faults.ReadFault.{ReadFault}
 use Rattle.hippo_keeper.proofs.Results.{well}

@@ -1,4 +1,4 @@
--- The questions that wait are looked at, one after the other.
+-- The logged queries that wait are looked at one after the other.
 use Rattle.std.proofs.Common.{Ok, length}
 use Rattle.hippo_audit_job.specs.Jobs.{IsAsFar, LooksOn}
 use Rattle.hippo_audit_job.proofs.jobs.Job.look_at_waiting.Given as goal

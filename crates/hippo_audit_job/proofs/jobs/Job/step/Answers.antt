@@ -1,4 +1,4 @@
--- Pieces are read and looked at, until all up to the step's end is read; or it failed before.
+-- Batches are read and looked at until everything up to the step's end is read, or until a fault.
 use Rattle.std.proofs.Common.{◌∙◌, sym, refl, arith, ◌-◌, ◌<◌}
 use Rattle.hippo_backlog.specs.declared.faults.ReadFault.{ReadFault}
 use Rattle.hippo_keeper.proofs.Results.{err_of, well}

@@ -1,4 +1,4 @@
--- Pieces are read and looked at, one after the other.
+-- Batches are read and looked at one after the other.
 use Rattle.std.proofs.Common.{◌≡◌, ◌-◌, Ok}
 use Rattle.hippo_audit_job.specs.Jobs.{LooksOn}
 use Rattle.hippo_audit_job.proofs.jobs.Job.step.Given as goal

@@ -1,4 +1,4 @@
--- One combination more: all have one tuple, or two of them differ.
+-- One more combination: all have one tuple, or two of them differ.
 use Rattle.std.proofs.Common.{sym, ◌∙◌}
 use Rattle.hippo_audit_search.proofs.MarkLemmas.{mark-same, mark-other}
 use Rattle.hippo_audit_search.proofs.marks.Mark.with.Goals as goal

@@ -1,4 +1,4 @@
--- The places of a table are tried in ascending order, with the rows that were chosen before.
+-- The places in a table are tried in ascending order, with the rows that were chosen before.
 use Rattle.std.proofs.Common.{◌≡◌, suc, ◌∷◌, length, None, Some, refl, ap, ◌∙◌, arith}
 use Rattle.std.specs.Prelude.{slice_set}
 use Rattle.hippo_audit_search.proofs.SearchLemmas.{ready-none, ready-next, ready-same, split-ready, first-stages, first-made, none-more, none-tried, none-may, none-left, first-same, reset}

@@ -1,4 +1,5 @@
--- The common tables that are left are fewer; no place so far is one of both sides, with the rows that were chosen before.
+-- Fewer common tables are left. No place so far is shared by both sides, with the rows that were
+-- chosen before.
 use Rattle.std.proofs.Common.{◌≡◌, ◌+◌, ◌*◌, ◌∷◌, length}
 use Rattle.hippo_audit_search.proofs.SearchLemmas.{NoneSoFar}
 use Rattle.hippo_audit_search.proofs.searching.Search.+first.Given as goal

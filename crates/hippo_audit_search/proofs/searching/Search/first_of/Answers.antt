@@ -1,4 +1,4 @@
--- The first of those that are left, and none.
+-- The first of the remaining candidates, or none.
 use Rattle.std.proofs.Common.{Some, None, arith}
 use Rattle.hippo_audit_search.specs.Searching.{SharedPlaces}
 use Rattle.hippo_audit_search.proofs.AmongLemmas.{found-at, passed-at, found-none}

@@ -1,4 +1,4 @@
--- What is found first among the places that are left is found first among all.
+-- The first of the remaining candidates that is shared is the first of all.
 use Rattle.std.proofs.Common.{List, drop}
 use Rattle.std.specs.Prelude.{Option}
 use Rattle.hippo_model.specs.Terms.{Place}

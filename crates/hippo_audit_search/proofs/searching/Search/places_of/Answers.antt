@@ -1,4 +1,4 @@
--- What is sorted has the places that it had.
+-- Sorting keeps the same places.
 use Rattle.hippo_join_lookups.proofs.PlaceSteps.{ok-then}
 use Rattle.hippo_audit_search.proofs.SearchLemmas.{in-either}
 use Rattle.hippo_audit_search.proofs.searching.Search.places_of.Goals as goal

@@ -1,4 +1,4 @@
--- One member more of the piece is used.
+-- One more entry of the batch is used.
 use Rattle.std.proofs.Common.{◌∙◌, ap}
 use Rattle.hippo_backlog.specs.ReadingAhead.{without_first}
 use Rattle.hippo_backlog.proofs.AheadLemmas.{one_used}

@@ -1,4 +1,4 @@
--- No more versions were handed over than numbers are read.
+-- There are at most as many versions as numbers that are read.
 use Rattle.std.proofs.Common.{◌∙◌, sym, ap, subst, arith}
 use Rattle.hippo_keeper.specs.Keeping.{Store, RisesAbove}
 use Rattle.hippo_keeper.specs.Selecting.{stored_versions}

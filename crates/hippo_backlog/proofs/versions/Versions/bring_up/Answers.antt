@@ -1,4 +1,4 @@
--- Piece by piece, until the number is reached or something is wrong.
+-- Batches are read and applied until the number is reached, or until a fault.
 use Rattle.std.proofs.Common.{◌≡◌, true, ◌∙◌, sym, subst, Ok}
 use Rattle.hippo_backlog.specs.declared.faults.ReadFault.{ReadFault}
 use Rattle.hippo_backlog.specs.ReadingAhead.{has_read}

@@ -1,4 +1,4 @@
--- Pieces are read and taken in, one after the other.
+-- Batches are read and applied one after the other.
 use Rattle.std.proofs.Common.{◌-◌, Ok}
 use Rattle.hippo_backlog.specs.Backlogs.{ReadsOn}
 use Rattle.hippo_backlog.proofs.versions.Versions.bring_up.Given as goal

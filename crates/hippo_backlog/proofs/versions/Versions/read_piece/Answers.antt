@@ -1,4 +1,4 @@
--- A piece is read, or the read failed.
+-- A batch is read, or the read fails.
 use Rattle.std.proofs.Common.{◌∙◌, ap, arith}
 use Rattle.hippo_backlog.specs.Backlogs.{HeldVersions}
 use Rattle.hippo_backlog.proofs.CallLemmas.{undamaged_by}

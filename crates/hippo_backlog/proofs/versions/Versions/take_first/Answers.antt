@@ -1,4 +1,4 @@
--- The first that waits is taken in, or is unfit.
+-- The first version that waits is applied, or it does not fit.
 use Rattle.std.proofs.Common.{sym}
 use Rattle.hippo_backlog.specs.Backlogs.{HeldVersions}
 use Rattle.hippo_backlog.proofs.VersionLemmas.{first_taken, first_untaken}

@@ -1,4 +1,4 @@
--- One more that waits is taken in, or none is left up to the number, or one is unfit.
+-- One more version is applied, or none is left up to the number, or one does not fit.
 use Rattle.std.proofs.Common.{◌∙◌}
 use Rattle.hippo_backlog.proofs.VersionLemmas.{TakesWaiting-here, waits_ok, waits_err}
 use Rattle.hippo_backlog.proofs.versions.Versions.take_waiting.Goals as goal

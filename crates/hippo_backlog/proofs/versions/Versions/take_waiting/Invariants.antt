@@ -1,4 +1,4 @@
--- What waits is taken in, one after the other.
+-- The versions that wait are applied one after the other.
 use Rattle.std.proofs.Common.{Ok, length}
 use Rattle.hippo_backlog.specs.Backlogs.{TakesWaiting}
 use Rattle.hippo_backlog.proofs.versions.Versions.take_waiting.Given as goal

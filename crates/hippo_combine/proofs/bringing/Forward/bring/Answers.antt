@@ -1,4 +1,4 @@
--- The table is brought forward at its place.
+-- The table is moved forward at its place.
 use Rattle.std.proofs.Common.{rules, sym}
 use Rattle.std.proofs.lemmas.Result.{on_ok_weaker}
 use Rattle.hippo_combine.proofs.BringingLemmas.{value_at, brings_one, holds_one, held_if_known}

@@ -1,4 +1,4 @@
--- The tables so far are brought forward.
+-- The tables so far are moved forward.
 use Rattle.std.proofs.Common.{true, take}
 use Rattle.hippo_keeper.specs.Keeping.{IsReady}
 use Rattle.hippo_backlog.specs.declared.faults.ReadFault.{ReadFault}

@@ -1,4 +1,4 @@
--- The tables are brought forward, and what is shared over them is found.
+-- The tables are moved forward, and what is shared over them is found.
 use Rattle.std.proofs.Common.{rules, arith, List, refl, sym, subst}
 use Rattle.hippo_intervals.specs.Living.{HeldLives}
 use Rattle.hippo_combine.specs.Bringing.{Brings}

@@ -1,4 +1,4 @@
--- The key at hand is the front of the row.
+-- The current key is the front of the row.
 use Rattle.std.proofs.Common.{map, sym, ap, ◌∙◌}
 use Rattle.std.proofs.lemmas.List.{take-map}
 use Rattle.hippo_model.specs.Masking.{masked_cell}

@@ -1,4 +1,4 @@
--- The groups of a front come first.
+-- The groups of the first rows come first.
 use Rattle.std.proofs.Common.{◌∙◌}
 use Rattle.hippo_groups.proofs.KeptLemmas.{not_fewer}
 use Rattle.hippo_groups.proofs.grouping.ByShapeGatherer.finish.Goals as goal

@@ -1,4 +1,4 @@
--- No group is kept of no rows.
+-- No rows have no groups.
 use Rattle.hippo_groups.proofs.grouping.ByShapeGatherer.start.Goals as goal
 
 pub returns : goal.returns

@@ -1,4 +1,4 @@
--- A row of a group that is there, or of a new one.
+-- The row belongs to a group that exists, or to a new one.
 use Rattle.std.proofs.Common.{[], ◌∷◌, ◌++◌, map, sym, ap, ◌∙◌, arith}
 use Rattle.std.specs.Prelude.{position, is_some}
 use Rattle.std.specs.List.{list_any}

@@ -1,4 +1,4 @@
--- The value of the cell that an item stands for, or null past the last.
+-- The value of the item's cell, or null after the last item.
 use Rattle.std.proofs.Common.{◌<◌, ◌≤◌, map, length, sym, ap, ◌∙◌, arith}
 use Rattle.std.proofs.lemmas.Bool.{ltb-false, ltb-true}
 use Rattle.std.proofs.lemmas.List.{length-map, get_or-map, get_or_past}

@@ -1,4 +1,4 @@
--- All tuples are gone through.
+-- All tuples are tried.
 use Rattle.std.proofs.Common.{[], refl}
 use Rattle.hippo_removal.proofs.sharing.Sides.first_shared.Goals as goal
 

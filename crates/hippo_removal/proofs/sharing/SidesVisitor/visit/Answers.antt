@@ -1,4 +1,4 @@
--- One tuple more.
+-- One more tuple.
 use Rattle.std.proofs.Common.{rules, [], ◌∷◌, ◌++◌, List, map, ap, sym, ◌∙◌, append_assoc}
 use Rattle.std.specs.Prelude.{find}
 use Rattle.hippo_model.specs.Terms.{Combination}
