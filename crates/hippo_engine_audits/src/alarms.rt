@@ -98,7 +98,7 @@ fn are_watching(watches: &[Option<Watch>]) -> bool
     false
 }
 
-// Writes the alarms of all watches for a question with this purpose and recipient. `None` is the
+// Appends the alarms of all watches for a question with this purpose and recipient. `None` is the
 // meaning of a text that means no query.
 fn print_alarms(
     alloc: Global,
@@ -138,7 +138,7 @@ fn print_alarms(
     }
 }
 
-// Writes the alarms of all watches for a question. Parses the question's text again only if there
+// Appends the alarms of all watches for a question. Parses the question's text again only if there
 // is a watch.
 fn tell_alarms(
     alloc: Global,

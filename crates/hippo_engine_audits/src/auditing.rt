@@ -1,4 +1,4 @@
-//! The reply to AUDIT: the flags over all queries that were asked so far.
+//! The reply to DURING: the flags over all queries that were asked so far.
 ghost use Rattle.std.specs.Prelude.{◌≡◌, ◌⊎◌, ◌++◌, true, flat_map, bytes_eq, Err as Bad, OnOk};
 ghost use Rattle.std.specs.List.{IsDistinct};
 ghost use Rattle.std.specs.Result.{result_map_both};
