@@ -30,7 +30,7 @@ AnyCut =
     → HasWritten number audit history (history ++ effect.added) effect.world lines effects
 
 -- if the last line says that the job has ended, the flags that were written and that line are the
--- reply that a single AUDIT has when the job begins
+-- reply that one DURING has when the job begins
 abbrev pub StepsReplyAsOneAudit : Type 0
 StepsReplyAsOneAudit =
     (number : ℕ) (audit : Audit) (start history : History) (world : World) (lines : List LineText)
@@ -54,8 +54,8 @@ AlarmsAreFlags =
     (map (option_and_then (λ audit. flag_of meaning (history ++ (effect.added ++ later)) audit
     (next_entry history world (question_act question)))) world.watches)
 
--- after the line that sets a watch, and until the watch is ended, its alarms are what a single
--- AUDIT flags, at any later time, of the questions that were answered
+-- after the line that sets a watch, and until the watch is ended, its alarms are what one
+-- DURING flags, at any later time, of the questions that were answered
 abbrev pub StandingAudits : Type 0
 StandingAudits =
     (history : History) (world : World) (line : LineText) (effect : Effect) (lines : List LineText)

@@ -80,11 +80,11 @@ abbrev pub IsHeard : ℕ → History → World → Command → Effect → Option
 IsHeard number history world command effect heard =
     JudgedHeard number history world command (judged history world command) effect heard
 
--- the flags that a single AUDIT gives one entry, among the flags of a history
+-- the flags that one DURING gives one entry, among the flags of a history
 abbrev pub flags_at : History → Audit → Entry → List Flag
 flags_at history audit entry = flags_between meaning history audit (entry.seq - 1) entry.seq
 
--- the lines of a run have as alarms of the watch at a number exactly what a single AUDIT flags, in
+-- the lines of a run have as alarms of the watch at a number exactly what one DURING flags, in
 -- any longer history, of the entries of the questions that were answered
 pub record HasHeard (number : ℕ) (audit : Audit) (history : History) (world : World)
     (lines : List LineText)

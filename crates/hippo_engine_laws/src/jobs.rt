@@ -10,7 +10,7 @@ pub fn any_cut()
 {}
 
 /// If the reply to a step says `end`, then the flags that the job's steps have written, followed by
-/// that line with their number, are the reply that a single AUDIT would have had when the job
+/// that line with their number, are the reply that one DURING would have had when the job
 /// began.
 pub fn steps_reply_as_one_audit()
     ensures { StepsReplyAsOneAudit }

@@ -7,7 +7,7 @@ pub fn alarms_are_flags()
     ensures { AlarmsAreFlags }
 {}
 
-/// While a watch is set, its alarms are the flags that a single AUDIT with the same expression
+/// While a watch is set, its alarms are the flags that one DURING with the same expression
 /// gives, at any later time, for the questions that were answered while the watch was set.
 pub fn standing_audits()
     ensures { StandingAudits }
