@@ -9,7 +9,7 @@ use hippo_engine_checks::Unjudged;
 use hippo_engine_rules::{EngineFault, refuse, refuse_for_memory};
 use hippo_report::{Refusal, Speaker};
 
-/// Writes the reason why a command is not carried out to the reply. Returns `EngineFault::Keeper` only if
+/// Replies with the reason why a command is not carried out. Returns `EngineFault::Keeper` only if
 /// the keeper failed, and `EngineFault::Damaged` only if the store is not transparent.
 pub(crate) fn refuse_unjudged(
     engine: &mut Engine,
