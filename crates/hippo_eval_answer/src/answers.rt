@@ -182,8 +182,8 @@ fn lines_if_masked(
 /// The answer to a query at a standpoint, for its purpose and recipient at its moment: the query's
 /// result over the views of its tables, after the entries that the book and the tables represent.
 /// The rules in force are written into the query (LeFevre and others, Limiting Disclosure in
-/// Hippocratic Databases, VLDB 2004), and the rewritten query is answered over the unmasked rows. All
-/// tables of the query must exist. Returns `TooManyRows` exactly when the answer has more than
+/// Hippocratic Databases, VLDB 2004), and the rewritten query is answered over the unmasked rows.
+/// All tables of the query must exist. Returns `TooManyRows` exactly when the answer has more than
 /// 100,000 rows.
 ///
 /// An example over `patient (pid, name, phone)` with the row `1, 'Ada', '555-1'`, where `pid` and
