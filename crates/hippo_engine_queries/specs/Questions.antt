@@ -46,7 +46,7 @@ abbrev pub KeptAnswer : Type 0
 KeptAnswer = Result (Result Answered EvalFault) KeeperFault
 
 -- a question's entry is stored, the state represents the history with it appended, and the answer
--- is as of before the entry; or the entry is not stored, and the state is the same
+-- is as of before the entry; or storing it fails, and the state is the same
 pub record Asks (entry : Entry) (world : World) (question : Question) (delivery : Delivery)
     (result : KeptAnswer) (old new : State) (before after : KeeperState) : Type 0 where
   pub keeps : KeepsEntry entry result old before after
@@ -60,7 +60,8 @@ pub record Asks (entry : Entry) (world : World) (question : Question) (delivery 
 abbrev pub short_line : ℕ → Txt
 short_line session = refusal_line (speaker.Session session) NoMemory
 
--- if a question is not stored, it is out of memory, or the keeper failed
+-- the result when storing a question fails: the keeper failed, or it is out of memory and the reply
+-- says so
 abbrev pub IsUnkept : KeeperFault → ℕ → Result (Unit {0}) EngineFault → Txt → Type 0
 IsUnkept Failed session result reply = result ≡ Err Keeper
 IsUnkept KeeperMemory session result reply = (result ≡ Ok tt) × (reply ≡ short_line session)

@@ -128,9 +128,9 @@ fn keep_entry<P: Keeper>(
     }
 }
 
-/// Stores a session's question as the next entry, and answers it as of before that entry. The outer
-/// fault says that the entry was not stored; the inner fault says that it was stored, but that
-/// there is no answer, since memory ran out or there are too many rows.
+/// Stores a session's question as the next entry, and answers it as of before that entry. If
+/// storing fails, returns the keeper's fault and leaves the state unchanged. The inner result is
+/// the answer, or a fault if memory ran out or there are too many rows.
 pub fn keep_and_answer<P: Keeper>(
     alloc: Global,
     keeper: &mut P,
@@ -235,7 +235,8 @@ fn print_too_many(session: u8, alarms: &str, reply: &mut Reply) -> Result<(), Me
     reply.append(alarms)
 }
 
-// The result of a question that was not stored.
+// The result when storing a question fails: the keeper's failure, or a reply that it is out of
+// memory.
 fn say_unkept(session: u8, fault: KeeperFault, reply: &mut Reply) -> Result<(), EngineFault>
     ensures said { IsUnkept fault session result reply.new }
     ensures unwritten { result ≢ Bad WriteFailed }

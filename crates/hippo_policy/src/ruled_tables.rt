@@ -118,7 +118,8 @@ impl RuledTables {
         }
     }
 
-    /// Appends a rule, with its entry's number, for each of these cells. Fails when out of memory.
+    /// Appends a rule, with its entry's number, for each of these cells. Fails when out of memory,
+    /// or if a column is 65,536 or above, and leaves the rules unchanged.
     pub fn push_all(
         &mut self,
         alloc: Global,
