@@ -133,7 +133,7 @@ pub Carries-quiet : (command : Command) (old new : Engine) (keeper : KeeperState
 Carries-quiet command old new keeper steps at_work quiet =
     Carries-nothing command old new keeper steps at_work (AddsNothing-quiet command old new quiet)
 
--- a line that is refused as out of memory, whatever the history, has only that reply
+-- a line that is refused because memory ran out, whatever the history, has only that reply
 memory_effect : (history : History) (world : World) (who : Speaker) (effect : Effect) → IsEffect history world (wrong who Memory) effect
     → effect ≡ only_reply world (refusal_line who Memory)
 memory_effect history world who effect (inl is) = is
@@ -156,7 +156,7 @@ unbroken : (history : History) (who : Speaker) (old : Engine) (before after : Ke
 unbroken history who old before after (inl adding) = not_added adding.entry adding.adds
 unbroken history who old before after (inr reading) = false≢true reading.reads
 
--- what is carried out instead of a command that takes memory, when reading it was out of memory
+-- what is carried out instead of a command that takes memory, if memory ran out while it was read
 Carries-memory : {A : Type 0} (command : Command) (result : Result A EngineFault) (old new : Engine) (before after : KeeperState) (steps steps' : ℕ)
     → may_do_nothing command ≡ true → Carries (wrong (who_commands command) Memory) result old new before after steps steps'
     → Carries command result old new before after steps steps'

@@ -125,8 +125,7 @@ module _ (command : Command) (entry : Entry) (old new : Engine) (before after : 
     undamaged = λ tells history holds number damaged. cc;
   }
 
-  -- a change that was not recorded, since it was out of memory: the watches counted it, and were
-  -- restored
+  -- a change that was not recorded, since memory ran out: the watches counted it, and were restored
   pub unrecorded : entry.seq < 2 ^ 63 → MayFollow old.state entry → Records entry (err_of (Unit {0}) Memory) old.state new.state before after → IsSound new.state
       → (between : HeldWorld) → world_of between ≡ world_of old.world → WatchesFollow old.state.tables entry.act old.world between → WatchesGoBack new.state.tables entry.act between new.world
       → world_of new.world ≡ world_of old.world → new.world.jobs ≡ old.world.jobs → new.reply ≡ refusal_line Console refusals.Memory

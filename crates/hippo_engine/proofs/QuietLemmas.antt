@@ -1,4 +1,4 @@
--- A deed that adds nothing to the history is done, or is refused as out of memory.
+-- A deed that adds nothing to the history is done, or is refused because memory ran out.
 use Rattle.std.proofs.Common.{◌≡◌, ◌∙◌, sym, ap, subst, inl, Ok, true}
 use Rattle.hippo_model.specs.Terms.{History}
 use Rattle.hippo_report.specs.declared.speaker.Speaker.{Speaker}
@@ -23,7 +23,7 @@ quiet_done command deed old new does same audits shows = record {
   audits = audits;
 }
 
--- or it is out of memory, and the reply says so
+-- or memory ran out, and the reply says so
 pub quiet_short : (command : Command) (who : Speaker) (old new : Engine) → who_commands command ≡ who → may_do_nothing command ≡ true → new.state ≡ old.state → new.world ≡ old.world
     → new.reply ≡ refusal_line who Memory → IsQuiet command old new
 quiet_short command who old new of_who takes same world_is said = record {

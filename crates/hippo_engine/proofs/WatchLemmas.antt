@@ -64,7 +64,7 @@ sets_watch command number audit watch old new does same is counted world_is said
     (λ history. λ i. only_reply ((world_with old.world number (Some watch) new.world world_is
     ∙ ap (λ (a : Audit). record (world_of old.world) { watches = with_at (world_of old.world).watches number (Some a) }) is) i) (said i))
 
--- or it was out of memory
+-- or memory ran out
 pub watch_short : (command : Command) (number : ℕ) (audit : Audit) (old new : Engine) → Does command (kinds.Watch number audit) old.state (world_of old.world) → new.state ≡ old.state
     → new.world ≡ old.world → new.reply ≡ refusal_line Console Memory → AddsNothing command old new
 watch_short command number audit old new ((written, text, is), means, does) same world_is said =

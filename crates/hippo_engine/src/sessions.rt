@@ -32,7 +32,7 @@ impl Engine {
         say_done(Speaker::Nobody, &mut self.reply);
     }
 
-    /// Opens a session, or replies that it is out of memory.
+    /// Opens a session, or replies that memory ran out.
     pub fn log_in(&mut self, alloc: Global, session: u8, user: Name, pair: Pair)
         ensures { (command : Command) → Does command (deeds.LogIn session user pair) self.old.state
             (world_of self.old.world)

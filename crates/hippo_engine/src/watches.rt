@@ -16,7 +16,7 @@ use hippo_watch::Watch;
 use std::alloc::Global;
 
 impl Engine {
-    /// Sets a watch at a free number, or replies that it is out of memory.
+    /// Sets a watch at a free number, or replies that memory ran out.
     pub fn watch(&mut self, alloc: Global, number: usize, audit: Audit)
         requires differ { IsDistinct bytes_eq audit.tables }
         ensures { (command : Command) → Does command (deeds.Watch number audit) self.old.state

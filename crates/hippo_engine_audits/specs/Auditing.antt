@@ -24,8 +24,8 @@ use Rattle.hippo_engine_rules.specs.declared.faults.EngineFault.{EngineFault}
 use Rattle.hippo_engine_rules.specs.declared.faults.EngineFault.TheVariants as engine
 use Rattle.hippo_engine_rules.specs.Effects.{lines_and_count}
 
--- the result is the flags of an audit over a history, or it is out of memory, or the keeper failed;
--- it takes at most one step for each version
+-- the result is the flags of an audit over a history, or memory ran out, or the keeper failed; it
+-- takes at most one step for each version
 pub record HasFlags (history : History) (audit : Audit) (result : Result (List Flag) ReadFault)
     (steps steps' : ℕ)
     : Type 0 where
@@ -59,7 +59,7 @@ abbrev pub told_flags : Format → Result (List Flag) ReadFault → Txt
 told_flags format (Ok flags) = lines_and_count 0 (flag_line format) flags
 told_flags format (Err fault) = refusal_line Console refusals.Memory
 
--- the flags of an audit are found and listed in the reply, or it is out of memory
+-- the flags of an audit are found and listed in the reply, or memory ran out
 pub record TellsFlags (format : Format) (audit : Audit) (state : State)
     (result : Result (Unit {0}) EngineFault)
     (reply : Txt) (before after : KeeperState) (steps steps' : ℕ) : Type 0 where

@@ -40,7 +40,7 @@ pub record AreDenied (history : History) (number : ℤ) (holds : List Denial →
   pub cells : holds (denials meaning history entry)
 
 -- the result is the denied cells of the question with a number, if they are not too many; or no
--- question has the number; or it is out of memory, or the keeper failed
+-- question has the number; or memory ran out, or the keeper failed
 abbrev pub IsFound : History → ℤ → Explanation → Type 0
 IsFound history number (Ok cells) =
     AreDenied history number (λ denied. (cells ≡ denied) × (length denied ≤ row_limit))
@@ -92,7 +92,7 @@ explaining_end (Err (Some (Read Keeper))) = Err engine.Keeper
 explaining_end (Err (Some (Read (Damaged number)))) = Err (engine.Damaged number)
 explaining_end (Err (Some (Read Memory))) = Ok tt
 
--- what was found is in the reply, or it is out of memory
+-- what was found is in the reply, or memory ran out
 pub record TellsCells (number : ℤ) (state : State) (result : Result (Unit {0}) EngineFault)
     (reply : Txt)
     (before after : KeeperState) (steps steps' : ℕ) : Type 0 where
@@ -102,7 +102,7 @@ pub record TellsCells (number : ℤ) (state : State) (result : Result (Unit {0})
   pub said : OnOk result
       ((reply ≡ explained_line number found) ⊎ (reply ≡ refusal_line Console refusals.Memory))
 
--- the denied cells of an entry are found and listed in the reply, or it is out of memory
+-- the denied cells of an entry are found and listed in the reply, or memory ran out
 pub record TellsEntry (entry : Entry) (state : State) (result : Result (Unit {0}) EngineFault)
     (reply : Txt)
     (before after : KeeperState) (steps steps' : ℕ) : Type 0 where

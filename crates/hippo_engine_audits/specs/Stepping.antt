@@ -21,8 +21,8 @@ progress_line job =
 abbrev pub step_text : Format → HeldJob → Txt
 step_text format job = flat_map (flag_line format) job.waiting ++ progress_line job
 
--- the reply has what a step found, and no flag waits any more; or it is out of memory, and the
--- flags wait
+-- the reply has what a step found, and no flag waits any more; or memory ran out, and the flags
+-- wait
 abbrev pub SaysStep : Format → HeldJob → HeldJob → Txt → Type 0
 SaysStep format job told reply =
     ((told ≡ record job { waiting = [] }) × (reply ≡ step_text format job))

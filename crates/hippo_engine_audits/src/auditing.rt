@@ -102,7 +102,7 @@ pub(crate) fn say_unread(fault: ReadFault, reply: &mut Reply) -> Result<(), Engi
     }
 }
 
-// Replies with the flags that were found, or that it is out of memory.
+// Replies with the flags that were found, or that memory ran out.
 fn say_flags(
     alloc: Global,
     format: Format,
@@ -127,7 +127,7 @@ fn say_flags(
 }
 
 /// Finds the flags of an audit over all queries that were asked so far, and replies with them, or
-/// that it is out of memory. Returns `EngineFault::Keeper` only if the keeper failed, and
+/// that memory ran out. Returns `EngineFault::Keeper` only if the keeper failed, and
 /// `EngineFault::Damaged` only if the store is not transparent.
 pub fn tell_flags<P: Keeper, L: Ledger>(
     alloc: Global,

@@ -69,8 +69,8 @@ fn say_cells(
 }
 
 /// Replies to the console with the cells that were denied to a question, and the rules that denied
-/// them; or that they are too many, or that it is out of memory. Returns `EngineFault::Keeper` only
-/// if the keeper failed, and `EngineFault::Damaged` only if the store is not transparent.
+/// them; or that they are too many, or that memory ran out. Returns `EngineFault::Keeper` only if
+/// the keeper failed, and `EngineFault::Damaged` only if the store is not transparent.
 pub fn tell_cells<P: Keeper, L: Ledger>(
     alloc: Global,
     keeper: &mut P,

@@ -39,8 +39,8 @@ fn print_step(
     append_progress(job, reply)
 }
 
-// Replies with what a job found, after which no flag waits; or that it is out of memory, and the
-// flags wait.
+// Replies with what a job found, after which no flag waits; or that memory ran out, and the flags
+// wait.
 fn say_step(alloc: Global, format: Format, job: &mut AuditJob, reply: &mut Reply)
     ensures { SaysStep format job.old job.new reply.new }
 {
@@ -51,8 +51,8 @@ fn say_step(alloc: Global, format: Format, job: &mut AuditJob, reply: &mut Reply
 }
 
 /// Writes the reply to a step of an audit job, given the step's result: the waiting flags, after
-/// which no flag waits, and the job's progress; or that it is out of memory, and the flags wait.
-/// Returns `EngineFault::Keeper` and `EngineFault::Damaged` if the step failed so.
+/// which no flag waits, and the job's progress; or that memory ran out, and the flags wait. Returns
+/// `EngineFault::Keeper` or `EngineFault::Damaged` if the step failed with that fault.
 pub fn tell_step(
     alloc: Global,
     format: Format,

@@ -47,7 +47,7 @@ use Rattle.hippo_engine_laws.specs.Lines.{OfEachLine}
 use Rattle.hippo_engine_laws.specs.Jobs.{Portion, no_portion, portion_reply, StepWrites, JudgedWrites, WritesPortion, flags_in, last_end}
 use Rattle.hippo_engine_laws.specs.Watches.{alarm_of, alarm_texts, JudgedHeard, IsHeard}
 
--- AUDIT name OF patient, in the year 2024
+-- AUDIT name FROM patient, in the year 2024
 abbrev names_of_patients : Audit
 names_of_patients = audit_between (pos 1704067200) (pos 1735689599) (record { table = 0; column = 1 } ∷ []) (patient ∷ []) (All [])
 
@@ -129,7 +129,7 @@ one_watch_of_two :
     ≡ (codes "0 alarm " ++ ((decimal 2 ++ (codes " " ++ decimal 8)) ++ (tuple_text eighth.shared ++ codes "\n"))) ++ []
 one_watch_of_two = refl
 
--- a line that asks no question has no alarm, nor has a question that is out of memory
+-- a line that asks no question has no alarm, nor has a question for which memory ran out
 nothing_is_heard_of_refused_lines : IsHeard 1 clinic world (wrong Nobody LineTooLong) (only_reply world (refusal_line Nobody LineTooLong)) None
 nothing_is_heard_of_refused_lines = refl
 

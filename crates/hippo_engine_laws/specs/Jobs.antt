@@ -39,7 +39,7 @@ portion_reply world upto portion =
     flag_lines world portion.flags
     ++ option_map_or (number_line 0 (codes "end")) portion.ended (number_line 0 (codes "part") upto)
 
--- a step writes a portion, or nothing if its reply is the refusal as out of memory
+-- a step writes a portion, or nothing if its reply is the out-of-memory refusal
 abbrev pub StepWrites : World → Command → OpenAudit → ℕ → Effect → Portion → Type 0
 StepWrites world command job count effect portion =
     (effect.reply ≡ portion_reply world (step_end job count) portion)

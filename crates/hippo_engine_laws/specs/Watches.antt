@@ -59,7 +59,7 @@ pub record IsAnsweredWithAlarms (number : ℕ) (history : History) (world : Worl
   pub says : effect.reply ≡ answer_to history world deed ++ alarm_texts flags
   pub flag_is : at_number flags number ≡ heard.flag
 
--- a question is answered, or its reply is the refusal as out of memory; other deeds are no question
+-- a question is answered, or its reply is the out-of-memory refusal; other deeds are no question
 abbrev pub DeedHeard : ℕ → History → World → Command → Deed → Option Question → Effect
     → Option Heard → Type 0
 DeedHeard number history world command deed None effect heard = heard ≡ None

@@ -60,7 +60,7 @@ record IsQuestion (world : World) (deed : Deed) (question : Question) (said : Li
   effect : (history : History) → deed_effect history world deed ≡ question_effect history world question (said (question_rows history world question)) (left (question_rows history world question))
   short : (history : History) (reply : Txt) (result : Effect) → IsShortAnswer history world reply question result → IsShort history world reply (Ok deed) result
 
--- the reply is the refusal as out of memory, and the world is the same
+-- the reply is the out-of-memory refusal, and the world is the same
 record SaysShort (command : Command) (old new : Engine) : Type 0 where
   said : new.reply ≡ refusal_line (who_commands command) Memory
   same : world_of new.world ≡ world_of old.world
@@ -128,7 +128,7 @@ module _ (command : Command) (deed : Deed) (question : Question) (said : List Sh
     undamaged = λ tells history holds number damaged. cc;
   }
 
-  -- it was out of memory before the question was stored
+  -- memory ran out before the question was stored
   Carries-short : (delivery : Delivery) → Asks entry (world_of old.world) question delivery (err_of (Result Answered EvalFault) KeeperMemory) old.state new.state before after
       → SaysShort command old new → Carries {A = Unit {0}} command (Ok tt) old new before after steps steps
   Carries-short delivery kept none = record {

@@ -128,7 +128,7 @@ module _ (number count : ℕ) (past : Past) (looked : Result (Unit {0}) ReadFaul
     | inr is ↦ ap job_tally is
   ]
 
-  -- it is unbroken if it was, unless it is out of memory
+  -- it is unbroken if it was, unless memory ran out
   still_unbroken : is_carried (reading_end looked) ≡ true → (held.told.unbroken ≡ held.job.unbroken) ⊎ ((new.reply ≡ refusal_line Console refusals.Memory) × (held.told.unbroken ≡ false))
   still_unbroken = by looked held.tells held.stepped.unbroken_is
     where
@@ -151,7 +151,7 @@ module _ (number count : ℕ) (past : Past) (looked : Result (Unit {0}) ReadFaul
           | inr is ↦ subst (IsLooking history) (sym is) mid_looks
         ]
 
-    -- it is out of memory, and the job is within the step
+    -- memory ran out, and the job is within the step
     short_step : held.told ≡ held.mid → new.reply ≡ refusal_line Console refusals.Memory → IsEffect history world steps_it (shown_effect new)
     short_step same said =
         let line : Txt = refusal_line Console refusals.Memory in

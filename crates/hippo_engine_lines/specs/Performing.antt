@@ -49,7 +49,7 @@ Performs deed result old new before after steps steps' =
     (command : Command) → Does command deed old.state (world_of old.world)
     → Carries command result old new before after steps steps'
 
--- the reply is a refusal, or the one as out of memory; a refusal of at most `reply_room` bytes is
+-- the reply is a refusal, or the out-of-memory refusal; a refusal of at most `reply_room` bytes is
 -- never replaced
 abbrev pub SaysRefusal : Speaker → Refusal → Txt → Type 0
 SaysRefusal who refusal reply =

@@ -30,8 +30,8 @@ use Rattle.hippo_engine_rules.specs.declared.faults.EngineFault.TheVariants.{Kee
 use Rattle.hippo_engine_checks.specs.Deeds.{Question}
 use Rattle.hippo_engine_rules.specs.Effects.{row_limit, question_rows, within_limit, lines_and_count}
 
--- the answer has these rows, in the form that its delivery needs; or they are too many, or it is
--- out of memory
+-- the answer has these rows, in the form that its delivery needs; or they are too many, or memory
+-- ran out
 abbrev pub IsAnsweredBy : ℕ → Result Answered EvalFault → Delivery → List ShownRow → Type 0
 IsAnsweredBy number (Ok (Lines lines)) delivery rows =
     (delivery ≡ delivered.Rows) × IsSaid row_limit number rows (Ok lines)
@@ -56,12 +56,12 @@ pub record Asks (entry : Entry) (world : World) (question : Question) (delivery 
   pub rows : IfOk result (λ answer. (history : History) → StandsFor old history
       → IsAnsweredBy question.session answer delivery (question_rows history world question))
 
--- the refusal as out of memory, to a session
+-- the out-of-memory refusal, to a session
 abbrev pub short_line : ℕ → Txt
 short_line session = refusal_line (speaker.Session session) NoMemory
 
--- the result when storing a question fails: the keeper failed, or it is out of memory and the reply
--- says so
+-- the result when storing a question fails: the keeper failed, or memory ran out and the reply says
+-- so
 abbrev pub IsUnkept : KeeperFault → ℕ → Result (Unit {0}) EngineFault → Txt → Type 0
 IsUnkept Failed session result reply = result ≡ Err Keeper
 IsUnkept KeeperMemory session result reply = (result ≡ Ok tt) × (reply ≡ short_line session)
@@ -82,8 +82,8 @@ world_left world number session (delivered.Cursor cursor) rows =
     if nat_lt row_limit (length rows) then world
     else with_session world number (Some (with_cursor session cursor (Some (new_cursor rows))))
 
--- the reply has the answer, then the watches' alarms; below, it is the refusal as out of memory,
--- and nothing changes
+-- the reply has the answer, then the watches' alarms; below, it is the out-of-memory refusal, and
+-- nothing changes
 pub record IsHandedOut (number : ℕ) (delivery : Delivery) (rows : List ShownRow)
     (alarms reply : Txt)
     (old new : World) : Type 0 where
@@ -95,7 +95,7 @@ pub record IsShortReply (number : ℕ) (reply : Txt) (old new : World) : Type 0 
   pub said : reply ≡ short_line number
   pub same : new ≡ old
 
--- the same, where the alarms themselves may be out of memory
+-- the same, where memory may have run out for the alarms
 abbrev pub HandsOutAnswer : ℕ → Delivery → List ShownRow → Result Txt Memory → Txt → World → World
     → Type 0
 HandsOutAnswer number delivery rows (Ok alarms) reply old new =

@@ -235,8 +235,7 @@ fn print_too_many(session: u8, alarms: &str, reply: &mut Reply) -> Result<(), Me
     reply.append(alarms)
 }
 
-// The result when storing a question fails: the keeper's failure, or a reply that it is out of
-// memory.
+// The result when storing a question fails: the keeper's failure, or a reply that memory ran out.
 fn say_unkept(session: u8, fault: KeeperFault, reply: &mut Reply) -> Result<(), EngineFault>
     ensures said { IsUnkept fault session result reply.new }
     ensures unwritten { result ≢ Bad WriteFailed }
@@ -265,7 +264,7 @@ fn keep_answer(session: u8, answer: Answered, world: &mut World)
     }
 }
 
-// Replies with an answer that has not too many rows, or that it is out of memory.
+// Replies with an answer that does not have too many rows, or that memory ran out.
 fn hand_out_rows(
     alloc: Global,
     session: u8,
@@ -290,7 +289,7 @@ fn hand_out_rows(
     }
 }
 
-// Replies that an answer has too many rows, or that it is out of memory.
+// Replies that an answer has too many rows, or that memory ran out.
 fn say_too_many(session: u8, alarms: &str, reply: &mut Reply)
     ensures { (reply.new ≡ refusal_line (speaker.Session session) TooMany ++ alarms.now)
         ⊎ (reply.new ≡ short_line session) }
@@ -301,7 +300,7 @@ fn say_too_many(session: u8, alarms: &str, reply: &mut Reply)
 }
 
 // Replies with an answer's rows, or opens a cursor over them; or replies that they are too many, or
-// that it is out of memory.
+// that memory ran out.
 fn hand_out_answer(
     alloc: Global,
     session: u8,
@@ -353,7 +352,7 @@ fn hand_out(
 
 /// Writes the reply to a question, given the watches' alarms and the result of `keep_and_answer`:
 /// its rows, its rows as records, or the number of the cursor that holds them; or that they are too
-/// many, or that it is out of memory. Returns `EngineFault::Keeper` only if the keeper failed.
+/// many, or that memory ran out. Returns `EngineFault::Keeper` only if the keeper failed.
 pub fn reply_to(
     alloc: Global,
     session: u8,

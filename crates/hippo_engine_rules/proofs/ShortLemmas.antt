@@ -1,4 +1,4 @@
--- A line that takes memory may be refused as out of memory.
+-- A line that takes memory may be refused because memory ran out.
 use Rattle.std.proofs.Common.{◌≡◌, Bool, inl, inr, refl, ap, sym, true, false, Ok, Err}
 use Rattle.std.specs.Prelude.{ℕ, ok_or}
 use Rattle.std.proofs.lemmas.Bool.{false≢true}
@@ -116,7 +116,8 @@ takes_plain (commands.set_clock moment) takes = absurd (false≢true takes)
 takes_plain (make_request session (steps job count)) takes = absurd (false≢true takes)
 takes_plain command takes = refl
 
--- a command that takes memory, and is no step, may be refused as out of memory, and nothing changes
+-- a command that takes memory, and is no step, may be refused because memory ran out, and nothing
+-- changes
 pub short : (history : History) (world : World) (command : Command) → may_do_nothing command ≡ true
     → IsEffect history world command (only_reply world (refusal_line (who_commands command) Memory))
 short history world command takes =

@@ -232,7 +232,7 @@ abbrev pub effect_of : History → World → Command → Effect
 effect_of history world command =
     judgement_effect history world (who_commands command) (judged history world command)
 
--- the reply is the refusal as out of memory; the question's entry may or may not be added
+-- the reply is the out-of-memory refusal; the question's entry may or may not be added
 pub record IsShortAnswer (history : History) (world : World) (reply : Txt) (question : Question)
     (effect : Effect) : Type 0 where
   pub said : effect.reply ≡ reply
@@ -240,7 +240,7 @@ pub record IsShortAnswer (history : History) (world : World) (reply : Txt) (ques
       ≡ next_entry history world (question_act question) ∷ [])
   pub same : effect.world ≡ world
 
--- the reply is the refusal as out of memory; the job has looked up to some number within the step
+-- the reply is the out-of-memory refusal; the job has looked up to some number within the step
 pub record IsShortStep (history : History) (world : World) (reply : Txt) (number : ℕ)
     (job : OpenAudit) (count : ℕ)
     (effect : Effect) : Type 0 where
@@ -250,7 +250,7 @@ pub record IsShortStep (history : History) (world : World) (reply : Txt) (number
   pub is : effect ≡ only_reply (with_job world number
       (Some (job_up_to job upto (step_flags history job upto)))) reply
 
--- the effects that a line may have instead when it is out of memory
+-- the effects that a line may have instead when memory ran out
 abbrev pub IsShort : History → World → Txt → Checked Deed → Effect → Type 0
 IsShort history world reply (Ok (deeds.answer_question question)) effect =
     IsShortAnswer history world reply question effect
@@ -262,7 +262,7 @@ IsShort history world reply (Ok (deeds.step_job number job count)) effect =
     IsShortStep history world reply number job count effect
 IsShort history world reply judgement effect = effect ≡ only_reply world reply
 
--- a line may be refused as out of memory, unless it takes no memory
+-- a line may be refused because memory ran out, unless it takes no memory
 abbrev pub IsMemoryEffect : History → World → Command → Effect → Type 0
 IsMemoryEffect history world command effect =
     (takes_memory command ≡ true)

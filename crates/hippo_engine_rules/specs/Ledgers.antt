@@ -46,7 +46,7 @@ abbrev pub first_tally : JobTally
 first_tally = record { taken = 0; unbroken = true }
 
 -- the tally of a job rises by the steps that its line takes, to at most one step for each version;
--- the job stays unbroken if it was, or it is out of memory and not unbroken any more
+-- the job stays unbroken if it was, or memory ran out and it is not unbroken any more
 pub record TallyRises (reply : Txt) (versions steps steps' : ℕ) (old new : JobTally)
     : Type 0 where
   pub takes : steps' + old.taken ≡ steps + new.taken

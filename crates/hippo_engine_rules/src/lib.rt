@@ -1,5 +1,5 @@
 //! What each line of the input does: effects and runs as definitions in `specs/`, with worked
-//! examples, and laws of them; and the replies that need no memory.
+//! examples, and laws of them; and replies, with reserved memory for the short ones.
 #![tactic(auto)]
 
 mod faults;

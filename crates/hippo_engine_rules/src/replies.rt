@@ -31,7 +31,7 @@ fn speaker_fits(who: Speaker)
     }
 }
 
-/// Replaces the reply by the refusal as out of memory. Takes no memory.
+/// Replaces the reply by the out-of-memory refusal. Takes no memory.
 pub fn refuse_for_memory(who: Speaker, reply: &mut Reply)
     ensures { reply.new ≡ refusal_line who NoMemory }
 {
@@ -43,7 +43,7 @@ pub fn refuse_for_memory(who: Speaker, reply: &mut Reply)
 }
 
 /// Replaces the reply by that of a refusal. If the refusal is longer than `REPLY_ROOM` and memory
-/// runs out, the reply is the refusal as out of memory.
+/// runs out, the reply is the out-of-memory refusal.
 pub fn refuse(who: Speaker, refusal: &Refusal, reply: &mut Reply)
     ensures said { (reply.new ≡ refusal_line who refusal.now)
         ⊎ (reply.new ≡ refusal_line who NoMemory) }

@@ -60,7 +60,7 @@ module _ (history : History) (entry : Entry) (valid : is_valid meaning (history 
   looks_on : (job : HeldJob) → IsLooking history job → IsLooking (history ++ entry ∷ []) job
   looks_on job looks = record { sound = looks.sound; fits = JobFits-grown combine_terms job history entry valid looks.sound looks.fits }
 
-  -- jobs that fit a history fit it with one entry more
+  -- jobs that fit a history fit it with one more entry
   pub JobsFit-more : (held : HeldWorld) → JobsFit history held → JobsFit (history ++ entry ∷ []) held
   JobsFit-more held fit = each_held (IsLooking history) (IsLooking (history ++ entry ∷ [])) looks_on held.jobs fit
 

@@ -16,7 +16,7 @@ pub record AreLinesOf (session : ℕ) (rows : List ShownRow) (lines : Lines) : T
   pub text : lines.text ≡ flat_map (answer_line session) rows
   pub count : lines.count ≡ length rows
 
--- the result is the lines of these rows, or that they are too many, or it is out of memory
+-- the result is the lines of these rows, or that they are too many, or memory ran out
 abbrev pub IsSaid : ℕ → ℕ → List ShownRow → Result Lines EvalFault → Type 0
 IsSaid limit session rows (Ok lines) = AreLinesOf session rows lines × (length rows ≤ limit)
 IsSaid limit session rows (Err TooManyRows) = limit < length rows

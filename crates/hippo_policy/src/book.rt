@@ -174,7 +174,7 @@ impl PolicyBook {
 
     /// Adds the next entry of the history: the book then represents the history with this entry
     /// appended. Fails when out of memory, and leaves the book unchanged; adding a Delete never
-    /// fails. A rule that names a column from 65,536 on also fails as out of memory.
+    /// fails. A rule that names a column from 65,536 on also fails with `Memory`.
     pub fn add(&mut self, alloc: Global, entry: &Entry) -> Result<(), Memory>
         ensures ok { OnOk result (BookAdds self.old self.new entry.now.seq entry.now.act) }
         ensures err { OnErr result (BookIsAsBefore self.old self.new) }

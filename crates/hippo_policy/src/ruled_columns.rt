@@ -10,7 +10,7 @@ use crate::sayings::Sayings;
 use hippo_values::{Duplicate, Memory};
 use std::alloc::Global;
 
-// A rule for a column at or above this limit fails as out of memory.
+// A rule for a column at or above this limit fails with `Memory`.
 const WIDTH_LIMIT: usize = 65_536;
 
 /// For each column of a table, its rules in the order of the entries.

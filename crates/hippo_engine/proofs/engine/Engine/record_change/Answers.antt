@@ -1,4 +1,4 @@
--- The entry is kept, or the run is out of memory, or the keeper failed.
+-- The entry is kept, or memory ran out, or the keeper failed.
 use Rattle.std.proofs.Common.{refl, ◌∙◌}
 use Rattle.hippo_engine.proofs.CarryingLemmas.{IsBacked-of}
 use Rattle.hippo_engine.proofs.ChangeLemmas.{recorded, unrecorded, broken_change, told_short}
