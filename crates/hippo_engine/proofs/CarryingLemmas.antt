@@ -38,7 +38,7 @@ use Rattle.hippo_engine.specs.Carrying.{Holds, AtWork, is_carried, shown_effect,
 use Rattle.hippo_engine_rules.proofs.ClockLemmas.{int_le-refl, clock_rises}
 use Rattle.hippo_engine_rules.proofs.ShortLemmas.{short}
 
--- the state of an engine that is at work is backed by its keeper
+-- the state of an engine that is ready for a command is backed by its keeper
 pub IsBacked-of : (engine : Engine) (keeper : KeeperState) → AtWork engine keeper → IsBacked engine.state keeper
 IsBacked-of engine keeper at_work = record {
   sound = at_work.sound;
@@ -48,12 +48,12 @@ IsBacked-of engine keeper at_work = record {
       record { history = holds.0; forms = holds.1.forms; stands = holds.1.stands };
 }
 
--- the clock stands at the last entry's moment where a run begins
+-- the clock is at the last entry's moment when a run begins
 pub IsTimely-begun : (engine : Engine) (limit : ℕ) (format : Format) → world_of engine.world ≡ opening engine.state.last limit format → IsTimely engine.state engine.world.clock
 IsTimely-begun engine limit format opens =
     ap (λ (w : World). int_le engine.state.last w.clock) opens ∙ int_le-refl engine.state.last
 
--- an engine with the state of a history that is kept holds it where a run begins
+-- an engine with the state of a history that is kept holds it when a run begins
 pub Holds-opening : (history : History) (held : State) (engine : Engine) (keeper : KeeperState) (clock : Moment) (limit : ℕ) (format : Format) → engine.state ≡ held
     → StandsFor held history → map stored history ≡ keeper.kept → world_of engine.world ≡ opening clock limit format → Holds history engine keeper
 Holds-opening history held engine keeper clock limit format same stands forms opens = record {
@@ -63,7 +63,7 @@ Holds-opening history held engine keeper clock limit format same stands forms op
   watches = WatchesFit-opening engine.world clock limit format opens history;
 }
 
--- a command that leaves jobs and watches alone
+-- a command that leaves jobs and watches unchanged
 pub AddsNothing-quiet : (command : Command) (old new : Engine) → IsQuiet command old new → AddsNothing command old new
 AddsNothing-quiet command old new quiet = record {
   same = quiet.same;
@@ -92,19 +92,19 @@ Holds-more history entry old new before after holds stands jobs watches kept = r
   watches = watches;
 }
 
--- the clock is not before the last entry, where state and clock are the same
+-- the clock is not before the last entry, if state and clock are the same
 pub IsTimely-same : (old new : Engine) → new.state ≡ old.state → new.world.clock ≡ old.world.clock → IsTimely old.state old.world.clock → IsTimely new.state new.world.clock
 IsTimely-same old new state_is clock_is timely =
     let same : int_le new.state.last new.world.clock ≡ int_le old.state.last old.world.clock = λ i. int_le (state_is i).last (clock_is i) in
     same ∙ timely
 
--- nor where a command had its effect, and the state is the same
+-- nor if a command had its effect, and the state is the same
 pub IsTimely-risen : (command : Command) (old new : Engine) (keeper : KeeperState) → AtWork old keeper → AddsNothing command old new → IsTimely new.state new.world.clock
 IsTimely-risen command old new keeper at_work quiet =
     subst (λ (held : State). IsTimely held new.world.clock) (sym quiet.same)
     (clock_rises at_work.sound.history (world_of old.world) command (shown_effect new) old.state.last (quiet.effect at_work.sound.history at_work.sound.stands) at_work.timely)
 
--- a command that adds nothing leaves the keeper alone
+-- a command that adds nothing leaves the keeper unchanged
 pub Carries-nothing : (command : Command) (old new : Engine) (keeper : KeeperState) (steps : ℕ) → AtWork old keeper → AddsNothing command old new
     → Carries {A = Unit {0}} command (Ok tt) old new keeper keeper steps steps
 Carries-nothing command old new keeper steps at_work quiet = record {
@@ -133,7 +133,7 @@ pub Carries-quiet : (command : Command) (old new : Engine) (keeper : KeeperState
 Carries-quiet command old new keeper steps at_work quiet =
     Carries-nothing command old new keeper steps at_work (AddsNothing-quiet command old new quiet)
 
--- a line that is refused for want of memory, whatever the history, has that reply alone
+-- a line that is refused because memory ran out, whatever the history, has only that reply
 memory_effect : (history : History) (world : World) (who : Speaker) (effect : Effect) → IsEffect history world (wrong who Memory) effect
     → effect ≡ only_reply world (refusal_line who Memory)
 memory_effect history world who effect (inl is) = is
@@ -156,7 +156,7 @@ unbroken : (history : History) (who : Speaker) (old : Engine) (before after : Ke
 unbroken history who old before after (inl adding) = not_added adding.entry adding.adds
 unbroken history who old before after (inr reading) = false≢true reading.reads
 
--- what is carried out in the place of a command that takes memory, where memory was short for reading it
+-- what is carried out instead of a command that takes memory, if memory ran out while it was read
 Carries-memory : {A : Type 0} (command : Command) (result : Result A EngineFault) (old new : Engine) (before after : KeeperState) (steps steps' : ℕ)
     → may_do_nothing command ≡ true → Carries (wrong (who_commands command) Memory) result old new before after steps steps'
     → Carries command result old new before after steps steps'
@@ -182,7 +182,7 @@ Carries-memory command result old new before after steps steps' takes refused = 
   undamaged = refused.undamaged;
 }
 
--- a line that was carried out, whether its reply was then written or not
+-- a line that was carried out, whether or not its reply was then written
 pub Carries-written : (command : Command) (result : Result (Unit {0}) EngineFault) (old new : Engine) (before after : KeeperState) (steps steps' : ℕ)
     → is_carried result ≡ true → Carries command (well EngineFault) old new before after steps steps' → Carries command result old new before after steps steps'
 Carries-written command (Ok value) old new before after steps steps' done carries = carries
@@ -198,7 +198,7 @@ Carries-written command (Err Write) old new before after steps steps' done carri
   failed = carries.failed;
 }
 
--- what may want memory to be read takes memory, and is not nobody's
+-- a command that may be out of memory when it is read takes memory, and a line may give that refusal
 wanting : (command : Command) → may_want command ≡ true → (may_do_nothing command ≡ true) × IsOfLine (wrong (who_commands command) Memory)
 wanting nothing wants = absurd (false≢true wants)
 wanting (wrong Nobody refusal) wants = absurd (false≢true wants)
@@ -217,7 +217,7 @@ Carries-found command found result old new before after steps steps' (inl is) ca
 Carries-found command found result old new before after steps steps' (inr (wants, is)) carries =
     Carries-memory command result old new before after steps steps' (wanting command wants).0 (subst (λ (c : Command). Carries c result old new before after steps steps') is carries)
 
--- what holds of each command that a line gives holds of the one that was found
+-- a property of each command that a line may give holds for the one that was found
 pub IsOfLine-found : (command found : Command) → IsOfLine command → IsCommand command found → IsOfLine found
 IsOfLine-found command found of_line (inl is) = subst IsOfLine (sym is) of_line
 IsOfLine-found command found of_line (inr (wants, is)) = subst IsOfLine (sym is) (wanting command wants).1

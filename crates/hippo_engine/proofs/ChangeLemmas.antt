@@ -1,4 +1,5 @@
--- From the checks of a statement that changes something, and from recording its entry, to what carrying it out does.
+-- From the checks of a statement that changes something, and from recording its entry, to what
+-- carrying it out does.
 use Rattle.std.proofs.Common.{◌≡◌, ◌⊎◌, ◌∙◌, ◌<◌, ◌^◌, inl, inr, refl, sym, ap, subst, arith, ℕ, true, false}
 use Rattle.std.specs.Prelude.{codes, int_le, [], ◌∷◌, ◌++◌}
 use Rattle.std.proofs.lemmas.Bool.{false≢true, and_from}
@@ -46,12 +47,12 @@ use Rattle.hippo_engine.proofs.CarryingLemmas.{Carries-unkept, Holds-same, Holds
 use Rattle.hippo_engine_rules.proofs.ClockLemmas.{int_le-refl}
 use Rattle.hippo_engine_rules.proofs.ShortLemmas.{short}
 
--- want of memory is told either way
+-- out of memory, the reply is the refusal in both cases
 pub told_short : (reply : Txt) → (reply ≡ refusal_line Console refusals.Memory) ⊎ (reply ≡ refusal_line Console refusals.Memory) → reply ≡ refusal_line Console refusals.Memory
 told_short reply (inl is) = is
 told_short reply (inr is) = is
 
--- what is done for a change that adds the next entry
+-- the effect of a change that adds the next entry
 next_is : (history : History) (world : World) (entry : Entry) → entry ≡ next_entry history world entry.act
     → deed_effect history world (deeds.change entry.act) ≡ change_effect world entry
 next_is history world entry is = sym (ap (change_effect world) is)
@@ -82,14 +83,14 @@ module _ (command : Command) (entry : Entry) (old new : Engine) (before after : 
       let same : int_le new.state.last new.world.clock ≡ int_le old.world.clock old.world.clock = λ i. int_le (last i) (world_is i).clock in
       same ∙ int_le-refl old.world.clock
 
-  -- the last entry is that of before, where none was added
+  -- the last entry is the same, if none was added
   timely_same : ((history : History) → StandsFor old.state history → StandsFor new.state history) → world_of new.world ≡ world_of old.world → IsTimely new.state new.world.clock
   timely_same stays world_is =
       let last : new.state.last ≡ old.state.last = (stays at_work.sound.history at_work.sound.stands).last ∙ sym at_work.sound.stands.last in
       let same : int_le new.state.last new.world.clock ≡ int_le old.state.last old.world.clock = λ i. int_le (last i) (world_is i).clock in
       same ∙ at_work.timely
 
-  -- the entry comes next after the history
+  -- the entry comes next in the history
   comes_next : entry.seq < 2 ^ 63 → MayFollow old.state entry → (history : History) → StandsFor old.state history → (tables : Tables) → TablesStandFor tables history → ComesNext tables history entry
   comes_next number follows history stands tables there =
       let seq = ap (λ (e : Entry). e.seq) (changes.next history stands) in
@@ -124,7 +125,7 @@ module _ (command : Command) (entry : Entry) (old new : Engine) (before after : 
     undamaged = λ tells history holds number damaged. cc;
   }
 
-  -- one that was not, since memory was short: the watches followed, and went back
+  -- a change that was not recorded, since memory ran out: the watches counted it, and were restored
   pub unrecorded : entry.seq < 2 ^ 63 → MayFollow old.state entry → Records entry (err_of (Unit {0}) Memory) old.state new.state before after → IsSound new.state
       → (between : HeldWorld) → world_of between ≡ world_of old.world → WatchesFollow old.state.tables entry.act old.world between → WatchesGoBack new.state.tables entry.act between new.world
       → world_of new.world ≡ world_of old.world → new.world.jobs ≡ old.world.jobs → new.reply ≡ refusal_line Console refusals.Memory

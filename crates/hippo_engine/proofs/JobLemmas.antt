@@ -1,4 +1,5 @@
--- From what is done to the audit jobs that a run holds to what the lines do that begin and drop them.
+-- From the changes of the audit jobs that a run holds to the effect of the lines that begin and
+-- drop them.
 use Rattle.std.proofs.Common.{◌≡◌, ◌∙◌, ℕ, refl, sym, ap, subst, inl, true, List, length, Option, Some, None, Ok}
 use Rattle.std.specs.Prelude.{codes, ok_or, option_map}
 use Rattle.hippo_values.specs.Results.{◌>>=◌}
@@ -32,14 +33,14 @@ use Rattle.hippo_engine_checks.specs.Findings.{IsJudged, Does}
 use Rattle.hippo_engine_checks.specs.declared.deeds.Deed.TheVariants as kinds
 use Rattle.hippo_engine_rules.proofs.ShortLemmas.{done_for}
 
--- the world with another job at a number, as it is seen
+-- the world with another job at a number, as the definitions see it
 pub world_with : (held : HeldWorld) (number : ℕ) (job : Option HeldJob) (jobs : List (Option HeldJob)) → jobs ≡ with_at held.jobs number job
     → world_of (record held { jobs = jobs }) ≡ with_job (world_of held) number (option_map open_audit job)
 world_with held number job jobs is =
     ap (λ (list : List (Option HeldJob)). world_of (record held { jobs = list })) is
     ∙ ap (λ (list : List (Option OpenAudit)). record (world_of held) { jobs = list }) (seen-with open_audit held.jobs number job)
 
--- what is tallied of the job at a number, and once another stands there
+-- the tally of the job at a number, and the tallies after another job is put there
 pub tally_there : (jobs : List (Option HeldJob)) (number : ℕ) (job : HeldJob) → at_number jobs number ≡ Some job → at_number (job_tallies jobs) number ≡ Some (job_tally job)
 tally_there jobs number job is = seen-at job_tally jobs number ∙ ap (option_map job_tally) is
 
@@ -110,7 +111,7 @@ module _ (number : ℕ) (old new : Engine) where
           let worlds : world_of new.world ≡ with_job (world_of old.world) number None = ap world_of world_is ∙ world_with old.world number None (with_at old.world.jobs number None) refl in
           λ i. only_reply (worlds i) (said i)
 
--- a job that is seen at a number is held there
+-- a job that the world shows at a number is held there
 pub job_held : (held : HeldWorld) (number : ℕ) → StandsJob (world_of held) number → (job : HeldJob) × (at_number held.jobs number ≡ Some job)
 job_held held number there =
     let seen = mapped open_audit (at_number held.jobs number) there.0 (sym (seen-at open_audit held.jobs number) ∙ there.1) in

@@ -1,4 +1,4 @@
--- A deed that adds nothing to the history is done, or memory was short for it.
+-- A deed that adds nothing to the history is done, or is refused because memory ran out.
 use Rattle.std.proofs.Common.{◌≡◌, ◌∙◌, sym, ap, subst, inl, Ok, true}
 use Rattle.hippo_model.specs.Terms.{History}
 use Rattle.hippo_report.specs.declared.speaker.Speaker.{Speaker}
@@ -14,7 +14,7 @@ use Rattle.hippo_engine.specs.Carrying.{shown_effect, IsQuiet}
 use Rattle.hippo_engine_rules.specs.Effects.{Effect, only_reply, deed_effect, IsEffect}
 use Rattle.hippo_engine_rules.proofs.ShortLemmas.{short, done_for}
 
--- a deed that leaves state, jobs and watches alone is done
+-- a deed that leaves state, jobs and watches unchanged is done
 pub quiet_done : (command : Command) (deed : deeds.Deed) (old new : Engine) → IsJudged command old.state (world_of old.world) (Ok deed) → new.state ≡ old.state → KeepsAudits old.world new.world
     → ((history : History) → shown_effect new ≡ deed_effect history (world_of old.world) deed) → IsQuiet command old new
 quiet_done command deed old new does same audits shows = record {
@@ -23,7 +23,7 @@ quiet_done command deed old new does same audits shows = record {
   audits = audits;
 }
 
--- or memory was short for it, and that is said
+-- or memory ran out, and the reply says so
 pub quiet_short : (command : Command) (who : Speaker) (old new : Engine) → who_commands command ≡ who → may_do_nothing command ≡ true → new.state ≡ old.state → new.world ≡ old.world
     → new.reply ≡ refusal_line who Memory → IsQuiet command old new
 quiet_short command who old new of_who takes same world_is said = record {

@@ -32,13 +32,13 @@ use Rattle.hippo_engine.proofs.CarryingLemmas.{AddsNothing-quiet}
 use Rattle.hippo_engine.proofs.QuietLemmas.{quiet_short}
 use Rattle.hippo_engine_rules.proofs.ShortLemmas.{done_for}
 
--- the world with another watch at a number, as it is seen
+-- the world with another watch at a number, as the definitions see it
 world_with : (held : HeldWorld) (number : ℕ) (watch : Option AuditHits) (new : HeldWorld) → new ≡ record held { watches = with_at held.watches number watch }
     → world_of new ≡ record (world_of held) { watches = with_at (world_of held).watches number (option_map watched watch) }
 world_with held number watch new is =
     ap world_of is ∙ ap (λ (list : List (Option Audit)). record (world_of held) { watches = list }) (seen-with watched held.watches number watch)
 
--- a watch stands at a number, or none does any more
+-- a watch is set at a number, or ended
 module _ (command : Command) (deed : Deed) (number : ℕ) (held : Option AuditHits) (old new : Engine) (same : new.state ≡ old.state) (does : IsJudged command old.state (world_of old.world) (Ok deed)) where
   pub puts_watch : new.world ≡ record old.world { watches = with_at old.world.watches number held }
       → ((history : History) → StandsFor old.state history → IfSome held (IsWatchOf history))
@@ -64,7 +64,7 @@ sets_watch command number audit watch old new does same is counted world_is said
     (λ history. λ i. only_reply ((world_with old.world number (Some watch) new.world world_is
     ∙ ap (λ (a : Audit). record (world_of old.world) { watches = with_at (world_of old.world).watches number (Some a) }) is) i) (said i))
 
--- or memory was short for it
+-- or memory ran out
 pub watch_short : (command : Command) (number : ℕ) (audit : Audit) (old new : Engine) → Does command (kinds.Watch number audit) old.state (world_of old.world) → new.state ≡ old.state
     → new.world ≡ old.world → new.reply ≡ refusal_line Console Memory → AddsNothing command old new
 watch_short command number audit old new ((written, text, is), means, does) same world_is said =

@@ -1,4 +1,4 @@
--- What carrying out a command does to an engine and its keeper, over the history that is kept.
+-- What carrying out a command does to an engine and its keeper, given the history that is kept.
 use Rattle.std.specs.Prelude.{◌≡◌, ◌≢◌, ◌⊎◌, ℕ, ℤ, Bool, false, true, [], ◌∷◌, ◌++◌, map, IsUtf8, Option, Some, Result, Ok, Err}
 use Rattle.hippo_io.specs.Lines.{LineText, text_line}
 use Rattle.hippo_model.specs.declared.entry.Entry.{Entry}
@@ -24,23 +24,23 @@ use Rattle.hippo_engine_checks.specs.Judging.{judged}
 use Rattle.hippo_engine_rules.specs.Effects.{Effect, only_reply, effect_of, IsEffect}
 use Rattle.hippo_engine_rules.specs.Ledgers.{reads_kept, Tallies}
 
--- a keeper keeps a history, and an engine holds what it says
+-- the keeper keeps this history, and the engine holds its state
 pub record Holds (history : History) (engine : Engine) (keeper : KeeperState) : Type 0 where
   pub forms : map stored history ≡ keeper.kept
   pub stands : StandsFor engine.state history
   pub jobs : JobsFit history engine.world
   pub watches : WatchesFit history engine.world
 
--- what carrying out asks of an engine and its keeper: there is a history for which the state
--- stands, the clock is not before its last entry, the keeper is started and neither spent nor
--- closed, and where it tells what it keeps, both hold a history
+-- what a command requires of an engine and its keeper: the state represents some history; the clock
+-- is not before the last entry; the keeper is started and neither spent nor closed; if the store's
+-- contents are known, engine and keeper hold a history
 pub record AtWork (engine : Engine) (keeper : KeeperState) : Type 0 where
   pub sound : IsSound engine.state
   pub timely : IsTimely engine.state engine.world.clock
   pub ready : IsReady true keeper
   pub told : keeper.tells → (history : History) × Holds history engine keeper
 
--- a line as one call of its keeper
+-- the result of a line as the result of one call of its keeper
 abbrev pub line_as_call : {A : Type 0} → Result A EngineFault → Result (Unit {0}) KeeperFault
 line_as_call (Ok value) = Ok tt
 line_as_call (Err Keeper) = Err Failed
@@ -54,7 +54,7 @@ is_carried (Err Keeper) = false
 is_carried (Err Write) = true
 is_carried (Err (Damaged number)) = false
 
--- the text of a line is UTF-8, where it has one
+-- the text of a line, if it has one, is UTF-8
 abbrev pub IsText : Option LineText → Type 0
 IsText (Some (text_line text)) = IsUtf8 text
 IsText line = Unit {0}
@@ -63,15 +63,16 @@ IsText line = Unit {0}
 abbrev pub shown_effect : Engine → Effect
 shown_effect engine = only_reply (world_of engine.world) engine.reply
 
--- a command that neither adds an entry nor reads what is kept has its effect, whatever history the
--- state stands for; jobs and watches are the same
+-- a command that neither adds an entry nor reads the store has its effect, for every history that
+-- the state represents; jobs and watches do not change
 pub record IsQuiet (command : Command) (old new : Engine) : Type 0 where
   pub same : new.state ≡ old.state
   pub effect : (history : History) → StandsFor old.state history
       → IsEffect history (world_of old.world) command (shown_effect new)
   pub audits : KeepsAudits old.world new.world
 
--- or jobs and watches that fitted the history still do, and no step is taken
+-- the same, but jobs and watches may change: those that fitted the history still do, and no step is
+-- taken
 pub record AddsNothing (command : Command) (old new : Engine) : Type 0 where
   pub same : new.state ≡ old.state
   pub effect : (history : History) → StandsFor old.state history
@@ -84,9 +85,9 @@ pub record AddsNothing (command : Command) (old new : Engine) : Type 0 where
       → Tallies command new.reply versions steps steps (tallies_of old.world)
       (tallies_of new.world)
 
--- a command has its effect after a history: the engine shows the reply and the world, it and its
--- keeper hold the history with what was added, steps and jobs are tallied, and a refusal takes no
--- step, but for one that is found by reading
+-- a command has its effect after a history: the engine shows the effect's reply and world, engine
+-- and keeper hold the history with the added entries, steps and jobs are tallied, and a refusal
+-- takes no step, except the one that is found by reading
 pub record HasEffect (history : History) (command : Command) (old new : Engine)
     (before after : KeeperState) (steps steps' : ℕ) : Type 0 where
   pub effect : Effect
@@ -100,7 +101,7 @@ pub record HasEffect (history : History) (command : Command) (old new : Engine)
   pub refused : (refusal : Refusal) → judged history (world_of old.world) command ≡ Err refusal
       → ((number : ℤ) → refusal ≢ NoSuchQuery number) → steps' ≡ steps
 
--- the keeper failed while it was to keep the entry that the command adds by the rules
+-- the keeper failed while it stored the entry that the command adds by the rules
 pub record BreaksOffAdding (history : History) (command : Command) (old : Engine)
     (before after : KeeperState) : Type 0 where
   pub entry : Entry
@@ -115,15 +116,15 @@ pub record BreaksOffReading (history : History) (command : Command) (old : Engin
   pub adds : (effect_of history (world_of old.world) command).added ≡ []
   pub kept : KeepsSame before after
 
--- the keeper failed while it was to keep an entry, or while it was read
+-- the keeper failed while it stored an entry, or while it was read
 abbrev pub BreaksOff : History → Command → Engine → KeeperState → KeeperState → Type 0
 BreaksOff history command old before after =
     BreaksOffAdding history command old before after
     ⊎ BreaksOffReading history command old before after
 
--- a command is carried out, or the keeper fails, or hands over what it did not keep; where it tells
--- what it keeps, the command has its effect over that, or the keeper breaks off, and nothing is
--- damaged. The clock is not before the last entry
+-- a command is carried out, or the keeper fails, or it returns data that it did not keep; the clock
+-- is not before the last entry; if the store's contents are known, the command has its effect on
+-- them or is broken off by the keeper's failure, and nothing is damaged
 pub record Carries {A : Type 0} (command : Command) (result : Result A EngineFault)
     (old new : Engine)
     (before after : KeeperState) (steps steps' : ℕ) : Type 0 where

@@ -1,4 +1,4 @@
--- What a statement that changes something does: its entry is added, or it is refused.
+-- What a statement that changes something does: it adds its entry, or it is refused.
 use Rattle.std.specs.Prelude.{◌≡◌, [], ◌∷◌, true, codes}
 use Rattle.hippo_model.specs.declared.entry.Entry.{Entry}
 use Rattle.hippo_model.specs.Terms.{History}
@@ -13,13 +13,13 @@ use Rattle.hippo_engine_checks.specs.Deeds.{next_entry}
 use Rattle.hippo_engine_rules.specs.Effects.{Effect, effect_of}
 use Rattle.hippo_engine_checks.specs.Findings.{may_do_nothing}
 
--- an entry is added, and its number is said
+-- the effect that adds an entry and replies with its number
 abbrev pub change_effect : World → Entry → Effect
 change_effect world entry =
     record { reply = number_line 0 (codes "ok") entry.seq; added = entry ∷ []; world = world }
 
--- a command of the console adds an entry by the rules, which is the next one, whatever history the
--- state stands for
+-- a command of the console adds this entry, for every history that the state represents, and the
+-- entry is the next one
 pub record Changes (command : Command) (entry : Entry) (engine : Engine) : Type 0 where
   pub who : who_commands command ≡ Console
   pub memory : may_do_nothing command ≡ true

@@ -6,7 +6,7 @@ use Rattle.hippo_engine_world.specs.Auditing.{HeldJob, HasBegun}
 use Rattle.hippo_engine_sessions.specs.Worlds.{with_at}
 use Rattle.hippo_engine.specs.declared.engine.Engine.{Engine}
 
--- a job over all that is there begins at a number, which is said
+-- a job over all entries begins at a number, and the reply is the number
 pub record BeginsAt (number : ℕ) (audit : Audit) (old new : Engine) : Type 0 where
   pub job : HeldJob
   pub begun : HasBegun audit old.state.count job

@@ -1,4 +1,4 @@
-//! Changes: each adds an entry to the history.
+//! Changes: statements that add an entry to the history.
 ghost use Rattle.std.specs.Prelude.{◌≢◌, ℕ, ◌^◌, ◌<◌, Err};
 ghost use Rattle.hippo_replay.specs.Standing.{MayFollow};
 ghost use Rattle.hippo_stmt_lines.specs.Commands.{Command};
@@ -15,8 +15,9 @@ use hippo_values::Boxed;
 use std::alloc::Global;
 
 impl Engine {
-    // Replies with an entry's number, has the watches count what it changes, and records it; or
-    // replies that memory was short, and the watches count as before.
+    // Writes the reply with the entry's number, has the watches count the change, and records the
+    // entry. When out of memory, replies with that refusal instead and restores the watches'
+    // counts.
     fn record_change<P: Keeper>(
         &mut self,
         alloc: Global,
@@ -44,7 +45,8 @@ impl Engine {
         }
     }
 
-    /// Adds an entry to the history. Answers `Keeper` only where the keeper failed.
+    /// Adds an entry to the history and writes the reply. When out of memory, adds nothing and
+    /// replies with that refusal. Returns `EngineFault::Keeper` only if the keeper failed.
     pub fn change<P: Keeper>(
         &mut self,
         alloc: Global,

@@ -1,4 +1,4 @@
-//! The engine: the state of a history, and what a run holds beside it.
+//! The engine: the state of a history, and the state of a run.
 ghost use Rattle.std.specs.Prelude.{◌≡◌, [], IfOk};
 ghost use Rattle.hippo_engine_sessions.specs.Worlds.{opening};
 ghost use Rattle.hippo_engine_world.specs.Holding.{world_of};
@@ -10,7 +10,7 @@ use hippo_report::Format;
 use hippo_values::{Memory, Moment};
 use std::alloc::Global;
 
-/// The state of a history, what a run holds beside it, and the reply to the last line.
+/// The state of a history, the state of a run, and the reply to the last line.
 #[derive(Drop)]
 pub struct Engine {
     pub state: State,
@@ -18,7 +18,7 @@ pub struct Engine {
     pub reply: Reply,
 }
 
-// What a run holds at its beginning, with the room for its replies.
+// The state of a run at its beginning, and memory for its replies.
 fn at_beginning(
     alloc: Global,
     clock: Moment,
@@ -34,8 +34,9 @@ fn at_beginning(
 }
 
 impl Engine {
-    /// An engine that begins where a history ends: the clock stands at its last entry's moment, no
-    /// session is open, and the history may have so many entries. Or want of memory.
+    /// An engine at the end of a history: the clock is at the last entry's moment, and no session
+    /// is open. `limit` is the greatest number of entries that the history may have. Fails when out
+    /// of memory.
     pub fn new(alloc: Global, state: State, limit: u32, format: Format) -> Result<Engine, Memory>
         ensures state { IfOk result (λ engine. engine.state ≡ state) }
         ensures world { IfOk result (λ engine. world_of engine.world
@@ -55,14 +56,14 @@ impl Engine {
         }
     }
 
-    /// Lets go of all that it holds.
+    /// Frees everything that the engine holds.
     pub fn close(self) {
         let Engine { state, world, .. } = self;
         state.close();
         world.close();
     }
 
-    /// The reply to the last line; empty before the first, and for a line that has none.
+    /// The reply to the last line. Empty before the first line, and after a line that has no reply.
     pub fn reply(&self) -> &str
         ensures { result.now ≡ self.now.reply }
     {

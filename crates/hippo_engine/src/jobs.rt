@@ -1,4 +1,4 @@
-//! Audit jobs at the console: one begins, or is dropped.
+//! Audit jobs at the console: beginning and dropping a job.
 ghost use Rattle.std.specs.Prelude.{bytes_eq};
 ghost use Rattle.std.specs.List.{IsDistinct};
 ghost use Rattle.hippo_stmt_lines.specs.Forms as requests;
@@ -17,7 +17,7 @@ use hippo_report::Speaker;
 use std::alloc::Global;
 
 impl Engine {
-    /// A job begins at a number that is free, over all that was asked so far. Takes no memory.
+    /// Begins a job at a free number, over all queries that were asked so far. Takes no memory.
     pub fn begin_audit(&mut self, alloc: Global, number: usize, audit: Audit)
         requires differ { IsDistinct bytes_eq audit.tables }
         ensures { BeginsAt number audit self.old self.new }
@@ -27,7 +27,7 @@ impl Engine {
         say_number(0, "job", number as u64, &mut self.reply);
     }
 
-    /// Gives up the job at a number. Takes no memory.
+    /// Drops the job at a number. Takes no memory.
     pub fn drop_job(&mut self, number: u8)
         requires there { StandsJob (world_of self.old.world) number }
         ensures { AddsNothing (make_request Console (requests.drops number)) self.old self.new }

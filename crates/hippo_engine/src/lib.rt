@@ -1,5 +1,5 @@
-//! The engine: what a run holds, and what changes it: the clock, sessions and cursors, changes of
-//! the history, audit jobs and watches.
+//! The engine: the state of a run, and the calls that change it: the clock, sessions and cursors,
+//! changes of the history, audit jobs and watches.
 #![tactic(auto)]
 
 mod changes;

@@ -1,4 +1,4 @@
-//! Saying why nothing is done for a line; and writing a reply.
+//! Writing a reply to the output.
 ghost use Rattle.std.specs.Prelude.{◌≡◌, ◌≢◌, true, Err, OnOk};
 ghost use Rattle.hippo_io.specs.Faults.{HasRisen};
 ghost use Rattle.hippo_io.specs.Told.{Appends, AppendsFront};
@@ -10,7 +10,8 @@ use hippo_engine_rules::EngineFault;
 use hippo_io::{Sink, write_whole};
 
 impl Engine {
-    /// Writes the reply to the last line.
+    /// Writes the reply to the last line to the sink. Returns `EngineFault::Write` if the sink
+    /// failed; a front part of the reply may then be written.
     pub fn write_reply<K: Sink>(&self, sink: &mut K) -> Result<(), EngineFault>
         ensures written { OnOk result (Appends (K.written sink.old) (K.written sink.new)
             self.now.reply) }

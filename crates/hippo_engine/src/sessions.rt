@@ -13,7 +13,7 @@ use hippo_values::{Memory, Moment, Name};
 use std::alloc::Global;
 
 impl Engine {
-    /// A line that says nothing has no reply.
+    /// Clears the reply: a line without a command has none.
     pub fn do_nothing(&mut self)
         ensures { (command : Command) → Does command deeds.DoNothing self.old.state
             (world_of self.old.world)
@@ -32,7 +32,7 @@ impl Engine {
         say_done(Speaker::Nobody, &mut self.reply);
     }
 
-    /// Opens a session, or says that memory was short.
+    /// Opens a session, or replies that memory ran out.
     pub fn log_in(&mut self, alloc: Global, session: u8, user: Name, pair: Pair)
         ensures { (command : Command) → Does command (deeds.LogIn session user pair) self.old.state
             (world_of self.old.world)

@@ -1,4 +1,4 @@
-//! Watches: how one is set and ended.
+//! Watches: setting and ending one.
 ghost use Rattle.std.specs.Prelude.{bytes_eq};
 ghost use Rattle.std.specs.List.{IsDistinct};
 ghost use Rattle.hippo_engine_world.specs.Holding.{world_of};
@@ -16,7 +16,7 @@ use hippo_watch::Watch;
 use std::alloc::Global;
 
 impl Engine {
-    /// Sets a watch at a number that is free; or says that memory was short for it.
+    /// Sets a watch at a free number, or replies that memory ran out.
     pub fn watch(&mut self, alloc: Global, number: usize, audit: Audit)
         requires differ { IsDistinct bytes_eq audit.tables }
         ensures { (command : Command) → Does command (deeds.Watch number audit) self.old.state

@@ -1,4 +1,4 @@
--- From what each watch says of a question to what all say of it.
+-- From the alarm of each watch for a question to the alarms of all watches.
 use Rattle.std.proofs.Common.{◌≡◌, ◌∙◌, sym, ap, refl, arith, ℕ, ◌+◌, ◌-◌, false, List, [], ◌∷◌, ◌++◌, map, length, take, drop, Option, None, Some, Result, Ok, Err, append-nil}
 use Rattle.std.specs.Prelude.{OnOk, is_some, option_map, option_and_then}
 use Rattle.std.specs.List.{list_any}
@@ -37,7 +37,7 @@ abbrev Said : Type 0
 Said = Result (Unit {0}) NoMemory
 
 module _ (asked : AskedNow) where
-  -- what it shares with the question is said
+  -- what it shares with the question is in the alarm
   alarm_added : (number : ℕ) (watch : AuditHits) (old new : Txt) (found : Option (List SharedRow)) → SharesWatched asked watch found
       → new ≡ old ++ option_map_or (alarm_text number (asked.past.count + 1)) found [] → AddsAlarm asked number (Some watch) old new
   alarm_added number watch old new found shares is = λ history entry next fits.
@@ -59,7 +59,7 @@ module _ (asked : AskedNow) where
       → now ++ alarms_from history entry (place + 1) (map (option_map watched) (drop place watches)) ≡ first ++ alarms_from history entry 1 (map (option_map watched) watches)
 
 -- ---- all watches of a world
--- what a text means by the names of a state is what it means after the history
+-- the meaning of a text by the names of a state is its meaning after the history
 pub means_then : (held : State) (history : History) (text : Txt) (found : Option Query) → StandsFor held history → found ≡ meaning_in held.catalog.names text → meaning history text ≡ found
 means_then held history text found stands is = sym (is ∙ ap (λ (known : KnownNames). meaning_in known text) stands.names)
 
@@ -68,7 +68,7 @@ AddsNow asked kept held old new =
     (history : History) (question : Question) → StandsFor kept history → WatchesFit history held → question.pair ≡ asked.pair.now → meaning history question.text ≡ Some asked.query.now
     → new ≡ old ++ alarms_now history (world_of held) question
 
--- the past and the tables of what is asked are those of a state
+-- the past and the tables of the question are those of a state
 abbrev IsPresent : AskedNow → State → Type 0
 IsPresent asked kept = (history : History) → StandsFor kept history → IsPresentOf asked.past asked.tables.now history
 
@@ -93,7 +93,7 @@ printed_now asked kept held old new (Err fault) present clock adds = tt
 front_is : (history : History) → take (length history + 1 - 1) history ≡ history
 front_is history = take_all (length history + 1 - 1) history (omega arith)
 
--- a text that means nothing shares nothing
+-- a text without a meaning shares nothing
 unmeant : (history : History) (world : World) (question : Question) (audit : Audit) → meaning history question.text ≡ None → shared_tuple meaning history audit (next_entry history world (question_act question)) ≡ None
 unmeant history world question audit none =
     let context : Context = record { purpose = question.pair.purpose; recipient = question.pair.recipient; moment = world.clock } in
@@ -113,7 +113,7 @@ pub none_now : (history : History) (held : HeldWorld) (question : Question) (old
 none_now history held question old none =
     sym (append-nil old) ∙ ap (λ (text : Txt). old ++ text) (sym (none_from history (world_of held) question none 1 (world_of held).watches))
 
--- nobody watches
+-- there is no watch
 unwatched : (history : History) (entry : Entry) (number : ℕ) (watches : List (Option AuditHits)) → list_any is_some watches ≡ false → alarms_from history entry number (map (option_map watched) watches) ≡ []
 unwatched history entry number [] none = refl
 unwatched history entry number (None ∷ rest) none = unwatched history entry (number + 1) rest none

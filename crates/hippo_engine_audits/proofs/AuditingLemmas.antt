@@ -1,4 +1,4 @@
--- From the job that looks over all that was asked to the flags of an audit.
+-- From the job that looks at all queries that were asked to the flags of an audit.
 use Rattle.std.proofs.Common.{◌≡◌, ◌≢◌, ◌∙◌, ◌≤◌, ◌+◌, ℕ, refl, sym, ap, subst, arith, true, false, List, length, Result, Ok, Err}
 use Rattle.std.specs.Prelude.{min, OnOk, IfOk}
 use Rattle.std.specs.Result.{result_map_both}
@@ -27,7 +27,7 @@ use Rattle.hippo_replay.specs.Standing.{StandsFor}
 use Rattle.hippo_engine_rules.specs.declared.faults.EngineFault.{EngineFault}
 use Rattle.hippo_engine_audits.specs.Auditing.{FindsFlags, reading_end}
 
--- what a job found, where it looked over all
+-- what a job found, if it looked at all
 abbrev pub found_by : Result (Unit {0}) ReadFault → Job Combine → Result (List Flag) ReadFault
 found_by (Ok all) job = Ok job.waiting
 found_by (Err fault) job = Err fault
@@ -41,7 +41,7 @@ same_call (Err Memory) job = refl
 min_same : (count : ℕ) → min (0 + count) count ≡ count
 min_same count = grind arith
 
--- a job that looked over all has the flags of the history
+-- a job that looked at all queries has the flags of the history
 pub finds_flags : (audit : Audit) (held : State) (past : Past) (combine : Combine) (result : Result (Unit {0}) ReadFault) (job : Job Combine) (before after : KeeperState) (steps steps' : ℕ)
     → IsNew combine_terms combine → ((history : History) → StandsFor held history → IsPastOf past history)
     → HasStepped combine_terms held.count past result (new_job audit held.count combine) job before after steps steps'
@@ -77,7 +77,7 @@ finds_flags audit held past combine result job before after steps steps' new is_
         fault_of (Ok flags) = Ok tt
         fault_of (Err other) = Err other
 
--- how the line ends, by the job or by what it found
+-- the result of the line, by the job or by what it found
 pub ended_view : (result : Result (Unit {0}) EngineFault) (found : Result (Job Combine) ReadFault) → result ≡ reading_end found → result ≡ reading_end (result_map_both (λ (job : Job Combine). job.waiting) (λ fault. fault) found)
 ended_view result (Ok job) is = is
 ended_view result (Err Keeper) is = is

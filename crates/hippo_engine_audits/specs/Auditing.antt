@@ -1,4 +1,4 @@
--- An audit of all that was asked so far: what it finds, and what it tells.
+-- An audit of all queries that were asked so far: what it finds, and its reply.
 use Rattle.std.specs.Prelude.{◌≡◌, ◌≢◌, ◌⊎◌, ◌≤◌, ℕ, ◌+◌, true, false, List, map, length, Result, Ok, Err, IfOk, OnOk}
 use Rattle.hippo_values.specs.Texts.{Txt}
 use Rattle.hippo_model.specs.declared.audit.Audit.{Audit}
@@ -24,8 +24,8 @@ use Rattle.hippo_engine_rules.specs.declared.faults.EngineFault.{EngineFault}
 use Rattle.hippo_engine_rules.specs.declared.faults.EngineFault.TheVariants as engine
 use Rattle.hippo_engine_rules.specs.Effects.{lines_and_count}
 
--- the flags of an audit over a history, or memory was short, or the keeper failed; with at most one
--- step a version
+-- the result is the flags of an audit over a history, or memory ran out, or the keeper failed; it
+-- takes at most one step for each version
 pub record HasFlags (history : History) (audit : Audit) (result : Result (List Flag) ReadFault)
     (steps steps' : ℕ)
     : Type 0 where
@@ -34,7 +34,7 @@ pub record HasFlags (history : History) (audit : Audit) (result : Result (List F
   pub few : steps' ≤ steps + versions history
   pub undamaged : (number : ℕ) → result ≢ Err (Damaged number)
 
--- finding the flags of an audit
+-- the effect of finding the flags of an audit
 pub record FindsFlags (audit : Audit) (state : State) (result : Result (List Flag) ReadFault)
     (before after : KeeperState) (steps steps' : ℕ) : Type 0 where
   pub call : IsAfterCall true false (reading_as_call result) before after
@@ -43,7 +43,8 @@ pub record FindsFlags (audit : Audit) (state : State) (result : Result (List Fla
       → StandsFor state history
       → IsAuditOf history audit → HasFlags history audit result steps steps'
 
--- the line that reads was carried out, or the keeper failed, or handed over what it did not keep
+-- the result of a line whose reading failed: it was carried out when out of memory; otherwise the
+-- keeper failed, or returned data that it did not keep
 abbrev pub unread_end : ReadFault → Result (Unit {0}) EngineFault
 unread_end Keeper = Err engine.Keeper
 unread_end (Damaged number) = Err (engine.Damaged number)
@@ -53,12 +54,12 @@ abbrev pub reading_end : {A : Type 0} → Result A ReadFault → Result (Unit {0
 reading_end (Ok found) = Ok tt
 reading_end (Err fault) = unread_end fault
 
--- what is told of flags, where reading was not cut short by a fault of the keeper
+-- the reply with the flags, if no fault of the keeper ended the reading
 abbrev pub told_flags : Format → Result (List Flag) ReadFault → Txt
 told_flags format (Ok flags) = lines_and_count 0 (flag_line format) flags
 told_flags format (Err fault) = refusal_line Console refusals.Memory
 
--- the flags of an audit are found and told, or memory was short
+-- the flags of an audit are found and listed in the reply, or memory ran out
 pub record TellsFlags (format : Format) (audit : Audit) (state : State)
     (result : Result (Unit {0}) EngineFault)
     (reply : Txt) (before after : KeeperState) (steps steps' : ℕ) : Type 0 where

@@ -24,7 +24,7 @@ use Rattle.hippo_engine_rules.specs.declared.faults.EngineFault.TheVariants as e
 use Rattle.hippo_engine_checks.specs.Checks.{question_at}
 use Rattle.hippo_engine_rules.specs.Effects.{row_limit, denial_line, lines_and_count}
 
--- what EXPLAIN finds; no question where it names none
+-- what EXPLAIN finds; `Err None` if no question has the number
 abbrev pub Explanation : Type 0
 Explanation = Result (List Denial) (Option DenialsFault)
 
@@ -39,8 +39,8 @@ pub record AreDenied (history : History) (number : ℤ) (holds : List Denial →
   pub asked : question_at history number ≡ Some entry
   pub cells : holds (denials meaning history entry)
 
--- the denied cells of the question with a number, if they are not too many; or no question has it;
--- or memory was short, or the keeper failed
+-- the result is the denied cells of the question with a number, if they are not too many; or no
+-- question has the number; or memory ran out, or the keeper failed
 abbrev pub IsFound : History → ℤ → Explanation → Type 0
 IsFound history number (Ok cells) =
     AreDenied history number (λ denied. (cells ≡ denied) × (length denied ≤ row_limit))
@@ -56,7 +56,7 @@ pub record HasExplained (history : History) (number : ℤ) (result : Explanation
   pub found : IsFound history number result
   pub few : steps' ≤ steps + versions history
 
--- finding the denied cells of the question with a number
+-- the effect of finding the denied cells of the question with a number
 pub record Explains (number : ℤ) (state : State) (result : Explanation) (before after : KeeperState)
     (steps steps' : ℕ)
     : Type 0 where
@@ -66,14 +66,14 @@ pub record Explains (number : ℤ) (state : State) (result : Explanation) (befor
       → StandsFor state history
       → HasExplained history number result steps steps'
 
--- what is said of it
+-- the reply with what EXPLAIN finds
 abbrev pub explained_line : ℤ → Explanation → Txt
 explained_line number (Ok cells) = lines_and_count 0 denial_line cells
 explained_line number (Err None) = refusal_line Console (refusals.NoSuchQuery number)
 explained_line number (Err (Some TooMany)) = refusal_line Console refusals.TooManyRows
 explained_line number (Err (Some (Read fault))) = refusal_line Console refusals.Memory
 
--- what is told of the denied cells of an entry
+-- the denied cells of an entry as what EXPLAIN finds, and below, the reply with them
 abbrev pub told_of : Result (List Denial) DenialsFault → Explanation
 told_of (Ok cells) = Ok cells
 told_of (Err fault) = Err (Some fault)
@@ -83,7 +83,7 @@ told_cells (Ok cells) = lines_and_count 0 denial_line cells
 told_cells (Err TooMany) = refusal_line Console refusals.TooManyRows
 told_cells (Err (Read fault)) = refusal_line Console refusals.Memory
 
--- and how the line ends
+-- the result of the line
 abbrev pub explaining_end : Explanation → Result (Unit {0}) EngineFault
 explaining_end (Ok cells) = Ok tt
 explaining_end (Err None) = Ok tt
@@ -92,7 +92,7 @@ explaining_end (Err (Some (Read Keeper))) = Err engine.Keeper
 explaining_end (Err (Some (Read (Damaged number)))) = Err (engine.Damaged number)
 explaining_end (Err (Some (Read Memory))) = Ok tt
 
--- what was found is told, or that memory was short
+-- what was found is in the reply, or memory ran out
 pub record TellsCells (number : ℤ) (state : State) (result : Result (Unit {0}) EngineFault)
     (reply : Txt)
     (before after : KeeperState) (steps steps' : ℕ) : Type 0 where
@@ -102,7 +102,7 @@ pub record TellsCells (number : ℤ) (state : State) (result : Result (Unit {0})
   pub said : OnOk result
       ((reply ≡ explained_line number found) ⊎ (reply ≡ refusal_line Console refusals.Memory))
 
--- the denied cells of an entry are found and told, or memory was short
+-- the denied cells of an entry are found and listed in the reply, or memory ran out
 pub record TellsEntry (entry : Entry) (state : State) (result : Result (Unit {0}) EngineFault)
     (reply : Txt)
     (before after : KeeperState) (steps steps' : ℕ) : Type 0 where

@@ -1,4 +1,4 @@
-//! What all watches say of a question that is asked now.
+//! The alarms of all watches for a question that is asked now.
 ghost use Rattle.std.specs.Prelude.{◌≡◌, ◌+◌, ◌<◌, ◌^◌, ◌++◌, ℕ, [], is_some, IfOk, OnOk};
 ghost use Rattle.std.specs.List.{list_any};
 ghost use Rattle.std.specs.Option.{option_map_or};
@@ -23,7 +23,8 @@ use hippo_values::{Memory, Txt};
 use hippo_watch::{AskedNow, Watch};
 use std::alloc::Global;
 
-// Adds the line by which a watch says what it shares with a question, if it does.
+// Appends the alarm of a watch for the tuple that its audit shares with a question, if there is
+// one.
 fn append_found(
     number: u64,
     question: u64,
@@ -43,7 +44,8 @@ fn append_found(
     }
 }
 
-// Adds what stands at a watch's number says of a question that is asked now, where it flags it.
+// Appends the alarm of the watch at a number, if there is a watch and it flags the question that is
+// asked now.
 fn append_alarm(
     alloc: Global,
     asked: &AskedNow<'_>,
@@ -64,7 +66,8 @@ fn append_alarm(
     }
 }
 
-// Adds what all watches say of a question that is asked now, in the order of their numbers.
+// Appends the alarms of all watches for a question that is asked now, in the order of their
+// numbers.
 fn append_alarms(
     alloc: Global,
     asked: &AskedNow<'_>,
@@ -95,7 +98,8 @@ fn are_watching(watches: &[Option<Watch>]) -> bool
     false
 }
 
-// Adds what all watches say of a question for a pair, whose text means this query, or nothing.
+// Appends the alarms of all watches for a question with this purpose and recipient. `None` is the
+// meaning of a text that means no query.
 fn print_alarms(
     alloc: Global,
     state: &State,
@@ -134,7 +138,8 @@ fn print_alarms(
     }
 }
 
-// Adds what all watches say of a question, whose text is read again only where there is a watch.
+// Appends the alarms of all watches for a question. Parses the question's text again only if there
+// is a watch.
 fn tell_alarms(
     alloc: Global,
     state: &State,
@@ -157,8 +162,8 @@ fn tell_alarms(
     }
 }
 
-/// What all watches say of a question that is asked now, in the order of their numbers; or want of
-/// memory.
+/// The alarms of all watches for a question that is asked now, in the order of their numbers. Fails
+/// when out of memory.
 pub fn alarms_of(
     alloc: Global,
     state: &State,

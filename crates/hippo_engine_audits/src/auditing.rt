@@ -1,4 +1,4 @@
-//! The flags of an audit over all that was asked so far, as a reply.
+//! The reply to DURING: the flags over all queries that were asked so far.
 ghost use Rattle.std.specs.Prelude.{◌≡◌, ◌⊎◌, ◌++◌, true, flat_map, bytes_eq, Err as Bad, OnOk};
 ghost use Rattle.std.specs.List.{IsDistinct};
 ghost use Rattle.std.specs.Result.{result_map_both};
@@ -26,7 +26,7 @@ use hippo_values::Memory;
 use std::alloc::Global;
 use std::sync::ledger::Ledger;
 
-// A job that has looked at all that was asked so far.
+// A job that has looked at all queries that were asked so far.
 fn looked_over<P: Keeper, L: Ledger>(
     alloc: Global,
     keeper: &mut P,
@@ -55,7 +55,7 @@ fn looked_over<P: Keeper, L: Ledger>(
     }
 }
 
-/// A line for each flag, behind what is there.
+/// Appends a line for each flag.
 pub(crate) fn append_flags(
     alloc: Global,
     format: Format,
@@ -70,7 +70,7 @@ pub(crate) fn append_flags(
     Ok(())
 }
 
-// Makes the reply that lists flags.
+// Replaces the reply by the list of flags and their number.
 fn print_flags(
     alloc: Global,
     format: Format,
@@ -84,7 +84,8 @@ fn print_flags(
     number_line(0, "end", flags.len() as u64, reply)
 }
 
-// Says that memory was short, where the past was not read for want of it.
+// The result of a line whose reading of the history failed. When out of memory, the reply is that
+// refusal.
 pub(crate) fn say_unread(fault: ReadFault, reply: &mut Reply) -> Result<(), EngineFault>
     ensures ended { result ≡ unread_end fault }
     ensures said { OnOk result (reply.new ≡ refusal_line Console refusals.Memory) }
@@ -101,7 +102,7 @@ pub(crate) fn say_unread(fault: ReadFault, reply: &mut Reply) -> Result<(), Engi
     }
 }
 
-// Tells the flags that were found, or that memory was short.
+// Replies with the flags that were found, or that memory ran out.
 fn say_flags(
     alloc: Global,
     format: Format,
@@ -125,9 +126,9 @@ fn say_flags(
     }
 }
 
-/// Finds the flags of an audit over all that was asked so far, and tells them, or that memory was
-/// short. Answers `Keeper` only where the keeper failed, `Damaged` only where it does not tell what
-/// it keeps.
+/// Finds the flags of an audit over all queries that were asked so far, and replies with them, or
+/// that memory ran out. Returns `EngineFault::Keeper` only if the keeper failed, and
+/// `EngineFault::Damaged` only if the store is not transparent.
 pub fn tell_flags<P: Keeper, L: Ledger>(
     alloc: Global,
     keeper: &mut P,

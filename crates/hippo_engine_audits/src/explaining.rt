@@ -1,4 +1,4 @@
-//! The cells that were denied to a question, as a reply.
+//! The reply to EXPLAIN: the cells that were denied to a question.
 ghost use Rattle.std.specs.Prelude.{◌≡◌, ◌⊎◌, ◌++◌, true, flat_map, OnOk};
 ghost use Rattle.hippo_keeper.specs.Keeping.{IsReady};
 ghost use Rattle.hippo_report.specs.declared.refusal.Refusal.TheVariants as refusals;
@@ -29,7 +29,7 @@ fn append_cells(cells: &[Denied<'_>], reply: &mut Reply) -> Result<(), Memory>
     Ok(())
 }
 
-// Makes the reply that lists cells.
+// Replaces the reply by the list of cells and their number.
 fn print_cells(cells: &[Denied<'_>], reply: &mut Reply) -> Result<(), Memory>
     ensures { OnOk result (reply.new ≡ lines_and_count 0 denial_line cells.now) }
 {
@@ -38,7 +38,7 @@ fn print_cells(cells: &[Denied<'_>], reply: &mut Reply) -> Result<(), Memory>
     number_line(0, "end", cells.len() as u64, reply)
 }
 
-// Says which cells were denied, or why that is not told.
+// Replies with the denied cells, or with the reason why they are not listed.
 fn say_cells(
     found: Result<Sequence<Denied<'_>>, DenialsFault>,
     reply: &mut Reply,
@@ -68,9 +68,9 @@ fn say_cells(
     }
 }
 
-/// Tells the console which cells were denied to a question, and by which rules, or that they are
-/// too many, or that memory was short. Answers `Keeper` only where the keeper failed, `Damaged`
-/// only where it does not tell what it keeps.
+/// Replies to the console with the cells that were denied to a question, and the rules that denied
+/// them; or that they are too many, or that memory ran out. Returns `EngineFault::Keeper` only if
+/// the keeper failed, and `EngineFault::Damaged` only if the store is not transparent.
 pub fn tell_cells<P: Keeper, L: Ledger>(
     alloc: Global,
     keeper: &mut P,

@@ -1,5 +1,5 @@
-//! Replies that tell what was found: the flags of an audit and of an audit job's step, the cells
-//! that EXPLAIN lists, the next rows of a cursor, and what watches say of a question.
+//! Replies with what was found: the flags of an audit and of an audit job's step, the cells that
+//! EXPLAIN lists, the next rows of a cursor, and the watches' alarms for a question.
 #![tactic(auto)]
 
 mod alarms;

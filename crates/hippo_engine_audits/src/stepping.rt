@@ -1,4 +1,4 @@
-//! What a step of an audit job found, as a reply.
+//! The reply to a step of an audit job.
 ghost use Rattle.std.specs.Prelude.{◌≡◌, ◌++◌, OnOk};
 ghost use Rattle.hippo_report.specs.declared.speaker.Speaker.TheVariants.{Console};
 ghost use Rattle.hippo_engine_audits.specs.Auditing.{reading_end};
@@ -14,7 +14,7 @@ use hippo_report::{Format, Speaker};
 use hippo_values::Memory;
 use std::alloc::Global;
 
-// How far a job is, while numbers are left; else how many flags it found.
+// Appends the number that a job has looked up to, or at its end the number of flags that it found.
 fn append_progress(job: &AuditJob, reply: &mut Reply) -> Result<(), Memory>
     ensures { OnOk result (reply.new ≡ reply.old ++ progress_line job.now) }
 {
@@ -25,7 +25,7 @@ fn append_progress(job: &AuditJob, reply: &mut Reply) -> Result<(), Memory>
     }
 }
 
-// Makes the reply to a step: the flags that wait, and how far the job is.
+// Replaces the reply by that of a step: the waiting flags, and the job's progress.
 fn print_step(
     alloc: Global,
     format: Format,
@@ -39,7 +39,8 @@ fn print_step(
     append_progress(job, reply)
 }
 
-// Says what a job found, so that no flag waits any more; or that memory was short, and they wait.
+// Replies with what a job found, after which no flag waits; or that memory ran out, and the flags
+// wait.
 fn say_step(alloc: Global, format: Format, job: &mut AuditJob, reply: &mut Reply)
     ensures { SaysStep format job.old job.new reply.new }
 {
@@ -49,9 +50,9 @@ fn say_step(alloc: Global, format: Format, job: &mut AuditJob, reply: &mut Reply
     }
 }
 
-/// Tells how a step of an audit job ended: the flags that wait, which do so no more, and how far
-/// the job is; or that memory was short, and they wait. Answers `Keeper` and `Damaged` where the
-/// step did.
+/// Writes the reply to a step of an audit job, given the step's result: the waiting flags, after
+/// which no flag waits, and the job's progress; or that memory ran out, and the flags wait. Returns
+/// `EngineFault::Keeper` or `EngineFault::Damaged` if the step failed with that fault.
 pub fn tell_step(
     alloc: Global,
     format: Format,

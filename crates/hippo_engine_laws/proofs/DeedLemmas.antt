@@ -1,4 +1,4 @@
--- What stands in the world at the numbers that a deed names.
+-- What the world holds at the numbers that a deed names.
 use Rattle.std.proofs.Common.{◌≡◌, refl, ℕ, Option, Some, None, Ok, Err}
 use Rattle.std.specs.Prelude.{int_lt, ok_or}
 use Rattle.hippo_model.specs.declared.audit.Audit.{Audit}
@@ -25,7 +25,7 @@ use Rattle.hippo_engine_checks.specs.Checks.{Checked, refused_if, by_console, qu
 use Rattle.hippo_engine_checks.specs.Judging.{judged, judged_fetch, judged_close, judged_step, judged_drop, judged_unwatch, text_between, deed_for, audit_in, judged_begin, judged_watch}
 use Rattle.hippo_engine_rules.proofs.JudgedLemmas.{check, if_changed, if_loaded, if_asked, if_logged_in, if_logged_out, if_held}
 
--- a job that is stepped stands at its number, and what begins gets a free one
+-- a job that is stepped is at its number, and whatever begins gets a free number
 abbrev pub IsFounded : World → Checked Deed → Type 0
 IsFounded world (Ok (deeds.step_job number job count)) = at_number world.jobs number ≡ Some job
 IsFounded world (Ok (deeds.begin_audit number audit)) = free_number world.jobs ≡ Some number
@@ -36,7 +36,7 @@ module _ (history : History) (world : World) where
   founded_refused : (refusal : Refusal) → IsFounded world (Err refusal)
   founded_refused refusal = tt
 
-  -- what is found is known
+  -- if a look-up succeeds, its result is known
   held : {A : Type 0} (found : Option A) (refusal : Refusal) (next : A → Checked Deed) → ((one : A) → found ≡ Some one → IsFounded world (next one)) → IsFounded world (ok_or found refusal >>= next)
   held (Some one) refusal next all = all one refl
   held None refusal next all = tt
@@ -82,7 +82,7 @@ module _ (history : History) (world : World) where
       check (IsFounded world) founded_refused {A = Unit {0}} (by_console who) (λ console. ok_or found refusal >>= λ entry. Ok (deeds.explain entry))
       (λ console. check (IsFounded world) founded_refused {A = Entry} (ok_or found refusal) (λ entry. Ok (deeds.explain entry)) (λ entry. tt))
 
-  -- whatever is judged
+  -- every judged command
   pub founded : (command : Command) → IsFounded world (judged history world command)
   founded nothing = tt
   founded (wrong who refusal) = tt

@@ -1,4 +1,5 @@
--- The flags of a stretch of a valid history, whatever is behind it; what an entry is flagged for in any longer history.
+-- The flags of a range of a valid history, whatever follows it; the flag of an entry in any longer
+-- history.
 use Rattle.std.proofs.Common.{◌≡◌, ◌∙◌, sym, ap, refl, arith, ℕ, zero, suc, ◌+◌, ◌-◌, ◌≤◌, true, [], ◌∷◌, ◌++◌, length, take, drop, Option, None, Some, length-drop, append-nil}
 use Rattle.std.specs.Prelude.{filter_map, option_and_then, slice_get, option_to_list}
 use Rattle.std.specs.List.{cons_option}
@@ -32,13 +33,13 @@ module _ (meaning : Meaning) (audit : Audit) (start later : History) (valid : is
       let enough : upto - above ≤ length (drop above start) = rw (length-drop above start) (omega (arith, low, high)) in
       ap (take (upto - above)) (drop-append-le above start later inside) ∙ take-append-le (upto - above) (drop above start) later enough
 
-  -- the flags of a stretch of a valid history stay, whatever stands behind it
+  -- the flags of a range of a valid history stay the same, whatever follows it
   pub stretch_lasts : (above upto : ℕ) → above ≤ upto → upto ≤ length start → flags_between meaning (start ++ later) audit above upto ≡ flags_between meaning start audit above upto
   stretch_lasts above upto low high =
       ap (filter_map (flag_of meaning (start ++ later) audit)) (stretch above upto low high)
       ∙ entries_last above (drop above start) (upto - above) refl
 
--- the entries before the one that was added behind some are those
+-- the entries before an entry that is appended to some entries are those
 pub before_next : (history later : History) (entry : Entry) → entry.seq ≡ length history + 1 → before_entry entry (history ++ later) ≡ history
 before_next history later entry number =
     let before : entry.seq - 1 ≡ length history = omega (arith, number) in
@@ -54,7 +55,7 @@ one_option : {A : Type 0} (found : Option A) → cons_option found [] ≡ option
 one_option None = refl
 one_option (Some one) = refl
 
--- of a history in which an entry stands behind some, the flags of its number are what it is flagged for
+-- if an entry follows some entries in a history, the flags at its number are its own flag
 pub flags_there : (meaning : Meaning) (history later : History) (audit : Audit) (entry : Entry) → entry.seq ≡ length history + 1
     → flags_between meaning (history ++ entry ∷ later) audit (entry.seq - 1) entry.seq
     ≡ option_to_list (flag_of meaning (history ++ entry ∷ later) audit entry)

@@ -35,7 +35,7 @@ last-append : {A : Type 0} (before : Option A) (list : List A) (one : A) → las
 last-append before [] one = refl
 last-append before (first ∷ rest) one = last-append (Some first) rest one
 
--- one portion more
+-- one more portion
 flags-more : (portions : List Portion) (one : Portion) → flags_in (portions ++ one ∷ []) ≡ flags_in portions ++ one.flags
 flags-more portions one = flat_map-append (λ portion. portion.flags) portions (one ∷ []) ∙ ap (λ (last : List Flag). flags_in portions ++ last) (append-nil one.flags)
 
@@ -68,7 +68,7 @@ module _ (start : History) (valid : is_valid meaning start ≡ true) (audit : Au
     flags : flags_in portions ++ job.waiting ≡ flags_between meaning start audit 0 job.place
     whole : (count : ℕ) → last_end portions ≡ Some count → HaveAllFlags start audit portions count
 
-  -- the job stands in the world, and the history has grown from the one at its beginning
+  -- the job is in the world, and the history has grown from the one at its beginning
   record Goes (portions : List Portion) (history : History) (world : World) : Type 0 where
     later : History
     longer : history ≡ start ++ later
@@ -76,7 +76,7 @@ module _ (start : History) (valid : is_valid meaning start ≡ true) (audit : Au
     stands : at_number world.jobs number ≡ Some job
     is_on : IsOn portions job
 
-  -- what a line makes of it
+  -- the result of a line
   abbrev After : List Portion → History → World → Command → Checked Deed → Effect → Type 0
   After portions history world command judgement effect =
       (one : Portion) × JudgedWrites number world command judgement effect one
@@ -91,7 +91,7 @@ module _ (start : History) (valid : is_valid meaning start ≡ true) (audit : Au
     whole = λ count is. let none : None ≡ Some count = sym (end-more portions no_portion) ∙ is in absurd cc;
   }
 
-  -- a line that leaves the job alone
+  -- a line that leaves the job unchanged
   rests : (portions : List Portion) (history : History) (world : World) (effect : Effect) → Goes portions history world
       → at_number effect.world.jobs number ≡ at_number world.jobs number → Goes (portions ++ no_portion ∷ []) (history ++ effect.added) effect.world
   rests portions history world effect goes same = record {
@@ -107,7 +107,7 @@ module _ (start : History) (valid : is_valid meaning start ≡ true) (audit : Au
   still portions history world effect goes same =
       rests portions history world effect goes (ap (λ (jobs : List (Option OpenAudit)). at_number jobs number) same)
 
-  -- what was written, what waited and what is found up to a number are the flags up to there
+  -- what was written, what waits and what is found up to a number are the flags up to that number
   found : (portions : List Portion) (history later : History) (job : OpenAudit) (upto : ℕ) → history ≡ start ++ later → IsOn portions job
       → job.place ≤ upto → upto ≤ length start
       → flags_in portions ++ step_flags history job upto ≡ flags_between meaning start audit 0 upto
@@ -185,7 +185,7 @@ module _ (start : History) (valid : is_valid meaning start ≡ true) (audit : Au
         whole = λ count is. let none : None ≡ Some count = sym (end-more portions no_portion) ∙ is in absurd cc;
       }
 
-  -- the job that a step names is the one that stands
+  -- the job that a step names is the one at its number
   stands_so : (portions : List Portion) (one other : OpenAudit) (held : Option OpenAudit) → held ≡ Some one → held ≡ Some other → IsOn portions one → IsOn portions other
   stands_so portions one other held is also on =
       let same : one ≡ other = cc in

@@ -1,4 +1,4 @@
--- What stands at a number once something is put there, or at another one.
+-- What is at a number after something is put there, or at another one.
 use Rattle.std.proofs.Common.{◌≡◌, ◌≢◌, ◌∙◌, sym, ap, refl, arith, ℕ, zero, suc, ◌+◌, true, List, [], ◌∷◌, Option, Some, None, is_none, slice_get, slice_set, slice_index_or, position, option_map}
 use Rattle.std.proofs.lemmas.Option.{slice_get-get_or}
 use Rattle.std.proofs.lemmas.List.Quantifiers.{position-Some}
@@ -17,7 +17,7 @@ set_elsewhere (first ∷ rest) zero (suc place) new differ = refl
 set_elsewhere (first ∷ rest) (suc at) zero new differ = refl
 set_elsewhere (first ∷ rest) (suc at) (suc place) new differ = set_elsewhere rest at place new (λ same. differ (ap suc same))
 
--- another number has what it had
+-- any other number keeps what it had
 pub elsewhere : {A : Type 0} (places : List (Option A)) (at number : ℕ) (held : Option A) → (at ≢ number) → at_number (with_at places at held) number ≡ at_number places number
 elsewhere places zero number held differ = refl
 elsewhere places (suc at) zero held differ = refl
@@ -28,7 +28,7 @@ flattened None one is = absurd cc
 flattened (Some None) one is = absurd cc
 flattened (Some (Some other)) one is = ap Some is
 
--- where something stands, what is put in its place stands
+-- a number that is in use has what is put there instead
 pub there : {A : Type 0} (places : List (Option A)) (number : ℕ) (old new : A) → at_number places number ≡ Some old → at_number (with_at places number (Some new)) number ≡ Some new
 there places zero old new is = absurd cc
 there places (suc place) old new is = ap option_flatten (set_there places place (Some old) (Some new) (flattened (slice_get places place) old is))
@@ -43,7 +43,7 @@ nothing_in : {A : Type 0} (held : Option A) → is_none held ≡ true → held �
 nothing_in None is = refl
 nothing_in (Some one) is = absurd cc
 
--- at a free number there is a place, with nothing in it
+-- a free number has a place, which is empty
 free_place : {A : Type 0} (places : List (Option A)) (number : ℕ) → free_number places ≡ Some number → ((place : ℕ) × (number ≡ suc place) × (slice_get places place ≡ Some None))
 free_place {A} places number is =
     let found = numbered (position is_none places) number is in
@@ -51,19 +51,19 @@ free_place {A} places number is =
     let stands = position-Some is_none places place None found.1 in
     (place, found.2, slice_get-get_or places place None stands.0 ∙ ap Some (nothing_in (slice_index_or places place None) stands.1))
 
--- nothing stands at a free number
+-- nothing is at a free number
 pub free_none : {A : Type 0} (places : List (Option A)) (number : ℕ) → free_number places ≡ Some number → at_number places number ≡ None
 free_none {A} places number is =
     let found = free_place places number is in
     ap (at_number places) found.1 ∙ ap option_flatten found.2
 
--- what is put at a free number stands there
+-- what is put at a free number is there
 pub free_there : {A : Type 0} (places : List (Option A)) (number : ℕ) (held : Option A) → free_number places ≡ Some number → at_number (with_at places number held) number ≡ held
 free_there {A} places number held is =
     let found = free_place places number is in
     ap (λ (at : ℕ). at_number (with_at places at held) at) found.1 ∙ ap option_flatten (set_there places found.0 None held found.2)
 
--- what stands at a number is not free
+-- a number that is in use is not free
 pub not_free : {A : Type 0} (places : List (Option A)) (at number : ℕ) (one : A) → free_number places ≡ Some at → at_number places number ≡ Some one → (at ≢ number)
 not_free {A} places at number one free stands same =
     let both : None ≡ Some one = sym (free_none places at free) ∙ ap (at_number places) same ∙ stands in

@@ -1,4 +1,4 @@
--- Steps of a job, and what is heard of a watch, on a small clinic.
+-- Steps of a job, and the alarms of a watch, on a small clinic.
 use Rattle.std.proofs.Common.{◌≡◌, ◌∙◌, inl, inr, refl, ap, subst, length, Option, option_and_then, arith, pos, List, [], ◌∷◌, ◌++◌, Some, None, Ok, codes, decimal}
 use Rattle.std.specs.Prelude.{⊤}
 use Rattle.hippo_io.specs.Lines.{LineText, text_line, too_long_line, not_utf8_line}
@@ -47,7 +47,7 @@ use Rattle.hippo_engine_laws.specs.Lines.{OfEachLine}
 use Rattle.hippo_engine_laws.specs.Jobs.{Portion, no_portion, portion_reply, StepWrites, JudgedWrites, WritesPortion, flags_in, last_end}
 use Rattle.hippo_engine_laws.specs.Watches.{alarm_of, alarm_texts, JudgedHeard, IsHeard}
 
--- AUDIT name OF patient, in the year 2024
+-- AUDIT name FROM patient, in the year 2024
 abbrev names_of_patients : Audit
 names_of_patients = audit_between (pos 1704067200) (pos 1735689599) (record { table = 0; column = 1 } ∷ []) (patient ∷ []) (All [])
 
@@ -77,7 +77,7 @@ world = with_job (world_within 4000000) 1 (Some job)
 abbrev three_numbers : Command
 three_numbers = make_request Console (steps 1 3)
 
--- a step writes what waits, and up to which number it has looked
+-- a step writes the waiting flags, and the number that it has looked up to
 abbrev eighth_written : Portion
 eighth_written = record { flags = eighth ∷ []; ended = None }
 
@@ -88,19 +88,19 @@ a_flag_and_how_far_it_is :
     portion_reply world 5 eighth_written ≡ (flag_line formats.Text eighth ++ []) ++ number_line 0 (codes "part") 5
 a_flag_and_how_far_it_is = refl
 
--- the last step says how many flags there are: nobody asked anything in the morning
+-- the last step says how many flags there are: nobody asked a question in the morning
 the_last_step_says_end :
     StepWrites world (make_request Console (steps 1 9)) job 9 (deed_effect clinic world (deeds.step_job 1 job 9)) (record { flags = []; ended = Some 0 })
 the_last_step_says_end = inl refl
 
--- where memory is short nothing is written
+-- out of memory, nothing is written
 abbrev short_of_memory : Effect
 short_of_memory = only_reply (with_job world 1 (Some one_waits)) (refusal_line Console Memory)
 
 nothing_is_written_without_memory : JudgedWrites 1 world three_numbers (Ok (deeds.step_job 1 one_waits 3)) short_of_memory no_portion
 nothing_is_written_without_memory = inl (refl, inr (refl, refl))
 
--- of job 2 a step of job 1 writes nothing
+-- a step of job 1 writes nothing of job 2
 others_write_nothing : JudgedWrites 2 world three_numbers (Ok (deeds.step_job 1 one_waits 3)) (deed_effect clinic world (deeds.step_job 1 one_waits 3)) no_portion
 others_write_nothing = inr (λ same. omega (arith, same), refl)
 
@@ -110,7 +110,7 @@ refused_lines_write_nothing :
     (only_reply world (refusal_line Nobody LineTooLong) ∷ only_reply world (refusal_line Nobody BadLine) ∷ []) (no_portion ∷ no_portion ∷ [])
 refused_lines_write_nothing = (refl, (refl, tt))
 
--- the flags of all portions, one after the other; the last of them may say that the job has ended
+-- the flags of all portions, concatenated; the last portion may say that the job has ended
 abbrev ninth_written : Portion
 ninth_written = record { flags = ninth ∷ []; ended = Some 2 }
 
@@ -123,13 +123,13 @@ the_last_says_how_many = refl
 the_others_do_not : last_end (ninth_written ∷ eighth_written ∷ []) ≡ None
 the_others_do_not = refl
 
--- watch 2 flags the eighth entry, watch 1 does not, and there is none with number 3
+-- watch 2 flags the eighth entry, watch 1 does not, and there is no watch 3
 one_watch_of_two :
     alarm_texts (None ∷ Some eighth ∷ None ∷ [])
     ≡ (codes "0 alarm " ++ ((decimal 2 ++ (codes " " ++ decimal 8)) ++ (tuple_text eighth.shared ++ codes "\n"))) ++ []
 one_watch_of_two = refl
 
--- nothing is heard of a line that asks nothing, and of a question without memory
+-- a line that asks no question has no alarm, nor has a question for which memory ran out
 nothing_is_heard_of_refused_lines : IsHeard 1 clinic world (wrong Nobody LineTooLong) (only_reply world (refusal_line Nobody LineTooLong)) None
 nothing_is_heard_of_refused_lines = refl
 
@@ -157,7 +157,7 @@ names_are_meant : meaning clinic text ≡ Some (asked_for (1 ∷ [])).query
 unfolding reading
 names_are_meant = simp folded_conditions
 
--- what an audit flags of it, by what its text means
+-- what an audit flags of it, by the meaning of its text
 abbrev flagged_by : Option Query → List Flag
 flagged_by found =
     let context : Context = record { purpose = treatment; recipient = nurse; moment = pos 1704182400 } in
@@ -169,7 +169,7 @@ adas_row_is_shared = simp truths
 ann_is_flagged : flags_between meaning asked_once names_of_patients 0 8 ≡ eighth ∷ []
 ann_is_flagged = ap flagged_by names_are_meant ∙ adas_row_is_shared
 
--- a watch with the same audit tells of it as it is asked
+-- a watch with the same audit has an alarm when it is asked
 abbrev watched : World
 watched = with_watch (world_within 4000000) 2 (Some names_of_patients)
 
@@ -184,7 +184,7 @@ adas_row_is_told = simp truths
 the_watch_tells_of_ann : alarms clinic watched (entry 8 ann_asks) ≡ alarm_texts (None ∷ Some eighth ∷ [])
 the_watch_tells_of_ann = ap (λ (said : Txt). said ++ []) (ap alarm_by names_are_meant ∙ adas_row_is_told)
 
--- the effects of lines, as the rules make them
+-- the effects of lines by the rules
 abbrev with_effect : History → (History → World → List Effect) → Effect → List Effect
 with_effect history later effect = effect ∷ later (history ++ effect.added) effect.world
 
@@ -192,7 +192,7 @@ abbrev effects_of : List LineText → History → World → List Effect
 effects_of [] history held = []
 effects_of (line ∷ lines) history held = with_effect history (effects_of lines) (effect_of history held (command_of line))
 
--- a job over these eight entries in two steps, and a line of others between them
+-- a job over these eight entries in two steps, with another line between them
 abbrev audited : World
 audited = with_job (world_within 4000000) 1 (Some (new_open_audit asked_once names_of_patients))
 
@@ -202,7 +202,7 @@ in_two_steps = text_line (codes "0 step 1 3") ∷ too_long_line ∷ text_line (c
 they_are_a_run : IsRun asked_once audited in_two_steps (effects_of in_two_steps asked_once audited)
 they_are_a_run = (inl refl, (inl refl, (inl refl, tt)))
 
--- the first writes nothing and says `part`, the second writes the flag and says `end`
+-- the first step writes nothing and says `part`, the second writes the flag and says `end`
 they_write_two_portions :
     OfEachLine (WritesPortion 1) asked_once audited in_two_steps (effects_of in_two_steps asked_once audited)
     (no_portion ∷ no_portion ∷ record { flags = eighth ∷ []; ended = Some 1 } ∷ [])

@@ -1,4 +1,4 @@
--- What is heard of a watch, line by line.
+-- The alarms of a watch, line by line.
 use Rattle.std.proofs.Common.{◌≡◌, ◌≢◌, ◌∙◌, inl, inr, sym, ap, subst, refl, ℕ, zero, suc, ◌+◌, Bool, true, false, nat_lt, if◌then◌else◌, List, [], ◌∷◌, ◌++◌, map, flat_map, length, slice_get, Option, None, Some, IfSome, Ok, Err, append_assoc, append-nil, option_and_then, option_to_list}
 use Rattle.std.specs.List.{enumerate_from, AllByRecursion}
 use Rattle.std.specs.Option.{option_flatten, option_map_or}
@@ -98,7 +98,7 @@ alarms_are_flags history world command effect deed question later does is =
     ap (λ (e : Effect). e.reply) does.is_done ∙ done_alarms history world deed question (effect.added ++ later) is
 
 module _ (audit : Audit) (number : ℕ) where
-  -- what a line makes of it
+  -- the result of a line
   abbrev After : History → World → Command → Checked Deed → Effect → Type 0
   After history world command judgement effect =
       (heard : Option Heard) × JudgedHeard number history world command judgement effect heard

@@ -23,8 +23,8 @@ use Rattle.hippo_engine_rules.specs.Effects.{Effect, flag_lines}
 use Rattle.hippo_engine_rules.specs.Runs.{world_after}
 use Rattle.hippo_engine_laws.specs.Lines.{OfEachLine}
 
--- what a line writes of a job: some flags, and how many there are in all, where it says that the
--- job has ended
+-- what a line writes of a job: some flags, and the number of all flags, if it says that the job has
+-- ended
 pub record Portion : Type 0 where
   pub flags : List Flag
   pub ended : Option ℕ
@@ -32,20 +32,20 @@ pub record Portion : Type 0 where
 abbrev pub no_portion : Portion
 no_portion = record { flags = []; ended = None }
 
--- the reply that writes a portion; its last line says `end`, or `part` and up to which number the
--- job has looked
+-- the reply that writes a portion; its last line says `end`, or `part` and the number that the job
+-- has looked up to
 abbrev pub portion_reply : World → ℕ → Portion → Txt
 portion_reply world upto portion =
     flag_lines world portion.flags
     ++ option_map_or (number_line 0 (codes "end")) portion.ended (number_line 0 (codes "part") upto)
 
--- a step writes a portion, or nothing where its reply says that memory was short
+-- a step writes a portion, or nothing if its reply is the out-of-memory refusal
 abbrev pub StepWrites : World → Command → OpenAudit → ℕ → Effect → Portion → Type 0
 StepWrites world command job count effect portion =
     (effect.reply ≡ portion_reply world (step_end job count) portion)
     ⊎ ((effect.reply ≡ refusal_line (who_commands command) Memory) × (portion ≡ no_portion))
 
--- of the job at a number its own steps write, and nothing else does
+-- the portion that a line writes of the job at a number: only the job's own steps write any
 abbrev pub JudgedWrites : ℕ → World → Command → Checked Deed → Effect → Portion → Type 0
 JudgedWrites number world command (Ok (deeds.step_job at job count)) effect portion =
     ((at ≡ number) × StepWrites world command job count effect portion)
@@ -56,22 +56,23 @@ abbrev pub WritesPortion : ℕ → History → World → Command → Effect → 
 WritesPortion number history world command effect portion =
     JudgedWrites number world command (judged history world command) effect portion
 
--- all flags of some portions, and what the last of them says of the end
+-- all flags of some portions, and below, the number of all flags if the last portion says that the
+-- job has ended
 abbrev pub flags_in : List Portion → List Flag
 flags_in portions = flat_map (λ portion. portion.flags) portions
 
 abbrev pub last_end : List Portion → Option ℕ
 last_end portions = option_and_then (λ portion. portion.ended) (last_or None portions)
 
--- the portions have all flags of an audit of a history, and their number is told
+-- the portions have all flags of an audit of a history, and `count` is their number
 pub record HaveAllFlags (history : History) (audit : Audit) (portions : List Portion) (count : ℕ)
     : Type 0 where
   pub flags : flags_in portions ≡ flags_between meaning history audit 0 (length history)
   pub counted : count ≡ length (flags_in portions)
 
--- the lines of a run have written the flags that an audit gives of a history, up to the place of
--- the job at a number, but for those that wait; and all of them, where the last line says that the
--- job has ended
+-- the lines of a run have written the flags of an audit of the history `start`, up to the place of
+-- the job at a number, except those that wait; they have written all flags if the last line says
+-- that the job has ended
 pub record HasWritten (number : ℕ) (audit : Audit) (start history : History) (world : World)
     (lines : List LineText)
     (effects : List Effect) : Type 0 where

@@ -1,4 +1,4 @@
--- What holds of each line of a run.
+-- Relations that hold for each line of a run.
 use Rattle.std.specs.Prelude.{◌≡◌, ◌≢◌, List, [], ◌∷◌, ◌++◌, Ok}
 use Rattle.hippo_io.specs.Lines.{LineText}
 use Rattle.hippo_model.specs.Terms.{History}
@@ -8,8 +8,8 @@ use Rattle.hippo_engine_checks.specs.Deeds.{Deed}
 use Rattle.hippo_engine_checks.specs.Judging.{judged}
 use Rattle.hippo_engine_rules.specs.Effects.{Effect, deed_effect}
 
--- of each line a relation holds, between its command in a history and a world, its effect, and what
--- is told of it
+-- a relation holds for each line: between the line's command in its history and world, its effect,
+-- and the line's member of a list
 abbrev pub OfEachLine : {A : Type 0} → (History → World → Command → Effect → A → Type 0)
     → History → World → List LineText → List Effect → List A → Type 0
 OfEachLine relation history world [] [] [] = Unit {0}
@@ -18,7 +18,7 @@ OfEachLine relation history world (line ∷ lines) (effect ∷ effects) (one ∷
     × OfEachLine relation (history ++ effect.added) effect.world lines effects more
 OfEachLine relation history world lines effects told = ⊥
 
--- a command asks for a deed, and that is done
+-- a command asks for a deed, and the deed is done
 pub record IsDone (deed : Deed) (history : History) (world : World) (command : Command)
     (effect : Effect) : Type 0 where
   pub asks : judged history world command ≡ Ok deed

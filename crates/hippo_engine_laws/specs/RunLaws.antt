@@ -1,4 +1,4 @@
--- Laws over runs.
+-- Laws of runs.
 use Rattle.std.specs.Prelude.{◌≡◌, ℕ, true, List, ◌∷◌, ◌++◌, map, Some, codes, option_and_then}
 use Rattle.hippo_io.specs.Lines.{LineText}
 use Rattle.hippo_model.specs.declared.audit.Audit.{Audit}
@@ -17,8 +17,9 @@ use Rattle.hippo_engine_laws.specs.Lines.{IsDone, NoneJudged}
 use Rattle.hippo_engine_laws.specs.Jobs.{HasWritten, last_end, flags_in}
 use Rattle.hippo_engine_laws.specs.Watches.{answer_to, alarm_texts, question_answered, HasHeard}
 
--- from the line on that begins an audit as a job, until it is dropped, its steps write the audit's
--- flags of the history at its beginning, however it is cut and whatever lines stand between
+-- after the line that begins an audit as a job, and until the job is dropped, its steps write the
+-- audit's flags of the history at its beginning, however the job is cut and whatever lines come
+-- between
 abbrev pub AnyCut : Type 0
 AnyCut =
     (history : History) (world : World) (line : LineText) (effect : Effect) (lines : List LineText)
@@ -28,8 +29,8 @@ AnyCut =
     → NoneJudged (deeds.drop_job number) (history ++ effect.added) effect.world lines effects
     → HasWritten number audit history (history ++ effect.added) effect.world lines effects
 
--- where the last line says that the job has ended, the flags that were written and that line are
--- the reply that the audit at once has where the job began
+-- if the last line says that the job has ended, the flags that were written and that line are the
+-- reply that one DURING has when the job begins
 abbrev pub StepsReplyAsOneAudit : Type 0
 StepsReplyAsOneAudit =
     (number : ℕ) (audit : Audit) (start history : History) (world : World) (lines : List LineText)
@@ -39,8 +40,8 @@ StepsReplyAsOneAudit =
     → (deed_effect start beginning (deeds.audit audit)).reply
     ≡ flag_lines beginning (flags_in written.portions) ++ number_line 0 (codes "end") count
 
--- the reply to a question is its answer and then the alarms of all watches: what their audits flag
--- of its entry in any longer history
+-- the reply to a question is its answer, then the alarms of all watches: what their audits flag of
+-- the question's entry in any longer history
 abbrev pub AlarmsAreFlags : Type 0
 AlarmsAreFlags =
     (history : History) (world : World) (command : Command) (effect : Effect) (deed : Deed)
@@ -53,8 +54,8 @@ AlarmsAreFlags =
     (map (option_and_then (λ audit. flag_of meaning (history ++ (effect.added ++ later)) audit
     (next_entry history world (question_act question)))) world.watches)
 
--- from the line on that sets a watch, until it is ended, what is heard of it is what its audit at
--- once flags, at any later time, of the questions that were answered
+-- after the line that sets a watch, and until the watch is ended, its alarms are what one
+-- DURING flags, at any later time, of the questions that were answered
 abbrev pub StandingAudits : Type 0
 StandingAudits =
     (history : History) (world : World) (line : LineText) (effect : Effect) (lines : List LineText)

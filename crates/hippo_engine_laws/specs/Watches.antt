@@ -1,4 +1,4 @@
--- What the replies to questions say of a watch.
+-- The alarms of a watch in the replies to questions.
 use Rattle.std.specs.Prelude.{◌≡◌, ◌⊎◌, ℕ, ◌-◌, List, [], ◌∷◌, ◌++◌, flat_map, Option, Some, None, IfSome, option_to_list, Ok, Err}
 use Rattle.std.specs.List.{enumerate_from, AllByRecursion}
 use Rattle.std.specs.Option.{option_map_or}
@@ -23,16 +23,16 @@ use Rattle.hippo_engine_rules.specs.Effects.{Effect, deed_effect}
 use Rattle.hippo_engine_rules.specs.Runs.{history_after}
 use Rattle.hippo_engine_laws.specs.Lines.{OfEachLine}
 
--- the alarm that a flag is to the watch at a number
+-- the alarm of the watch at a number for a flag
 abbrev pub alarm_of : ℕ → Flag → Txt
 alarm_of number flag = alarm_text number flag.seq flag.shared
 
--- the alarms of all watches, by what each of them flags, if anything
+-- the alarms of all watches, from the flag of each, if it has one
 abbrev pub alarm_texts : List (Option Flag) → Txt
 alarm_texts flags =
     flat_map (λ (number, flag). option_map_or (alarm_of number) flag []) (enumerate_from 1 flags)
 
--- what is replied to a deed where no watch is set
+-- the reply to a deed if no watch is set
 abbrev pub answer_to : History → World → Deed → Txt
 answer_to history world deed = (deed_effect history (record world { watches = [] }) deed).reply
 
@@ -43,13 +43,13 @@ question_answered (deeds.open_cursor session number question) = Some question
 question_answered (deeds.extract question) = Some question
 question_answered deed = None
 
--- a question that was answered: its entry, and what one watch flags of it
+-- a question that was answered: its entry, and the flag that one watch gives it, if any
 pub record Heard : Type 0 where
   pub entry : Entry
   pub flag : Option Flag
 
--- a question becomes the next entry, and its answer is followed by the alarms, in which that of one
--- watch is its flag
+-- the question becomes the next entry, and its answer is followed by the alarms; the flag of the
+-- watch at a number is among them
 pub record IsAnsweredWithAlarms (number : ℕ) (history : History) (world : World) (deed : Deed)
     (question : Question)
     (effect : Effect) (heard : Heard) : Type 0 where
@@ -59,7 +59,7 @@ pub record IsAnsweredWithAlarms (number : ℕ) (history : History) (world : Worl
   pub says : effect.reply ≡ answer_to history world deed ++ alarm_texts flags
   pub flag_is : at_number flags number ≡ heard.flag
 
--- a question is answered, or its reply says that memory was short; of other deeds nothing is heard
+-- a question is answered, or its reply is the out-of-memory refusal; other deeds are no question
 abbrev pub DeedHeard : ℕ → History → World → Command → Deed → Option Question → Effect
     → Option Heard → Type 0
 DeedHeard number history world command deed None effect heard = heard ≡ None
@@ -68,24 +68,24 @@ DeedHeard number history world command deed (Some question) effect heard =
     effect one)
     ⊎ ((effect.reply ≡ refusal_line (who_commands command) Memory) × (heard ≡ None))
 
--- of what is refused nothing is heard
+-- a refused command is no question
 abbrev pub JudgedHeard : ℕ → History → World → Command → Checked Deed → Effect → Option Heard
     → Type 0
 JudgedHeard number history world command (Err refusal) effect heard = heard ≡ None
 JudgedHeard number history world command (Ok deed) effect heard =
     DeedHeard number history world command deed (question_answered deed) effect heard
 
--- what is heard of the watch at a number
+-- the question that a command asks, with the flag of the watch at a number
 abbrev pub IsHeard : ℕ → History → World → Command → Effect → Option Heard → Type 0
 IsHeard number history world command effect heard =
     JudgedHeard number history world command (judged history world command) effect heard
 
--- what an audit at once flags of one entry, among the flags of a history
+-- the flags that one DURING gives one entry, among the flags of a history
 abbrev pub flags_at : History → Audit → Entry → List Flag
 flags_at history audit entry = flags_between meaning history audit (entry.seq - 1) entry.seq
 
--- what the lines of a run have heard of the watch at a number is, of each question that was
--- answered, what an audit at once flags of its entry in any longer history
+-- the lines of a run have as alarms of the watch at a number exactly what one DURING flags, in
+-- any longer history, of the entries of the questions that were answered
 pub record HasHeard (number : ℕ) (audit : Audit) (history : History) (world : World)
     (lines : List LineText)
     (effects : List Effect) : Type 0 where

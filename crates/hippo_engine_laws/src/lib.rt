@@ -1,4 +1,4 @@
-//! Laws over runs: each is the contract of a function that does nothing.
+//! Laws of runs. Each is the contract of a function that does nothing.
 #![tactic(auto)]
 
 pub mod jobs;

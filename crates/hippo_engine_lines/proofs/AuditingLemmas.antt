@@ -1,4 +1,5 @@
--- From what an audit expression means, and from what was found of all that was asked, to what DURING does.
+-- From the meaning of an audit expression, and the flags of all queries that were asked, to what
+-- DURING does.
 use Rattle.std.proofs.Common.{◌≡◌, ◌≢◌, ◌∙◌, ◌⊎◌, ℕ, refl, sym, ap, subst, inl, inr, true, false, List, [], length, Result, Ok, Err}
 use Rattle.std.specs.Prelude.{OnOk, IfOk}
 use Rattle.std.proofs.lemmas.Bool.{false≢true}
@@ -45,7 +46,7 @@ use Rattle.hippo_engine_rules.specs.Ledgers.{at_once}
 use Rattle.hippo_engine_lines.proofs.LookingLemmas.{Carries-looked}
 use Rattle.hippo_engine_rules.proofs.ShortLemmas.{short, done_for}
 
--- how the line ends is how its keeper's calls did
+-- the line fails exactly when its keeper's calls did
 pub ended_same : {A : Type 0} (found : Result A ReadFault) → has_failed (line_as_call (reading_end found)) ≡ has_failed (reads.reading_as_call found)
 ended_same (Ok flags) = refl
 ended_same (Err Keeper) = refl

@@ -64,7 +64,7 @@ found_of history number entry (Err (Read Keeper)) asked answer = tt
 found_of history number entry (Err (Read (Damaged other))) asked answer = answer
 found_of history number entry (Err (Read Memory)) asked answer = tt
 
--- what is told does not hang on the number
+-- the reply does not depend on the number
 told_line : (number : ℤ) (result : Result (List Denial) DenialsFault) → explained_line number (told_of result) ≡ told_cells result
 told_line number (Ok cells) = refl
 told_line number (Err TooMany) = refl
@@ -86,7 +86,7 @@ module _ (number : ℤ) (held : State) (before between : KeeperState) (steps ste
         record { found = found_of history number entry result was.is answered.answer; few = omega (arith, answered.few, was.idle) };
   }
 
-  -- there is none with the number
+  -- no question has the number
   pub none_explains : LooksUp number (Ok None) held before between steps steps' → Explains number held (Err None) before between steps steps'
   none_explains looks = record {
     call = looks.call;
@@ -94,7 +94,7 @@ module _ (number : ℤ) (held : State) (before between : KeeperState) (steps ste
     told = λ tells history forms stands. let was = looks.told tells history forms stands in record { found = was.is; few = was.few };
   }
 
-  -- it was not looked up
+  -- the question was not looked up
   pub unread_explains : (fault : ReadFault) → LooksUp number (Err fault) held before between steps steps' → Explains number held (Err (Some (Read fault))) before between steps steps'
   unread_explains fault looks = record {
     call = IsAfterCall-as true false (reads.reading_as_call (err_of (Option Entry) fault)) (explaining.explanation_as_call (Err (Some (Read fault)))) before between (same_call fault) looks.call;
@@ -114,7 +114,7 @@ module _ (number : ℤ) (held : State) (before between : KeeperState) (steps ste
       unfound history (Damaged other) undamaged = undamaged other refl
       unfound history Memory undamaged = tt
 
--- how the line ends is how its keeper's calls did
+-- the line fails exactly when its keeper's calls did
 ended_same : (found : Explanation) → has_failed (line_as_call (explaining_end found)) ≡ has_failed (explaining.explanation_as_call found)
 ended_same (Ok cells) = refl
 ended_same (Err None) = refl
@@ -170,7 +170,7 @@ module _ (history : History) (world : World) (text : Txt) (number : ℤ) where
   undamaged (Err (Some (Read (Damaged place)))) other is e = is
   undamaged (Err (Some (Read Memory))) other is e = absurd cc
 
-  -- it adds nothing, and no refusal but that no question has the number
+  -- it adds nothing, and is refused only if no question has the number
   adds_none : (effect_of history world command).added ≡ []
   adds_none = by (question_at history number) refl
     where
@@ -230,7 +230,7 @@ Carries-explain_effect text number result old new before after steps steps' at_w
     either history world is fine (inr said) =
         subst (λ (r : Txt). IsEffect history world (make_statement Console (stmt.Explain number) text) (only_reply world r)) (sym said) (said_so history world text number new.reply)
 
--- it was looked up, and told of
+-- the question was looked up, and its cells are in the reply
 pub Carries-told : (asked : Command) (number : ℤ) (entry : Entry) (result : Result (Unit {0}) EngineFault) (old new : Engine) (before between after : KeeperState) (start steps steps' : ℕ) → AtWork old before
     → LooksUpFor asked number (Ok (Some entry)) old.state before between start steps → Explained entry result old new between after steps steps' → Carries asked result old new before after start steps'
 Carries-told asked number entry result old new before between after start steps steps' at_work looks told =
@@ -242,7 +242,7 @@ Carries-told asked number entry result old new before between after start steps 
       said = subst (λ (line : Txt). OnOk result ((new.reply ≡ line) ⊎ (new.reply ≡ refusal_line Console refusals.Memory))) (sym (told_line number told.tells.found)) told.tells.said;
     }))
 
--- none has the number
+-- no question has the number
 pub Carries-unasked : (asked : Command) (number : ℤ) (old new : Engine) (before after : KeeperState) (steps steps' : ℕ) → AtWork old before
     → LooksUpFor asked number (Ok None) old.state before after steps steps' → new.state ≡ old.state → new.world ≡ old.world
     → (new.reply ≡ refusal_line Console (refusals.NoSuchQuery number)) ⊎ (new.reply ≡ refusal_line Console refusals.Memory) → Carries {A = Unit {0}} asked (Ok tt) old new before after steps steps'
@@ -251,7 +251,7 @@ Carries-unasked asked number old new before after steps steps' at_work looks sam
     (Carries-explain_effect looks.text number (Ok tt) old new before after steps steps' at_work same_state same_world
     (record { found = Err None; explains = none_explains number old.state before after steps steps' looks.looks; ended_so = refl; said = said }))
 
--- it was not read
+-- the question was not read
 pub Carries-unread : (asked : Command) (number : ℤ) (fault : ReadFault) (result : Result (Unit {0}) EngineFault) (old new : Engine) (before after : KeeperState) (steps steps' : ℕ) → AtWork old before
     → LooksUpFor asked number (Err fault) old.state before after steps steps' → new.state ≡ old.state → new.world ≡ old.world
     → result ≡ explaining_end (Err (Some (Read fault))) → OnOk result (new.reply ≡ refusal_line Console refusals.Memory) → Carries asked result old new before after steps steps'

@@ -1,4 +1,4 @@
--- What holds of the command of each line.
+-- Properties of the command of each line.
 use Rattle.std.proofs.Common.{◌≡◌, refl, ℕ, zero, suc, arith, codes, Option, Some, None, Result, Ok, Err}
 use Rattle.std.specs.Prelude.{IsUtf8}
 use Rattle.hippo_values.specs.Texts.{Txt}
@@ -37,7 +37,7 @@ module _ (line : Txt) (utf8 : IsUtf8 line) where
   by_form (Some (makes_request session request)) is = tt
   by_form (Some (makes_statement session text)) is = statement session text (statement_in text) is
 
--- a refusal of nobody's line is short, and a statement stands in its line
+-- a refusal of nobody's line is short, and the text of a statement is part of its line
 IsOfLine-line : (line : LineText) → IsText (Some line) → IsOfLine (command_of line)
 IsOfLine-line (text_line text) utf8 = by_form text utf8 (line_form text) refl
 IsOfLine-line too_long_line utf8 = plain_fits Nobody (codes "11 LineTooLong") tt (omega arith)

@@ -1,4 +1,4 @@
--- From a command that reads what is kept and adds nothing to what carrying it out does.
+-- From a command that reads the store and adds nothing to what carrying it out does.
 use Rattle.std.proofs.Common.{◌≡◌, ◌≢◌, ◌∙◌, ℕ, ℤ, refl, sym, subst, inr, [], Result, Err, true, false}
 use Rattle.std.proofs.lemmas.Bool.{false≢true}
 use Rattle.hippo_model.specs.Terms.{History}
@@ -19,7 +19,7 @@ use Rattle.hippo_engine_rules.specs.Ledgers.{reads_kept, Tallies}
 use Rattle.hippo_engine.specs.Carrying.{Holds, AtWork, line_as_call, is_carried, shown_effect, Carries}
 use Rattle.hippo_engine.proofs.CarryingLemmas.{Holds-same, IsTimely-same}
 
--- what a command did that read what is kept of a history
+-- what a command did that reads the store of a history
 pub record HasLooked (history : History) (command : Command) (result : Result (Unit {0}) EngineFault) (old new : Engine) (steps steps' : ℕ) : Type 0 where
   pub effect : is_carried result ≡ true → IsEffect history (world_of old.world) command (shown_effect new)
   pub jobs : JobsFit history new.world

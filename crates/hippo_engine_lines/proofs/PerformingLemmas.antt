@@ -1,4 +1,5 @@
--- From what was found of a command, and from performing it or saying why not, to what carrying it out does.
+-- From the judgement on a command, and from performing or refusing it, to what carrying it out
+-- does.
 use Rattle.std.proofs.Common.{◌≡◌, ◌∙◌, ℕ, refl, sym, subst, Option, Some, Result, Ok, Err, true, false}
 use Rattle.hippo_model.specs.declared.entry.Entry.{Entry}
 use Rattle.hippo_keeper.specs.Answering.{has_failed}
@@ -23,20 +24,20 @@ use Rattle.hippo_engine_lines.proofs.RefusalLemmas.{quiet_refusal}
 use Rattle.hippo_engine_lines.proofs.ExplainingLemmas.{Carries-told, Carries-unasked, Carries-unread}
 
 module _ (command : Command) (old new : Engine) (before between after : KeeperState) (start steps steps' : ℕ) (at_work : AtWork old before) where
-  -- nothing was read for what was performed
+  -- nothing was read for the deed that was performed
   still_carries : (result : Result (Unit {0}) EngineFault) → between ≡ before → steps ≡ start → Carries command result old new between after steps steps' → Carries command result old new before after start steps'
   still_carries result same idle carries =
       subst (λ (k : KeeperState). Carries command result old new k after start steps') same
       (subst (λ (n : ℕ). Carries command result old new between after n steps') idle carries)
 
-  -- a command is judged, and what is found is performed
+  -- a command is judged, and its deed is performed
   pub Carries-performed : (deed : Deed) (result : Result (Unit {0}) EngineFault) → Judges command (Ok deed) old.state (world_of old.world) before between start steps
       → (is_still (Ok deed) ≡ true → between ≡ before) → (is_still (Ok deed) ≡ true → steps ≡ start) → Performs deed result old new between after steps steps'
       → Carries command result old new before after start steps'
   Carries-performed (kinds.Explain entry) result (number, looks) same idle performs = Carries-told command number entry result old new before between after start steps steps' at_work looks performs
   Carries-performed deed result does same idle performs = still_carries result (same refl) (idle refl) (performs command does)
 
--- or why not is said
+-- or the reason for not doing it is in the reply
 pub Carries-refused : (command : Command) (who : Speaker) (unjudged : Unjudged) (result : Result (Unit {0}) EngineFault) (old new : Engine) (before after : KeeperState) (steps steps' : ℕ)
     → who ≡ who_commands command → AtWork old before → Judges command (Err unjudged) old.state (world_of old.world) before after steps steps'
     → (is_still (Err unjudged) ≡ true → after ≡ before) → (is_still (Err unjudged) ≡ true → steps' ≡ steps) → SaysUnjudged who unjudged result old new
@@ -52,7 +53,7 @@ Carries-refused command who (NoQuestion number) result old new before after step
 Carries-refused command who (Unread fault) result old new before after steps steps' who_is at_work (number, looks) same idle says =
     Carries-unread command number fault result old new before after steps steps' at_work looks says.state says.world says.says.0 says.says.1
 
--- looking up leaves an engine at work
+-- looking up keeps an engine ready for a command
 AtWork-looked : (engine : Engine) (result : Result (Option Entry) ReadFault) (before after : KeeperState) → AtWork engine before → has_failed (reads.reading_as_call result) ≡ false
     → IsAfterCall true false (reads.reading_as_call result) before after → (after.tells → KeepsSame before after) → AtWork engine after
 AtWork-looked engine result before after at_work fine call stays = record {
@@ -64,7 +65,7 @@ AtWork-looked engine result before after at_work fine call stays = record {
       (holds.0, record { forms = holds.1.forms ∙ sym (stays tells).same; stands = holds.1.stands; jobs = holds.1.jobs; watches = holds.1.watches });
 }
 
--- what was found can be performed
+-- a judged deed can be performed
 pub AtWork-judged : (command : Command) (deed : Deed) (engine : Engine) (before after : KeeperState) (steps steps' : ℕ) → AtWork engine before
     → Judges command (Ok deed) engine.state (world_of engine.world) before after steps steps' → (is_still (Ok deed) ≡ true → after ≡ before) → AtWork engine after
 AtWork-judged command (kinds.Explain entry) engine before after steps steps' at_work (number, looks) same = AtWork-looked engine (Ok (Some entry)) before after at_work refl looks.looks.call looks.looks.stays

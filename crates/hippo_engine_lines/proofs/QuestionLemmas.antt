@@ -1,4 +1,4 @@
--- From keeping and answering a question to what carrying out its command does.
+-- From storing and answering a question to what carrying out its command does.
 use Rattle.std.proofs.Common.{◌≡◌, ◌⊎◌, ◌∙◌, ◌+◌, inl, inr, refl, sym, ap, subst, ℕ, true, false, List, [], ◌∷◌, ◌++◌, Option, Some, None, Result, Ok, Err, length, IfOk}
 use Rattle.std.specs.Prelude.{int_le, nat_lt}
 use Rattle.std.proofs.lemmas.Bool.{false≢true}
@@ -55,17 +55,17 @@ next_is history held world question stands =
     let number : held.count + 1 ≡ length history + 1 = ap (λ (n : ℕ). n + 1) stands.count in
     λ i. record { seq = number i; moment = world.clock; act = question_act question }
 
--- a deed that asks a question, says this of its rows, and leaves this world
+-- a deed that asks a question, has this reply for its rows, and leaves this world
 record IsQuestion (world : World) (deed : Deed) (question : Question) (said : List ShownRow → Txt) (left : List ShownRow → World) : Type 0 where
   effect : (history : History) → deed_effect history world deed ≡ question_effect history world question (said (question_rows history world question)) (left (question_rows history world question))
   short : (history : History) (reply : Txt) (result : Effect) → IsShortAnswer history world reply question result → IsShort history world reply (Ok deed) result
 
--- an engine says that memory was short, and its world is the same
+-- the reply is the out-of-memory refusal, and the world is the same
 record SaysShort (command : Command) (old new : Engine) : Type 0 where
   said : new.reply ≡ refusal_line (who_commands command) Memory
   same : world_of new.world ≡ world_of old.world
 
--- it says what is to be said of these rows, and behind it what the watches say
+-- the reply is the one for these rows, followed by the watches' alarms
 record SaysSo (new : Engine) (said : List ShownRow → Txt) (left : List ShownRow → World) (more : Txt) (rows : List ShownRow) : Type 0 where
   reply : new.reply ≡ said rows ++ more
   world : world_of new.world ≡ left rows
@@ -98,7 +98,7 @@ module _ (command : Command) (deed : Deed) (question : Question) (said : List Sh
       let so : IsShort history (world_of old.world) line (Ok deed) shown = asks.short history line shown (record { said = none.said; kept = inr (λ i. next i ∷ []); same = none.same }) in
       inr (takes_some command takes, subst (λ (judgement : Checked Deed). IsShort history (world_of old.world) line judgement shown) (sym (judged_is history stands)) so)
 
-  -- it was kept and answered
+  -- the question was stored and answered
   Carries-kept : (delivery : Delivery) (answer : Result Answered EvalFault) → new.world.clock ≡ old.world.clock → Asks entry (world_of old.world) question delivery (ok_of KeeperFault answer) old.state new.state before after
       → ((history : History) → StandsFor old.state history → WatchesFit history old.world → (rows : List ShownRow) → IsAnsweredBy question.session answer delivery rows
       → SaysSo new said left (alarms_now history (world_of old.world) question) rows ⊎ SaysShort command old new)
@@ -128,7 +128,7 @@ module _ (command : Command) (deed : Deed) (question : Question) (said : List Sh
     undamaged = λ tells history holds number damaged. cc;
   }
 
-  -- memory was short before it was kept
+  -- memory ran out before the question was stored
   Carries-short : (delivery : Delivery) → Asks entry (world_of old.world) question delivery (err_of (Result Answered EvalFault) KeeperMemory) old.state new.state before after
       → SaysShort command old new → Carries {A = Unit {0}} command (Ok tt) old new before after steps steps
   Carries-short delivery kept none = record {
@@ -201,7 +201,7 @@ module _ (session : ℕ) (asks_it : Command) (asked_for : Asking) (who : who_com
   says there rows (Ok said) more is (inr none) = inr (record { said = none.said ∙ said_to; same = none.same })
   says there rows (Err fault) more is none = inr (record { said = none.said ∙ said_to; same = none.same })
 
-  -- an answer leaves the clock
+  -- an answer leaves the clock unchanged
   delivery_clock : (delivery : Delivery) (rows : List ShownRow) → (world_left (world_of old.world) session asked_for.asker.now delivery rows).clock ≡ old.world.clock
   delivery_clock delivered.Rows rows = refl
   delivery_clock delivered.Records rows = refl
@@ -213,7 +213,7 @@ module _ (session : ℕ) (asks_it : Command) (asked_for : Asking) (who : who_com
   clock_left there rows (Ok said) (inr none) = ap (λ (w : World). w.clock) none.same
   clock_left there rows (Err fault) none = ap (λ (w : World). w.clock) none.same
 
-  -- what the watches say, of each history that the state stands for
+  -- the watches' alarms, for every history that the state represents
   abbrev AreAlarms : Result Txt NoMemory → Type 0
   AreAlarms alarms =
       IfOk alarms (λ said. (number : ℕ) (history : History) → StandsFor old.state history → WatchesFit history old.world

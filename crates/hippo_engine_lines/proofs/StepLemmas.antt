@@ -1,4 +1,4 @@
--- From what looking on does to an audit job that a run holds to what the line does that steps it.
+-- From stepping an audit job that a run holds to what the line does that steps it.
 use Rattle.std.proofs.Common.{◌≡◌, ◌∙◌, ◌⊎◌, ◌≤◌, ℕ, ◌+◌, refl, sym, ap, subst, inl, inr, arith, Bool, true, false, List, [], ◌++◌, length, Option, Some, None, Result, Ok, Err}
 use Rattle.std.specs.Prelude.{◌==◌, ◌&&◌, nat_lt, codes, flat_map, if◌then◌else◌, ok_or, option_map, is_ok, OnOk}
 use Rattle.std.proofs.lemmas.Bool.{false≢true}
@@ -53,7 +53,7 @@ use Rattle.hippo_engine_lines.proofs.LookingLemmas.{Carries-looked}
 use Rattle.hippo_engine_rules.proofs.ShortLemmas.{done_for}
 use Rattle.hippo_engine.proofs.JobLemmas.{world_with, tally_there, tallies_put}
 
--- how far a job is, by its place or by whether it is at its end
+-- the progress of a job, by its place or by whether it is at its end
 progress : (place upto found : ℕ) (count : ℕ → ℕ) → place ≤ upto → found ≡ count place
     → (if place == upto then number_line 0 (codes "end") found else number_line 0 (codes "part") place)
     ≡ (if nat_lt place upto then number_line 0 (codes "part") place else number_line 0 (codes "end") (count upto))
@@ -71,7 +71,7 @@ progress place upto found count within is =
           sym (ap (λ (test : Bool). if test then number_line 0 (codes "part") place else number_line 0 (codes "end") (count upto)) more)
     ] refl
 
--- a job that was told of is the same, but that its flags may be written
+-- after the reply, a job is the same, except that its flags may be written
 left_so : (looked : Result (Unit {0}) ReadFault) (format : Format) (job told : HeldJob) (reply : Txt) → TellsStep looked format job told reply
     → (told ≡ record job { waiting = [] }) ⊎ (told ≡ job)
 left_so (Ok all) format job told reply (inl so) = inl so.0
@@ -80,7 +80,7 @@ left_so (Err faults.Memory) format job told reply so = inr so.0
 left_so (Err faults.Keeper) format job told reply so = inr so
 left_so (Err (faults.Damaged number)) format job told reply so = inr so
 
--- a line that steps a job at a number, which has looked on, and was told of
+-- a line that steps a job at a number: the job was stepped, and the reply was written
 pub record StepsHeld (number count : ℕ) (past : Past) (looked : Result (Unit {0}) ReadFault) (old new : Engine) (before after : KeeperState) (steps steps' : ℕ) : Type 0 where
   pub job : HeldJob
   pub mid : HeldJob
@@ -128,7 +128,7 @@ module _ (number count : ℕ) (past : Past) (looked : Result (Unit {0}) ReadFaul
     | inr is ↦ ap job_tally is
   ]
 
-  -- it is unbroken if it was, unless memory was short
+  -- it is unbroken if it was, unless memory ran out
   still_unbroken : is_carried (reading_end looked) ≡ true → (held.told.unbroken ≡ held.job.unbroken) ⊎ ((new.reply ≡ refusal_line Console refusals.Memory) × (held.told.unbroken ≡ false))
   still_unbroken = by looked held.tells held.stepped.unbroken_is
     where
@@ -151,7 +151,7 @@ module _ (number count : ℕ) (past : Past) (looked : Result (Unit {0}) ReadFaul
           | inr is ↦ subst (IsLooking history) (sym is) mid_looks
         ]
 
-    -- memory was short, and the job stands between
+    -- memory ran out, and the job is within the step
     short_step : held.told ≡ held.mid → new.reply ≡ refusal_line Console refusals.Memory → IsEffect history world steps_it (shown_effect new)
     short_step same said =
         let line : Txt = refusal_line Console refusals.Memory in
@@ -167,7 +167,7 @@ module _ (number count : ℕ) (past : Past) (looked : Result (Unit {0}) ReadFaul
         } in
         inr (refl, subst (λ (judgement : Checked Deed). IsShort history world line judgement (shown_effect new)) (sym (judged_is history)) so)
 
-    -- what was found is said
+    -- what was found is in the reply
     whole_step : held.mid.place ≡ upto → held.told ≡ record (held.mid) { waiting = [] } → new.reply ≡ step_text old.world.format held.mid → IsEffect history world steps_it (shown_effect new)
     whole_step place written said =
         let looks = held.stepped.looks in
@@ -226,6 +226,6 @@ module _ (number count : ℕ) (past : Past) (looked : Result (Unit {0}) ReadFaul
         undamaged = λ other e. undamaged_end looked other over.undamaged e;
       }))
 
--- a job that stands at a number is there
+-- a job that is held at a number is in the world
 pub held_there : (jobs : List (Option HeldJob)) (number : ℕ) (job : HeldJob) → at_number jobs number ≡ Some job → ◌≡◌ {A = Option HeldJob} None (at_number jobs number) → ⊥
 held_there jobs number job there none = let both : ◌≡◌ {A = Option HeldJob} None (Some job) = none ∙ there in absurd cc

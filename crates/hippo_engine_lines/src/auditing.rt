@@ -1,4 +1,4 @@
-//! DURING: an audit of all that was asked so far.
+//! DURING: an audit of all queries that were asked so far.
 ghost use Rattle.std.specs.Prelude.{◌≢◌, bytes_eq, Err as Bad};
 ghost use Rattle.std.specs.List.{IsDistinct};
 ghost use Rattle.hippo_stmt_lines.specs.Commands.{Command};
@@ -17,8 +17,9 @@ use hippo_values::Boxed;
 use std::alloc::Global;
 use std::sync::ledger::Ledger;
 
-/// Lists the questions of all that was asked so far that an audit flags. Answers `Keeper` only
-/// where the keeper failed, `Damaged` only where it does not tell what it keeps.
+/// Replies with the questions that an audit flags, among all that were asked so far. Returns
+/// `EngineFault::Keeper` only if the keeper failed, and `EngineFault::Damaged` only if the store is
+/// not transparent.
 pub(crate) fn audit_history<P: Keeper, L: Ledger>(
     engine: &mut Engine,
     alloc: Global,

@@ -1,4 +1,4 @@
-//! Cursors hand out rows.
+//! Fetching rows from a cursor.
 ghost use Rattle.std.specs.Prelude.{◌≡◌, option_copied, option_and_then};
 ghost use Rattle.hippo_engine_world.specs.Holding.{world_of};
 ghost use Rattle.hippo_engine_sessions.specs.Worlds.{at_number, session_at};
@@ -28,8 +28,8 @@ fn cursor_at(world: &World, session: u8, cursor: u8) -> Option<&Cursor>
     }
 }
 
-/// Hands out rows of a cursor: they are printed first, and the cursor moves on where the reply
-/// is whole. Or says that memory was short.
+/// Replies with the next rows of a cursor. The cursor moves on only when the reply is complete.
+/// When out of memory, replies with that refusal.
 pub(crate) fn hand_out(engine: &mut Engine, session: u8, cursor: u8, count: u32)
     requires { MayDo (deeds.HandOut session cursor count) engine.old }
     ensures { (command : Command)

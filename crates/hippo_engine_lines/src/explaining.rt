@@ -13,9 +13,9 @@ use hippo_values::Boxed;
 use std::alloc::Global;
 use std::sync::ledger::Ledger;
 
-/// Tells the console which cells were denied to a question, and by which rules, at the
-/// question's own time. Answers `Keeper` only where the keeper failed, `Damaged` only where it
-/// does not tell what it keeps.
+/// Replies to the console with the cells that were denied to a question, and the rules that denied
+/// them, as of the question's own time. Returns `EngineFault::Keeper` only if the keeper failed,
+/// and `EngineFault::Damaged` only if the store is not transparent.
 pub(crate) fn explain<P: Keeper, L: Ledger>(
     engine: &mut Engine,
     alloc: Global,

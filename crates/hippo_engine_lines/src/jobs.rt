@@ -1,4 +1,4 @@
-//! Audit jobs at the console look on.
+//! Stepping the audit jobs of the console.
 ghost use Rattle.std.specs.Prelude.{◌≢◌, Err as Bad};
 ghost use Rattle.hippo_stmt_lines.specs.Forms as requests;
 ghost use Rattle.hippo_report.specs.declared.speaker.Speaker.TheVariants.{Console};
@@ -16,10 +16,10 @@ use hippo_keeper::{Keeper, Steps};
 use std::alloc::Global;
 use std::sync::ledger::Ledger;
 
-/// Lets the job at a number look at so many further entries. The flags that it finds are
-/// printed, or they wait where memory is short. Answers `Keeper` only where the keeper failed,
-/// and `Damaged` only where it does not tell what it keeps. Each version that is read counts as
-/// a step.
+/// Lets the job at a number look at up to `count` more entries. Writes the flags that it finds to
+/// the reply; when out of memory, the flags wait. Returns `EngineFault::Keeper` only if the keeper
+/// failed, and `EngineFault::Damaged` only if the store is not transparent. Each version that is
+/// read counts as a step.
 pub(crate) fn step_job<P: Keeper, L: Ledger>(
     engine: &mut Engine,
     alloc: Global,

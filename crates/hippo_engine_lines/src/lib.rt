@@ -1,5 +1,5 @@
-//! Carrying out: each line of the input is judged, and what it asks for is done by the engine and
-//! said in its reply, or why it is refused.
+//! Carrying out lines: judges each line of the input; then the engine does what the line asks for
+//! and writes the reply, or refuses the line with the reason.
 #![tactic(auto)]
 
 mod auditing;

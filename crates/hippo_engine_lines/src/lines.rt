@@ -1,4 +1,4 @@
-//! Each line of the input is carried out, and has its reply.
+//! Carrying out a line of the input, and writing its reply.
 ghost use Rattle.std.specs.Prelude.{◌≡◌, ◌≢◌, false, IsUtf8, Err, OnOk};
 ghost use Rattle.hippo_io.specs.Faults.{HasRisen};
 ghost use Rattle.hippo_io.specs.LineTexts.{line_text};
@@ -23,7 +23,7 @@ use hippo_stmt_lines::command_of;
 use std::alloc::Global;
 use std::sync::ledger::Ledger;
 
-// By its type the text of a line is UTF-8.
+// The text of a line is UTF-8, by its type.
 fn is_text(text: &str)
     ensures { IsUtf8 text.now }
 {}
@@ -37,7 +37,7 @@ fn has_text(line: &Line<'_>)
     }
 }
 
-// Performs what is to be done for a command.
+// Does the deed that was judged for a command.
 fn perform<P: Keeper, L: Ledger>(
     engine: &mut Engine,
     alloc: Global,
@@ -83,11 +83,11 @@ fn perform<P: Keeper, L: Ledger>(
     Ok(())
 }
 
-/// Carries out a line and makes its reply whole in memory: its command is judged, and what is found
-/// is performed, or the refusal is said. What it adds to the history is kept when the call returns.
-/// Answers `Keeper` only where the keeper's count of faults rose: the engine is then of no more
-/// use. Answers `Damaged` only where the keeper does not tell what it keeps. Each version that is
-/// read counts as a step. The end of the input commands nothing.
+/// Carries out a line and completes its reply in memory: judges the line's command, then does what
+/// was judged, or writes the refusal. What the line adds to the history is stored when the call
+/// returns. Returns `EngineFault::Keeper` only if the keeper's count of faults rose; the engine
+/// must not be used after that. Returns `EngineFault::Damaged` only if the store is not
+/// transparent. Each version that is read counts as a step. The end of the input commands nothing.
 pub fn answer_line<P: Keeper, L: Ledger>(
     engine: &mut Engine,
     alloc: Global,
@@ -108,11 +108,12 @@ pub fn answer_line<P: Keeper, L: Ledger>(
     }
 }
 
-/// Carries out a line, as `answer_line` does, and writes its reply, if it was carried out. Answers
-/// `Write` only where the sink's count of faults rose: a front of the reply is then written.
+/// Carries out a line, as `answer_line` does, and writes its reply if it was carried out. Returns
+/// `EngineFault::Write` only if the sink's count of faults rose; a front part of the reply is then
+/// written.
 ///
-/// Where session 1 is ann's, for `treatment` as a `nurse`, who may see of a patient `pid` and
-/// `name` alone:
+/// As an example, let session 1 be ann's, for `treatment` as a `nurse`, who may see only `pid` and
+/// `name` of a patient:
 ///
 /// ```text
 /// line     1 SELECT name, phone FROM patient

@@ -1,4 +1,4 @@
-//! A question of a session is answered by its engine.
+//! Answering a question of a session.
 ghost use Rattle.std.specs.Prelude.{◌≢◌, ℕ, Err as Bad};
 ghost use Rattle.hippo_engine_world.specs.Holding.{world_of};
 ghost use Rattle.hippo_stmt_lines.specs.Commands.{Command};
@@ -15,9 +15,9 @@ use hippo_engine_sessions::WorldView;
 use hippo_keeper::Keeper;
 use std::alloc::Global;
 
-/// Answers a question of a session, by its rows, by its rows as records or by a cursor over
-/// them: it is kept first, and then answered over the history before it. Answers `Keeper` only
-/// where the keeper failed.
+/// Answers a question of a session by its rows, by its rows as records, or by a cursor over them.
+/// The question is stored first, and then answered over the history before it. Returns
+/// `EngineFault::Keeper` only if the keeper failed.
 pub(crate) fn answer_question<P: Keeper>(
     engine: &mut Engine,
     alloc: Global,

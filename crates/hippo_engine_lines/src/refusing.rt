@@ -1,4 +1,4 @@
-//! Saying why nothing is done for a line.
+//! Replying to a command that is not carried out.
 ghost use Rattle.std.specs.Prelude.{◌≢◌, Err};
 ghost use Rattle.hippo_engine_rules.specs.declared.faults.EngineFault.TheVariants.{Write as WriteFailed};
 ghost use Rattle.hippo_engine_lines.specs.Performing.{SaysUnjudged};
@@ -9,8 +9,8 @@ use hippo_engine_checks::Unjudged;
 use hippo_engine_rules::{EngineFault, refuse, refuse_for_memory};
 use hippo_report::{Refusal, Speaker};
 
-/// Says why nothing is done for a command. Answers `Keeper` only where the keeper failed, and
-/// `Damaged` only where it does not tell what it keeps.
+/// Replies with the reason why a command is not carried out. Returns `EngineFault::Keeper` only if
+/// the keeper failed, and `EngineFault::Damaged` only if the store is not transparent.
 pub(crate) fn refuse_unjudged(
     engine: &mut Engine,
     who: Speaker,

@@ -1,4 +1,4 @@
--- What keeping and answering a question does.
+-- What storing and answering a question does.
 use Rattle.std.specs.Prelude.{◌≡◌, ◌⊎◌, ℕ, nat_lt, length, if◌then◌else◌, List, [], ◌∷◌, ◌++◌, Some, Result, Ok, Err, IfOk, OnOk, OnErr, codes}
 use Rattle.hippo_values.specs.Texts.{Txt}
 use Rattle.hippo_model.specs.declared.entry.Entry.{Entry}
@@ -30,8 +30,8 @@ use Rattle.hippo_engine_rules.specs.declared.faults.EngineFault.TheVariants.{Kee
 use Rattle.hippo_engine_checks.specs.Deeds.{Question}
 use Rattle.hippo_engine_rules.specs.Effects.{row_limit, question_rows, within_limit, lines_and_count}
 
--- what is answered with these rows: the lines that say them, or they themselves for what hands them
--- out; or that they are too many, or want of memory
+-- the answer has these rows, in the form that its delivery needs; or they are too many, or memory
+-- ran out
 abbrev pub IsAnsweredBy : ℕ → Result Answered EvalFault → Delivery → List ShownRow → Type 0
 IsAnsweredBy number (Ok (Lines lines)) delivery rows =
     (delivery ≡ delivered.Rows) × IsSaid row_limit number rows (Ok lines)
@@ -41,12 +41,12 @@ IsAnsweredBy number (Ok (Held cursor answer)) delivery rows =
     (delivery ≡ delivered.Cursor cursor) × IsAnswered row_limit rows (Ok answer)
 IsAnsweredBy number (Err fault) delivery rows = IsAnswered row_limit rows (Err fault)
 
--- what keeping a question and answering it comes to
+-- the result of storing a question and answering it
 abbrev pub KeptAnswer : Type 0
 KeptAnswer = Result (Result Answered EvalFault) KeeperFault
 
--- a question's entry is kept, and the state stands for the history with it behind; the answer is
--- that of before. Or it is not kept, and the state is the same
+-- a question's entry is stored, the state represents the history with it appended, and the answer
+-- is as of before the entry; or storing it fails, and the state is the same
 pub record Asks (entry : Entry) (world : World) (question : Question) (delivery : Delivery)
     (result : KeptAnswer) (old new : State) (before after : KeeperState) : Type 0 where
   pub keeps : KeepsEntry entry result old before after
@@ -56,24 +56,25 @@ pub record Asks (entry : Entry) (world : World) (question : Question) (delivery 
   pub rows : IfOk result (λ answer. (history : History) → StandsFor old history
       → IsAnsweredBy question.session answer delivery (question_rows history world question))
 
--- that memory was short, to a session
+-- the out-of-memory refusal, to a session
 abbrev pub short_line : ℕ → Txt
 short_line session = refusal_line (speaker.Session session) NoMemory
 
--- where a question is not kept, memory was short, or the keeper failed
+-- the result when storing a question fails: the keeper failed, or memory ran out and the reply says
+-- so
 abbrev pub IsUnkept : KeeperFault → ℕ → Result (Unit {0}) EngineFault → Txt → Type 0
 IsUnkept Failed session result reply = result ≡ Err Keeper
 IsUnkept KeeperMemory session result reply = (result ≡ Ok tt) × (reply ≡ short_line session)
 
--- what is said of an answer: its rows, as rows or as records, or the number of the cursor that
--- holds them
+-- the reply of an answer: its rows, as rows or as records, or the number of the cursor that holds
+-- them
 abbrev pub answer_said : ℕ → Delivery → List ShownRow → Txt
 answer_said number delivered.Rows rows = lines_and_count number (answer_line number) rows
 answer_said number delivered.Records rows = lines_and_count number (extract_line number) rows
 answer_said number (delivered.Cursor cursor) rows = number_line number (codes "cursor") cursor
 
--- the world behind it: a cursor of the session holds an answer that has not too many rows, if one
--- is to hold it
+-- the world after it: if a cursor of the session is to hold the answer, it does, unless there are
+-- too many rows
 abbrev pub world_left : World → ℕ → Session → Delivery → List ShownRow → World
 world_left world number session delivered.Rows rows = world
 world_left world number session delivered.Records rows = world
@@ -81,7 +82,7 @@ world_left world number session (delivered.Cursor cursor) rows =
     if nat_lt row_limit (length rows) then world
     else with_session world number (Some (with_cursor session cursor (Some (new_cursor rows))))
 
--- an answer is handed out, and behind it stands what the watches say; or memory was short, and
+-- the reply has the answer, then the watches' alarms; below, it is the out-of-memory refusal, and
 -- nothing changes
 pub record IsHandedOut (number : ℕ) (delivery : Delivery) (rows : List ShownRow)
     (alarms reply : Txt)
@@ -94,14 +95,14 @@ pub record IsShortReply (number : ℕ) (reply : Txt) (old new : World) : Type 0 
   pub said : reply ≡ short_line number
   pub same : new ≡ old
 
--- the same, where memory may have been short for what the watches say
+-- the same, where memory may have run out for the alarms
 abbrev pub HandsOutAnswer : ℕ → Delivery → List ShownRow → Result Txt Memory → Txt → World → World
     → Type 0
 HandsOutAnswer number delivery rows (Ok alarms) reply old new =
     IsHandedOut number delivery rows alarms reply old new ⊎ IsShortReply number reply old new
 HandsOutAnswer number delivery rows (Err fault) reply old new = IsShortReply number reply old new
 
--- the reply to a question, by what the watches say, and by what keeping and answering it came to
+-- the reply to a question, given the alarms and the result of storing and answering it
 abbrev pub Replies :
     ℕ → Delivery → Result Txt Memory → KeptAnswer → Result (Unit {0}) EngineFault → Txt → World
     → World → Type 0

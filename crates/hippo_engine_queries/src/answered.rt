@@ -1,4 +1,4 @@
-//! What a question answers, as it is handed out.
+//! The answer to a question, in the form that its delivery needs.
 ghost use Rattle.hippo_model.specs.Terms.{History};
 ghost use Rattle.hippo_replay.specs.Standing.{StandsFor};
 ghost use Rattle.hippo_engine_world.specs.Holding.{world_of};
@@ -14,8 +14,8 @@ use hippo_model::Answer;
 use hippo_replay::State;
 use std::alloc::Global;
 
-/// What a question answers: the lines that say its rows, its rows where these are to be records, or
-/// those that the cursor with a number is to hold.
+/// The answer to a question: its rows printed as lines, its rows to be printed as records, or the
+/// rows that the cursor with this number will hold.
 #[derive(Drop)]
 pub enum Answered {
     Lines(Lines),
@@ -23,7 +23,8 @@ pub enum Answered {
     Held(u8, Answer),
 }
 
-/// What a question of a session answers as of now.
+/// The answer to a session's question, as of now. Fails when out of memory, or if there are too
+/// many rows.
 pub(crate) fn answer_of(
     alloc: Global,
     state: &State,

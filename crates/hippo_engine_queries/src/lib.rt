@@ -1,4 +1,4 @@
-//! Questions: each is kept before it is answered, and has its reply.
+//! Questions: storing each one before it is answered, and writing its reply.
 #![tactic(auto)]
 
 mod answered;

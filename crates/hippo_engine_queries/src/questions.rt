@@ -1,4 +1,4 @@
-//! Questions: each is kept before it is answered.
+//! Questions: storing each one before it is answered, and writing its reply.
 ghost use Rattle.std.specs.Prelude.{◌≡◌, ◌≢◌, ◌⊎◌, ℕ, ◌+◌, ◌<◌, ◌≤◌, ◌^◌, List, [], ◌∷◌, ◌++◌};
 ghost use Rattle.std.specs.Prelude.{true, Some, Ok as Good, Err as Bad, IfOk, OnOk};
 ghost use Rattle.hippo_model.specs.declared.entry.Act.TheVariants.{Asked};
@@ -54,7 +54,7 @@ fn asked_act(alloc: Global, asker: &Session, text: &str) -> Result<Act, Memory>
     })
 }
 
-// The entry of a question, which comes next.
+// The entry of a question, as the next entry of the history.
 fn entry_of(
     alloc: Global,
     state: &State,
@@ -73,7 +73,7 @@ fn entry_of(
     })
 }
 
-// Takes in the next entry, which takes no memory.
+// Adds the next entry to the state, for an act that takes no memory.
 fn take_in(alloc: Global, state: &mut State, entry: &Entry)
     requires next { IsNext state.old entry.now }
     requires room { takes_no_memory entry.now.act ≡ true }
@@ -92,7 +92,8 @@ struct SessionQuestion<'a> {
     asking: &'a Asking<'a>,
 }
 
-// Keeps a question's entry, answers the question as of before, and takes the entry in.
+// Stores a question's entry, answers the question as of before that entry, and adds the entry to
+// the state.
 fn keep_entry<P: Keeper>(
     alloc: Global,
     keeper: &mut P,
@@ -127,7 +128,9 @@ fn keep_entry<P: Keeper>(
     }
 }
 
-/// Keeps a question of a session behind the other entries, and answers it as of before.
+/// Stores a session's question as the next entry, and answers it as of before that entry. If
+/// storing fails, returns the keeper's fault and leaves the state unchanged. The inner result is
+/// the answer, or a fault if memory ran out or there are too many rows.
 pub fn keep_and_answer<P: Keeper>(
     alloc: Global,
     keeper: &mut P,
@@ -161,7 +164,7 @@ pub fn keep_and_answer<P: Keeper>(
     }
 }
 
-// Adds lines, and how many these are.
+// Appends the lines of the rows, then their number.
 fn append_lines(session: u8, lines: &Lines, reply: &mut Reply) -> Result<(), Memory>
     ensures { (rows : List ShownRow) → AreLinesOf session rows lines.now
         → OnOk result (reply.new ≡ reply.old
@@ -171,7 +174,7 @@ fn append_lines(session: u8, lines: &Lines, reply: &mut Reply) -> Result<(), Mem
     number_line(session, "end", lines.count as u64, reply)
 }
 
-// Adds rows as records, and how many these are.
+// Appends rows as records, then their number.
 fn append_records(
     alloc: Global,
     session: u8,
@@ -185,8 +188,8 @@ fn append_records(
     number_line(session, "end", rows.len() as u64, reply)
 }
 
-// What is said of an answer: its rows, its rows as records, or the number of the cursor that is to
-// hold it.
+// Appends the reply of an answer: its rows, its rows as records, or the number of the cursor that
+// will hold it.
 fn append_answer(
     alloc: Global,
     session: u8,
@@ -204,7 +207,7 @@ fn append_answer(
     }
 }
 
-// Makes the reply of an answer, and of what the watches say behind it.
+// Replaces the reply by that of an answer, followed by the watches' alarms.
 fn print_answer(
     alloc: Global,
     session: u8,
@@ -221,7 +224,8 @@ fn print_answer(
     reply.append(alarms)
 }
 
-// Makes the reply of an answer that has too many rows, and of what the watches say behind it.
+// Replaces the reply by the refusal of an answer with too many rows, followed by the watches'
+// alarms.
 fn print_too_many(session: u8, alarms: &str, reply: &mut Reply) -> Result<(), Memory>
     ensures { OnOk result
         (reply.new ≡ refusal_line (speaker.Session session) TooMany ++ alarms.now) }
@@ -231,7 +235,7 @@ fn print_too_many(session: u8, alarms: &str, reply: &mut Reply) -> Result<(), Me
     reply.append(alarms)
 }
 
-// What follows where a question is not kept.
+// The result when storing a question fails: the keeper's failure, or a reply that memory ran out.
 fn say_unkept(session: u8, fault: KeeperFault, reply: &mut Reply) -> Result<(), EngineFault>
     ensures said { IsUnkept fault session result reply.new }
     ensures unwritten { result ≢ Bad WriteFailed }
@@ -245,7 +249,7 @@ fn say_unkept(session: u8, fault: KeeperFault, reply: &mut Reply) -> Result<(), 
     }
 }
 
-// Lets the cursor that is to hold an answer hold it; takes no memory.
+// Moves an answer to its cursor, if a cursor is to hold it; otherwise frees it. Takes no memory.
 fn keep_answer(session: u8, answer: Answered, world: &mut World)
     ensures left { (delivery : Delivery) (rows : List ShownRow)
         → IsAnsweredBy session (Good answer) delivery rows → (asker : KeptSession)
@@ -260,7 +264,7 @@ fn keep_answer(session: u8, answer: Answered, world: &mut World)
     }
 }
 
-// Hands out an answer that has not too many rows; or says that memory was short.
+// Replies with an answer that does not have too many rows, or that memory ran out.
 fn hand_out_rows(
     alloc: Global,
     session: u8,
@@ -285,7 +289,7 @@ fn hand_out_rows(
     }
 }
 
-// Says that an answer has too many rows; or that memory was short.
+// Replies that an answer has too many rows, or that memory ran out.
 fn say_too_many(session: u8, alarms: &str, reply: &mut Reply)
     ensures { (reply.new ≡ refusal_line (speaker.Session session) TooMany ++ alarms.now)
         ⊎ (reply.new ≡ short_line session) }
@@ -295,8 +299,8 @@ fn say_too_many(session: u8, alarms: &str, reply: &mut Reply)
     }
 }
 
-// Hands out an answer: says its rows, or opens a cursor over them; or says that they are too many,
-// or that memory was short.
+// Replies with an answer's rows, or opens a cursor over them; or replies that they are too many, or
+// that memory ran out.
 fn hand_out_answer(
     alloc: Global,
     session: u8,
@@ -319,7 +323,7 @@ fn hand_out_answer(
     }
 }
 
-// Hands out an answer, with what the watches say.
+// Replies with an answer and the watches' alarms.
 fn hand_out(
     alloc: Global,
     session: u8,
@@ -346,9 +350,9 @@ fn hand_out(
     }
 }
 
-/// The reply to a question, by what the watches say of it, and by what keeping and answering it
-/// came to: its rows, its rows as records, or the number of a cursor that holds them; or that they
-/// are too many, or that memory was short. Answers `Keeper` only where the keeper failed.
+/// Writes the reply to a question, given the watches' alarms and the result of `keep_and_answer`:
+/// its rows, its rows as records, or the number of the cursor that holds them; or that they are too
+/// many, or that memory ran out. Returns `EngineFault::Keeper` only if the keeper failed.
 pub fn reply_to(
     alloc: Global,
     session: u8,

@@ -1,4 +1,4 @@
--- The clock only rises.
+-- The clock never goes back.
 use Rattle.std.proofs.Common.{◌≡◌, ◌∙◌, inl, inr, refl, sym, ap, subst, arith, ℕ, ℤ, Bool, true, false, Option, Some, None, Ok, Err, if◌then◌else◌}
 use Rattle.std.specs.Prelude.{int_le, int_lt, nat_lt, length, ok_or}
 use Rattle.std.proofs.lemmas.Int.{ints}
@@ -25,7 +25,8 @@ use Rattle.hippo_engine_rules.proofs.ShortLemmas.{IsPlain, plain}
 pub int_le-refl : (moment : ℤ) → int_le moment moment ≡ true
 int_le-refl moment = grind (arith, ints)
 
--- a moment that is not before the clock is not before what the clock is not before
+-- if the clock is not before `last`, a moment that is not before the clock is not before `last`
+-- either
 later : (last clock moment : ℤ) → int_le last clock ≡ true → int_lt moment clock ≡ false → int_le last moment ≡ true
 later last clock moment timely not_before = grind (arith, ints)
 
@@ -33,7 +34,7 @@ pub either_clock : (test : Bool) (world other : World) → other.clock ≡ world
 either_clock true world other same = refl
 either_clock false world other same = same
 
--- what is done leaves the clock, but where it is set
+-- what is done leaves the clock unchanged, unless it sets it
 done_clock : (history : History) (world : World) (deed : Deed) → IsPlain (Ok deed) → (deed_effect history world deed).world.clock ≡ world.clock
 done_clock history world (deeds.set_clock moment) none = absurd none
 done_clock history world (deeds.step_job number job count) none = absurd none
@@ -71,7 +72,7 @@ short_clock history world reply (Ok (deeds.extract question)) effect is = ap (λ
 short_clock history world reply (Ok (deeds.step_job number job count)) effect is = ap (λ (e : Effect). e.world.clock) is.is
 short_clock history world reply judgement effect is = ap (λ (e : Effect). e.world.clock) is
 
--- whatever a command does, the clock is not before what it was not before
+-- if the clock is not before a moment, a command keeps it so
 pub clock_rises : (history : History) (world : World) (command : Command) (effect : Effect) (last : Moment) → IsEffect history world command effect → int_le last world.clock ≡ true
     → int_le last effect.world.clock ≡ true
 clock_rises history world command effect last (inl is) timely =

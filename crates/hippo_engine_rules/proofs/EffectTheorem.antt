@@ -1,4 +1,4 @@
--- What lines leave: nothing where they are refused, and else at most the next entry.
+-- What lines change: nothing if they are refused, and otherwise at most the next entry is added.
 use Rattle.std.proofs.Common.{◌≡◌, inl, inr, Ok, Err, refl}
 use Rattle.hippo_model.specs.Terms.{History}
 use Rattle.hippo_engine_sessions.specs.Worlds.{World}

@@ -1,4 +1,4 @@
--- The lines of a small clinic, and what runs of commands reply.
+-- The lines of a small clinic, and the replies to runs of commands.
 use Rattle.std.proofs.Common.{ℕ, pos, true, false, List, [], ◌∷◌, ◌++◌, map, Some, None, codes}
 use Rattle.hippo_values.specs.Texts.{Txt}
 use Rattle.hippo_values.specs.Moments.{first_moment}
@@ -45,7 +45,7 @@ replies [] history world = []
 replies (command ∷ commands) history world =
     with_reply history (replies commands) (effect_of history world command)
 
--- the replies of a run whose history may have so many entries
+-- the replies to a run whose history may have this many entries
 abbrev pub run_within : ℕ → List Command → List Txt
 run_within limit commands = replies commands [] (opening first_moment limit formats.Text)
 
@@ -69,7 +69,7 @@ no refusal = refusal_line (Session 1) refusal
 abbrev pub console_no : Refusal → Txt
 console_no refusal = refusal_line Console refusal
 
--- a statement of the console, and one of a session with its whole text
+-- a statement of the console, and below, one of a session with its whole text
 abbrev pub console : Stmt → Command
 console statement = make_statement Console statement []
 
@@ -127,7 +127,7 @@ patients = record {
 abbrev pub entry : ℕ → Act → Entry
 entry number act = record { seq = number; moment = pos 1704182400; act = act }
 
--- what a morning leaves: seven entries, and an open session
+-- the result of a morning: seven entries, and an open session
 abbrev pub clinic : History
 clinic =
     entry 1 (acts.Create patients) ∷ entry 2 (acts.Purpose treatment) ∷ entry 3 (acts.Recipient nurse)
@@ -142,18 +142,18 @@ abbrev pub world_within : ℕ → World
 world_within limit =
     with_session (opening (pos 1704182400) limit formats.Text) 1 (Some (new_session (codes "ann") nurses_pair))
 
--- what a command gets in reply, and what world it leaves
+-- the reply to a command, and below, the world after it
 abbrev pub reply_in : World → History → Command → Txt
 reply_in world history command = (effect_of history world command).reply
 
 abbrev pub world_left : World → History → Command → World
 world_left world history command = (effect_of history world command).world
 
--- the reply to a command after a morning and some entries more
+-- the reply to a command after a morning and some more entries
 abbrev pub reply_after : History → Command → Txt
 reply_after more command = reply_in (world_within 4000000) (clinic ++ more) command
 
--- the history and the world that commands leave
+-- the history and the world after commands
 abbrev left_by : History → (History → World → History × World) → Effect → History × World
 left_by history later effect = later (history ++ effect.added) effect.world
 
@@ -161,7 +161,7 @@ abbrev pub left : List Command → History → World → History × World
 left [] history world = (history, world)
 left (command ∷ commands) history world = left_by history (left commands) (effect_of history world command)
 
--- a question of session 1; its text is not looked at here
+-- a question of session 1; its text does not matter here
 abbrev pub question : RawSelect → Command
 question selected = make_statement (Session 1) (Select selected 0 6) (codes "SELECT")
 
@@ -174,7 +174,8 @@ all_rows names = record {
   form = Plain;
 }
 
--- the question for some columns of all patients, and its rows after a morning and some entries more
+-- the question for some columns of all patients, and below, its rows after a morning and some more
+-- entries
 abbrev pub asked_for : List ℕ → Question
 asked_for places = record {
   session = 1;

@@ -1,4 +1,4 @@
--- What holds of each refusal and of what is done, holds of whatever is judged, check by check.
+-- A property of each refusal and of each deed holds for whatever is judged, check by check.
 use Rattle.std.proofs.Common.{Option, Ok, Err, List}
 use Rattle.std.specs.Prelude.{ℕ, ok_or}
 use Rattle.hippo_model.specs.declared.audit.Pair.{Pair}

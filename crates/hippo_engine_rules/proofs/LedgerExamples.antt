@@ -59,11 +59,11 @@ module _ (audit : RawAudit) where
   three_audits_read_all_four_times_at_most : 9 ≤ 0 + 3 * (1 + 3)
   three_audits_read_all_four_times_at_most = RunSum-end 0 9 3 3 (both_jobs None (has_taken 2 true)) dropped_it_is_over
 
--- how many steps the job at a number has taken
+-- the number of steps that the job at a number has taken
 abbrev taken_at : ℕ → List (Option JobTally) → ℕ
 taken_at number jobs = option_map_or (λ tally. tally.taken) (at_number jobs number) 0
 
--- what a line does at one number is said of no other: two jobs never change places
+-- an effect of a line at one number holds at no other: two jobs never change places
 no_two_jobs_change_places : Tallies (make_request Console (steps 1 5)) [] 3 0 0 (both_jobs (has_taken 1 true) (has_taken 2 true)) (both_jobs (has_taken 2 true) (has_taken 1 true)) → ⊥
 no_two_jobs_change_places (none_taken same kept) = omega (arith, ap (taken_at 1) kept)
 no_two_jobs_change_places (at_once looks few kept) = absurd cc

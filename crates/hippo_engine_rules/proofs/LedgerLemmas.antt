@@ -1,4 +1,4 @@
--- The sum of a run's steps: at its beginning, one line more, and what it comes to.
+-- The sum of a run's steps: at its beginning, after one more line, and at its end.
 use Rattle.std.proofs.Common.{◌≡◌, ◌≤◌, ◌∙◌, ℕ, zero, suc, ◌+◌, ◌*◌, Bool, true, false, ◌||◌, if◌then◌else◌, List, [], ◌∷◌, ◌++◌, length, sum, All, Option, Some, None, refl, sym, ap, subst, arith, length-append}
 use Rattle.std.specs.Prelude.{option_map}
 use Rattle.std.proofs.Math.Nat.{mul-add, mul_comm, mul-le-mul_right}
@@ -12,7 +12,7 @@ use Rattle.hippo_engine_sessions.specs.Worlds.{with_at, none_held}
 use Rattle.hippo_engine_sessions.proofs.HeldLemmas.{StandsAt, held_stands, free_stands}
 use Rattle.hippo_engine_rules.specs.Ledgers.{looks_back, begins_job, stepped_job, dropped_job, audits_of, first_tally, Tallies, none_taken, at_once, job_begun, job_stepped, job_dropped, taken_by_each, RunSum}
 
--- a command that looks back is an audit
+-- a command that reads the whole history is an audit
 looks_once : (looks begins : Bool) → looks ≡ true → ◌≡◌ {A = ℕ} (if looks || begins then 1 else 0) 1
 looks_once true begins looks = refl
 looks_once false begins looks = absurd (false≢true looks)
@@ -36,7 +36,7 @@ module _ (jobs : List (Option JobTally)) (number : ℕ) (held : Option JobTally)
   abbrev taken_by : Option JobTally → Option ℕ
   taken_by held = option_map (λ tally. tally.taken) held
 
-  -- what the jobs before a number have taken, the one there, and those behind it
+  -- the steps of the jobs before a number, of the job at it, and of those after it
   taken-parted : taken_by_each jobs ≡ taken_by_each there.front ++ taken_by_each (held ∷ there.remaining)
   taken-parted = ap taken_by_each there.whole ∙ filter_map-append taken_by there.front (held ∷ there.remaining)
 
@@ -44,12 +44,12 @@ module _ (jobs : List (Option JobTally)) (number : ℕ) (held : Option JobTally)
       → taken_by_each jobs' ≡ taken_by_each there.front ++ taken_by_each (other ∷ there.remaining)
   taken-put jobs' other put = ap taken_by_each (put ∙ there.put other) ∙ filter_map-append taken_by there.front (other ∷ there.remaining)
 
--- nothing is taken where there is no job
+-- no steps are taken without jobs
 none_taken_by : (count : ℕ) → taken_by_each (none_held count) ≡ []
 none_taken_by zero = refl
 none_taken_by (suc count) = none_taken_by count
 
--- what holds of all members holds of a front and of the rest
+-- a property of all members holds for a front and for the rest
 parts_of : (P : ℕ → Type 0) (front rest : List ℕ) → All P (front ++ rest) → All P front × All P rest
 parts_of P [] rest all = (All-nil P, all)
 parts_of P (first ∷ front) rest all =
@@ -78,7 +78,7 @@ module _ (start steps steps' versions versions' audits : ℕ) (jobs jobs' : List
   within_more : All Within taken
   within_more = All-weaker (λ count. count ≤ versions) Within (λ count within. omega (arith, within, more)) taken so_far.each
 
-  -- audits, some of which may be over at once, that take so many steps
+  -- audits, some of which may be over at once, that take this many steps
   summed : (asked counted over : ℕ) → over + length taken' ≡ so_far.over + asked + length taken
       → steps' ≤ start + versions' + versions' * over + sum taken' → asked ≡ counted → All Within taken'
       → RunSum start steps' versions' (audits + counted) jobs'
@@ -146,7 +146,7 @@ module _ (start steps steps' versions versions' audits : ℕ) (jobs jobs' : List
           (subst (λ (l : List ℕ). All Within l) (sym after)
           (All-append Within front rest parts.0 (All-tail Within had rest parts.1)))
 
--- one line more, and the history may be longer after it
+-- one more line, after which the history may be longer
 pub RunSum-line : (command : Command) (reply : Txt) (start steps steps' versions versions' audits : ℕ) (jobs jobs' : List (Option JobTally)) → versions ≤ versions'
     → RunSum start steps versions audits jobs → Tallies command reply versions steps steps' jobs jobs'
     → RunSum start steps' versions' (audits + audits_of command) jobs'
@@ -179,7 +179,7 @@ RunSum-start start steps versions count loaded = record {
   each = subst (λ (taken : List ℕ). All (λ one. one ≤ versions) taken) (sym (none_taken_by count)) (All-nil (λ one. one ≤ versions));
 }
 
--- a run reads the history that is kept once, and once for each audit that was asked for
+-- a run reads the history that is kept once, and once more for each audit that was asked for
 pub RunSum-end : (start steps versions audits : ℕ) (jobs : List (Option JobTally)) → RunSum start steps versions audits jobs → steps ≤ start + versions * (1 + audits)
 RunSum-end start steps versions audits jobs so_far =
     let taken : List ℕ = taken_by_each jobs in

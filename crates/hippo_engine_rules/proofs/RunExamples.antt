@@ -1,4 +1,4 @@
--- Runs of a small clinic, computed. Each example is named by what it shows.
+-- Runs of a small clinic, computed. Each example's name says what it shows.
 use Rattle.csv.proofs.OnLiterals.{csv_on_literals}
 use Rattle.std.proofs.Common.{◌≡◌, pos, List, [], ◌∷◌, ◌++◌, Some, None, Ok, refl, codes}
 use Rattle.hippo_values.specs.Moments.{first_moment}
@@ -35,7 +35,7 @@ a_morning_leaves_entries_and_a_session :
     left morning [] (opening first_moment 4000000 formats.Text) ≡ (clinic, world_within 4000000)
 a_morning_leaves_entries_and_a_session = refl
 
--- SELECT name, phone FROM patient is to be answered, and means the columns 1 and 2
+-- SELECT name, phone FROM patient is answered, and means the columns 1 and 2
 names_and_phones_are_asked_for :
     judged clinic (world_within 4000000) (question (all_rows (codes "name" ∷ codes "phone" ∷ [])))
     ≡ Ok (deeds.answer_question (asked_for (1 ∷ 2 ∷ [])))
@@ -54,17 +54,17 @@ phones_revoked =
 denied_by_a_revocation : rows_after phones_revoked (2 ∷ []) ≡ (Denied 9 ∷ []) ∷ (Denied 9 ∷ []) ∷ []
 denied_by_a_revocation = simp truths
 
--- a row whose key is forbidden is gone
+-- a row with a forbidden key is dropped
 forbidden_keys_take_their_rows : rows_after (entry 8 (acts.Revoke treatment nurse patient (0 ∷ [])) ∷ []) (1 ∷ []) ≡ []
 forbidden_keys_take_their_rows = refl
 
--- the reply to a question is the rows and their number
+-- the reply to a question has the rows and their number
 the_rows_and_their_number :
     (question_effect clinic (world_within 4000000) (asked_for (1 ∷ [])) (rows ((text (codes "Ada") ∷ []) ∷ [])) (world_within 4000000)).reply
     ≡ (answer_line 1 (text (codes "Ada") ∷ []) ++ []) ++ number_line 1 (codes "end") 1 ++ []
 the_rows_and_their_number = refl
 
--- an opened cursor hands out its rows, as many as are asked for
+-- an opened cursor returns up to as many rows as are asked for
 abbrev two_rows : Cursor
 two_rows = record {
   answer = (Shown (Int (pos 1)) ∷ text (codes "Ada") ∷ []) ∷ (Shown (Int (pos 2)) ∷ text (codes "Bob") ∷ []) ∷ [];
@@ -92,7 +92,7 @@ closed_cursors_hand_out_nothing :
     reply_in (world_left with_two_rows clinic (make_request (Session 1) (closes 1))) clinic (make_request (Session 1) (fetches 1 1)) ≡ no (NoCursor 1)
 closed_cursors_hand_out_nothing = refl
 
--- a user who is no longer authorized is refused, and the entry that says so is named
+-- a user who is no longer authorized is refused, and the refusal names the entry that revoked it
 revoked_users_are_refused :
     reply_after (entry 8 (acts.Deauthorize (codes "ann") treatment nurse) ∷ []) (question (all_rows (codes "name" ∷ [])))
     ≡ no (NotAuthorized 8)
@@ -103,7 +103,7 @@ full_histories_take_no_row :
     reply_in (world_within 7) clinic (console (Insert patient (Int (pos 3) ∷ Null ∷ Null ∷ Null ∷ []))) ≡ console_no HistoryFull
 full_histories_take_no_row = refl
 
--- a key that is there is refused before the history is full, and the entry that names it is told
+-- a key that exists is refused even in a full history, and the refusal names the key's entry
 taken_keys_name_their_entry :
     reply_in (world_within 7) clinic (console (Insert patient (Int (pos 1) ∷ Null ∷ Null ∷ Null ∷ []))) ≡ console_no (KeyThere 6)
 taken_keys_name_their_entry = refl
@@ -140,7 +140,8 @@ names_are_to_be_extracted :
     ≡ Ok (deeds.extract (asked_for (1 ∷ [])))
 names_are_to_be_extracted = simp folded_conditions
 
--- a record is loaded as a row; else its number of fields comes first, then their forms, and then what its INSERT is refused for
+-- a record is loaded as a row; otherwise its number of fields is checked first, then their forms,
+-- and then its INSERT
 records_are_inserted : reply_after [] (make_request Console (loads patient (codes "3,\"O'Hara, Pat\",,7"))) ≡ ok 8
 unfolding csv_on_literals
 records_are_inserted = refl
@@ -173,7 +174,7 @@ jobs_that_did_not_begin_are_not_stepped = refl
 jobs_that_did_not_begin_are_not_dropped : reply_after [] (make_request Console (drops 8)) ≡ console_no (NoJob 8)
 jobs_that_did_not_begin_are_not_dropped = refl
 
--- watches are the console's
+-- only the console has watches
 a_session_ends_no_watch : reply_after [] (make_request (Session 1) (unwatches 1)) ≡ no ConsoleOnly
 a_session_ends_no_watch = refl
 

@@ -1,4 +1,4 @@
--- What a run comes to with one more effect.
+-- The result of a run with one more effect.
 use Rattle.std.proofs.Common.{◌≡◌, List, [], ◌∷◌, ◌++◌, flat_map, refl, ap, sym, ◌∙◌, append_assoc, append-nil}
 use Rattle.hippo_model.specs.Terms.{History}
 use Rattle.hippo_engine_sessions.specs.Worlds.{World}

@@ -1,4 +1,4 @@
--- A line that takes memory may be answered by want of it.
+-- A line that takes memory may be refused because memory ran out.
 use Rattle.std.proofs.Common.{◌≡◌, Bool, inl, inr, refl, ap, sym, true, false, Ok, Err}
 use Rattle.std.specs.Prelude.{ℕ, ok_or}
 use Rattle.std.proofs.lemmas.Bool.{false≢true}
@@ -66,7 +66,7 @@ dropped world who at =
     check IsPlain plain_refused {A = Unit {0}} (by_console who) (λ console. ok_or (at_number world.jobs at) (NoJob at) >>= λ job. Ok (deeds.drop_job at))
     (λ console. check IsPlain plain_refused {A = OpenAudit} (ok_or (at_number world.jobs at) (NoJob at)) (λ job. Ok (deeds.drop_job at)) (λ job. tt))
 
--- what is done for any other command
+-- the deed of any other command
 pub plain : (history : History) (world : World) (command : Command) → is_plain command ≡ true → IsPlain (judged history world command)
 plain history world nothing other = tt
 plain history world (wrong who refusal) other = tt
@@ -106,7 +106,7 @@ short_of history world reply (Ok (deeds.extract question)) none = record { said 
 short_of history world reply (Ok (deeds.step_job number job count)) none = absurd none
 short_of history world reply judgement none = refl
 
--- what may do nothing takes memory
+-- a command that may do nothing takes memory
 pub takes_some : (command : Command) → may_do_nothing command ≡ true → takes_memory command ≡ true
 takes_some (make_request session (steps job count)) takes = absurd (false≢true takes)
 takes_some command takes = takes
@@ -116,19 +116,20 @@ takes_plain (commands.set_clock moment) takes = absurd (false≢true takes)
 takes_plain (make_request session (steps job count)) takes = absurd (false≢true takes)
 takes_plain command takes = refl
 
--- a command that takes memory, and is no step, may be answered by want of it, and nothing changes
+-- a command that takes memory, and is no step, may be refused because memory ran out, and nothing
+-- changes
 pub short : (history : History) (world : World) (command : Command) → may_do_nothing command ≡ true
     → IsEffect history world command (only_reply world (refusal_line (who_commands command) Memory))
 short history world command takes =
     inr (takes_some command takes, short_of history world (refusal_line (who_commands command) Memory) (judged history world command) (plain history world command (takes_plain command takes)))
 
--- a command that is refused is answered by its refusal, and nothing changes
+-- a command that is refused has its refusal as reply, and nothing changes
 pub refused : (history : History) (world : World) (command : Command) (refusal : Refusal) → judged history world command ≡ Err refusal
     → IsEffect history world command (only_reply world (refusal_line (who_commands command) refusal))
 refused history world command refusal is =
     inl (sym (ap (λ (judgement : Checked Deed). judgement_effect history world (who_commands command) judgement) is))
 
--- a command that is judged to be carried out has what is done as its effect
+-- a command that is judged to be carried out has its deed's effect
 pub done_for : (history : History) (world : World) (command : Command) (deed : Deed) → judged history world command ≡ Ok deed
     → effect_of history world command ≡ judgement_effect history world (who_commands command) (Ok deed)
 done_for history world command deed is = ap (λ (judgement : Checked Deed). judgement_effect history world (who_commands command) judgement) is

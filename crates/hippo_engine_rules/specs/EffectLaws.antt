@@ -1,4 +1,4 @@
--- What holds of the effects of lines.
+-- Laws of the effects of lines.
 use Rattle.std.specs.Prelude.{◌≡◌, ◌⊎◌, [], ◌∷◌, Err}
 use Rattle.hippo_model.specs.declared.entry.Act.{Act}
 use Rattle.hippo_model.specs.Terms.{History}
@@ -9,7 +9,7 @@ use Rattle.hippo_engine_checks.specs.Judging.{judged}
 use Rattle.hippo_engine_checks.specs.Deeds.{next_entry}
 use Rattle.hippo_engine_rules.specs.Effects.{Effect, effect_of}
 
--- an effect leaves history and world as they were
+-- an effect leaves the history and the world unchanged
 pub record ChangesNothing (world : World) (effect : Effect) : Type 0 where
   pub added : effect.added ≡ []
   pub world_is : effect.world ≡ world
@@ -21,12 +21,12 @@ RefusalsChangeNothing =
     → judged history world command ≡ Err refusal
     → ChangesNothing world (effect_of history world command)
 
--- an effect adds nothing, or an act as the next entry, at the clock's moment
+-- an effect adds nothing, or adds an act as the next entry, at the clock's moment
 abbrev pub AddsNext : History → World → Effect → Type 0
 AddsNext history world effect =
     (effect.added ≡ []) ⊎ ((act : Act) × (effect.added ≡ next_entry history world act ∷ []))
 
--- a line adds at most one entry, and that is the next one
+-- a line adds at most one entry, and it is the next one
 abbrev pub LinesAddTheNextEntry : Type 0
 LinesAddTheNextEntry =
     (history : History) (world : World) (command : Command)

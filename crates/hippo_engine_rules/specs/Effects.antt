@@ -1,4 +1,4 @@
--- What is done for a line: its reply, the entries that it adds, and the world after it.
+-- The effect of a line: its reply, the entries that it adds, and the world after it.
 use Rattle.std.specs.Prelude.{◌≡◌, ◌⊎◌, ◌≤◌, ℕ, ◌+◌, true, nat_lt, List, [], ◌∷◌, ◌++◌, flat_map, length, Option, Some, None, Ok, Err, if◌then◌else◌, codes}
 use Rattle.std.specs.List.{enumerate_from}
 use Rattle.std.specs.Option.{option_map_or}
@@ -32,7 +32,7 @@ use Rattle.hippo_engine_checks.specs.Deeds as deeds
 use Rattle.hippo_engine_checks.specs.Checks.{Checked}
 use Rattle.hippo_engine_checks.specs.Judging.{judged}
 
--- what a line leaves: its reply, the entries that it adds to the history, and the world after it
+-- the effect of a line: its reply, the entries that it adds to the history, and the world after it
 pub record Effect : Type 0 where
   pub reply : Txt
   pub added : List Entry
@@ -42,16 +42,16 @@ pub record Effect : Type 0 where
 abbrev pub row_limit : ℕ
 row_limit = 100000
 
--- a reply alone
+-- the effect of a reply, without any change
 abbrev pub only_reply : World → Txt → Effect
 only_reply world reply = record { reply = reply; added = []; world = world }
 
--- a line for each member, and how many there are
+-- a line for each member, then the number of members
 abbrev pub lines_and_count : {A : Type 0} → ℕ → (A → Txt) → List A → Txt
 lines_and_count number line members =
     flat_map line members ++ number_line number (codes "end") (length members)
 
--- what a question's answer is, as of now
+-- the answer to a question, as of now
 abbrev pub question_rows : History → World → Question → List ShownRow
 question_rows history world question =
     let context : Context =
@@ -62,34 +62,34 @@ question_rows history world question =
     } in
     answer history context question.query
 
--- a reply with the rows, unless there are too many
+-- a reply with the rows, or a refusal if there are more than `row_limit`
 abbrev pub within_limit : ℕ → List ShownRow → Txt → Txt
 within_limit number rows reply =
     if nat_lt row_limit (length rows) then refusal_line (speaker.Session number) TooManyRows
     else reply
 
--- what a watch says of an entry, where its audit flags it
+-- the alarm of a watch for an entry, if its audit flags the entry
 abbrev pub alarm_line : History → Entry → ℕ → Audit → Txt
 alarm_line history entry number audit =
     option_map_or (alarm_text number entry.seq) (shared_tuple meaning history audit entry) []
 
--- what watches that are numbered from here on say of an entry
+-- the alarms for an entry of watches that are numbered from here on
 abbrev pub alarms_from : History → Entry → ℕ → List (Option Audit) → Txt
 alarms_from history entry number watches =
     flat_map (λ (at, held). option_map_or (alarm_line history entry at) held [])
     (enumerate_from number watches)
 
--- what the watches say of an entry, in the order of their numbers
+-- the alarms of all watches for an entry, in the order of their numbers
 abbrev pub alarms : History → World → Entry → Txt
 alarms history world entry = alarms_from history entry 1 world.watches
 
--- a question is logged; its reply is followed by what the watches say of it
+-- the question is logged, and its reply is followed by the watches' alarms for it
 abbrev pub question_effect : History → World → Question → Txt → World → Effect
 question_effect history world question reply after =
     let entry : Entry = next_entry history world (question_act question) in
     record { reply = reply ++ alarms history world entry; added = entry ∷ []; world = after }
 
--- the answer's rows, each as a line
+-- the effect of a question whose reply has a line for each row of the answer
 abbrev pub answer_effect : History → World → Question → (ℕ → ShownRow → Txt) → Effect
 answer_effect history world question line =
     let number : ℕ = question.session in
@@ -97,7 +97,8 @@ answer_effect history world question line =
     question_effect history world question
     (within_limit number rows (lines_and_count number (line number) rows)) world
 
--- the answer is kept, and handed out from its first row on
+-- the world with a cursor that keeps the answer, before its first row; unchanged if there are too
+-- many rows
 abbrev pub world_with_cursor : World → Session → ℕ → Question → List ShownRow → World
 world_with_cursor world session number question rows =
     if nat_lt row_limit (length rows) then world
@@ -111,7 +112,7 @@ open_effect history world session number question =
     question_effect history world question (within_limit question.session rows said)
     (world_with_cursor world session number question rows)
 
--- how many rows were handed out, while there are more; else how many there are
+-- the number of rows that were fetched, if there are more; otherwise the number of all rows
 abbrev pub handed_line : ℕ → Cursor → Txt
 handed_line number cursor =
     if nat_lt cursor.given (length cursor.answer)
@@ -129,23 +130,24 @@ fetch_effect world number session at cursor count = record {
 abbrev pub flag_lines : World → List Flag → Txt
 flag_lines world flags = flat_map (flag_line world.format) flags
 
--- all flags of the history, and how many there are
+-- the reply has all flags of the history, then their number
 abbrev pub audit_effect : History → World → Audit → Effect
 audit_effect history world audit =
     only_reply world (lines_and_count 0 (flag_line world.format)
     (flags_between meaning history audit 0 (length history)))
 
--- a job that has looked up to a number, with the flags that wait
+-- a job that has looked at the entries up to a number, with these waiting flags
 abbrev pub job_up_to : OpenAudit → ℕ → List Flag → OpenAudit
 job_up_to job upto waiting = record job { place = upto; waiting = waiting }
 
--- how far a job is, while numbers are left; else how many flags it has
+-- the number that the job has looked up to, if more entries are left; otherwise the number of its
+-- flags
 abbrev pub step_line : History → OpenAudit → ℕ → Txt
 step_line history job upto =
     if nat_lt upto job.length then number_line 0 (codes "part") upto
     else number_line 0 (codes "end") (length (flags_between meaning history job.audit 0 job.length))
 
--- the flags that a step writes: those that wait, and those that it finds
+-- the flags that a step writes: those that wait, then those that it finds
 abbrev pub step_flags : History → OpenAudit → ℕ → List Flag
 step_flags history job upto = job.waiting ++ flags_between meaning history job.audit job.place upto
 
@@ -164,7 +166,7 @@ job_step_effect history world number job count =
       world = with_job world number (Some (job_up_to job upto []));
     }
 
--- the cells that were denied to a question, at its own time
+-- the line of a cell that was denied to a question at the question's time
 abbrev pub denial_line : Denial → Txt
 denial_line denial = denied_line denial.table denial.key denial.column denial.rule
 
@@ -180,7 +182,7 @@ abbrev pub new_open_audit : History → Audit → OpenAudit
 new_open_audit history audit =
     record { audit = audit; length = length history; place = 0; waiting = [] }
 
--- what is done
+-- the effect of a deed
 abbrev pub deed_effect : History → World → Deed → Effect
 deed_effect history world deeds.do_nothing = only_reply world []
 deed_effect history world (deeds.set_clock moment) =
@@ -220,17 +222,17 @@ deed_effect history world (deeds.begin_audit number audit) =
 deed_effect history world (deeds.watch number audit) =
     only_reply (with_watch world number (Some audit)) (number_line 0 (codes "watch") number)
 
--- a refusal changes nothing
+-- the effect of a checked command: that of its deed, or a refusal, which changes nothing
 abbrev pub judgement_effect : History → World → Speaker → Checked Deed → Effect
 judgement_effect history world who (Ok deed) = deed_effect history world deed
 judgement_effect history world who (Err refusal) = only_reply world (refusal_line who refusal)
 
--- what the rules make of a command
+-- the effect that the rules give a command
 abbrev pub effect_of : History → World → Command → Effect
 effect_of history world command =
     judgement_effect history world (who_commands command) (judged history world command)
 
--- a reply that says that memory was short, and the entry of a question is there or not
+-- the reply is the out-of-memory refusal; the question's entry may or may not be added
 pub record IsShortAnswer (history : History) (world : World) (reply : Txt) (question : Question)
     (effect : Effect) : Type 0 where
   pub said : effect.reply ≡ reply
@@ -238,7 +240,7 @@ pub record IsShortAnswer (history : History) (world : World) (reply : Txt) (ques
       ≡ next_entry history world (question_act question) ∷ [])
   pub same : effect.world ≡ world
 
--- a reply that says that memory was short, and the job stands at some number up to the step's end
+-- the reply is the out-of-memory refusal; the job has looked up to some number within the step
 pub record IsShortStep (history : History) (world : World) (reply : Txt) (number : ℕ)
     (job : OpenAudit) (count : ℕ)
     (effect : Effect) : Type 0 where
@@ -248,7 +250,7 @@ pub record IsShortStep (history : History) (world : World) (reply : Txt) (number
   pub is : effect ≡ only_reply (with_job world number
       (Some (job_up_to job upto (step_flags history job upto)))) reply
 
--- what may stand in the place of what is done, where memory is short
+-- the effects that a line may have instead when memory ran out
 abbrev pub IsShort : History → World → Txt → Checked Deed → Effect → Type 0
 IsShort history world reply (Ok (deeds.answer_question question)) effect =
     IsShortAnswer history world reply question effect
@@ -260,14 +262,14 @@ IsShort history world reply (Ok (deeds.step_job number job count)) effect =
     IsShortStep history world reply number job count effect
 IsShort history world reply judgement effect = effect ≡ only_reply world reply
 
--- a line may be answered by want of memory, unless it takes none
+-- a line may be refused because memory ran out, unless it takes no memory
 abbrev pub IsMemoryEffect : History → World → Command → Effect → Type 0
 IsMemoryEffect history world command effect =
     (takes_memory command ≡ true)
     × IsShort history world (refusal_line (who_commands command) Memory)
     (judged history world command) effect
 
--- the effect of a command is what the rules make of it, or want of memory
+-- the effect of a command is the one that the rules give, or that of being out of memory
 abbrev pub IsEffect : History → World → Command → Effect → Type 0
 IsEffect history world command effect =
     (effect ≡ effect_of history world command) ⊎ IsMemoryEffect history world command effect

@@ -9,7 +9,7 @@ use Rattle.hippo_stmt_lines.specs.Commands.{command_of}
 use Rattle.hippo_engine_rules.specs.Effects.{Effect, IsEffect}
 use Rattle.hippo_engine_rules.specs.Ledgers.{audits_of}
 
--- each line has its effect
+-- each line has its effect, in the history and world after the lines before it
 abbrev pub IsRun : History → World → List LineText → List Effect → Type 0
 IsRun history world [] [] = Unit {0}
 IsRun history world (line ∷ lines) (effect ∷ effects) =
@@ -18,15 +18,15 @@ IsRun history world (line ∷ lines) (effect ∷ effects) =
 IsRun history world [] (effect ∷ effects) = ⊥
 IsRun history world (line ∷ lines) [] = ⊥
 
--- how many audits the lines ask for
+-- the number of audits that the lines ask for
 abbrev pub audits_in : List LineText → ℕ
 audits_in lines = sum_by (λ line. audits_of (command_of line)) lines
 
--- the replies, one after the other
+-- the concatenated replies
 abbrev pub replies : List Effect → Txt
 replies effects = flat_map (λ effect. effect.reply) effects
 
--- the history after the effects, and the world
+-- the history after the effects, and below, the world after them
 abbrev pub history_after : History → List Effect → History
 history_after history effects = history ++ flat_map (λ effect. effect.added) effects
 

@@ -1,5 +1,5 @@
-//! What each line of the input does: the effects and the runs as definitions, in `specs/`, with
-//! worked examples, and laws on them; and the replies for which there is always room.
+//! What each line of the input does: effects and runs as definitions in `specs/`, with worked
+//! examples, and laws of them; and replies, with reserved memory for the short ones.
 #![tactic(auto)]
 
 mod faults;

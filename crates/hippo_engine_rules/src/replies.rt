@@ -1,4 +1,4 @@
-//! Replies that are made anew, in a text that has room for them.
+//! Replies, written into a text with reserved memory.
 ghost use Rattle.std.specs.Prelude.{◌≡◌, ◌⊎◌, ◌<◌, ◌≤◌, ℕ, length};
 ghost use Rattle.hippo_report.specs.declared.refusal.Refusal.TheVariants.{Memory as NoMemory};
 ghost use Rattle.hippo_report.specs.Notices.{done_line, number_line};
@@ -9,11 +9,11 @@ ghost use Rattle.hippo_engine_checks.specs.Checks.{reply_room};
 use hippo_report::{Refusal, Speaker, done_line, number_line, refusal_line};
 use hippo_values::RoomyTxt;
 
-/// How many bytes of a reply there is always room for: each reply that must not want memory is
-/// shorter.
+/// The number of bytes that are reserved for a reply. Every reply that must not run out of memory
+/// is shorter.
 pub const REPLY_ROOM: usize = 64;
 
-/// What a line is replied, in memory that has room for the replies that must not want memory.
+/// The reply to a line, with reserved memory for the replies that must not run out of memory.
 pub type Reply = RoomyTxt<REPLY_ROOM>;
 
 fn session_fits(number: u8)
@@ -22,7 +22,7 @@ fn session_fits(number: u8)
     let _number = number;
 }
 
-// By its type a session's number is a byte.
+// The number of a session is a byte, by its type.
 fn speaker_fits(who: Speaker)
     ensures { (number : ℕ) → who ≡ Session number → number < 256 }
 {
@@ -31,7 +31,7 @@ fn speaker_fits(who: Speaker)
     }
 }
 
-/// Makes the reply to a line for which memory was short. Takes none itself.
+/// Replaces the reply by the out-of-memory refusal. Takes no memory.
 pub fn refuse_for_memory(who: Speaker, reply: &mut Reply)
     ensures { reply.new ≡ refusal_line who NoMemory }
 {
@@ -42,8 +42,8 @@ pub fn refuse_for_memory(who: Speaker, reply: &mut Reply)
     }
 }
 
-/// Makes the reply to a line that is not carried out: that of its refusal, or that of want of
-/// memory where the refusal is longer than the room and memory is short.
+/// Replaces the reply by that of a refusal. If the refusal is longer than `REPLY_ROOM` and memory
+/// runs out, the reply is the out-of-memory refusal.
 pub fn refuse(who: Speaker, refusal: &Refusal, reply: &mut Reply)
     ensures said { (reply.new ≡ refusal_line who refusal.now)
         ⊎ (reply.new ≡ refusal_line who NoMemory) }
@@ -56,7 +56,7 @@ pub fn refuse(who: Speaker, refusal: &Refusal, reply: &mut Reply)
     }
 }
 
-/// Makes the reply to a line that was carried out. Takes no memory.
+/// Replaces the reply by that of a line that was carried out. Takes no memory.
 pub fn say_done(who: Speaker, reply: &mut Reply)
     ensures { reply.new ≡ done_line who }
 {
@@ -67,7 +67,8 @@ pub fn say_done(who: Speaker, reply: &mut Reply)
     }
 }
 
-/// Makes the reply that says a word and a number to a session or to the console. Takes no memory.
+/// Replaces the reply by a word and a number, addressed to a session or to the console. Takes no
+/// memory.
 pub fn say_number(session: u8, word: &str, number: u64, reply: &mut Reply)
     requires short { length word.now ≤ 8 }
     ensures { reply.new ≡ number_line session word.now number }

@@ -1,4 +1,4 @@
--- What is held at numbers, seen through a function; and what stands before and behind a number.
+-- The values of slots, mapped by a function; and the slots before and after a number.
 use Rattle.std.proofs.Common.{◌≡◌, ◌∙◌, ℕ, zero, suc, ◌+◌, List, [], ◌∷◌, ◌++◌, map, Option, Some, None, slice_get, slice_set, unwrap_or, get_or, cond, true, refl, sym, ap, subst, arith}
 use Rattle.std.specs.Prelude.{option_map, is_none, is_some, nat_lt, position}
 use Rattle.std.specs.List.{position_or_len}
@@ -19,7 +19,7 @@ module _ {A B : Type 0} (f : A → B) where
   seen-set (first ∷ rest) zero held = refl
   seen-set (first ∷ rest) (suc place) held = ap (λ later. option_map f first ∷ later) (seen-set rest place held)
 
-  -- what is seen of what stands at a number
+  -- the value at a number of mapped slots
   pub seen-at : (places : List (Option A)) (number : ℕ) → at_number (map (option_map f) places) number ≡ option_map f (at_number places number)
   seen-at places zero = refl
   seen-at places (suc place) = seen-get places place
@@ -28,12 +28,12 @@ module _ {A B : Type 0} (f : A → B) where
   some_seen None = refl
   some_seen (Some one) = refl
 
-  -- whether something is held at a number is whether something is seen there
+  -- a slot has a value exactly when the mapped slot has one
   pub seen-some : (places : List (Option A)) (number : ℕ) (found : Option A) → found ≡ at_number places number
       → is_some found ≡ is_some (at_number (map (option_map f) places) number)
   seen-some places number found is = ap is_some is ∙ sym (ap is_some (seen-at places number) ∙ some_seen (at_number places number))
 
-  -- and once something else is put there
+  -- and after another value is put there
   pub seen-with : (places : List (Option A)) (number : ℕ) (held : Option A) → map (option_map f) (with_at places number held) ≡ with_at (map (option_map f) places) number (option_map f held)
   seen-with places zero held = refl
   seen-with places (suc place) held = seen-set places place held
@@ -54,12 +54,12 @@ module _ {A B : Type 0} (f : A → B) where
   pub seen-free : (places : List (Option A)) → free_number (map (option_map f) places) ≡ free_number places
   seen-free places = ap (option_map (λ place. place + 1)) (seen-position places)
 
-  -- nothing is seen where nothing is held
+  -- empty slots are mapped to empty slots
   pub seen-none : (count : ℕ) → map (option_map f) (none_held count) ≡ none_held count
   seen-none zero = refl
   seen-none (suc count) = ap (λ rest. None ∷ rest) (seen-none count)
 
--- what stands at a number, between what stands before and behind it
+-- the value at a number, between the slots before and after it
 pub record StandsAt {A : Type 0} (places : List (Option A)) (number : ℕ) (held : Option A) : Type 0 where
   pub front : List (Option A)
   pub remaining : List (Option A)
@@ -84,7 +84,7 @@ module _ {A : Type 0} where
   flat None held is = absurd cc
   flat (Some one) held is = ap Some is
 
-  -- what is held at a number stands there
+  -- a value at a number is a value between two parts
   pub held_stands : (places : List (Option A)) (number : ℕ) (held : A) → at_number places number ≡ Some held → StandsAt places number (Some held)
   held_stands places zero held is = absurd cc
   held_stands places (suc place) held is = stands_there places place (Some held) (flat (slice_get places place) held is)
@@ -98,7 +98,7 @@ module _ {A : Type 0} where
       let first = position-Some is_none places place None is in
       stands_there places place None (slice_get-get_or places place None first.0 ∙ ap Some (nothing (get_or places place None) first.1))
 
-  -- a free number is one at which nothing stands
+  -- a free number is an empty slot between two parts
   pub free_stands : (places : List (Option A)) (number : ℕ) → free_number places ≡ Some number → StandsAt places number None
   free_stands places number is =
       elim (position is_none places) as (λ found. position is_none places ≡ found → option_map (λ place. place + 1) found ≡ Some number → StandsAt places number None) [

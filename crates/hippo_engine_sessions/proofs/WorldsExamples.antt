@@ -9,7 +9,7 @@ use Rattle.hippo_report.specs.declared.format.Format.TheVariants as formats
 use Rattle.hippo_engine_sessions.specs.declared.sessions.Session.{Session}
 use Rattle.hippo_engine_sessions.specs.Worlds.{World, at_number, with_at, free_number, none_held, opening, session_at, with_session, new_session, with_cursor, new_cursor, rows_next, moved_on}
 
--- two of three numbers hold something
+-- two of three numbers have a value
 abbrev some_held : List (Option ℕ)
 some_held = Some 10 ∷ None ∷ Some 30 ∷ []
 

@@ -1,7 +1,8 @@
--- What is tallied of audit jobs.
+-- The tallies of audit jobs.
 use Rattle.std.specs.Prelude.{ℕ, Bool}
 
--- of a job: how many versions it was handed, and whether each of its steps ended well
+-- the tally of a job: the number of versions that it was given, and whether each of its steps
+-- succeeded
 pub record JobTally : Type 0 where
   pub taken : ℕ
   pub unbroken : Bool

@@ -1,5 +1,5 @@
--- What a run holds beside the history: the clock, open sessions with their cursors, audit jobs and
--- watches.
+-- The state of a run beside the history: the clock, open sessions with their cursors, audit jobs
+-- and watches.
 use Rattle.std.specs.Prelude.{ℕ, zero, suc, ◌+◌, List, slice_get, slice_set, replicate, Option, None, is_none, option_map, position, take, drop, length, min}
 use Rattle.std.specs.Option.{option_flatten}
 use Rattle.hippo_values.specs.declared.moments.Moment.{Moment}
@@ -13,31 +13,31 @@ use Rattle.hippo_values.specs.Limits.{session_limit, cursor_limit, job_limit, wa
 use Rattle.hippo_engine_sessions.specs.declared.cursors.Cursor.{Cursor}
 use Rattle.hippo_engine_sessions.specs.declared.sessions.Session.{Session}
 
--- sessions, jobs and watches stand by their numbers, the first being number 1
+-- sessions, jobs and watches are listed by their numbers, from number 1 on
 pub record World : Type 0 where
   pub clock : Moment
-  -- how many entries the history may have
+  -- the greatest number of entries that the history may have
   pub limit : ℕ
   pub format : Format
   pub sessions : List (Option Session)
   pub jobs : List (Option OpenAudit)
   pub watches : List (Option Audit)
 
--- what stands at a number, if anything does
+-- the value at a number, if there is one
 abbrev pub at_number : {A : Type 0} → List (Option A) → ℕ → Option A
 at_number places zero = None
 at_number places (suc place) = option_flatten (slice_get places place)
 
--- with something at a number, or with nothing there
+-- the slots with another value at a number, or with none there
 abbrev pub with_at : {A : Type 0} → List (Option A) → ℕ → Option A → List (Option A)
 with_at places zero held = places
 with_at places (suc place) held = slice_set places place held
 
--- the lowest number at which nothing stands
+-- the lowest number without a value
 abbrev pub free_number : {A : Type 0} → List (Option A) → Option ℕ
 free_number places = option_map (λ place. place + 1) (position is_none places)
 
--- nothing stands at any of so many numbers
+-- this many empty slots
 abbrev pub none_held : {A : Type 0} → ℕ → List (Option A)
 none_held count = replicate count None
 
@@ -59,22 +59,22 @@ abbrev pub with_session : World → ℕ → Option Session → World
 with_session world number session =
     record world { sessions = with_at world.sessions number session }
 
--- a session that nothing was asked in
+-- a session without cursors
 abbrev pub new_session : Name → Pair → Session
 new_session user pair = record { user = user; pair = pair; cursors = none_held cursor_limit }
 
--- a cursor of which no row was handed out
+-- a cursor before its first row
 abbrev pub new_cursor : List ShownRow → Cursor
 new_cursor answer = record { answer = answer; given = 0 }
 
--- the rows of a cursor that are handed out next, at most so many, and the cursor after them
+-- the next rows of a cursor, up to this many, and below, the cursor after them
 abbrev pub rows_next : Cursor → ℕ → List ShownRow
 rows_next cursor count = take count (drop cursor.given cursor.answer)
 
 abbrev pub moved_on : Cursor → ℕ → Cursor
 moved_on cursor count = record cursor { given = min (cursor.given + count) (length cursor.answer) }
 
--- a session with a cursor at a number, or with none there
+-- the session with another cursor at a number, or with none there
 abbrev pub with_cursor : Session → ℕ → Option Cursor → Session
 with_cursor session number cursor =
     record session { cursors = with_at session.cursors number cursor }

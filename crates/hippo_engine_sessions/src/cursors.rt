@@ -1,10 +1,11 @@
-//! Answers that are handed out by and by.
+//! Cursors: answers whose rows are fetched in parts.
 ghost use Rattle.std.specs.Prelude.{◌≡◌};
 ghost use Rattle.hippo_engine_sessions.specs.Worlds.{new_cursor, rows_next, moved_on};
 
 use hippo_model::{Answer, CellRow};
 
-/// The answer of a question as it was when it was asked, and how many of its rows were handed out.
+/// The answer to a question as of the time it was asked, and the number of its rows that were
+/// fetched.
 #[derive(Drop)]
 pub struct Cursor {
     pub answer: Answer,
@@ -12,14 +13,14 @@ pub struct Cursor {
 }
 
 impl Cursor {
-    /// The cursor of an answer of which no row was handed out.
+    /// A cursor over an answer, before its first row.
     pub fn new(answer: Answer) -> Cursor
         ensures { result ≡ new_cursor answer }
     {
         Cursor { answer, given: 0 }
     }
 
-    /// The rows that are handed out next, at most so many.
+    /// The next rows, up to `count` of them.
     pub fn rows_next(&self, count: u32) -> &[CellRow]
         ensures { result.now ≡ rows_next self.now count }
     {
@@ -28,7 +29,7 @@ impl Cursor {
         &left[..left.len().min(count as usize)]
     }
 
-    /// Notes that at most so many further rows were handed out.
+    /// Moves past the next rows, up to `count` of them.
     pub fn move_on(&mut self, count: u32)
         ensures { self.new ≡ moved_on self.old count }
     {

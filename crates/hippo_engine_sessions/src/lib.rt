@@ -1,5 +1,4 @@
-//! What stands at numbers in a run: sessions with their cursors; and what is to be seen of all that
-//! a run holds beside the history.
+//! Numbered slots, sessions with their cursors, and a view of the state of a run.
 #![tactic(auto)]
 
 mod cursors;

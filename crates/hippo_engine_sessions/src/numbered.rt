@@ -1,4 +1,4 @@
-//! What stands at numbers from 1 on.
+//! Slots with numbers from 1 on.
 ghost use Rattle.std.specs.Prelude.{◌≡◌, ◌<◌, None, length, slice_get, slice_set, position, is_none, option_copied, IfOk, IfSome};
 ghost use Rattle.std.specs.Option.{option_flatten};
 ghost use Rattle.hippo_engine_sessions.specs.Worlds.{at_number, with_at, free_number, none_held};
@@ -8,8 +8,8 @@ use std::alloc::Global;
 use std::marker::Model;
 use std::mem;
 
-/// Numbers from 1 on, so many as there were when it was made, each of which holds something or
-/// nothing.
+/// Slots with numbers from 1 on. Each slot holds a value or is empty. Their count is fixed when
+/// they are made.
 #[derive(Drop)]
 pub struct Numbered<T> {
     pub places: Vec<Option<T>>,
@@ -59,7 +59,7 @@ fn first_free<T>(places: &[Option<T>]) -> Option<usize>
 }
 
 impl<T: Drop> Numbered<T> {
-    /// So many numbers, none of which holds anything, or want of memory.
+    /// `count` empty slots. Fails when out of memory.
     pub fn none(alloc: Global, count: usize) -> Result<Numbered<T>, Memory>
         ensures { IfOk result (λ made. made ≡ none_held count) }
     {
@@ -70,7 +70,7 @@ impl<T: Drop> Numbered<T> {
         Ok(Numbered { places })
     }
 
-    /// What a number holds; nothing where there is no such number.
+    /// The value at a number; none if the slot is empty, or if there is no such number.
     pub fn at(&self, number: usize) -> Option<&T>
         ensures { option_copied result ≡ at_number self.now number }
     {
@@ -81,7 +81,8 @@ impl<T: Drop> Numbered<T> {
         }
     }
 
-    /// Lets a number hold this, or nothing; where there is no such number, it falls.
+    /// Puts a value at a number, or empties the slot. The old value is dropped. If there is no such
+    /// number, `held` is dropped.
     pub fn put(&mut self, number: usize, held: Option<T>)
         ensures { self.new ≡ with_at self.old number held }
     {
@@ -90,7 +91,7 @@ impl<T: Drop> Numbered<T> {
         }
     }
 
-    /// Takes out what a number holds.
+    /// Takes the value at a number, and leaves the slot empty.
     pub fn take(&mut self, number: usize) -> Option<T>
         ensures taken { result ≡ at_number self.old number }
         ensures left { self.new ≡ with_at self.old number None }
@@ -102,14 +103,14 @@ impl<T: Drop> Numbered<T> {
         }
     }
 
-    /// What each number holds, in their order.
+    /// The slots, in the order of their numbers.
     pub fn as_slice(&self) -> &[Option<T>]
         ensures { result.now ≡ self.now }
     {
         self.places.as_slice()
     }
 
-    /// The lowest number that holds nothing.
+    /// The lowest number whose slot is empty; none if all hold values.
     pub fn free(&self) -> Option<usize>
         ensures { result ≡ free_number self.now }
     {

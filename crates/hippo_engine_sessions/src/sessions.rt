@@ -1,4 +1,4 @@
-//! Sessions.
+//! Open sessions.
 ghost use Rattle.std.specs.Prelude.{◌≡◌, Some, None, IfOk};
 ghost use Rattle.hippo_engine_sessions.specs.declared.cursors.Cursor.{Cursor as KeptCursor};
 ghost use Rattle.hippo_engine_sessions.specs.Worlds.{at_number, new_session, with_cursor, moved_on};
@@ -9,7 +9,7 @@ use hippo_model::Pair;
 use hippo_values::{CURSOR_LIMIT, Memory, Name};
 use std::alloc::Global;
 
-/// An open session: who asks, for which purpose and recipient, and its cursors.
+/// An open session: its user, its purpose and recipient, and its cursors.
 #[derive(Drop)]
 pub struct Session {
     pub user: Name,
@@ -18,7 +18,7 @@ pub struct Session {
 }
 
 impl Session {
-    /// A session that nothing was asked in, or want of memory.
+    /// A session without cursors. Fails when out of memory.
     pub fn new(alloc: Global, user: Name, pair: Pair) -> Result<Session, Memory>
         ensures { IfOk result (λ made. made ≡ new_session user pair) }
     {
@@ -30,14 +30,14 @@ impl Session {
         })
     }
 
-    /// Lets a cursor's number hold this, or nothing.
+    /// Puts a cursor at a number, or closes the one there.
     pub fn put_cursor(&mut self, number: u8, held: Option<Cursor>)
         ensures { self.new ≡ with_cursor self.old number held }
     {
         self.cursors.put(usize::from(number), held);
     }
 
-    /// Notes that at most so many further rows of a cursor were handed out.
+    /// Moves a cursor past its next rows, up to `count` of them.
     #[tactic(auto, using(crate::proofs::NumberLemmas::put_back, crate::proofs::NumberLemmas::put_again))]
     pub fn move_on(&mut self, number: u8, count: u32)
         ensures held { (held : KeptCursor) → at_number self.old.cursors number ≡ Some held

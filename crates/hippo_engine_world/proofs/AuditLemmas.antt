@@ -1,4 +1,5 @@
--- Jobs and watches that are held of a history: when an entry is added, where nothing is held, and when one is put there.
+-- Jobs and watches that fit a history: after an entry is added, if none is held, and after one is
+-- put there.
 use Rattle.std.proofs.Common.{◌≡◌, ◌∙◌, ◌<◌, sym, ap, subst, refl, arith, ℕ, zero, suc, List, [], ◌∷◌, ◌++◌, map, length, get_or, Option, None, Some, true, false}
 use Rattle.std.specs.Prelude.{IfSome, option_map, slice_set}
 use Rattle.std.specs.List.{All, AllByRecursion}
@@ -28,7 +29,7 @@ use Rattle.hippo_engine_sessions.specs.Worlds.{World, with_at, none_held, openin
 use Rattle.hippo_engine_sessions.proofs.HeldLemmas.{StandsAt, seen-none}
 
 module _ {A : Type 0} (P Q : A → Type 0) where
-  -- what each that is held has, so it has what follows from that
+  -- a property of each one that is held implies what follows from it
   each_held : (follows : (one : A) → P one → Q one) (places : List (Option A)) → AllByRecursion (λ held. IfSome held P) places → AllByRecursion (λ held. IfSome held Q) places
   each_held follows [] all = tt
   each_held follows (None ∷ rest) all = (tt, each_held follows rest all.1)
@@ -40,7 +41,8 @@ module _ {A : Type 0} (P : A → Type 0) where
   set_there (first ∷ rest) zero held all is = (is, all.1)
   set_there (first ∷ rest) (suc place) held all is = (all.0, set_there rest place held all.1 is)
 
-  -- what each that is held has, each has still once one that has it is put there, or nothing
+  -- a property of each one that is held still holds after one with the property is put there, or
+  -- none
   pub all_with : (places : List (Option A)) (number : ℕ) (held : Option A) → AllByRecursion (λ held. IfSome held P) places → IfSome held P → AllByRecursion (λ held. IfSome held P) (with_at places number held)
   all_with places zero held all is = all
   all_with places (suc place) held all is = set_there places place held all is
@@ -49,7 +51,7 @@ module _ {A : Type 0} (P : A → Type 0) where
   one_of [] remaining held all = all.0
   one_of (first ∷ front) remaining held all = one_of front remaining held all.1
 
-  -- the one at a number has it
+  -- the one at a number has the property
   pub one_has : (places : List (Option A)) (number : ℕ) (held : Option A) → StandsAt places number held → AllByRecursion (λ held. IfSome held P) places → IfSome held P
   one_has places number held there all =
       one_of there.front there.remaining held (subst (AllByRecursion (λ (held : Option A). IfSome held P)) there.whole all)
@@ -58,28 +60,28 @@ module _ (history : History) (entry : Entry) (valid : is_valid meaning (history 
   looks_on : (job : HeldJob) → IsLooking history job → IsLooking (history ++ entry ∷ []) job
   looks_on job looks = record { sound = looks.sound; fits = JobFits-grown combine_terms job history entry valid looks.sound looks.fits }
 
-  -- jobs that fit a history fit it with one entry more
+  -- jobs that fit a history fit it with one more entry
   pub JobsFit-more : (held : HeldWorld) → JobsFit history held → JobsFit (history ++ entry ∷ []) held
   JobsFit-more held fit = each_held (IsLooking history) (IsLooking (history ++ entry ∷ [])) looks_on held.jobs fit
 
-  -- and so do watches, where it changes no row
+  -- and so do watches, if the entry changes no row
   pub WatchesFit-more : (held : HeldWorld) → is_version entry.act ≡ false → WatchesFit history held → WatchesFit (history ++ entry ∷ []) held
   WatchesFit-more held none fit =
       each_held (IsWatchOf history) (IsWatchOf (history ++ entry ∷ [])) (λ watch is. IsWatchOf-no_version history entry valid watch none is) held.watches fit
 
 module _ (history : History) (old new : HeldWorld) (keeps : KeepsAudits old new) where
-  -- jobs and watches that are the same fit still
+  -- jobs and watches that are the same still fit
   pub JobsFit-same : JobsFit history old → JobsFit history new
   JobsFit-same fit = subst (AreLooking history) (sym keeps.jobs) fit
 
   pub WatchesFit-same : WatchesFit history old → WatchesFit history new
   WatchesFit-same fit = subst (AreWatching history) (sym keeps.watches) fit
 
--- jobs that are the same are tallied alike
+-- jobs that are the same have the same tallies
 pub tallies_of-same : (old new : HeldWorld) → KeepsAudits old new → tallies_of new ≡ tallies_of old
 tallies_of-same old new keeps = ap job_tallies keeps.jobs
 
--- nothing is held where nothing is seen
+-- nothing is held if the mapped slots are empty
 module _ {A B : Type 0} (f : A → B) where
   none_there : (places : List (Option A)) (count : ℕ) → map (option_map f) places ≡ none_held count → places ≡ none_held count
   none_there [] zero is = refl
@@ -102,7 +104,7 @@ module _ (held : HeldWorld) (clock : Moment) (limit : ℕ) (format : Format) (op
   no_jobs : (count : ℕ) → (opening clock limit format).jobs ≡ none_held count → held.jobs ≡ none_held count
   no_jobs count is = none_there open_audit held.jobs count (ap (λ (world : World). world.jobs) opens ∙ is)
 
-  -- no job is held where a run begins
+  -- no job is held when a run begins
   pub JobsFit-opening : (history : History) → JobsFit history held
   JobsFit-opening history = subst (AreLooking history) (sym (no_jobs job_limit refl)) (none_look history job_limit)
 
@@ -119,27 +121,27 @@ module _ (held : HeldWorld) (clock : Moment) (limit : ℕ) (format : Format) (op
   pub WatchesFit-opening : (history : History) → WatchesFit history held
   WatchesFit-opening history = subst (AreWatching history) (sym none_watched) (none_watch history watch_limit)
 
--- a job that has just begun over a valid history looks at it
+-- a job that has just begun over a valid history fits it
 pub IsLooking-begun : (history : History) (audit : Audit) (job : HeldJob) → is_valid meaning history ≡ true → IsAuditOf history audit → HasBegun audit (length history) job → IsLooking history job
 IsLooking-begun history audit job valid is_audit begun = subst (IsLooking history) (sym begun.is) (record {
   sound = IsSoundJob-new combine_terms audit (length history) job.examiner is_audit.differ begun.unasked;
   fits = JobFits-new combine_terms history audit job.examiner valid is_audit begun.unasked;
 })
 
--- and was handed nothing, and no step of it failed
+-- it was given no versions, and no step of it failed
 pub tally-begun : (audit : Audit) (number : ℕ) (job : HeldJob) → HasBegun audit number job → job_tally job ≡ record { taken = 0; unbroken = true }
 tally-begun audit number job begun =
     let none : taken_by_job job ≡ 0 = begun.unasked.none_handed (taken_by_job job) refl in
     λ i. record { taken = none i; unbroken = (begun.is i).unbroken }
 
--- a job whose flags are written looks at the same history
+-- a job whose flags are written fits the same history
 pub IsLooking-written : (history : History) (job : HeldJob) → IsLooking history job → IsLooking history (record job { waiting = [] })
 IsLooking-written history job looks = record {
   sound = IsSoundJob-marked combine_terms [] job.unbroken job looks.sound;
   fits = JobFits-marked combine_terms [] job.unbroken job history looks.fits;
 }
 
--- ---- watches when an entry is taken in, and taken back
+-- ---- watches when an entry is added, and removed again
 module _ {A : Type 0} (P : A → Type 0) where
   all_here : (places : List A) → AllByRecursion P places → All P places
   all_here places all = λ k d within. there places k d all within
@@ -153,7 +155,7 @@ module _ {A : Type 0} (P : A → Type 0) where
   each_of_all [] all = tt
   each_of_all (first ∷ rest) all = (all 0 first (omega arith), each_of_all rest (λ k d within. all (suc k) d (omega (arith, within))))
 
--- watches of a history have audits of it
+-- watches that fit a history have audits that fit it
 pub AreAudits-of : (history : History) (watches : List (Option AuditHits)) → AreWatching history watches → AreAudits history (map (option_map watched) watches)
 AreAudits-of history [] all = tt
 AreAudits-of history (None ∷ rest) all = (tt, AreAudits-of history rest all.1)

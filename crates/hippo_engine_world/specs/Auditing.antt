@@ -1,4 +1,4 @@
--- The audit jobs and watches that a run holds, and what they have to do with a history.
+-- The audit jobs and watches that a run holds, and how they fit a history.
 use Rattle.std.specs.Prelude.{◌≡◌, ℕ, List, map, Option, IfSome, option_map}
 use Rattle.std.specs.List.{All, AllByRecursion}
 use Rattle.hippo_model.specs.declared.audit.Audit.{Audit}
@@ -18,41 +18,41 @@ use Rattle.hippo_combine.specs.declared.combine.Combine.{Combine}
 use Rattle.hippo_combine.specs.Combining.{combine_terms}
 use Rattle.hippo_combine.specs.Held.{all_taken}
 
--- a job that examines questions over rows that are brought forward from one to the next
+-- a job that examines questions over rows that are brought forward from one question to the next
 abbrev pub HeldJob : Type 0
 HeldJob = Job Combine
 
--- how many versions a job was handed
+-- the number of versions that a job was given
 abbrev pub taken_by_job : HeldJob → ℕ
 taken_by_job job = all_taken job.examiner.tables.items
 
--- a job at its beginning, over so many entries
+-- a job at its beginning, over this many entries
 pub record HasBegun (audit : Audit) (length : ℕ) (job : HeldJob) : Type 0 where
   pub is : job ≡ new_job audit length job.examiner
   pub unasked : IsNew combine_terms job.examiner
 
--- a job is sound, and looks at a history
+-- a job is sound, and fits a history
 pub record IsLooking (history : History) (job : HeldJob) : Type 0 where
   pub sound : IsSoundJob combine_terms job
   pub fits : JobFits combine_terms job history
 
--- each job that is held looks at a history
+-- each job that is held fits a history
 abbrev pub AreLooking : History → List (Option HeldJob) → Type 0
 AreLooking history jobs = AllByRecursion (λ held. IfSome held (IsLooking history)) jobs
 
--- what a watch watches
+-- the audit of a watch
 abbrev pub watched : AuditHits → Audit
 watched watch = watch.audit
 
--- each watch that is held is one of a history
+-- each watch that is held fits a history
 abbrev pub AreWatching : History → List (Option AuditHits) → Type 0
 AreWatching history watches = AllByRecursion (λ held. IfSome held (IsWatchOf history)) watches
 
--- each audit that is held is one of a history
+-- each audit that is held fits a history
 abbrev pub AreAudits : History → List (Option Audit) → Type 0
 AreAudits history audits = AllByRecursion (λ held. IfSome held (IsAuditOf history)) audits
 
--- what is so of a watch before and after an act that is taken in, or taken back
+-- what holds of a watch before and after an act that is added, or removed again
 abbrev pub IsBefore : Way → History → Entry → AuditHits → Type 0
 IsBefore In = IsWatchBefore
 IsBefore Back = WasWatchOf
@@ -61,8 +61,7 @@ abbrev pub IsAfter : Way → History → Entry → AuditHits → Type 0
 IsAfter In = IsWatchAfter
 IsAfter Back = IsWatchBefore
 
--- what the act of the next entry does to a watch, to what stands at a number, and to what stands at
--- each number
+-- the change by the act of the next entry of a watch, of the slot at a number, and of all slots
 abbrev pub WatchChanges : Way → Tables → Act → AuditHits → AuditHits → Type 0
 WatchChanges way tables act old new = ComesOn tables act (IsBefore way) (IsAfter way) old new
 
@@ -79,10 +78,10 @@ EachChanges way tables act old new =
     (λ history entry watches. All (λ held. IfSome held (IsAfter way history entry)) watches)
     old new
 
--- what is tallied of a job
+-- the tally of a job
 abbrev pub job_tally : HeldJob → JobTally
 job_tally job = record { taken = taken_by_job job; unbroken = job.unbroken }
 
--- what is tallied of each job, by its number
+-- the tally of each job, by its number
 abbrev pub job_tallies : List (Option HeldJob) → List (Option JobTally)
 job_tallies jobs = map (option_map job_tally) jobs

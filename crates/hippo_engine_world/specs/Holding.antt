@@ -1,4 +1,5 @@
--- What the code's world holds, as the record of definitions, and beside it.
+-- The state that the code holds, as the record of the definitions, and how the rest of it fits a
+-- history.
 use Rattle.std.specs.Prelude.{◌≡◌, List, [], ◌∷◌, ◌++◌, map, Option, option_map}
 use Rattle.hippo_model.specs.declared.entry.Act.{Act}
 use Rattle.hippo_model.specs.declared.entry.Entry.{Entry}
@@ -26,27 +27,28 @@ pub record KeepsAudits (old new : HeldWorld) : Type 0 where
   pub jobs : new.jobs ≡ old.jobs
   pub watches : new.watches ≡ old.watches
 
--- what the open jobs hold is that of a history
+-- the open jobs fit a history
 abbrev pub JobsFit : History → HeldWorld → Type 0
 JobsFit history held = AreLooking history held.jobs
 
--- what the watches hold is that of a history
+-- the watches fit a history
 abbrev pub WatchesFit : History → HeldWorld → Type 0
 WatchesFit history held = AreWatching history held.watches
 
--- the watches of a history are those of it with an entry more
+-- watches that fit a history are changed to fit it with one more entry
 abbrev pub WatchesFollow : Tables → Act → HeldWorld → HeldWorld → Type 0
 WatchesFollow tables act old new =
     (history : History) (entry : Entry) → entry.act ≡ act → ComesNext tables history entry
     → WatchesFit history old → WatchesFit (history ++ entry ∷ []) new
 
--- and those of it with an entry more, whose audits are its own, are those without
+-- watches that fit it with one more entry, and whose audits fit it without the entry, are changed
+-- to fit it without the entry
 abbrev pub WatchesGoBack : Tables → Act → HeldWorld → HeldWorld → Type 0
 WatchesGoBack tables act old new =
     (history : History) (entry : Entry) → entry.act ≡ act → ComesNext tables history entry
     → AreAudits history (world_of old).watches → WatchesFit (history ++ entry ∷ []) old
     → WatchesFit history new
 
--- what is tallied of the open jobs, by their numbers
+-- the tallies of the open jobs, by their numbers
 abbrev pub tallies_of : HeldWorld → List (Option JobTally)
 tallies_of held = job_tallies held.jobs

@@ -1,4 +1,4 @@
-//! Audit jobs, each with an examiner that brings rows forward from question to question.
+//! Audit jobs. Each has an examiner that brings rows forward from question to question.
 ghost use Rattle.std.specs.Prelude.{◌≡◌, ◌==◌, [], true, bytes_eq};
 ghost use Rattle.std.specs.List.{IsDistinct};
 ghost use Rattle.hippo_keeper.specs.Keeping.{IsReady};
@@ -15,8 +15,9 @@ use std::alloc::Global;
 use std::marker::Model;
 use std::sync::ledger::Ledger;
 
-/// An audit of the first entries of a history, which looks at the questions of its period in steps,
-/// however they are cut. Whatever a keeper handed over, it may be stepped.
+/// An audit of the first entries of a history. It looks at the questions of its period in steps;
+/// the way in which these are cut does not change its flags. It may be stepped whatever the keeper
+/// has returned.
 #[derive(Drop)]
 pub struct AuditJob {
     job: Job<Combine>,
@@ -39,7 +40,7 @@ impl Model for AuditJob {
 }
 
 impl AuditJob {
-    /// A job over the first `length` entries, which has looked at none; takes no memory.
+    /// A job over the first `length` entries, before its first step. Takes no memory.
     pub fn begin(alloc: Global, audit: Audit, length: u64) -> AuditJob
         requires differ { IsDistinct bytes_eq audit.tables }
         ensures begun { HasBegun audit length result }
@@ -49,43 +50,43 @@ impl AuditJob {
         }
     }
 
-    /// Whether it has looked at all of its numbers.
+    /// Whether the job has looked at all of its entries.
     pub fn at_end(&self) -> bool
         ensures { result ≡ (self.now.place == self.now.length) }
     {
         self.job.at_end()
     }
 
-    /// The number up to which it has looked: 0 at first.
+    /// The number of the last entry that the job has looked at; 0 before its first step.
     pub fn place(&self) -> u64
         ensures { result ≡ self.now.place }
     {
         self.job.place()
     }
 
-    /// How many flags it found, those that are written included.
+    /// The number of flags that the job found, including those that are written already.
     pub fn flag_count(&self) -> u64
         ensures { result ≡ self.now.found }
     {
         self.job.flag_count()
     }
 
-    /// The flags that are not written yet, in the order of their numbers.
+    /// The flags that are not written yet, in the order of their entries' numbers.
     pub fn waiting(&self) -> &Flags
         ensures { result.now ≡ self.now.waiting }
     {
         self.job.waiting()
     }
 
-    /// No flag waits any more; takes no memory.
+    /// Removes all waiting flags, as they are now written. Takes no memory.
     pub fn written(&mut self)
         ensures { self.new ≡ record self.old { waiting = [] } }
     {
         self.job.written();
     }
 
-    /// Looks at the next `count` numbers, up to the job's end; the flags that it finds wait behind
-    /// the others. Errors are those of `Job::step`.
+    /// Looks at the next `count` entries, up to the job's end. Appends the flags that it finds to
+    /// the waiting ones. The errors are those of `Job::step`.
     pub fn step<P: Keeper, L: Ledger>(
         &mut self,
         keeper: &mut P,

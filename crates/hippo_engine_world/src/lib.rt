@@ -1,4 +1,4 @@
-//! What a run holds beside the history: sessions, audit jobs, watches and the clock.
+//! The state of a run beside the history: sessions, audit jobs, watches and the clock.
 #![tactic(auto)]
 
 mod audit_jobs;

@@ -1,4 +1,4 @@
-//! Watches at their numbers: what an act that comes next changes in them.
+//! The changes of all watches by the act of the next entry.
 ghost use Rattle.std.specs.Prelude.{◌≡◌, map, option_map};
 ghost use Rattle.hippo_engine_world.specs.Auditing.{watched, WatchChanges, OneChanges, EachChanges};
 
@@ -7,7 +7,7 @@ use hippo_model::Act;
 use hippo_tables::Tables;
 use hippo_watch::Watch;
 
-/// Whether the act of the next entry is taken in, or taken back.
+/// Whether the act of the next entry is added, or removed again.
 #[derive(Clone, Copy)]
 pub(crate) enum Way {
     In,
@@ -42,8 +42,8 @@ fn change_each(watches: &mut [Option<Watch>], tables: &Tables, act: &Act, way: W
     }
 }
 
-/// Changes the counts of each watch as the act of the next entry changes them, over the tables as
-/// they are before it. Takes no memory.
+/// Changes the counts of each watch by the act of the next entry. `tables` are those before that
+/// entry. Takes no memory.
 pub(crate) fn take_in(watches: &mut Numbered<Watch>, tables: &Tables, act: &Act)
     ensures audits { map (option_map watched) watches.new ≡ map (option_map watched) watches.old }
     ensures follow { EachChanges Way.In tables.now act.now watches.old watches.new }
@@ -51,8 +51,8 @@ pub(crate) fn take_in(watches: &mut Numbered<Watch>, tables: &Tables, act: &Act)
     change_each(&mut watches.places, tables, act, Way::In);
 }
 
-/// Changes them back where the act that was taken in last does not come, over the same tables.
-/// Takes no memory.
+/// Reverts the last `take_in`, if its act is not added after all. `tables` are the same. Takes no
+/// memory.
 pub(crate) fn take_back(watches: &mut Numbered<Watch>, tables: &Tables, act: &Act)
     ensures audits { map (option_map watched) watches.new ≡ map (option_map watched) watches.old }
     ensures go_back { EachChanges Way.Back tables.now act.now watches.old watches.new }

@@ -1,4 +1,4 @@
-//! What a run holds beside the history.
+//! The state of a run beside the history.
 ghost use Rattle.std.specs.Prelude.{◌≡◌, Some, None, IfOk, OnOk, OnErr};
 ghost use Rattle.hippo_engine_sessions.specs.declared.cursors.Cursor.{Cursor as KeptCursor};
 ghost use Rattle.hippo_engine_sessions.specs.declared.sessions.Session.{Session as KeptSession};
@@ -15,8 +15,8 @@ use hippo_values::{JOB_LIMIT, Memory, Moment, Name, SESSION_LIMIT, WATCH_LIMIT};
 use hippo_watch::Watch;
 use std::alloc::Global;
 
-/// The clock, how many entries the history may have, the format of flags, and the open sessions,
-/// audit jobs and watches.
+/// The clock, the greatest number of entries that the history may have, the format of flags, and
+/// the open sessions, audit jobs and watches.
 #[derive(Drop)]
 pub struct World {
     pub clock: Moment,
@@ -28,7 +28,7 @@ pub struct World {
 }
 
 impl World {
-    /// The world in which a run begins, or want of memory.
+    /// The state in which a run begins. Fails when out of memory.
     pub fn new(alloc: Global, clock: Moment, limit: u32, format: Format) -> Result<World, Memory>
         ensures { IfOk result (λ world. world_of world ≡ opening clock limit format) }
     {
@@ -45,8 +45,8 @@ impl World {
         })
     }
 
-    /// Opens the session with a number anew, without cursors; or want of memory, and nothing
-    /// changes.
+    /// Opens the session with a number, without cursors. A session that is open there is replaced.
+    /// Fails when out of memory, and changes nothing.
     pub fn log_in(
         &mut self,
         alloc: Global,
@@ -72,7 +72,7 @@ impl World {
         self.sessions.put(usize::from(number), None);
     }
 
-    // Lets a cursor's number of an open session hold this, or nothing.
+    // Puts a cursor at a number of an open session, or closes the one there.
     #[tactic(auto, using(hippo_engine_sessions::proofs::NumberLemmas::put_back, hippo_engine_sessions::proofs::NumberLemmas::put_again))]
     fn put_cursor(&mut self, number: u8, cursor: u8, held: Option<Cursor>)
         ensures open { (session : KeptSession)
@@ -88,8 +88,7 @@ impl World {
         }
     }
 
-    /// Lets a cursor of an open session hold an answer, of which no row was handed out. Takes no
-    /// memory.
+    /// Opens a cursor of an open session over an answer, before its first row. Takes no memory.
     pub fn open_cursor(&mut self, number: u8, cursor: u8, answer: Answer)
         ensures open { (session : KeptSession)
             → session_at (world_of self.old) number ≡ Some session
@@ -114,7 +113,7 @@ impl World {
         self.put_cursor(number, cursor, None);
     }
 
-    /// Notes that at most so many further rows of a session's cursor were handed out.
+    /// Moves a cursor of a session past its next rows, up to `count` of them.
     #[tactic(auto, using(hippo_engine_sessions::proofs::NumberLemmas::put_back, hippo_engine_sessions::proofs::NumberLemmas::put_again))]
     pub fn move_on(&mut self, number: u8, cursor: u8, count: u32)
         ensures held { (session : KeptSession) (held : KeptCursor)
@@ -135,8 +134,8 @@ impl World {
         }
     }
 
-    /// Changes the hits of each watch as the act of the next entry changes them, over the tables as
-    /// they are before it. Takes no memory.
+    /// Changes the hits of each watch by the act of the next entry. `tables` are those before that
+    /// entry. Takes no memory.
     pub fn take_in(&mut self, tables: &Tables, act: &Act)
         ensures world { world_of self.new ≡ world_of self.old }
         ensures jobs { self.new.jobs ≡ self.old.jobs }
@@ -145,8 +144,8 @@ impl World {
         take_in(&mut self.watches, tables, act);
     }
 
-    /// Changes them back where the act that was taken in last does not come, over the same tables.
-    /// Takes no memory.
+    /// Reverts the last `take_in`, if its act is not added after all. `tables` are the same. Takes
+    /// no memory.
     pub fn take_back(&mut self, tables: &Tables, act: &Act)
         ensures world { world_of self.new ≡ world_of self.old }
         ensures jobs { self.new.jobs ≡ self.old.jobs }
@@ -155,8 +154,8 @@ impl World {
         take_back(&mut self.watches, tables, act);
     }
 
-    /// Lets go of all that it holds. Who is given a world ends with this: that its parts are let go
-    /// is then proved here alone.
+    /// Frees everything that it holds. An owner of a `World` calls this at its end, so that freeing
+    /// the parts is proved only here.
     pub fn close(self) {
         drop(self);
     }

@@ -1,4 +1,4 @@
--- What is made of the state of a history is the answer.
+-- The result of a query over the state of a history is its answer.
 use Rattle.std.proofs.Common.{◌≡◌, ◌∙◌, refl, ap, arith, ℤ, List, [], ◌∷◌, map, take}
 use Rattle.std.proofs.lemmas.List.{take_all}
 use Rattle.hippo_values.specs.declared.names.Name.{Name}
@@ -25,7 +25,7 @@ rows_of-kept_at : (history : History) (schemas : List Schema) → rows_of (map (
 rows_of-kept_at history [] = refl
 rows_of-kept_at history (schema ∷ schemas) = λ i. table_rows schema history ∷ rows_of-kept_at history schemas i
 
--- the query with the rules in force written into it, over the rows as they are, answers what the query does
+-- the query with the rules in force written into it, over the unmasked rows, has the query's answer
 pub rows_by_form-answer : (meaning : Meaning) (standpoint : Standpoint) (history : History) (query : Query)
     → AreKeptTables standpoint.tables.now query.tables → AreStateOf meaning standpoint history
     → (choices : Choices) → ((subject : ℤ) (item : Name) → choices subject item ≡ choice_at (take standpoint.count history) subject item)

@@ -1,4 +1,4 @@
--- Tables that are created, computed on a small history. Each example is named by what it shows.
+-- Tables that are created, computed on a small history. Each example's name says what it shows.
 use Rattle.std.proofs.Common.{◌≡◌, ℕ, pos, List, [], ◌∷◌, true, false, None, refl, codes}
 use Rattle.hippo_model.specs.declared.entry.Entry.{Entry}
 use Rattle.hippo_model.specs.declared.entry.Act.TheVariants.{Create}

@@ -1,4 +1,4 @@
--- The state of a history, of which answers are made from a standpoint.
+-- The state of a history at a standpoint, from which answers are made.
 use Rattle.std.specs.Prelude.{◌≡◌, true, List, length, take}
 use Rattle.hippo_values.specs.declared.names.Name.{Name}
 use Rattle.hippo_model.specs.declared.policy.TableRules.{TableRules}
@@ -14,7 +14,7 @@ use Rattle.hippo_rewrite.specs.RewritingLaws.{rules_at}
 use Rattle.hippo_tables.specs.Standing as standing
 use Rattle.hippo_eval_answer.specs.declared.standpoint.Standpoint.{Standpoint}
 
--- its book and tables stand for a valid history of so many entries
+-- the standpoint's book and tables represent a valid history with `count` entries
 pub record AreStateOf (meaning : Meaning) (standpoint : Standpoint) (history : History)
     : Type 0 where
   pub valid : is_valid meaning history ≡ true
@@ -22,13 +22,13 @@ pub record AreStateOf (meaning : Meaning) (standpoint : Standpoint) (history : H
   pub tables : standing.TablesStandFor standpoint.tables.now history
   pub entries : standpoint.count ≡ length history
 
--- the rules of tables that are in force
+-- the rules in force of tables
 abbrev pub rules_from : Standpoint → History → List Name → List TableRules
 rules_from standpoint history names =
     rules_at (take standpoint.count history) (context_of standpoint.pair.now standpoint.moment)
     (standing.schemas_at history names)
 
--- a query of kept tables, and what it becomes where the rules in force are written into it
+-- a query whose tables exist, and the query with the rules in force written into it
 pub record IsMasked (standpoint : Standpoint) (query : Query) (masked : Masked) : Type 0 where
   pub kept : standing.AreKeptTables standpoint.tables.now query.tables
   pub tables : masked.tables ≡ query.tables
@@ -36,7 +36,7 @@ pub record IsMasked (standpoint : Standpoint) (query : Query) (masked : Masked) 
       → standing.TablesStandFor standpoint.tables.now history
       → masked ≡ rewritten_query (rules_from standpoint history query.tables) query
 
--- what a query answers
+-- the answer to a query
 abbrev pub answer_from : Standpoint → History → Query → List ShownRow
 answer_from standpoint history query =
     answer history (context_of standpoint.pair.now standpoint.moment) query

@@ -25,7 +25,7 @@ use hippo_tables::{schemas_of, sets_of};
 use hippo_values::Memory;
 use std::alloc::Global;
 
-// The rules of a query's tables from a standpoint.
+// The rules in force of a query's tables, at a standpoint.
 fn rules_of(
     alloc: Global,
     standpoint: &Standpoint<'_>,
@@ -49,7 +49,7 @@ fn rules_of(
     )
 }
 
-// The query with these rules written into it.
+// The query with the rules in force written into it.
 fn masked_query(alloc: Global, standpoint: &Standpoint<'_>, query: &Query) -> Result<Masked, Memory>
     requires { AreKeptTables standpoint.now.tables.now query.now.tables }
     ensures { IfOk result (IsMasked standpoint.now query.now) }
@@ -58,7 +58,7 @@ fn masked_query(alloc: Global, standpoint: &Standpoint<'_>, query: &Query) -> Re
     rewrite(alloc, query, &rules)
 }
 
-// What a query from a standpoint asks, by the query into which the rules are written.
+// The masked query with the rows and the choices that it is answered over, at a standpoint.
 fn inquiry_of<'s>(
     alloc: Global,
     standpoint: &'s Standpoint<'_>,
@@ -83,7 +83,7 @@ fn inquiry_of<'s>(
     })
 }
 
-// The rows of an answer, by its form.
+// The rows of an answer, by the query's form.
 fn formed(alloc: Global, form: &Form, inquiry: &Inquiry<'_>) -> Result<Answer, EvalFault>
     requires { length inquiry.now.sets ≡ length inquiry.now.query.now.tables }
     ensures { IsAnswered ANSWER_LIMIT (rows_by_form form.now (masked_answer
@@ -103,7 +103,7 @@ fn formed(alloc: Global, form: &Form, inquiry: &Inquiry<'_>) -> Result<Answer, E
     }
 }
 
-// The lines that say an answer.
+// The lines of an answer's rows.
 fn said(alloc: Global, session: u8, answer: Result<Answer, EvalFault>) -> Result<Lines, EvalFault>
     ensures { (rows : List ShownRow) → IsAnswered ANSWER_LIMIT rows answer
         → IsSaid ANSWER_LIMIT session rows result }
@@ -112,7 +112,7 @@ fn said(alloc: Global, session: u8, answer: Result<Answer, EvalFault>) -> Result
     Ok(lines_of(alloc, session, rows.as_slice())?)
 }
 
-// The lines of the rows of an answer, by its form.
+// The lines of the rows of an answer, by the query's form.
 fn lines(alloc: Global, session: u8, form: &Form, inquiry: &Inquiry<'_>) -> Result<Lines, EvalFault>
     requires { length inquiry.now.sets ≡ length inquiry.now.query.now.tables }
     ensures { IsSaid ANSWER_LIMIT session (rows_by_form form.now (masked_answer
@@ -125,7 +125,7 @@ fn lines(alloc: Global, session: u8, form: &Form, inquiry: &Inquiry<'_>) -> Resu
     }
 }
 
-// The answer of a query from a standpoint, by the query into which the rules are written.
+// The answer to a query at a standpoint, by its masked query.
 fn answer_masked(
     alloc: Global,
     standpoint: &Standpoint<'_>,
@@ -142,8 +142,7 @@ fn answer_masked(
     answer
 }
 
-// The lines of the answer of a query from a standpoint, by the query into which the rules are
-// written.
+// The lines of the answer to a query at a standpoint, by its masked query.
 fn lines_masked(
     alloc: Global,
     standpoint: &Standpoint<'_>,
@@ -161,8 +160,8 @@ fn lines_masked(
     lines
 }
 
-// The same, unless memory was short for that query. It is lent, since moving it costs more than
-// looking at it.
+// As `lines_masked`, or the fault if the masked query was out of memory. `masked` is borrowed,
+// since moving it costs more than looking at it.
 fn lines_if_masked(
     alloc: Global,
     standpoint: &Standpoint<'_>,
@@ -180,15 +179,15 @@ fn lines_if_masked(
     }
 }
 
-/// The answer of a query from a standpoint, for its purpose and recipient at its moment: what it
-/// answers over the views of its tables, after the entries that the book and the tables stand for.
+/// The answer to a query at a standpoint, for its purpose and recipient at its moment: the query's
+/// result over the views of its tables, after the entries that the book and the tables represent.
 /// The rules in force are written into the query (LeFevre and others, Limiting Disclosure in
-/// Hippocratic Databases, VLDB 2004), and it is answered over the rows as they are. Wants a query
-/// whose tables are created.
-/// TooManyRows exactly where the answer has more than 100,000 rows.
+/// Hippocratic Databases, VLDB 2004), and the rewritten query is answered over the unmasked rows.
+/// All tables of the query must exist. Returns `TooManyRows` exactly when the answer has more than
+/// 100,000 rows.
 ///
-/// Over `patient (pid, name, phone)` with the row `1, 'Ada', '555-1'`, where `pid` and `name` are
-/// allowed and no rule names `phone`:
+/// An example over `patient (pid, name, phone)` with the row `1, 'Ada', '555-1'`, where `pid` and
+/// `name` are allowed and no rule names `phone`:
 ///
 /// ```text
 /// SELECT name, phone FROM patient                   'Ada', DENIED(0)
@@ -210,9 +209,9 @@ pub fn answer(
     answer
 }
 
-/// The answer of a query as the lines that say its rows to a session, as `answer_line` prints each.
-/// Where neither DISTINCT nor groups are asked for, each is printed from the rows as they stand, and
-/// no cell is copied. Wants and answers what `answer` does.
+/// The answer to a query as the lines of its rows for a session, each printed as by `answer_line`.
+/// Without DISTINCT and groups, each line is printed directly from the tables' rows, and no cell is
+/// copied. Requirements and errors are those of `answer`.
 pub fn answer_as_lines(
     alloc: Global,
     standpoint: &Standpoint<'_>,

@@ -1,4 +1,4 @@
-//! The answer of a query over the state of a history, as rows or as the lines that say them.
+//! The answer to a query over the state of a history, as rows or as printed lines.
 #![tactic(auto)]
 
 mod answers;

@@ -1,4 +1,4 @@
-//! Answers as the lines that say their rows.
+//! Answers as printed lines.
 ghost use Rattle.std.specs.Prelude.{◌≡◌, ◌++◌, ℕ, List, [], flat_map, length, OnOk, IfOk};
 ghost use Rattle.hippo_model.specs.Terms.{ShownRow};
 ghost use Rattle.hippo_model.specs.Masking.{masked_cell, masked_items, masked_answer};
@@ -18,13 +18,13 @@ use hippo_values::{Memory, RoomyTxt, Value};
 use itoa::Buffer;
 use std::alloc::Global;
 
-/// How many bytes of lines there is room for from the start.
+/// The number of bytes that are reserved for lines at the start.
 pub const LINES_ROOM: usize = 256;
 
-// Room for the longest front of a line, `255 row `.
+// The number of bytes of the longest front of a line, `255 row `.
 const FRONT_ROOM: usize = 8;
 
-/// The lines that say the rows of an answer to a session, and how many these are.
+/// The lines of an answer's rows for a session, and their number.
 #[derive(Drop)]
 pub struct Lines {
     pub text: RoomyTxt<LINES_ROOM>,
@@ -32,7 +32,7 @@ pub struct Lines {
 }
 
 impl Lines {
-    // No line.
+    // No lines.
     fn new(alloc: Global) -> Result<Lines, Memory>
         ensures { IfOk result (λ lines. (session : ℕ) → AreLinesOf session [] lines) }
     {
@@ -43,7 +43,7 @@ impl Lines {
     }
 }
 
-// Adds a cell whose value is lent.
+// Appends a cell whose value is borrowed.
 #[inline(always)]
 fn append_cell<const ROOM: usize>(
     cell: &LentCell<'_>,
@@ -58,7 +58,7 @@ fn append_cell<const ROOM: usize>(
     }
 }
 
-// Adds the cell that an item stands for in a combination of rows.
+// Appends the cell of an item in a combination of rows.
 #[inline(always)]
 fn append_item<C: ChoiceView, const ROOM: usize>(
     item: &Expr,
@@ -72,7 +72,7 @@ fn append_item<C: ChoiceView, const ROOM: usize>(
     append_cell(&cell(item, combo, choices), out)
 }
 
-// Adds the cells of items in a combination of rows, each behind a comma.
+// Appends the cells of items in a combination of rows, each after a comma.
 fn append_later<C: ChoiceView, const ROOM: usize>(
     items: &[Expr],
     combo: &Combo<'_>,
@@ -90,7 +90,7 @@ fn append_later<C: ChoiceView, const ROOM: usize>(
     Ok(())
 }
 
-// Adds the cells of items in a combination of rows, with a comma between them.
+// Appends the cells of items in a combination of rows, separated by commas.
 fn append_items<C: ChoiceView, const ROOM: usize>(
     items: &[Expr],
     combo: &Combo<'_>,
@@ -118,8 +118,7 @@ fn line_front(alloc: Global, session: u8) -> Result<RoomyTxt<FRONT_ROOM>, Memory
     Ok(front)
 }
 
-// Adds the line of the row that a combination makes, to the session of whose lines this is the
-// front.
+// Appends the line of a combination's row. `front` is the front of the session's lines.
 fn append_row<C: ChoiceView, const ROOM: usize>(
     front: &str,
     query: &Masked,
@@ -136,13 +135,13 @@ fn append_row<C: ChoiceView, const ROOM: usize>(
     out.push('\n')
 }
 
-// Prints the rows of combinations that count, and one at most beyond the limit.
+// Prints the rows of the combinations that count, up to one more than the limit.
 #[derive(Drop)]
 struct RowPrinter<'a, C> {
     query: &'a Masked,
     choices: &'a C,
     session: u8,
-    // That of the session's lines, which is made once.
+    // The front of the session's lines, which is made once.
     front: &'a str,
     ghost is_front: { front.now ≡ line_front session },
 }
@@ -175,7 +174,7 @@ impl<'a, C: ChoiceView> Visitor for RowPrinter<'a, C> {
     }
 }
 
-// These lines as what is said, unless they are more than the limit.
+// The lines, or a fault if they are more than the limit.
 #[tactic(auto, using(crate::proofs::LineLemmas::are_whole, crate::proofs::LineLemmas::go_beyond))]
 fn within_limit(lines: Lines) -> Result<Lines, EvalFault>
     ensures { (session : ℕ) (rows : List ShownRow) → IsGathered (AreLinesOf session)
@@ -188,9 +187,9 @@ fn within_limit(lines: Lines) -> Result<Lines, EvalFault>
     }
 }
 
-/// The lines of the rows that a query with the policy written into it makes, over unmasked rows and
-/// patients' choices, printed from the rows as they stand. TooManyRows exactly where these are more
-/// than 100,000.
+/// The lines of the rows of a query with the policy written into it, over unmasked rows and
+/// patients' choices, printed directly from these rows. Returns `TooManyRows` exactly when there
+/// are more than 100,000 rows.
 pub(crate) fn printed_lines(
     alloc: Global,
     session: u8,
@@ -222,17 +221,17 @@ pub(crate) fn printed_lines(
     }
 }
 
-// Prints rows that are there, to a session.
+// Prints the rows of a finished answer for a session.
 #[derive(Drop)]
 struct LinePrinter<'a> {
     session: u8,
-    // That of the session's lines, which is made once.
+    // The front of the session's lines, which is made once.
     front: &'a str,
     ghost is_front: { front.now ≡ line_front session },
 }
 
 impl<'a> LinePrinter<'a> {
-    // Adds the line of a row.
+    // Appends the line of a row.
     fn append_line<const ROOM: usize>(
         &self,
         row: &CellRow,
@@ -260,7 +259,7 @@ impl<'a> LinePrinter<'a> {
     }
 }
 
-/// The lines of rows that are there.
+/// The lines of the rows of a finished answer. Fails when out of memory.
 pub(crate) fn lines_of(alloc: Global, session: u8, rows: &[CellRow]) -> Result<Lines, Memory>
     ensures { IfOk result (λ lines. AreLinesOf session rows.now lines) }
 {

@@ -1,4 +1,4 @@
-//! How many rows the tables of a query have.
+//! The number of rows of the tables of a query.
 ghost use Rattle.std.specs.Prelude.{◌≡◌, IfOk, length, map};
 
 use hippo_model::Sizes;
@@ -6,7 +6,7 @@ use hippo_tables_rows::Sets;
 use hippo_values::{Memory, Sequence};
 use std::alloc::Global;
 
-/// How many rows each table has.
+/// The number of rows of each table. Fails when out of memory.
 pub fn sizes_of(alloc: Global, sets: &Sets<'_>) -> Result<Sizes, Memory>
     ensures { IfOk result (λ sizes. sizes ≡ map (λ set. length set.rows) sets.now) }
 {

@@ -1,11 +1,11 @@
-//! From where a query is answered.
+//! The standpoint at which a query is answered.
 use hippo_model::Pair;
 use hippo_policy::PolicyBook;
 use hippo_tables::Tables;
 use hippo_values::Moment;
 
-/// From where a query is answered: by a book and tables that stand for so many entries, for a
-/// purpose and recipient, at a moment.
+/// What the answer to a query depends on, apart from the query: a book and tables that represent
+/// the first `count` entries, a purpose and recipient, and a moment.
 #[derive(Drop)]
 pub struct Standpoint<'a> {
     pub book: &'a PolicyBook,

@@ -1,4 +1,4 @@
-//! A visit of what a query makes its rows of.
+//! A visit of the combinations from which a query makes its rows.
 ghost use Rattle.std.specs.Prelude.{◌≡◌, ◌++◌, List, length};
 ghost use Rattle.hippo_model.specs.Terms.{Combination};
 ghost use Rattle.hippo_model.specs.Answers.{product};
@@ -13,8 +13,8 @@ use hippo_model::{ChoiceView, Masked};
 use hippo_tables_rows::Sets;
 use std::alloc::Global;
 
-/// Visits the combinations that count, in the order of the product, by joins in an order that is
-/// planned; over one table there is nothing to plan.
+/// Visits the combinations that count, in the order of the product, by joins in a planned order. A
+/// query over one table needs no plan.
 pub(crate) fn visit_rows<C: ChoiceView, V: Visitor>(
     alloc: Global,
     visitor: &V,

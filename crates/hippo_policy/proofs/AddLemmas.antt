@@ -1,4 +1,4 @@
--- What a book keeps of a history with one entry more, and of one with its last entry taken back.
+-- What a book keeps after one more entry, and after its last entry is removed.
 use Rattle.std.proofs.Common.{◌≡◌, ◌∙◌, sym, refl, ap, arith, ℕ, ◌+◌, ◌-◌, List, [], ◌∷◌, ◌++◌, length, take, Bool, true, false, Option, Some, None}
 use Rattle.std.proofs.Math.Seq.{take-append_seam}
 use Rattle.std.proofs.lemmas.List.{length-append}
@@ -47,14 +47,14 @@ module _ {A : Type 0} (word : Entry → Option A) where
   numbered_words-unspoken true said history entry spoken = rw (numbered_words-append history entry, spoken) (without-last (numbered_words word history) (record { number = 1 + length history; word = said }))
 
 module _ {K A : Type 0} (word : K → Entry → Option A) (history : History) (entry : Entry) where
-  -- where the entry says nothing of any key
+  -- if the entry sets no value for any key
   pub IsKept-silent : (kept : K → List (Said A)) → ((key : K) → word key entry ≡ None) → IsKept kept word history → IsKept kept word (history ++ entry ∷ [])
   IsKept-silent kept silent is key = is key ∙ sym (numbered_words-silent (word key) history entry (silent key))
 
-  -- where it speaks of the keys that pass a test
+  -- if it sets a value for the keys that pass a test
   pub IsKept-spoken : (old new : K → List (Said A)) (test : K → Bool) (said : Said A) → ((key : K) → new key ≡ with_word (test key) said (old key)) → ((key : K) → word key entry ≡ then_some (test key) said.word) → said.number ≡ length history + 1 → IsKept old word history → IsKept new word (history ++ entry ∷ [])
   IsKept-spoken old new test said added spoken next is key = added key ∙ rw (is key) (numbered_words-spoken (word key) (test key) said history entry (spoken key) next)
 
-  -- and where what was said of them is taken back
+  -- if the values that it set for them are removed
   pub IsKept-unspoken : (old new : K → List (Said A)) (test : K → Bool) (said : A) → ((key : K) → new key ≡ without_word (test key) (old key)) → ((key : K) → word key entry ≡ then_some (test key) said) → IsKept old word (history ++ entry ∷ []) → IsKept new word history
   IsKept-unspoken old new test said taken spoken is key = taken key ∙ rw (is key) (numbered_words-unspoken (word key) (test key) said history entry (spoken key))

@@ -1,4 +1,4 @@
--- What a book stands for once an entry of each kind is taken in.
+-- The history that a book represents after an entry of each kind is added.
 use Rattle.std.proofs.Common.{◌≡◌, ◌∙◌, sym, refl, ap, ℕ, ℤ, ◌+◌, List, [], ◌∷◌, ◌++◌, length, Bool, true, false, ◌&&◌, ◌||◌, subst, Option, None, Result, Ok, Err, OnErr, bytes_eq, nat_eq}
 use Rattle.std.proofs.lemmas.Bool.{false≢true}
 use Rattle.std.specs.Cmp.{nat_eq_equiv}
@@ -26,7 +26,7 @@ use Rattle.hippo_policy.specs.Words.{LastWords, kept_words, with_word}
 use Rattle.hippo_policy.specs.Books.{BookStandsFor, BookIsAsBefore, BookAdds, AddsUser, AddsRule, rule_word, choice_word, user_word, item_word, cell_keys, leaves_book, cell_of}
 use Rattle.hippo_policy.proofs.AddLemmas.{IsKept-silent, IsKept-spoken}
 
--- an act that is none of those that speak says nothing
+-- an act of any other kind sets no value
 pub leaves_book-rest : (act : Act) → ((item : Name) (kind : ItemKind) → ¬ (act ≡ Item item kind)) → ((user purpose recipient : Name) → ¬ (act ≡ Authorize user purpose recipient)) → ((user purpose recipient : Name) → ¬ (act ≡ Deauthorize user purpose recipient))
     → ((purpose recipient table : Name) (columns : List Place) (item : Option Name) (days : Option ℕ) → ¬ (act ≡ Allow purpose recipient table columns item days))
     → ((purpose recipient table : Name) (columns : List Place) → ¬ (act ≡ Revoke purpose recipient table columns)) → ((subject : ℤ) (item : Name) (agreed : Bool) → ¬ (act ≡ Choice subject item agreed)) → leaves_book act ≡ true
@@ -54,7 +54,7 @@ column_more true false c e rest = refl
 column_more true true false e rest = refl
 column_more true true true e rest = refl
 
--- a rule names a cell where one of its keys is the cell's
+-- a rule names a cell exactly when one of its keys is the cell's
 pub named : (purpose recipient table : Name) (other : CellKey) (columns : List Place) → list_any (λ key. same_cell_key key other) (cell_keys purpose recipient table columns) ≡ is_named_by (cell_of other) purpose recipient table columns
 named purpose recipient table other [] = no_column (bytes_eq purpose other.table.purpose) (bytes_eq recipient other.table.recipient) (bytes_eq table other.table.table)
 named purpose recipient table other (column ∷ rest) =
@@ -88,7 +88,7 @@ module _ (old : PolicyBook) (number : ℕ) where
     remembers = refl;
   }
 
-  -- an entry that says nothing of what is kept
+  -- an entry that sets no value that is kept
   silent-kept : (last : Matter) (history : History) (entry : Entry) → ((key : CellKey) → rule_word key entry ≡ None) → ((key : ChoiceKey) → choice_word key entry ≡ None) → ((key : UserKey) → user_word key entry ≡ None) → ((item : Name) → item_word item entry ≡ None) → BookStandsFor old history
       → BookStandsFor (record { rules = old.rules; choices = old.choices; users = old.users; items = old.items; last = last }) (history ++ entry ∷ [])
   silent-kept last history entry rules choices users items kept = record {
@@ -116,7 +116,7 @@ module _ (old : PolicyBook) (number : ℕ) where
   BookAdds-silent (Revoke purpose recipient table columns) silent = absurd (false≢true silent)
   BookAdds-silent (Choice subject item agreed) silent = absurd (false≢true silent)
 
-  -- a word more on a user
+  -- one more value for a user
   user-kept : (users : LastWords UserKey Authorization) (last : Matter) (key : UserKey) (word : Authorization) (history : History) (entry : Entry)
       → ((other : UserKey) → kept_words same_user users other ≡ with_word (same_user key other) (record { number = number; word = word }) (kept_words same_user old.users other))
       → ((key : CellKey) → rule_word key entry ≡ None) → ((key : ChoiceKey) → choice_word key entry ≡ None) → ((other : UserKey) → user_word other entry ≡ then_some (same_user key other) word) → ((item : Name) → item_word item entry ≡ None) → number ≡ length history + 1 → BookStandsFor old history
@@ -170,7 +170,7 @@ pub on_err : {A B P : Type 0} (result : Result A B) → P → OnErr result P
 on_err (Ok value) holds = tt
 on_err (Err fault) holds = holds
 
--- a book whose words on one kind are equal to those before
+-- a book whose values of one kind are equal to those before
 module _ (old : PolicyBook) where
   pub as_before-choices : (choices : LastWords ChoiceKey Bool) → ((other : ChoiceKey) → kept_words same_choice choices other ≡ kept_words same_choice old.choices other) → BookIsAsBefore old (record { rules = old.rules; choices = choices; users = old.users; items = old.items; last = old.last })
   as_before-choices choices same = record { stands = λ history kept. record { rules = kept.rules; choices = λ key. same key ∙ kept.choices key; users = kept.users; items = kept.items }; remembers = refl }

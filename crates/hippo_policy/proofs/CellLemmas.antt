@@ -1,4 +1,4 @@
--- What is kept of the columns of tables once it is changed at a place.
+-- The rules of the columns of tables after a change at one place.
 use Rattle.std.proofs.Common.{◌≡◌, refl, arith, ℕ, zero, suc, List, [], ◌∷◌, ◌++◌, Bool, true, false, ◌&&◌, Some, nat_eq, slice_get}
 use Rattle.std.specs.Prelude.{slice_set}
 use Rattle.std.proofs.lemmas.Cmp.{nat_eq_equiv, nat_list_eq_equiv}
@@ -21,7 +21,7 @@ right_of true b is = is
 right_of false true is = refl
 right_of false false is = is
 
--- two equivalences on parts
+-- an equivalence on each of two parts
 both_equivalent : {K A B : Type 0} {E : A → A → Bool} {F : B → B → Bool} (f : K → A) (g : K → B) → IsEquivalence E → IsEquivalence F → IsEquivalence (λ x y. E (f x) (f y) && F (g x) (g y))
 both_equivalent {E} {F} f g first second = record {
   refl = λ x. λ i. first.refl (f x) i && second.refl (g x) i;
@@ -48,7 +48,7 @@ module _ {A : Type 0} where
   abbrev pub words_at : List (Sayings A) → ℕ → List (Said A)
   words_at columns column = option_map_or (λ words. words.said.items) (slice_get columns column) []
 
-  -- one more column of which nothing was said
+  -- one more column without rules
   pub words_at-append : (columns : List (Sayings A)) (empty : Sayings A) (other : ℕ) → empty.said.items ≡ [] → words_at (columns ++ empty ∷ []) other ≡ words_at columns other
   words_at-append [] empty zero nothing = nothing
   words_at-append [] empty (suc other) nothing = refl
@@ -56,7 +56,7 @@ module _ {A : Type 0} where
   words_at-append (first ∷ rest) empty (suc other) nothing = words_at-append rest empty other nothing
 
   module _ (f : List (Said A) → List (Said A)) (old new : Sayings A) where
-    -- what was said of one column is changed
+    -- the rules of one column are changed
     pub words_at-set : (columns : List (Sayings A)) (place other : ℕ) → slice_get columns place ≡ Some old → new.said.items ≡ f old.said.items → words_at (slice_set columns place new) other ≡ done_if f (nat_eq place other) (words_at columns other)
     words_at-set [] place other found changed = absurd cc
     words_at-set (first ∷ rest) zero zero found changed = let same : first ≡ old = cc in rw same changed
@@ -64,7 +64,7 @@ module _ {A : Type 0} where
     words_at-set (first ∷ rest) (suc place) zero found changed = rw (differs_above place) refl
     words_at-set (first ∷ rest) (suc place) (suc other) found changed = rw (alike_above place other) (words_at-set rest place other found changed)
 
--- what is done at a column of a table
+-- an update of a column of a table
 pub done_both : {X : Type 0} (f : X → X) (is_table is_column : Bool) (old : X) → done_if (done_if f is_column) is_table old ≡ done_if f (is_table && is_column) old
 done_both f true is_column old = refl
 done_both f false is_column old = refl

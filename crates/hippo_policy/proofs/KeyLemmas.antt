@@ -1,4 +1,4 @@
--- What is done once at each of some keys, though keys stand among them twice.
+-- An update that is done once for each distinct key of a list that may repeat keys.
 use Rattle.std.proofs.Common.{◌≡◌, ◌∙◌, sym, refl, ap, ℕ, ◌+◌, ◌<◌, List, length, take, get_or, Bool, true, false, ◌||◌, if◌then◌else◌, Option, Some}
 use Rattle.std.proofs.lemmas.Bool.{false≢true}
 use Rattle.std.proofs.lemmas.List.Folds.{list_any_more}
@@ -36,16 +36,16 @@ module _ {K X : Type 0} (same : K → K → Bool) (equivalence : IsEquivalence s
   one_more : place < length keys → key ≡ get_or keys place key → is_among (place + 1) ≡ (is_among place || same key other)
   one_more within is = list_any_more (λ one. same one other) keys place key within ∙ rw (sym is) refl
 
-  -- the key at a place, where it does not stand before
+  -- the key at a place, if it does not occur before
   pub done_once : (old now new : X) → place < length keys → key ≡ get_or keys place key → false ≡ list_any (λ one. same one key) (take place keys) → now ≡ done_if f (is_among place) old → new ≡ done_if f (same key other) now
       → new ≡ done_if f (is_among (place + 1)) old
   done_once old now new within is fresh so_far done = rw (one_more within is) (done_more f (is_among place) (same key other) (list_any (λ one. same one key) (take place keys)) old now new any_alike fresh so_far done)
 
-  -- and where it does
+  -- and if it does
   pub done_before : (old now : X) → place < length keys → key ≡ get_or keys place key → true ≡ list_any (λ one. same one key) (take place keys) → now ≡ done_if f (is_among place) old → now ≡ done_if f (is_among (place + 1)) old
   done_before old now within is again so_far = rw (one_more within is) (done_again f (is_among place) (same key other) (list_any (λ one. same one key) (take place keys)) old now any_alike again so_far)
 
--- What is kept at other keys once what was found at a key is changed.
+-- The values at other keys after the value at one key is changed.
 module _ {K V X : Type 0} (same : K → K → Bool) (equivalence : IsEquivalence same) (entries : List (K × V)) (key other : K) (old new : V) (view : V → X) (none : X) (f : X → X) where
   abbrev seen_at : List (K × V) → X
   seen_at kept = option_map_or view (lookup (same other) kept) none
@@ -64,7 +64,7 @@ pub done_if-same : {X : Type 0} (is_done : Bool) (old : X) → done_if (λ value
 done_if-same true old = refl
 done_if-same false old = refl
 
--- And once something is written where nothing was.
+-- And after a value is written where there was none.
 pub kept-begun : {V X : Type 0} (view : V → X) (none : X) (is_same : Bool) (made : V) (found after : Option V) (seen : X) → after ≡ (if is_same then Some made else found) → view made ≡ seen
     → option_map_or view after none ≡ (if is_same then seen else option_map_or view found none)
 kept-begun view none true made found after seen is made_is = rw is made_is

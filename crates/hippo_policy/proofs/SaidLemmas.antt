@@ -1,4 +1,4 @@
--- The last word up to a number, found by halves among what was said, is that of the entries up to the number.
+-- The last value up to a number, found by binary search, is that of the entries up to the number.
 use Rattle.std.proofs.Common.{◌≡◌, ◌∙◌, sym, refl, ap, arith, ℕ, zero, suc, ◌+◌, ◌-◌, ◌≤◌, ◌<◌, List, [], ◌∷◌, ◌++◌, length, take, max, Bool, true, false, subst, if◌then◌else◌, Option, Some, None, nat_le, filter_map, option_map, slice_get}
 use Rattle.std.proofs.Math.Nat.{max-eq_left, le-max_right}
 use Rattle.std.proofs.lemmas.List.Sorted.{IsNonDecreasingBy-push}
@@ -31,12 +31,12 @@ module _ {A : Type 0} (n : ℕ) where
   abbrev above : Said A → Type 0
   above said = nat_le said.number n ≡ false
 
-  -- nothing up to the number
+  -- no value up to the number
   latest-above : (words : List (Said A)) → IsPartitionPoint below above words 0 → latest n words ≡ None
   latest-above [] parted = refl
   latest-above (said ∷ later) parted = rw (latest-above later (λ k d low high. absurd (omega arith), λ k d low high. parted.1 (suc k) d (omega arith) (omega arith)), parted.1 0 said (omega arith) (omega arith)) refl
 
-  -- where the words are parted by the number, the last one before the place
+  -- if the values are partitioned by the number, the last one before the partition point
   pub latest-parted : (words : List (Said A)) (i : ℕ) → IsPartitionPoint below above words i → latest n words ≡ option_map (λ (s : Said A). s.word) (last_of (take i words))
   latest-parted [] zero parted = refl
   latest-parted [] (suc i) parted = refl
@@ -45,7 +45,7 @@ module _ {A : Type 0} (n : ℕ) where
       rw (latest-parted later i (λ k d low high. parted.0 (suc k) d (omega arith) (omega arith), λ k d low high. parted.1 (suc k) d (omega arith) (omega arith)), parted.0 0 said (omega arith) (omega arith), last_of-cons said (take i later)) refl
 
 module _ {A : Type 0} (word : Entry → Option A) where
-  -- what the entries say, from a number on
+  -- the values that entries set, from a number on
   abbrev pub numbered_from : ℕ → History → List (Said A)
   numbered_from number history = filter_map (λ (place, entry). option_map (λ said. record { number = place; word = said }) (word entry)) (enumerate_from number history)
 
@@ -104,7 +104,7 @@ module _ {A : Type 0} (word : Entry → Option A) where
       let less = below (length (said ∷ later) - 1) said (omega arith) in
       rw (slice_get-get_or (said ∷ later) (length (said ∷ later) - 1) said (omega arith)) (omega arith)
 
-  -- what is said next in a history keeps its number
+  -- the next value of a history keeps its number
   pub no_earlier-numbered_words : (history : History) (said : Said A) → said.number ≡ length history + 1 → no_earlier (numbered_words word history) said ≡ said
   no_earlier-numbered_words history said next =
       let below : IsBelow (length history + 1) (numbered_words word history) = λ k d short. let less = IsBelow-numbered_words 1 history k d short in omega arith in
@@ -113,13 +113,13 @@ module _ {A : Type 0} (word : Entry → Option A) where
       ap (λ (number : ℕ). record { number = number; word = said.word }) same
 
 module _ {A : Type 0} where
-  -- where the numbers never fall, they still do not when a word is added that is no earlier
+  -- numbers that never decrease still do not after `no_earlier` adds a value
   pub rises-no_earlier : (words : List (Said A)) (said : Said A) → IsNonDecreasingBy (λ (s : Said A). s.number) words → IsNonDecreasingBy (λ (s : Said A). s.number) (words ++ no_earlier words said ∷ [])
   rises-no_earlier words said rises =
       IsNonDecreasingBy-push (λ (s : Said A). s.number) words (no_earlier words said) rises
       (λ d some. rw (slice_get-get_or words (length words - 1) d (omega arith)) (le-max_right said.number (slice_index_or words (length words - 1) d).number))
 
-  -- and so where it is added or not
+  -- and so whether it is added or not
   pub rises-pushed : (added : Bool) (words items : List (Said A)) (said : Said A) (number : ℕ) → number ≡ max said.number (latest_number words) → IsNonDecreasingBy (λ (s : Said A). s.number) words
       → items ≡ (if added then words ++ record { number = number; word = said.word } ∷ [] else words) → IsNonDecreasingBy (λ (s : Said A). s.number) items
   rises-pushed true words items said number is rises pushed =

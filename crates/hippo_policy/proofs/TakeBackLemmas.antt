@@ -1,4 +1,4 @@
--- What a book stands for once its last entry is taken back.
+-- The history that a book represents after its last entry is removed.
 use Rattle.std.proofs.Common.{◌≡◌, ◌∙◌, refl, List, [], ◌∷◌, ◌++◌, Bool, Option, None, bytes_eq}
 use Rattle.std.specs.Bool.{then_some}
 use Rattle.std.specs.List.{list_any}
@@ -24,7 +24,7 @@ use Rattle.hippo_policy.specs.Books.{BookStandsFor, IsKept, rule_word, choice_wo
 use Rattle.hippo_policy.proofs.AddLemmas.{IsKept-unspoken, numbered_words-silent}
 use Rattle.hippo_policy.proofs.BookLemmas.{and-assoc, named}
 
--- what an entry says of the keys of each kind that pass a test
+-- the value that an entry sets for the keys of each kind that pass a test
 record Says (entry : Entry) (cells : CellKey → Option Rule) (choices : ChoiceKey → Option Bool) (users : UserKey → Option Authorization) (items : Name → Option ItemKind) : Type 0 where
   rules : (key : CellKey) → rule_word key entry ≡ cells key
   agreed : (key : ChoiceKey) → choice_word key entry ≡ choices key

@@ -1,4 +1,4 @@
--- The gate of a rule stands for the rule's verdict.
+-- The gate of a rule decides as the rule's verdict does.
 use Rattle.std.proofs.Common.{◌≡◌, ◌∙◌, refl, ap, arith, ℕ, ◌<◌, ℤ, ◌-ℤ◌, Bool, true, false, not, ◌&&◌, ◌||◌, if◌then◌else◌, length, Option, None, Some, option_map}
 use Rattle.std.proofs.lemmas.Int.{ints}
 use Rattle.std.proofs.lemmas.List.FromFn.{get_or-map-range_with_len}
@@ -20,7 +20,7 @@ use Rattle.hippo_model.specs.Rules.{Rule, allowed, revoked, rule_at, choice_at}
 use Rattle.hippo_model.specs.Verdicts.{Context, agrees, days_long, has_ended, subject_of, verdict, verdict_by}
 use Rattle.hippo_policy.specs.Gates.{after, gate_of_item, gate_by, table_rules, is_born_after, gate_verdict, gate_in, rules_verdict}
 
--- a row's age and its birth say the same of a rule's days
+-- a row's age and its birth agree on a rule's days
 ended : (moment born : Moment) (days : ℕ) → int_le born (after moment days) ≡ int_le (days_long days) (moment -ℤ born)
 ended moment born days = grind (arith, ints)
 
@@ -45,19 +45,19 @@ module _ (history : History) (moment born : Moment) (rule : ℕ) (item : Name) (
   abbrev by_item : Option ℤ → Option ItemKind → Verdict
   by_item subject found = gate_verdict (choice_at history) born subject (gate_of_item moment rule item days found)
 
-  -- where the row is about nobody
+  -- if the row is about nobody
   about_nobody : (found : Option ItemKind) → by_item None found ≡ (if has_ended (moment -ℤ born) days || true then Denied rule else Shown)
   about_nobody None = denied_or rule (has_ended (moment -ℤ born) days)
   about_nobody (Some kind) = rw (born_after moment born days) (with_choice rule (has_ended (moment -ℤ born) days) false)
 
-  -- and where it is about a patient
+  -- if the row is about a patient
   about : (subject : ℤ) (found : Option ItemKind) → by_item (Some subject) found
       ≡ (if has_ended (moment -ℤ born) days || not (option_map_or (λ kind. agrees kind (choice_at history subject item)) found false) then Denied rule else Shown)
   about subject None = denied_or rule (has_ended (moment -ℤ born) days)
   about subject (Some OptIn) = rw (born_after moment born days) (with_choice rule (has_ended (moment -ℤ born) days) (agrees OptIn (choice_at history subject item)))
   about subject (Some OptOut) = rw (born_after moment born days) (with_choice rule (has_ended (moment -ℤ born) days) (agrees OptOut (choice_at history subject item)))
 
--- the gate of a rule stands for its verdict
+-- the gate of a rule decides as its verdict does
 pub gate_verdict-gate_by : (history : History) (moment born : Moment) (subject : Option ℤ) (rule : Option Rule)
     → gate_verdict (choice_at history) born subject (gate_by history moment rule) ≡ verdict_by history (moment -ℤ born) subject rule
 gate_verdict-gate_by history moment born subject None = refl
@@ -67,7 +67,7 @@ gate_verdict-gate_by history moment born subject (Some (allowed rule None (Some 
 gate_verdict-gate_by history moment born None (Some (allowed rule (Some item) days)) = about_nobody history moment born rule item days (item_at history item)
 gate_verdict-gate_by history moment born (Some subject) (Some (allowed rule (Some item) days)) = about history moment born rule item days subject (item_at history item)
 
--- the gate of each column stands for the verdict on its cells
+-- the gate of each column decides as the verdict on its cells does
 pub rules_verdict-table_rules : (history : History) (context : Context) (schema : Schema) (kept : BornRow) (column : Place) → column < length schema.columns
     → rules_verdict (choice_at history) (table_rules history context schema) kept column ≡ verdict history context schema kept column
 rules_verdict-table_rules history context schema kept column within =

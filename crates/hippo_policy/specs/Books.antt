@@ -1,4 +1,4 @@
--- What a policy book keeps of a history.
+-- The history that a policy book represents.
 use Rattle.std.specs.Prelude.{◌≡◌, ℕ, ℤ, ◌+◌, Bool, true, false, List, [], ◌∷◌, ◌++◌, length, map, Option}
 use Rattle.std.specs.List.{list_any}
 use Rattle.hippo_values.specs.declared.names.Name.{Name}
@@ -35,7 +35,7 @@ abbrev pub rule_of : History → CellKey → Option Rule
 rule_of history key =
     rule_at history key.table.purpose key.table.recipient key.table.table key.column
 
--- what an entry says of a cell, of a patient's choice, of a user's authorization, of an item
+-- the value that an entry sets for a cell, a patient's choice, a user's authorization, an item
 abbrev pub rule_word : CellKey → Entry → Option Rule
 rule_word key entry = rule_in (cell_of key) entry.seq entry.act
 
@@ -48,11 +48,11 @@ user_word key entry = authorization_in key.user key.purpose key.recipient entry.
 abbrev pub item_word : Name → Entry → Option ItemKind
 item_word item entry = item_created item entry.act
 
--- at each key stands what the entries of a history say of it, with their numbers
+-- for each key, the values that the entries of a history set for it, with their numbers
 abbrev pub IsKept : {K A : Type 0} → (K → List (Said A)) → (K → Entry → Option A) → History → Type 0
 IsKept {K} kept word history = (key : K) → kept key ≡ numbered_words (word key) history
 
--- a book that holds what a history says
+-- the book holds the values that a history sets
 pub record BookStandsFor (book : PolicyBook) (history : History) : Type 0 where
   pub rules : IsKept (cell_words book.rules) rule_word history
   pub choices : IsKept (kept_words same_choice book.choices) choice_word history
@@ -68,14 +68,14 @@ cell_keys purpose recipient table columns =
     })
     columns
 
--- the keys of the cells that an act rules
+-- the keys of the cells that an ALLOW or a REVOKE names
 abbrev pub ruled_cells : Act → List CellKey
 ruled_cells (Allow purpose recipient table columns item days) =
     cell_keys purpose recipient table columns
 ruled_cells (Revoke purpose recipient table columns) = cell_keys purpose recipient table columns
 ruled_cells act = []
 
--- what an act speaks of
+-- what an act is about: the keys whose values it sets
 abbrev pub matter_of : Act → Matter
 matter_of (Item item kind) = OfItem item
 matter_of (Authorize user purpose recipient) =
@@ -93,23 +93,23 @@ abbrev is_nothing : Matter → Bool
 is_nothing Nothing = true
 is_nothing matter = false
 
--- whether an act says nothing that a book keeps
+-- whether an act sets no value that a book keeps
 abbrev pub leaves_book : Act → Bool
 leaves_book act = is_nothing (matter_of act)
 
--- a book knows what its last entry speaks of
+-- the book knows what its last entry is about
 abbrev pub RemembersMatter : PolicyBook → Act → Type 0
 RemembersMatter book act = book.last ≡ matter_of act
 
--- a book has taken in an entry with this number and act: it stands for each history that it stood
--- for, with the entry behind, where that has the next number
+-- the new book has an entry with this number and act added: it represents each history that the old
+-- one represents, with the entry appended, if the entry has the next number
 pub record BookAdds (old new : PolicyBook) (number : ℕ) (act : Act) : Type 0 where
   pub stands : (history : History) (entry : Entry) → entry.act ≡ act → entry.seq ≡ number
       → number ≡ length history + 1
       → BookStandsFor old history → BookStandsFor new (history ++ entry ∷ [])
   pub remembers : RemembersMatter new act
 
--- a book with these rules, users and last matter, and the choices and items of another
+-- a book with these rules, users and last matter, and the choices and items of another book
 abbrev pub book_with : PolicyBook → RuledTables → LastWords UserKey Authorization
     → Matter → PolicyBook
 book_with book rules users last =
@@ -121,7 +121,7 @@ book_with book rules users last =
       last = last;
     }
 
--- a book has one word more on a user
+-- the new book has one more value for a user
 pub record AddsUser (old new : PolicyBook) (number : ℕ) (key : UserKey) (word : Authorization)
     : Type 0 where
   pub users : (other : UserKey) → kept_words same_user new.users other
@@ -129,7 +129,7 @@ pub record AddsUser (old new : PolicyBook) (number : ℕ) (key : UserKey) (word 
       (kept_words same_user old.users other)
   pub others : new ≡ book_with old old.rules new.users (User key)
 
--- a book has one word more on some cells
+-- the new book has one more rule for some cells
 pub record AddsRule (old new : PolicyBook) (number : ℕ) (keys : List CellKey) (word : Rule)
     : Type 0 where
   pub rules : (other : CellKey) → cell_words new.rules other
@@ -138,12 +138,12 @@ pub record AddsRule (old new : PolicyBook) (number : ℕ) (keys : List CellKey) 
       (cell_words old.rules other)
   pub others : new ≡ book_with old new.rules old.users (Cells keys)
 
--- a book stands for what it stood for
+-- the new book represents every history that the old one represents
 pub record BookIsAsBefore (old new : PolicyBook) : Type 0 where
   pub stands : (history : History) → BookStandsFor old history → BookStandsFor new history
   pub remembers : new.last ≡ old.last
 
--- the choice of a patient on an item that a book keeps, up to an entry number
+-- the last choice of a patient on an item that a book keeps, up to an entry number
 abbrev pub choice_kept : PolicyBook → ℕ → ℤ → Name → Option Bool
 choice_kept book n subject item =
     latest n (kept_words same_choice book.choices (record { subject = subject; item = item }))

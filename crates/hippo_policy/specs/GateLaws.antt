@@ -1,4 +1,4 @@
--- Laws on the rules in force.
+-- Laws of the rules in force.
 use Rattle.std.specs.Prelude.{◌≡◌, ◌<◌, length}
 use Rattle.hippo_model.specs.declared.born_row.BornRow.{BornRow}
 use Rattle.hippo_model.specs.declared.schema.Schema.{Schema}
@@ -7,8 +7,8 @@ use Rattle.hippo_model.specs.Rules.{choice_at}
 use Rattle.hippo_model.specs.Verdicts.{Context, verdict}
 use Rattle.hippo_policy.specs.Gates.{table_rules, rules_verdict}
 
--- the gate of a column stands for the verdict on the column's cell of every row, whenever it was
--- born
+-- the gate of a column decides as the verdict on the column's cell does, in every row, whenever the
+-- row was born
 abbrev pub GatesStandForVerdicts : Type 0
 GatesStandForVerdicts =
     (history : History) (context : Context) (schema : Schema) (kept : BornRow) (column : Place)

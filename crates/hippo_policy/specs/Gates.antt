@@ -1,4 +1,4 @@
--- What decides whether the cells of a table's columns are shown.
+-- Gates: what decides whether the cells of a table's columns are shown.
 use Rattle.std.specs.Prelude.{ℕ, ℤ, ◌-ℤ◌, int_le, Bool, true, not, ◌&&◌, List, map, Option, Some, None, length, option_map, option_and_then, slice_index_or, if◌then◌else◌}
 use Rattle.std.specs.List.{range_with_len}
 use Rattle.std.specs.Option.{option_map_or}
@@ -20,7 +20,7 @@ use Rattle.hippo_model.specs.Verdicts.{Context, days_long, number_in}
 use Rattle.hippo_model.specs.Masking.{Choices, agrees_by}
 use Rattle.hippo_policy.specs.Rulings.{is_opt_in}
 
--- the second after which a row must be born
+-- the second after which a row must be born to be shown for this many days
 abbrev pub after : Moment → ℕ → ℤ
 after moment days = moment -ℤ days_long days
 
@@ -47,17 +47,17 @@ gates_at history context schema =
     (rule_at history context.purpose context.recipient schema.name place))
     (range_with_len 0 (length schema.columns))
 
--- the gate of each column of a table, its key and its subject
+-- the gate of each column of a table, with the table's key and subject
 abbrev pub table_rules : History → Context → Schema → TableRules
 table_rules history context schema =
     record { gates = gates_at history context schema; key = schema.key; subject = schema.subject }
 
--- whether a row was born later than a second, where one is named
+-- whether a row was born after a second; true if no second is given
 abbrev pub is_born_after : Moment → Option ℤ → Bool
 is_born_after born after = option_map_or (λ second. not (int_le born second)) after true
 
--- the verdict of a gate on a cell of a row that was born at a moment and is about a patient, by the
--- choices
+-- the verdict of a gate on a cell, given the choices, the row's birth and the patient whom the row
+-- is about
 abbrev pub gate_verdict : Choices → Moment → Option ℤ → Gate → Verdict
 gate_verdict choices born subject Always = Shown
 gate_verdict choices born subject (Never rule) = Denied rule
@@ -71,7 +71,7 @@ gate_verdict choices born subject (With rule item opt_in second) =
 abbrev pub subject_in : TableRules → Row → Option ℤ
 subject_in rules row = option_and_then (λ place. number_in (cell_at row place)) rules.subject
 
--- the gate of a column; what is no column is never shown
+-- the gate of a column; a place that is no column is never shown
 abbrev pub gate_in : TableRules → Place → Gate
 gate_in rules column = slice_index_or rules.gates column (Never 0)
 

@@ -1,4 +1,4 @@
--- The keys of look-ups.
+-- Equality of map keys.
 use Rattle.std.specs.Prelude.{Bool, ◌&&◌, nat_eq, bytes_eq}
 use Rattle.std.specs.Ordering.{int_eq}
 use Rattle.hippo_values.specs.declared.names.Name.{Name}

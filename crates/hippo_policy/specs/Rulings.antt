@@ -1,4 +1,4 @@
--- How a rule is held and answered.
+-- How a rule is held and returned.
 use Rattle.std.specs.Prelude.{ℕ, Bool, true, false, Option, Some, None}
 use Rattle.hippo_model.specs.declared.entry.Act.{Act}
 use Rattle.hippo_model.specs.declared.entry.Act.TheVariants.{Allow}
@@ -16,25 +16,25 @@ abbrev pub held_rule : Held → Rule
 held_rule (Allowed rule item days) = allowed rule item days
 held_rule (HeldRevoked rule) = revoked rule
 
--- what an act that rules cells says of them, as the entry with a number
+-- the rule that an act sets for its cells, with the entry's number
 abbrev pub ruling_in : ℕ → Act → Rule
 ruling_in number (Allow purpose recipient table columns item days) = allowed number item days
 ruling_in number act = revoked number
 
--- the rule that is answered, whatever is said of its item
+-- the rule in a look-up's result, whatever the result says of its item
 abbrev pub ruling_of : RuleAt → Option Rule
 ruling_of Unnamed = None
 ruling_of (Always rule days) = Some (allowed rule None days)
 ruling_of (With rule item opt_in days) = Some (allowed rule (Some item.now) days)
 ruling_of (Revoked rule) = Some (revoked rule)
 
--- whether an item needs a YES; one that no entry creates does
+-- whether an item needs a YES; an item that no entry creates needs one
 abbrev pub is_opt_in : Option ItemKind → Bool
 is_opt_in None = true
 is_opt_in (Some OptIn) = true
 is_opt_in (Some OptOut) = false
 
--- what is answered of a rule's item, where it has one
+-- what a look-up's result says of a rule's item, if the rule has one
 abbrev pub opt_in_of : RuleAt → Option Bool
 opt_in_of (With rule item opt_in days) = Some opt_in
 opt_in_of rule = None

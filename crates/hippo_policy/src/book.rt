@@ -1,4 +1,4 @@
-//! The rules, choices, authorizations and items of a history, at every entry number.
+//! The rules, choices, authorizations and items of a history, as of every entry number.
 ghost use Rattle.std.specs.Prelude.{◌≡◌, true, IsOk, ◌∷◌, [], ◌++◌, ◌+◌, OnOk, OnErr, IfOk};
 ghost use Rattle.hippo_model.specs.Terms.{History};
 ghost use Rattle.hippo_model.specs.declared.entry.Entry.{Entry as HistoryEntry};
@@ -14,7 +14,7 @@ use hippo_model::{Act, Authorization, Entry, ItemKind};
 use hippo_values::{Memory, Name, Sequence};
 use std::alloc::Global;
 
-/// What the last entry that was added speaks of.
+/// What the last added entry is about: the keys whose values it sets.
 #[derive(Drop)]
 enum Matter {
     Nothing,
@@ -24,7 +24,7 @@ enum Matter {
     Item(KeyName<'static>),
 }
 
-/// The rules, choices, authorizations and items of a history, at every entry number.
+/// The rules, choices, authorizations and items of a history, as of every entry number.
 #[derive(Drop)]
 pub struct PolicyBook {
     pub(crate) rules: RuledTables,
@@ -34,7 +34,7 @@ pub struct PolicyBook {
     last: Matter,
 }
 
-// The keys of a table's cells in these columns.
+// The keys of the cells in these columns of a table.
 fn cell_keys(
     alloc: Global,
     purpose: &Name,
@@ -53,7 +53,7 @@ fn cell_keys(
     Ok(keys)
 }
 
-// The keys of the cells that an act rules.
+// The keys of the cells that an ALLOW or a REVOKE names; none for any other act.
 fn ruled_cells(alloc: Global, act: &Act) -> Result<Sequence<CellKey<'static>>, Memory>
     ensures { IfOk result (λ keys. keys ≡ ruled_cells act.now) }
 {
@@ -76,7 +76,7 @@ fn ruled_cells(alloc: Global, act: &Act) -> Result<Sequence<CellKey<'static>>, M
 }
 
 impl PolicyBook {
-    /// The book of the empty history; takes no memory.
+    /// The book of the empty history. Takes no memory.
     pub fn new(alloc: Global) -> PolicyBook
         ensures { BookStandsFor result [] }
     {
@@ -89,7 +89,7 @@ impl PolicyBook {
         }
     }
 
-    // What the last entry speaks of.
+    // Stores what the last entry is about, for `take_back`.
     fn remember(&mut self, last: Matter)
         ensures { self.new ≡ record {
           rules = self.old.rules;
@@ -158,7 +158,7 @@ impl PolicyBook {
         Ok(())
     }
 
-    // An ALLOW or a REVOKE.
+    // Adds an ALLOW or a REVOKE.
     fn add_rule(&mut self, alloc: Global, number: u64, act: &Act) -> Result<(), Memory>
         ensures ok { OnOk result
             (AddsRule self.old self.new number (ruled_cells act.now) (ruling_in number act.now)) }
@@ -172,9 +172,9 @@ impl PolicyBook {
         Ok(())
     }
 
-    /// Takes in the entry that comes next: the book then stands for the history with the entry
-    /// behind. It is unchanged where memory is short, which it never is for a Delete; a rule that
-    /// names a column from 65,536 on is answered as if it were.
+    /// Adds the next entry of the history: the book then represents the history with this entry
+    /// appended. Fails when out of memory, and leaves the book unchanged; adding a Delete never
+    /// fails. A rule that names a column from 65,536 on also fails with `Memory`.
     pub fn add(&mut self, alloc: Global, entry: &Entry) -> Result<(), Memory>
         ensures ok { OnOk result (BookAdds self.old self.new entry.now.seq entry.now.act) }
         ensures err { OnErr result (BookIsAsBefore self.old self.new) }
@@ -200,9 +200,9 @@ impl PolicyBook {
         }
     }
 
-    /// Takes back the entry that was added last: the book then stands for the history before it.
-    /// Takes no memory. The last call that changed the book must have added an entry; without this
-    /// the book stands for no history.
+    /// Removes the entry that was added last: the book then represents the history before it. Takes
+    /// no memory. The last call that changed the book must have added an entry; otherwise the book
+    /// represents no history.
     pub fn take_back(&mut self)
         ensures { (history : History) (entry : HistoryEntry) → RemembersMatter self.old entry.act
             → BookStandsFor self.old (history ++ entry ∷ []) → BookStandsFor self.new history }

@@ -1,4 +1,4 @@
-//! The choices of patients, seen from an entry number.
+//! The choices of patients as of an entry number.
 ghost use Rattle.std.specs.Prelude.{◌≡◌, ℤ, take};
 ghost use Rattle.hippo_values.specs.declared.names.Name.{Name as NameValue};
 ghost use Rattle.hippo_model.specs.Terms.{History};
@@ -9,7 +9,7 @@ use crate::book::PolicyBook;
 use hippo_model::ChoiceView;
 use hippo_values::Name;
 
-/// The choices of patients among the first so many entries.
+/// The choices of patients among the first n entries.
 #[derive(Drop)]
 pub struct ChoicesAt<'a> {
     book: &'a PolicyBook,
@@ -25,7 +25,7 @@ impl<'a> ChoiceView for ChoicesAt<'a> {
 }
 
 impl PolicyBook {
-    /// The choices of patients among the first `n` entries; takes no memory.
+    /// The choices of patients among the first `n` entries. Takes no memory.
     pub fn choices_at(&self, n: u64) -> ChoicesAt<'_>
         ensures { (history : History) → BookStandsFor self.now history
             → (subject : ℤ) (item : NameValue)

@@ -1,4 +1,4 @@
-//! What decides whether the cells of tables are shown, at an entry number.
+//! Gates: what decides whether the cells of a column are shown, as of an entry number.
 ghost use Rattle.std.specs.Prelude.{◌≡◌, take, IfOk, Some, option_copied, option_map, map};
 ghost use Rattle.hippo_model.specs.Terms.{History};
 ghost use Rattle.hippo_policy.specs.Books.{BookStandsFor};
@@ -14,7 +14,7 @@ use hippo_model::{Gate, ItemKind, LentSchemas, RuleAt, RulesInForce, Schema, Tab
 use hippo_values::{Duplicate, Memory, Moment, Name, Sequence};
 use std::alloc::Global;
 
-// The second after which a row must be born.
+// The second after which a row must be born to be shown for this many days.
 fn after(moment: &Moment, days: u32) -> i64
     ensures { result ≡ after moment.now days }
 {
@@ -56,7 +56,7 @@ impl PolicyBook {
         }
     }
 
-    // The gate that stands for a rule.
+    // The gate of a rule.
     fn gate_by(
         &self,
         alloc: Global,
@@ -80,7 +80,7 @@ impl PolicyBook {
         }
     }
 
-    // The gate that stands for the rule that a cell has, if any.
+    // The gate of a cell's rule, if the cell has one; otherwise a gate that shows nothing.
     fn gate_of(
         &self,
         alloc: Global,
@@ -153,8 +153,9 @@ impl PolicyBook {
         })
     }
 
-    /// The rules of each table for a purpose and recipient at a moment, by the first `n` entries: a
-    /// gate for each column, the places of the key and of the subject.
+    /// The rules of each table for a purpose and recipient at a moment, as of the first `n`
+    /// entries: a gate for each column, and the places of the key and of the subject. Fails when
+    /// out of memory.
     pub fn rules_in_force(
         &self,
         alloc: Global,

@@ -1,4 +1,4 @@
-//! Keys of look-ups: a map owns their names, and a look-up lends them.
+//! Keys of the maps. A map owns the names in its keys; a look-up borrows them.
 ghost use Rattle.std.specs.Prelude.{◌≡◌, nat_eq, IfOk};
 ghost use Rattle.std.specs.Cmp.{partial_equiv_from_equiv};
 ghost use Rattle.std.specs.Cmp.Lexicographic.{pointwise, nat_list_eq_equiv};
@@ -17,7 +17,7 @@ enum Held<'a> {
     Lent(&'a Name),
 }
 
-/// A name that is owned or lent.
+/// An owned or a borrowed name.
 #[derive(Drop)]
 pub struct KeyName<'a> {
     held: Held<'a>,
@@ -112,7 +112,7 @@ impl<'a> ChoiceKey<'a> {
     }
 }
 
-/// A user who asks for a purpose and recipient.
+/// A user, purpose and recipient.
 #[derive(Drop, PartialEq, Eq, Hash)]
 pub struct UserKey<'a> {
     pub user: KeyName<'a>,
@@ -152,7 +152,7 @@ impl<'a> UserKey<'a> {
     }
 }
 
-/// A table for a purpose and recipient.
+/// A table, purpose and recipient.
 #[derive(Drop, PartialEq, Eq, Hash)]
 pub struct TableKey<'a> {
     pub purpose: KeyName<'a>,
@@ -186,7 +186,7 @@ impl<'a> TableKey<'a> {
     }
 }
 
-/// A column of a table for a purpose and recipient.
+/// A column of a table, with a purpose and recipient.
 #[derive(Drop, PartialEq, Eq, Hash)]
 pub struct CellKey<'a> {
     pub table: TableKey<'a>,

@@ -1,5 +1,5 @@
-//! What was said of a matter, and when: what the entries of a history say, by the key of what they
-//! speak of.
+//! A map from keys to the values that the entries of a history set for them, with the entries'
+//! numbers.
 ghost use Rattle.std.specs.Prelude.{◌≡◌, [], ◌∷◌, ◌-◌, take, Option, option_copied, OnOk, OnErr, if◌then◌else◌};
 ghost use Rattle.std.specs.List.Sorted.{IsNonDecreasingBy};
 ghost use Rattle.hippo_model.specs.Terms.{History};
@@ -13,14 +13,14 @@ use std::alloc::Global;
 use std::collections::HashMap;
 use std::hash::Hash;
 
-/// What an entry says, and its number.
+/// The value that an entry sets, with the entry's number.
 #[derive(Drop)]
 pub struct Said<W> {
     pub number: u64,
     pub word: W,
 }
 
-// The last word up to entry number `n`, where the numbers rise.
+// The last value with a number of at most `n`, in a slice whose numbers never decrease.
 pub(crate) fn latest<W>(words: &[Said<W>], n: u64) -> Option<&W>
     ensures { IsNonDecreasingBy (λ said. said.number) words.now
         → option_copied result ≡ latest n words.now }
@@ -32,14 +32,14 @@ pub(crate) fn latest<W>(words: &[Said<W>], n: u64) -> Option<&W>
     }
 }
 
-/// For each key, what was said of it, in the order of the entries.
+/// For each key, the values that entries set for it, in the order of the entries.
 #[derive(Drop)]
 pub struct LastWords<K: Eq + Hash, W> {
     words: HashMap<K, Sayings<W>>,
 }
 
 impl<K: Eq + Hash + Drop, W: Drop> LastWords<K, W> {
-    /// Nothing said; takes no memory.
+    /// A map without values. Takes no memory.
     pub fn new(alloc: Global) -> LastWords<K, W>
         ensures { (key : K) → kept_words K.eq result key ≡ [] }
     {
@@ -48,7 +48,7 @@ impl<K: Eq + Hash + Drop, W: Drop> LastWords<K, W> {
         }
     }
 
-    /// What was said last of a key up to entry number `n`.
+    /// The value that was set last for a key, up to entry number `n`; none if there is none.
     pub fn at(&self, n: u64, key: &K) -> Option<&W>
         ensures history { (word : Entry → Option W) (history : History)
             → kept_words K.eq self.now key.now ≡ numbered_words word history
@@ -61,7 +61,7 @@ impl<K: Eq + Hash + Drop, W: Drop> LastWords<K, W> {
         }
     }
 
-    /// Adds what an entry says of a key.
+    /// Appends a value for a key. Fails when out of memory, and leaves the values unchanged.
     pub fn push(&mut self, alloc: Global, key: K, said: Said<W>) -> Result<(), Memory>
         ensures ok { OnOk result ((other : K) → kept_words K.eq self.new other
             ≡ with_word (K.eq key other) said (kept_words K.eq self.old other)) }
@@ -90,7 +90,7 @@ impl<K: Eq + Hash + Drop, W: Drop> LastWords<K, W> {
         Ok(())
     }
 
-    /// Takes back what was said last of a key.
+    /// Removes the value that was set last for a key.
     pub fn pop(&mut self, key: &K)
         ensures { (other : K) → kept_words K.eq self.new other
             ≡ without_word (K.eq key.now other) (kept_words K.eq self.old other) }

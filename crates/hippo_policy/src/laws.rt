@@ -1,10 +1,10 @@
-//! Laws on the rules in force.
+//! Laws of the rules in force.
 ghost use Rattle.hippo_policy.specs.GateLaws.{GatesStandForVerdicts};
 
-/// The gates that `PolicyBook::rules_in_force` gives stand for the verdict: after whatever entries,
-/// in whatever context, each cell of a row is shown by its column's gate and the patients' choices,
-/// or denied by it with the number of a rule, as the verdict on the cell says. The row's birth and
-/// a rule's days are among them.
+/// The gates that `PolicyBook::rules_in_force` returns decide as the verdict does: after any
+/// entries, in any context, a cell's gate and the patients' choices show the cell, or deny it with
+/// a rule's number, exactly as the verdict on the cell says. This covers a row's birth and a rule's
+/// days.
 pub fn gates_stand_for_verdicts()
     ensures { GatesStandForVerdicts }
 {}

@@ -1,4 +1,4 @@
-//! What the rules, choices and authorizations of a history are, at every entry number.
+//! The rules, choices, authorizations and items of a history, as of every entry number.
 #![tactic(auto)]
 
 mod book;

@@ -1,4 +1,4 @@
-//! What the rules, choices and authorizations were at an entry number.
+//! Look-ups of rules, choices, authorizations and items as of an entry number.
 ghost use Rattle.std.specs.Prelude.{◌≡◌, take, option_copied, Some};
 ghost use Rattle.hippo_model.specs.Terms.{History};
 ghost use Rattle.hippo_model.specs.Histories.{item_at};
@@ -20,7 +20,8 @@ impl PolicyBook {
         self.rules.at(n, cell)
     }
 
-    /// How silence on an item is read, as of the first `n` entries; none where no entry creates it.
+    /// The kind of an item, which says how a patient's silence is read, as of the first `n`
+    /// entries; none if no entry creates the item.
     pub fn item_at(&self, n: u64, item: &Name) -> Option<ItemKind>
         ensures { (history : History) → BookStandsFor self.now history
             → result ≡ item_at (take n history) item.now }
@@ -36,7 +37,7 @@ impl PolicyBook {
         self.choices.at(n, &ChoiceKey::lent(subject, item)).copied()
     }
 
-    /// The last choice of a patient on an item, among the first `n` entries.
+    /// The last choice of a patient on an item among the first `n` entries; none if there is none.
     pub fn choice_at(&self, n: u64, subject: i64, item: &Name) -> Option<bool>
         ensures { (history : History) → BookStandsFor self.now history
             → result ≡ choice_at (take n history) subject item.now }
@@ -44,8 +45,8 @@ impl PolicyBook {
         self.choice_of(n, &subject, item)
     }
 
-    /// Whether a user may ask for a purpose and recipient, as the last entry among the first `n`
-    /// says that speaks of them.
+    /// Whether a user may ask for a purpose and recipient, by the last entry among the first `n`
+    /// that names all three.
     pub fn authorized_at(
         &self,
         n: u64,
@@ -109,7 +110,7 @@ impl PolicyBook {
         }
     }
 
-    // Whether an item needs a YES; one that no entry creates does.
+    // Whether an item needs a YES. An item that no entry creates needs one.
     fn is_opt_in(&self, n: u64, item: &Name) -> bool
         ensures { (history : History) → BookStandsFor self.now history
             → result ≡ is_opt_in (item_at (take n history) item.now) }

@@ -1,4 +1,4 @@
-//! What was said of the columns of a table.
+//! The rules of the columns of one table.
 ghost use Rattle.std.specs.Prelude.{◌≡◌, [], nat_eq, option_copied, OnOk, OnErr};
 ghost use Rattle.hippo_model.specs.Terms.{Place};
 ghost use Rattle.hippo_policy.specs.Words.{with_word, without_word, latest};
@@ -10,17 +10,17 @@ use crate::sayings::Sayings;
 use hippo_values::{Duplicate, Memory};
 use std::alloc::Global;
 
-// The columns of which something may be said; what names others is as if memory were short.
+// A rule for a column at or above this limit fails with `Memory`.
 const WIDTH_LIMIT: usize = 65_536;
 
-/// For each column of a table, what was said of it, in the order of the entries.
+/// For each column of a table, its rules in the order of the entries.
 #[derive(Drop)]
 pub struct RuledColumns {
     columns: Vec<Sayings<Ruling>>,
 }
 
 impl RuledColumns {
-    /// Nothing said; takes no memory.
+    /// Columns without rules. Takes no memory.
     pub fn new(alloc: Global) -> RuledColumns
         ensures { (column : Place) → column_words result column ≡ [] }
     {
@@ -38,7 +38,7 @@ impl RuledColumns {
         }
     }
 
-    // Makes place for a column and those before it.
+    // Adds empty columns up to and including this one.
     fn widen(&mut self, alloc: Global, column: usize) -> Result<(), Memory>
         ensures { (other : Place) → column_words self.new other ≡ column_words self.old other }
     {
@@ -67,7 +67,8 @@ impl RuledColumns {
         }
     }
 
-    /// Adds what an entry says of a column.
+    /// Appends a copy of a rule for a column, with its entry's number. Fails when out of memory, or
+    /// if the column is 65,536 or above, and leaves the rules unchanged.
     pub fn push_copy(
         &mut self,
         alloc: Global,
@@ -85,7 +86,7 @@ impl RuledColumns {
         self.push(alloc, column, Said { number, word })
     }
 
-    /// Takes back what was said last of a column.
+    /// Removes the last rule of a column.
     pub fn pop(&mut self, column: usize)
         ensures { (other : Place) → column_words self.new other
             ≡ without_word (nat_eq column other) (column_words self.old other) }
@@ -96,7 +97,7 @@ impl RuledColumns {
     }
 }
 
-/// What was said last of a column up to entry number `n`, where anything was said of its table.
+/// The last rule of a column up to entry number `n`; none if the table has no rules.
 pub fn latest_in(columns: Option<&RuledColumns>, n: u64, column: usize) -> Option<&Ruling>
     ensures { option_copied result ≡ latest n (words_in (option_copied columns.entry) column) }
 {

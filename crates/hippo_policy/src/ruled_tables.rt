@@ -1,4 +1,4 @@
-//! What was said of the cells of tables, with one look-up for all columns of a table.
+//! The rules of the cells of tables. One look-up finds the rules of all columns of a table.
 ghost use Rattle.std.specs.Prelude.{◌≡◌, [], nat_eq, take, Option, option_copied, OnOk, OnErr, if◌then◌else◌};
 ghost use Rattle.std.specs.List.{list_any};
 ghost use Rattle.std.specs.HashMap.{get};
@@ -18,14 +18,14 @@ use hippo_values::Memory;
 use std::alloc::Global;
 use std::collections::HashMap;
 
-/// For each table for a purpose and recipient, what was said of its columns.
+/// For each table, purpose and recipient, the rules of its columns.
 #[derive(Drop)]
 pub struct RuledTables {
     tables: HashMap<TableKey<'static>, RuledColumns>,
 }
 
 impl RuledTables {
-    /// Nothing said; takes no memory.
+    /// Tables without rules. Takes no memory.
     pub fn new(alloc: Global) -> RuledTables
         ensures { (cell : CellKeyValue) → cell_words result cell ≡ [] }
     {
@@ -34,14 +34,14 @@ impl RuledTables {
         }
     }
 
-    /// What was said of a table's columns.
+    /// The rules of a table's columns; none if no rule names the table.
     pub fn columns_of<'a>(&'a self, table: &TableKey<'a>) -> Option<&'a RuledColumns>
         ensures { option_copied result ≡ get same_table self.now.tables table.now }
     {
         self.tables.get(table)
     }
 
-    /// What was said last of a cell up to entry number `n`.
+    /// The last rule of a cell up to entry number `n`; none if there is none.
     pub fn at<'a>(&'a self, n: u64, cell: &CellKey<'a>) -> Option<&'a Ruling>
         ensures { (word : Entry → Option Rule) (history : History)
             → cell_words self.now cell.now ≡ numbered_words word history
@@ -104,7 +104,7 @@ impl RuledTables {
         }
     }
 
-    /// Takes back what was said last of each of these cells.
+    /// Removes the last rule of each of these cells.
     pub fn pop_all(&mut self, cells: &[CellKey<'static>])
         ensures { (other : CellKeyValue) → cell_words self.new other
             ≡ without_word (list_any (λ cell. same_cell_key cell other) cells.now)
@@ -118,7 +118,8 @@ impl RuledTables {
         }
     }
 
-    /// Adds what an entry says of each of these cells.
+    /// Appends a rule, with its entry's number, for each of these cells. Fails when out of memory,
+    /// or if a column is 65,536 or above, and leaves the rules unchanged.
     pub fn push_all(
         &mut self,
         alloc: Global,

@@ -1,4 +1,4 @@
-//! What an ALLOW or a REVOKE says of a cell.
+//! The rule that an ALLOW or a REVOKE sets for a cell.
 ghost use Rattle.std.specs.Prelude.{◌≡◌, IfOk, Some};
 ghost use Rattle.hippo_model.specs.Rules.{allowed, revoked};
 ghost use Rattle.hippo_policy.specs.Rulings.{ruling_of, ruling_in};
@@ -18,7 +18,7 @@ enum Held {
     Revoked(u64),
 }
 
-/// What entry number `rule` says of a cell, as the model's `Rule`.
+/// The rule that entry number `rule` sets for a cell; its model is `Rule`.
 #[derive(Drop)]
 pub struct Ruling {
     held: Held,
@@ -65,7 +65,7 @@ impl Ruling {
         }
     }
 
-    /// What an act that rules cells says of them, as the entry with this number.
+    /// The rule that an ALLOW or a REVOKE sets, with the entry's number. Fails when out of memory.
     pub fn of(alloc: Global, number: u64, act: &Act) -> Result<Ruling, Memory>
         ensures { IfOk result (λ made. made ≡ ruling_in number act.now) }
     {
@@ -75,7 +75,8 @@ impl Ruling {
         }
     }
 
-    /// The rule as it is answered, its item being read as opt-in where it is not known.
+    /// The rule as look-ups return it. Its item is marked as opt-in, since the item's kind is not
+    /// known here.
     pub fn as_rule_at(&self) -> RuleAt<'_>
         ensures { ruling_of result ≡ Some self.now }
     {

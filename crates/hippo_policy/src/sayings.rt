@@ -1,4 +1,4 @@
-//! What the entries of a history say of one matter, with their numbers.
+//! The values that the entries of a history set for one key, with the entries' numbers.
 ghost use Rattle.std.specs.Prelude.{◌≡◌, [], ◌∷◌, ◌++◌, ◌-◌, length, take, OnOk, OnErr};
 ghost use Rattle.std.specs.List.Sorted.{IsNonDecreasingBy};
 
@@ -6,7 +6,8 @@ use crate::last_words::Said;
 use hippo_values::Memory;
 use std::alloc::Global;
 
-/// What was said of one matter, in the order of the entries: the numbers never fall.
+/// The values that entries set for one key, in the order of the entries. The numbers never
+/// decrease.
 #[derive(Drop)]
 pub struct Sayings<W> {
     said: Vec<Said<W>>,
@@ -16,7 +17,7 @@ pub struct Sayings<W> {
 impl<W: Drop> Sayings<W> {
     ghost use Rattle.hippo_policy.specs.Words.{latest_number, no_earlier};
 
-    /// Nothing said; takes no memory.
+    /// An empty list. Takes no memory.
     pub fn new(alloc: Global) -> Sayings<W>
         ensures { result.said.items ≡ [] }
     {
@@ -25,7 +26,7 @@ impl<W: Drop> Sayings<W> {
         }
     }
 
-    /// What was said, with numbers that never fall.
+    /// The values, with numbers that never decrease.
     pub fn as_slice(&self) -> &[Said<W>]
         ensures said { result.now ≡ self.now.said.items }
         ensures rises { IsNonDecreasingBy (λ one. one.number) result.now }
@@ -42,7 +43,8 @@ impl<W: Drop> Sayings<W> {
         }
     }
 
-    /// Adds what an entry says. It counts as said no earlier than what was said before it.
+    /// Appends a value. A number below the last one is raised to the last one. Fails when out of
+    /// memory.
     pub fn push(&mut self, said: Said<W>) -> Result<(), Memory>
         ensures ok { OnOk result (self.new.said.items
             ≡ self.old.said.items ++ no_earlier self.old.said.items said ∷ []) }
@@ -54,7 +56,7 @@ impl<W: Drop> Sayings<W> {
         Ok(())
     }
 
-    /// Takes back what was said last.
+    /// Removes the last value.
     pub fn pop(&mut self)
         ensures { self.new.said.items ≡ take (length self.old.said.items - 1) self.old.said.items }
     {

@@ -1,4 +1,4 @@
-//! Whether a cell is shown, at an entry number.
+//! The verdict on a cell, as of an entry number.
 ghost use Rattle.std.specs.Prelude.{◌≡◌, take, option_copied, Some, ◌-ℤ◌, ◌*◌};
 ghost use Rattle.hippo_model.specs.Terms.{History};
 ghost use Rattle.hippo_model.specs.Verdicts.{subject_of, consents, has_ended, verdict, verdict_by};
@@ -13,7 +13,7 @@ use hippo_values::{Moment, Name, Value};
 /// A day in seconds.
 pub(crate) const DAY: i64 = 86_400;
 
-// The number of the patient whom a row is about.
+// The number of the patient whom a row is about; none if the row names none.
 fn subject_of<'a>(schema: &Schema, row: &'a Cells) -> Option<&'a i64>
     ensures { option_copied result ≡ subject_of schema.now row.now }
 {
@@ -23,7 +23,7 @@ fn subject_of<'a>(schema: &Schema, row: &'a Cells) -> Option<&'a i64>
     }
 }
 
-// Whether a rule that shows cells for so many days has ended for a row.
+// Whether a rule that shows cells for this many days no longer shows a row's cells.
 fn has_ended(moment: &Moment, born: &Moment, days: Option<u32>) -> bool
     ensures { result ≡ has_ended (moment.now -ℤ born.now) days }
 {
@@ -34,7 +34,7 @@ fn has_ended(moment: &Moment, born: &Moment, days: Option<u32>) -> bool
 }
 
 impl PolicyBook {
-    // Whether a patient agrees to an item.
+    // Whether a patient consents to an item.
     fn agrees(&self, n: u64, subject: &i64, item: &Name) -> bool
         ensures { (history : History) → BookStandsFor self.now history
             → result ≡ consents (take n history) (Some subject.now) (Some item.now) }
@@ -57,7 +57,7 @@ impl PolicyBook {
         }
     }
 
-    // The verdict of a rule on a cell of a row that was born at a moment and is about a patient.
+    // The verdict of a rule on a cell, given the row's birth and the patient whom the row is about.
     fn verdict_by(
         &self,
         n: u64,
@@ -96,9 +96,9 @@ impl PolicyBook {
         }
     }
 
-    /// Whether the cell in a row's column is shown for a purpose and recipient at a moment, by the
-    /// first `n` entries, or the number of the rule that denies it, 0 where no rule names it. A
-    /// row's age counts from the moment at which it was born, the last INSERT of its key.
+    /// The verdict on a cell for a purpose and recipient at a moment, as of the first `n` entries:
+    /// shown, or denied with the number of the rule, 0 if no rule names the cell. A row's age is
+    /// the time since its birth, the last INSERT of its key.
     pub fn verdict<'a>(
         &'a self,
         n: u64,

@@ -1,4 +1,5 @@
--- In a valid history each row of a table has a value for each column, and each key's places lie among the columns.
+-- In a valid history each row of a table has a value for each column, and the places of each key
+-- are columns.
 use Rattle.std.proofs.Common.{◌≡◌, ◌∙◌, sym, refl, ap, arith, subst, ◌+◌, Bool, true, false, cond, ◌&&◌, List, [], ◌∷◌, ◌++◌, length, Option, None, Some}
 use Rattle.std.specs.Prelude.{◌==◌, slice_get, nat_lt, is_none, bytes_eq}
 use Rattle.std.specs.Bool.{then_some}
@@ -32,14 +33,14 @@ use Rattle.hippo_tables_keyed.proofs.RowsAfter.{table_rows-Insert, table_rows-Up
 use Rattle.hippo_tables_keyed.proofs.ChangesOfRows.{kept_at-no_version, kept_at-other_table}
 use Rattle.hippo_model_laws.proofs.ValidFronts.{holds_of_each_valid}
 
--- a row has a value for each column, and a key's places lie among the columns
+-- a row has a value for each column, and the places of the key are columns
 abbrev pub is_wide : Schema → BornRow → Bool
 is_wide schema kept = length kept.row == length schema.columns
 
 abbrev pub is_within : Schema → Place → Bool
 is_within schema place = nat_lt place (length schema.columns)
 
--- a table's rows fit its schema, or it has none where it is not created
+-- a table's rows fit its schema; a table that is not created has none
 abbrev KnownBy : Option Schema → Schema → List BornRow → Type 0
 KnownBy None schema rows = rows ≡ []
 KnownBy (Some made) schema rows = made ≡ schema → (list_all (is_wide schema) rows ≡ true) × (list_all (is_within schema) schema.key ≡ true)
@@ -85,7 +86,7 @@ module _ (schema : Schema) where
       ]
 
   module _ (history : History) where
-    -- what a version that fits leaves
+    -- the rows after a version that fits
     known-put : (act : Act) (kept : BornRow) (found : Option Schema) (rows : List BornRow) → ((made : Schema) → version_fits made history act ≡ true → row_fits made kept.row ≡ true)
         → option_map_or (λ made. version_fits made history act) found false ≡ true → KnownBy found schema rows → KnownBy found schema (put_row schema.key kept rows)
     known-put act kept None rows fit passes known = absurd cc
@@ -189,7 +190,8 @@ schema_named (entry ∷ later) table schema =
       | Some made ↦ λ e is. schema_named later table schema (e ∙ is)
     ] refl
 
--- in a valid history each row of a table has a value for each column, and the key's places lie among the columns
+-- in a valid history each row of a table has a value for each column, and the places of the key are
+-- columns
 pub fits_schema : (meaning : Meaning) (history : History) → is_valid meaning history ≡ true → (table : Name) (schema : Schema) → schema_at history table ≡ Some schema
     → (list_all (is_wide schema) (table_rows schema history) ≡ true) × (list_all (is_within schema) schema.key ≡ true)
 fits_schema meaning history valid table schema is =

@@ -80,7 +80,7 @@ module _ (choices : Choices) where
       items_are [] = refl
       items_are (column ∷ items) = λ i. columns_are choices rules rows fits column i ∷ items_are items i
 
-    -- one combination more
+    -- one more combination
     one_more : (whole passed : Bool) (combination : Combination) (shown : List ShownRow) (left : List Combination) (right : List (List ShownRow))
         → masked_items choices (rewritten_query rules query) combination ≡ selected_cells query.items shown → passes query.cond shown ≡ passed
         → map (masked_items choices (rewritten_query rules query)) left ≡ map (selected_cells query.items) (filter (passes query.cond) right)

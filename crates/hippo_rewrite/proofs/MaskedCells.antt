@@ -1,4 +1,4 @@
--- What stands for a column has the cell of the masked row.
+-- The masked expression of a column has the value of the masked row's cell.
 use Rattle.std.proofs.Common.{◌≡◌, ◌∙◌, sym, refl, ap, arith, ℕ, zero, suc, ◌+◌, ℤ, Bool, true, false, not, ◌&&◌, if◌then◌else◌, List, [], ◌∷◌, map, length, Option, None, Some, ◌⊎◌, inl, inr}
 use Rattle.std.specs.Prelude.{int_le, slice_get, slice_index_or, option_and_then}
 use Rattle.std.specs.List.{list_all, enumerate_from}
@@ -79,7 +79,7 @@ module _ (choices : Choices) where
     born_after column None = refl
     born_after column (Some second) = younger column second
 
-    -- what stands for a column has the cell that its gate shows
+    -- the masked expression of a column has the value that its gate shows
     pub by_gate : (column : Place) (subject : Option Place) (gate : Gate)
         → masked_cell choices rows (expr_by subject (at table column) gate)
         ≡ cell_by (gate_verdict choices kept.born (option_and_then (λ place. number_in (cell_at kept.row place)) subject) gate) (cell_at kept.row column)

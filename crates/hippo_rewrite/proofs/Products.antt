@@ -1,4 +1,5 @@
--- The product of lists whose members are tested and changed, by the product of the lists as they were.
+-- The product of lists whose members are filtered and mapped, in terms of the product of the
+-- original lists.
 use Rattle.std.proofs.Common.{◌≡◌, ◌∙◌, sym, refl, ap, arith, Bool, true, false, cond, ◌&&◌, List, [], ◌∷◌, ◌++◌, map, length}
 use Rattle.std.specs.Prelude.{filter, filter_map, flat_map}
 use Rattle.std.specs.Bool.{then_some}
@@ -29,12 +30,12 @@ map-twice g f [] = refl
 map-twice {X} {Y} {Z} g f (x ∷ xs) = ap (λ (rest : List Z). g (f x) ∷ rest) (map-twice g f xs)
 
 module _ {R A B : Type 0} (test : R → A → Bool) (change : R → A → B) where
-  -- the members that pass, changed
+  -- the members that pass, mapped
   abbrev pub kept_of : List R → List (List A) → List (List B)
   kept_of (r ∷ rules) (members ∷ lists) = filter_map (λ a. then_some (test r a) (change r a)) members ∷ kept_of rules lists
   kept_of rules lists = []
 
-  -- the test and the change of a combination
+  -- the test and the map of a combination
   abbrev pub all_pass : List R → List A → Bool
   all_pass (r ∷ rules) (a ∷ members) = test r a && all_pass rules members
   all_pass rules members = true

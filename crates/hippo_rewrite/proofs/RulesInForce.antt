@@ -53,7 +53,7 @@ module _ (here there : Place → Verdict) (size : ℕ) (same : (place : Place) �
       let e : here place ≡ there place = same place (ltb-true place size both.0) in
       λ i. is_shown (e i) && same_key key both.1 i
 
--- what a query's tables and their schemas have, a table at a time
+-- a property of a query's tables and their schemas, one table at a time
 pub table_by_table : (history : History) (Has : List Name → List Schema → Type 0) → Has [] []
     → ((table : Name) (schema : Schema) (tables : List Name) (schemas : List Schema) → schema_at history table ≡ Some schema → Has tables schemas → Has (table ∷ tables) (schema ∷ schemas))
     → (tables : List Name) (schemas : List Schema) → map (schema_at history) tables ≡ map Some schemas → Has tables schemas
@@ -118,7 +118,7 @@ rewritten_answer-raw meaning history context query schemas has =
     masked_answer-rewritten_query (choice_at history) (rules_at history context schemas) query (tables_at history schemas) (rows_fit-rules_at meaning history context query schemas has)
     ∙ ap (λ (views : List (List ShownRow)). answer_of query.items query.cond (product views)) (views_are history context meaning has.valid query.tables schemas has.schemas_are)
 
--- what stands for a column is its cell as the verdict shows it
+-- the masked expression of a column is its cell as the verdict shows it
 pub masked_column-verdict : (history : History) (context : Context) (schemas : List Schema) (rows : Combination) (column : Ref) (schema : Schema) (kept : BornRow)
     → slice_get schemas column.table ≡ Some schema → slice_get rows column.table ≡ Some kept → column.column < length schema.columns
     → masked_cell (choice_at history) rows (masked_column (rules_at history context schemas) column) ≡ cell_by (verdict history context schema kept column.column) (cell_at kept.row column.column)

@@ -9,7 +9,7 @@ use Rattle.hippo_model.specs.Views.{is_shown, masked_row}
 use Rattle.hippo_model.specs.Masking.{Choices}
 use Rattle.hippo_policy.specs.Gates.{rules_verdict}
 
--- a row as it is masked; none where a cell of its key is denied
+-- a row as it is masked; none if a cell of its key is denied
 abbrev pub row_by : Choices → TableRules → BornRow → Option ShownRow
 row_by choices table kept =
     let verdicts = rules_verdict choices table kept in

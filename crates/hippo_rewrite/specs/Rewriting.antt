@@ -16,7 +16,8 @@ use Rattle.hippo_model.specs.Terms.{Place}
 use Rattle.hippo_model.specs.Conditions.{changed_operands}
 use Rattle.hippo_policy.specs.Gates.{gate_in}
 
--- what stands for a column by its gate; a choice is denied where a table's rows are about nobody
+-- the masked expression of a column, by its gate; a gate by choice denies if the table's rows are
+-- about nobody
 abbrev pub expr_by : Option Place → Ref → Gate → Expr
 expr_by subject column Always = Keep column
 expr_by subject column (Never rule) = Null rule
@@ -25,11 +26,11 @@ expr_by None column (With rule item opt_in after) = Null rule
 expr_by (Some place) column (With rule item opt_in after) =
     Case column (record { table = column.table; column = place }) item rule opt_in after
 
--- what stands for a column of a table that has these rules
+-- the masked expression of a column of a table with these rules
 abbrev pub column_expr : TableRules → Ref → Expr
 column_expr table column = expr_by table.subject column (gate_in table column.column)
 
--- what stands for a column of a query's tables; of no table, it is never shown
+-- the masked expression of a column of a query's tables; a column of no table is never shown
 abbrev pub masked_column : List TableRules → Ref → Expr
 masked_column rules column =
     option_map_or (λ table. column_expr table column) (slice_get rules column.table) (Null 0)
@@ -51,7 +52,8 @@ abbrev pub guards_from : Place → List TableRules → List Guard
 guards_from place [] = []
 guards_from place (table ∷ rules) = table_guards place table ++ guards_from (place + 1) rules
 
--- the query with the rules written into it: each column as its gate says, and each key cell guarded
+-- the query with the rules written into it: each column is replaced as its gate says, and each key
+-- cell is guarded
 abbrev pub rewritten_query : List TableRules → Query → Masked
 rewritten_query rules query = record {
   items = map (masked_column rules) query.items;

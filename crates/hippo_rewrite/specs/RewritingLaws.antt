@@ -1,4 +1,4 @@
--- Laws on rewritten queries.
+-- Laws of rewritten queries.
 use Rattle.std.specs.Prelude.{◌≡◌, ◌<◌, true, List, map, length, Some, slice_get}
 use Rattle.hippo_model.specs.declared.born_row.BornRow.{BornRow}
 use Rattle.hippo_model.specs.declared.policy.TableRules.{TableRules}
@@ -19,7 +19,7 @@ use Rattle.hippo_policy.specs.Gates.{table_rules}
 use Rattle.hippo_rewrite.specs.MaskedRows.{rows_by, rows_fit}
 use Rattle.hippo_rewrite.specs.Rewriting.{masked_column, rewritten_query}
 
--- what the rewritten query answers over rows, their births and choices is the raw answer of the
+-- the answer of the rewritten query over rows, their births and choices is the raw answer of the
 -- query over the rows as they are masked
 abbrev pub RewritingMasks : Type 0
 RewritingMasks =
@@ -28,20 +28,20 @@ RewritingMasks =
     → masked_answer choices (rewritten_query rules query) tables
     ≡ answer_of query.items query.cond (product (rows_by choices rules tables))
 
--- the rules in force of tables, and their rows, after some entries
+-- the rules in force of tables after some entries, and below, the tables' rows
 abbrev pub rules_at : History → Context → List Schema → List TableRules
 rules_at history context schemas = map (table_rules history context) schemas
 
 abbrev pub tables_at : History → List Schema → List (List BornRow)
 tables_at history schemas = map (λ schema. table_rows schema history) schemas
 
--- what a query answers after some entries that is rewritten by the rules in force
+-- the answer, after some entries, of a query that is rewritten by the rules in force
 abbrev pub rewritten_answer : History → Context → List Schema → Query → List ShownRow
 rewritten_answer history context schemas query =
     masked_answer (choice_at history) (rewritten_query (rules_at history context schemas) query)
     (tables_at history schemas)
 
--- these are the schemas of a query's tables in a valid history
+-- the history is valid, and these are the schemas of the query's tables
 pub record HasTables (meaning : Meaning) (history : History) (query : Query) (schemas : List Schema)
     : Type 0 where
   pub valid : is_valid meaning history ≡ true
@@ -55,8 +55,8 @@ RowsFitRules =
     → HasTables meaning history query schemas
     → rows_fit (rules_at history context schemas) (tables_at history schemas) ≡ true
 
--- what the query answers that is rewritten by the rules in force is its raw answer over the views,
--- and by the query's form its answer
+-- the answer of the query that is rewritten by the rules in force is the query's raw answer over
+-- the views; by the query's form, it is the query's answer
 abbrev pub RewritingAnswers : Type 0
 RewritingAnswers =
     (meaning : Meaning) (history : History) (context : Context) (query : Query)
@@ -67,8 +67,8 @@ RewritingAnswers =
     × (rows_by_form query.form (rewritten_answer history context schemas query)
     ≡ answer history context query)
 
--- what stands for a column under the rules in force is, in a combination of rows, its cell as the
--- verdict shows it
+-- in a combination of rows, the masked expression of a column under the rules in force is the
+-- column's cell as the verdict shows it
 abbrev pub ColumnsShowVerdicts : Type 0
 ColumnsShowVerdicts =
     (history : History) (context : Context) (schemas : List Schema) (rows : Combination)

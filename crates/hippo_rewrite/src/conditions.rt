@@ -1,4 +1,4 @@
-//! Conditions with the rules in force written into their operands.
+//! Rewriting of conditions: replaces each operand by its masked expression.
 ghost use Rattle.std.specs.Prelude.{◌≡◌, IfOk};
 ghost use Rattle.hippo_model.specs.Conditions.{changed_operands};
 ghost use Rattle.hippo_rewrite.specs.Rewriting.{masked_operand};
@@ -8,7 +8,7 @@ use hippo_model::{Change, CondOf, Expr, Operand, RulesInForce, changed_condition
 use hippo_values::Memory;
 use std::alloc::Global;
 
-// Each operand becomes what stands for it under the rules.
+// Replaces each operand by its masked expression under these rules.
 #[derive(Drop)]
 struct Masking<'a> {
     rules: &'a RulesInForce,
@@ -24,7 +24,8 @@ impl<'a> Change<Operand, Expr> for Masking<'a> {
     }
 }
 
-/// A condition whose operands are what stands for them under the rules.
+/// A condition with each operand replaced by its masked expression under the rules. Fails when out
+/// of memory.
 pub fn masked_condition(
     alloc: Global,
     condition: &CondOf<Operand>,

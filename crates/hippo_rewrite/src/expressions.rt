@@ -1,4 +1,4 @@
-//! What stands for a column reference under the rules in force.
+//! Masked expressions: what replaces a column reference under the rules in force.
 ghost use Rattle.std.specs.Prelude.{◌≡◌, IfOk, Some, map};
 ghost use Rattle.hippo_model.specs.declared.policy.Gate.TheVariants.{With};
 ghost use Rattle.hippo_model.specs.declared.query.Expr.TheVariants.{Literal as LiteralExpr};
@@ -8,7 +8,8 @@ use hippo_model::{Expr, Exprs, Gate, Operand, Ref, Refs, RulesInForce, TableRule
 use hippo_values::{Duplicate, Memory, Name, Sequence, Value};
 use std::alloc::Global;
 
-// A patient's choice, in a table whose rows are about patients; denied in any other.
+// The expression of a column that a patient's choice shows. If the table's rows are not about
+// patients, it is denied.
 fn by_choice(
     alloc: Global,
     subject: Option<usize>,
@@ -61,7 +62,7 @@ fn by_gate(alloc: Global, subject: Option<usize>, column: Ref, gate: &Gate) -> R
     }
 }
 
-/// What stands for a column of a table that has these rules.
+/// The masked expression of a column of a table with these rules. Fails when out of memory.
 pub fn column_expr(alloc: Global, table: &TableRules, column: Ref) -> Result<Expr, Memory>
     ensures { IfOk result (λ made. made ≡ column_expr table.now column) }
 {
@@ -86,7 +87,7 @@ fn literal(alloc: Global, value: &Value) -> Result<Expr, Memory>
     Ok(Expr::Literal(value.copy(alloc)?))
 }
 
-/// What stands for an operand of a condition.
+/// The masked expression of an operand of a condition. Fails when out of memory.
 pub fn masked_operand(
     alloc: Global,
     operand: &Operand,
@@ -100,9 +101,9 @@ pub fn masked_operand(
     }
 }
 
-/// For each column reference, what stands for it where a query is rewritten: the column itself,
-/// NULL with the rule that denies it, or the column as its row's age and the patient's choice show
-/// it. A reference to no column is never shown.
+/// For each column reference, its masked expression: the column itself, NULL with the rule that
+/// denies it, or the column as its row's age and the patient's choice show it. A reference to no
+/// column is never shown. Fails when out of memory.
 pub fn mask_columns(alloc: Global, columns: &Refs, rules: &RulesInForce) -> Result<Exprs, Memory>
     ensures { IfOk result (λ exprs. exprs ≡ map (masked_column rules.now) columns.now) }
 {

@@ -1,4 +1,4 @@
-//! The key cells that have to be shown.
+//! Guards: the key cells that must be shown for a row to count.
 ghost use Rattle.std.specs.Prelude.{◌≡◌, ◌++◌, IfOk, OnOk};
 ghost use Rattle.hippo_rewrite.specs.Rewriting.{key_guard, table_guards, guards_from};
 
@@ -23,7 +23,7 @@ fn key_guard(
     Ok(Guard { table: place, expr })
 }
 
-// Adds a guard for each key column of a table.
+// Appends a guard for each key column of a table.
 fn push_guards(
     alloc: Global,
     guards: &mut Guards,
@@ -38,7 +38,7 @@ fn push_guards(
     Ok(())
 }
 
-/// A guard for each key column of each table.
+/// A guard for each key column of each table. Fails when out of memory.
 pub fn guards(alloc: Global, rules: &RulesInForce) -> Result<Guards, Memory>
     ensures { IfOk result (λ made. made ≡ guards_from 0 rules.now) }
 {

@@ -1,4 +1,4 @@
-//! Queries with the policy's rules written into them.
+//! Query rewriting: writes the policy's rules into a query.
 #![tactic(auto)]
 
 mod conditions;

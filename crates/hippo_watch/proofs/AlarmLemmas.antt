@@ -1,4 +1,5 @@
--- From tables that are there and rules in force to what an audit shares with a question that is asked next.
+-- From tables that exist and rules in force to the tuple that an audit shares with a question that
+-- is asked next.
 use Rattle.std.proofs.Common.{◌≡◌, ◌∙◌, sym, ap, refl, subst, arith, ℤ, ◌+◌, ◌-◌, Bool, true, false, List, [], ◌∷◌, map, length, take, Option, None, Some}
 use Rattle.std.specs.Prelude.{◌&&◌, is_some, option_and_then, if◌then◌else◌}
 use Rattle.std.specs.List.{AllByRecursion, cons_option}
@@ -37,7 +38,7 @@ use Rattle.hippo_audit_needs.proofs.PastLemmas.{created_by_meaning, are_common}
 use Rattle.hippo_watch.specs.declared.alarms.AskedNow.{AskedNow}
 use Rattle.hippo_watch.specs.Alarms.{AreOfSome, IsPresentOf, asked_next, IsAskedNext, ServesNow, SharesNext}
 
--- ---- tables that are there
+-- ---- tables that exist
 all_created : (history : History) (names : List Name) → AllByRecursion (λ table. is_some (schema_at history table) ≡ true) names → are_created history names ≡ true
 all_created history [] all = refl
 all_created history (name ∷ names) all =
@@ -66,7 +67,7 @@ module _ (tables : Tables) (query audit : List Name) (query_sets audit_sets : Li
   audit_at : (history : History) → TablesStandFor tables history → audit_sets ≡ sets_at history audit
   audit_at history stands = audit_is history stands ∙ sets_named history audit (are_created-AreKeptTables tables audit history audit_kept stands)
 
-  -- both sides have the same rows, since each table's stand under its name
+  -- both sides have the same rows, since each table has its rows by its name
   pub rows_same : HaveSameRows query query_sets audit audit_sets
   rows_same =
       let history : History = query_kept.history in
@@ -74,7 +75,7 @@ module _ (tables : Tables) (query audit : List Name) (query_sets audit_sets : Li
       (subst (λ (sets : List KeyedRows). HaveSameRows query (sets_at history query) audit sets) (sym (audit_at history query_kept.stands))
       (same_rows (λ table. set_of history (schema_at history table)) query audit))
 
--- rules, rows and choices of tables that are there are those of the history
+-- rules, rows and choices of tables that exist are those of the history
 pub those_of : (past : Past) (tables : Tables) (query : Query) (audit : Audit) (query_sets audit_sets : List KeyedRows) → AreKeptTables tables query.tables → AreKeptTables tables audit.tables
     → ((history : History) → TablesStandFor tables history → query_sets ≡ map (λ schema. kept_at schema history) (schemas_at history query.tables))
     → ((history : History) → TablesStandFor tables history → audit_sets ≡ map (λ schema. kept_at schema history) (schemas_at history audit.tables))
@@ -97,7 +98,7 @@ those_of past tables query audit query_sets audit_sets query_kept audit_kept que
       choices_are = chosen ∙ ap (λ (h : History). choice_at h) whole;
     }
 
--- ---- whether all tables are at hand
+-- ---- whether all tables exist
 module _ (asked : AskedNow) (audit : Audit) (answer : Bool)
     (at_hand : (history : History) → TablesStandFor asked.tables.now history → answer ≡ (are_created history audit.tables && are_created history asked.query.now.tables)) where
   module _ (some : AreOfSome asked.tables.now) (is : answer ≡ true) where
@@ -110,7 +111,7 @@ module _ (asked : AskedNow) (audit : Audit) (answer : Bool)
     pub query_kept : AreKeptTables asked.tables.now asked.query.now.tables
     query_kept = record { history = some.history; stands = some.stands; created = both.1 }
 
-  -- they are, where the history has created them
+  -- they do, if the history has created them
   pub nothing_missing : answer ≡ false → ServesNow asked audit None
   nothing_missing none = λ history present its names created.
       absurd (false≢true (sym none ∙ at_hand history present.tables_are
@@ -138,14 +139,14 @@ module _ (asked : AskedNow) (audit : Audit) where
   pub shared_then : (history : History) (entry : Entry) → IsAskedNext asked history entry → shared_tuple meaning history audit entry ≡ shared_by history context query audit
   shared_then history entry next = ap (shared_tuple meaning history audit) next.is ∙ shared_next history next.user next.text next.means
 
-  -- a candidate shares what serves first
+  -- a candidate shares the first tuple that serves
   pub shares_first : is_candidate context query audit ≡ true → (found : Option (List SharedRow)) → ServesNow asked audit found → SharesNext asked audit found
   shares_first candidate found serves = λ history entry next its.
       let names = (and_parts _ _ candidate).1 in
       let created = all_created history query.tables (created_by_meaning history next.text query next.present.past_is.valid next.means) in
       serves history next.present its names created ∙ sym (shared_then history entry next ∙ ap (where_candidate history) candidate)
 
-  -- and what is none shares nothing
+  -- a question that is no candidate shares nothing
   pub shares_nothing : is_candidate context query audit ≡ false → SharesNext asked audit None
   shares_nothing none = λ history entry next its.
       sym (shared_then history entry next ∙ ap (where_candidate history) none)

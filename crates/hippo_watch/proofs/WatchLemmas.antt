@@ -1,4 +1,5 @@
--- A watch of a history, when one entry more is taken in or taken back; and what it shares with a question.
+-- A watch that fits a history, when one more entry is added or removed again; and the tuple that it
+-- shares with a question.
 use Rattle.std.proofs.Common.{◌≡◌, ◌∙◌, sym, ap, subst, true, false, List, [], ◌∷◌, ◌++◌, Option, None, Some}
 use Rattle.hippo_values.specs.declared.names.Name.{Name}
 use Rattle.hippo_model.specs.declared.audit.Audit.{Audit}
@@ -30,7 +31,7 @@ module _ (history : History) (entry : Entry) (valid : is_valid meaning (history 
   lasts : (table : Name) (schema : Schema) → schema_at history table ≡ Some schema → schema_at (history ++ entry ∷ []) table ≡ Some schema
   lasts table schema at = schemas_last meaning history (entry ∷ []) table schema valid at
 
-  -- where an entry changes no row, a watch is one of the longer history
+  -- if an entry changes no row, a watch fits the longer history
   pub IsWatchOf-no_version : (watch : AuditHits) → is_version entry.act ≡ false → IsWatchOf history watch → IsWatchOf (history ++ entry ∷ []) watch
   IsWatchOf-no_version watch none is = record {
     audit_is = IsAuditOf-longer history (entry ∷ []) valid watch.audit is.audit_is;
@@ -38,7 +39,7 @@ module _ (history : History) (entry : Entry) (valid : is_valid meaning (history 
   }
 
 module _ (tables : Tables) (act : Act) (old new : AuditHits) where
-  -- what takes an act in follows
+  -- a watch that takes an act in fits the longer history
   pub follows_so : ((history : History) → TablesStandFor tables history → new ≡ taken_in history act old) → WatchFollows tables act old new
   follows_so takes = λ history entry is next watches.
       let audit = old.audit in
@@ -50,7 +51,7 @@ module _ (tables : Tables) (act : Act) (old new : AuditHits) where
             (AreHits-taken_in history audit entry (lasts history entry next.valid) watches.audit_is.created watches.audit_is.differ next.few old.hits watches.hits_are);
       })
 
-  -- and what takes it back goes back
+  -- a watch that takes it back fits the history again
   pub goes_back_so : ((history : History) → TablesStandFor tables history → new ≡ taken_back history act old) → WatchGoesBack tables act old new
   goes_back_so takes = λ history entry is next was.
       let stays = (audit_stays history entry.act old).1 in
@@ -62,11 +63,11 @@ module _ (tables : Tables) (act : Act) (old new : AuditHits) where
       })
 
 module _ (asked : AskedNow) (watch : AuditHits) where
-  -- what its audit shares, it shares
+  -- the tuple that its audit shares
   pub shares_audited : (found : Option (List SharedRow)) → SharesNext asked watch.audit found → SharesWatched asked watch found
   shares_audited found shares = λ history entry next is. shares history entry next is.audit_is
 
-  -- where a table has no hit, nothing is shared
+  -- if a table has no hits, nothing is shared
   pub shares_unhit : HasNone watch.audit watch.hits → SharesWatched asked watch None
   shares_unhit unhit = λ history entry next is.
       let none : HasNoHits history watch.audit = record { table = unhit.table; within = unhit.within; none = sym (is.hits_are.each unhit.table unhit.within) ∙ unhit.none } in

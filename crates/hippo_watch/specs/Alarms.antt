@@ -1,4 +1,4 @@
--- What an audit shares with a question that is asked now.
+-- The tuple that an audit shares with a question that is asked now.
 use Rattle.std.specs.Prelude.{◌≡◌, ◌+◌, true, List, length, Option, Some}
 use Rattle.hippo_values.specs.Texts.{Txt}
 use Rattle.hippo_values.specs.declared.moments.Moment.{Moment}
@@ -19,7 +19,7 @@ use Rattle.hippo_audit_job.specs.declared.past.Past.{Past}
 use Rattle.hippo_audit_job.specs.Examining.{IsPastOf, IsAuditOf}
 use Rattle.hippo_watch.specs.declared.alarms.AskedNow.{AskedNow}
 
--- tables are those of some history
+-- these are the tables of some history
 pub record AreOfSome (tables : Tables) : Type 0 where
   pub history : History
   pub stands : TablesStandFor tables history
@@ -37,15 +37,14 @@ asked_next history moment user pair text = record {
   act = Asked user pair.purpose pair.recipient text;
 }
 
--- the first virtual tuple that serves is found, of a query that names each audited column and whose
--- tables are created
+-- the first virtual tuple that serves a query that names each audited column and whose tables exist
 abbrev pub ServesNow : AskedNow → Audit → Option (List SharedRow) → Type 0
 ServesNow asked audit found =
     (history : History) → IsPresentOf asked.past asked.tables.now history → IsAuditOf history audit
     → names_all asked.query.now audit ≡ true → are_created history asked.query.now.tables ≡ true
     → found ≡ first_serving history (context_of asked.pair.now asked.moment) asked.query.now audit
 
--- an entry is such a question, asked next after a history, and its text means the query
+-- an entry is this question, asked next in a history, and its text means the query
 pub record IsAskedNext (asked : AskedNow) (history : History) (entry : Entry) : Type 0 where
   pub present : IsPresentOf asked.past asked.tables.now history
   pub user : Name
@@ -53,7 +52,7 @@ pub record IsAskedNext (asked : AskedNow) (history : History) (entry : Entry) : 
   pub means : meaning history text ≡ Some asked.query.now
   pub is : entry ≡ asked_next history asked.moment user asked.pair.now text
 
--- what an audit shares with each such question
+-- the tuple that an audit shares with each such question
 abbrev pub SharesNext : AskedNow → Audit → Option (List SharedRow) → Type 0
 SharesNext asked audit found =
     (history : History) (entry : Entry) → IsAskedNext asked history entry

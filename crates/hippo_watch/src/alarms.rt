@@ -1,4 +1,4 @@
-//! What a question that is asked now shares with an audit.
+//! The tuple that an audit shares with a question that is asked now.
 ghost use Rattle.std.specs.Prelude.{◌≡◌, bytes_eq, IfOk};
 ghost use Rattle.std.specs.List.{IsDistinct};
 ghost use Rattle.hippo_model.specs.Audits.{is_candidate};
@@ -15,7 +15,8 @@ use hippo_values::{Memory, Moment};
 use std::alloc::Global;
 
 /// A question that is asked now, as the next entry: what is known of the entries before it, the
-/// tables that they make, the moment, what the question is asked for, and the query that it means.
+/// tables that they make, the moment, the purpose and recipient, and the query that the question
+/// means.
 #[derive(Clone, Copy)]
 pub struct AskedNow<'a> {
     pub past: Past<'a>,
@@ -35,7 +36,7 @@ fn is_candidate(asked: &AskedNow<'_>, audit: &Audit) -> bool
         && names_all(asked.query, audit)
 }
 
-// The first virtual tuple that serves, over tables that are there.
+// The first virtual tuple that serves. All tables of the query and the audit must exist.
 fn first_kept(
     alloc: Global,
     asked: &AskedNow<'_>,
@@ -69,9 +70,9 @@ fn first_kept(
     )
 }
 
-/// What an audit shares with a question that is asked now: the first virtual tuple that serves,
-/// where the query is a candidate; none exactly where the audit does not flag the question. Wants
-/// an audit that names no table twice. The error is want of memory.
+/// The tuple that an audit shares with a question that is asked now: the first virtual tuple that
+/// serves, if the query is a candidate. Returns none exactly when the audit does not flag the
+/// question. The audit must name no table twice. Fails when out of memory.
 pub(crate) fn alarm(
     alloc: Global,
     asked: &AskedNow<'_>,

@@ -1,5 +1,5 @@
-//! Standing audits: how many rows their own conditions find, and what a question that is asked now
-//! shares with one.
+//! Standing audits: the number of rows that their own conditions find, and the tuple that one
+//! shares with a question that is asked now.
 #![tactic(auto)]
 
 mod alarms;

@@ -1,4 +1,4 @@
-//! The tables of an audit and of a query, as they are.
+//! Whether the tables of an audit and of a query exist now.
 ghost use Rattle.std.specs.Prelude.{◌≡◌, ◌&&◌, is_some};
 ghost use Rattle.hippo_model.specs.Terms.{History};
 ghost use Rattle.hippo_model.specs.Histories.{schema_at};
@@ -15,7 +15,7 @@ fn is_kept(tables: &Tables, name: &Name) -> bool
     tables.schema(name).is_some()
 }
 
-// Whether each of these tables is there.
+// Whether each of these tables exists.
 fn are_kept(tables: &Tables, names: &[Name]) -> bool
     ensures { (history : History) → TablesStandFor tables.now history
         → result ≡ are_created history names.now }
@@ -28,7 +28,7 @@ fn are_kept(tables: &Tables, names: &[Name]) -> bool
     true
 }
 
-/// Whether the tables of an audit and of a query are there.
+/// Whether the tables of an audit and of a query exist.
 pub(crate) fn are_at_hand(tables: &Tables, query: &Query, audit: &Audit) -> bool
     ensures { (history : History) → TablesStandFor tables.now history
         → result ≡ (are_created history audit.now.tables && are_created history query.now.tables) }

@@ -15,8 +15,8 @@ use hippo_watch_counts::AuditHits;
 use std::alloc::Global;
 use std::marker::Model;
 
-/// An audit of what is asked from now on, and how many rows of each of its tables its own
-/// conditions find. No table is named twice in it.
+/// An audit of the questions from now on, and the number of rows of each of its tables that its own
+/// conditions find. It names no table twice.
 #[derive(Drop)]
 pub struct Watch {
     held: AuditHits,
@@ -37,7 +37,7 @@ impl Model for Watch {
     ghost invariant = { λ watch. IsDistinct bytes_eq watch.held.audit.tables };
 }
 
-// Changes the counts as the act of the next entry changes them.
+// Changes the counts by the act of the next entry.
 fn take_in(held: &mut AuditHits, tables: &Tables, act: &Act)
     ensures audit { held.new.audit ≡ held.old.audit }
     ensures follows { WatchFollows tables.now act.now held.old held.new }
@@ -45,7 +45,7 @@ fn take_in(held: &mut AuditHits, tables: &Tables, act: &Act)
     held.take_in(tables, act);
 }
 
-// Changes them back.
+// Reverts the last `take_in`.
 fn take_back(held: &mut AuditHits, tables: &Tables, act: &Act)
     ensures audit { held.new.audit ≡ held.old.audit }
     ensures goes_back { WatchGoesBack tables.now act.now held.old held.new }
@@ -54,8 +54,8 @@ fn take_back(held: &mut AuditHits, tables: &Tables, act: &Act)
 }
 
 impl Watch {
-    /// A watch by an audit, with the counts of its hits in the tables as they are; or want of
-    /// memory.
+    /// A watch with an audit, and the counts of its hits in the tables as they are now. Fails when
+    /// out of memory.
     pub fn new(alloc: Global, audit: Audit, tables: &Tables) -> Result<Watch, Memory>
         requires differ { IsDistinct bytes_eq audit.tables }
         ensures audit { IfOk result (λ made. made.audit ≡ audit) }
@@ -66,7 +66,7 @@ impl Watch {
         Ok(Watch { held })
     }
 
-    /// What is watched.
+    /// The audit of the watch.
     pub fn audit(&self) -> &Audit
         ensures is { result.now ≡ self.now.audit }
         ensures differ { IsDistinct bytes_eq self.now.audit.tables }
@@ -74,17 +74,17 @@ impl Watch {
         &self.held.audit
     }
 
-    /// How many rows of the audit's table at a place its own conditions find; 0 where there is
-    /// none.
+    /// The number of rows that the audit's own conditions find in its table at a place; 0 if there
+    /// is no such place.
     pub fn hits(&self, place: usize) -> u64
         ensures { result ≡ slice_index_or self.now.hits place 0 }
     {
         self.held.at(place)
     }
 
-    /// Changes the hits of a table, if the audit has it: they fall by one where the old row is a
-    /// hit, and rise by one where the new one is. The same call with both exchanged undoes it.
-    /// Takes no memory.
+    /// Changes the hits of a table, if the audit has it: subtracts one if the old row is a hit, and
+    /// adds one if the new row is. The same call with both rows exchanged undoes it. Takes no
+    /// memory.
     pub fn change(&mut self, table: &Name, old: Option<&Cells>, new: Option<&Cells>)
         ensures { self.new ≡ changed_hits table.now (option_copied old.entry)
             (option_copied new.entry) self.old }
@@ -92,8 +92,8 @@ impl Watch {
         self.held.change(table, old, new);
     }
 
-    /// Changes the hits as the act of the next entry changes them, over the tables as they are
-    /// before it. Takes no memory.
+    /// Changes the hits by the act of the next entry. `tables` are those before that entry. Takes
+    /// no memory.
     pub fn take_in(&mut self, tables: &Tables, act: &Act)
         ensures audit { self.new.audit ≡ self.old.audit }
         ensures follows { WatchFollows tables.now act.now self.old self.new }
@@ -101,8 +101,8 @@ impl Watch {
         take_in(&mut self.held, tables, act);
     }
 
-    /// Changes the hits back where the act that was taken in last does not come, over the same
-    /// tables. Takes no memory.
+    /// Reverts the last `take_in`, if its act is not added after all. `tables` are the same. Takes
+    /// no memory.
     pub fn take_back(&mut self, tables: &Tables, act: &Act)
         ensures audit { self.new.audit ≡ self.old.audit }
         ensures goes_back { WatchGoesBack tables.now act.now self.old self.new }
@@ -110,16 +110,17 @@ impl Watch {
         take_back(&mut self.held, tables, act);
     }
 
-    // Whether some table has no hit.
+    // Whether at least one table has no hits.
     fn has_none(&self) -> bool
         ensures { result ≡ true → HasNone self.now.audit self.now.hits }
     {
         self.held.has_none()
     }
 
-    /// What the audit shares with a question that is asked now: the first virtual tuple that
-    /// serves, where the query is a candidate; none exactly where the audit does not flag the
-    /// question. Where a table has no hit, none is looked for. The error is want of memory.
+    /// The tuple that the audit shares with a question that is asked now: the first virtual tuple
+    /// that serves, if the query is a candidate. Returns none exactly when the audit does not flag
+    /// the question. If a table has no hits, returns none without a search. Fails when out of
+    /// memory.
     pub fn alarm(&self, alloc: Global, asked: &AskedNow<'_>) -> Result<Option<SharedTuple>, Memory>
         requires some { AreOfSome asked.now.tables.now }
         ensures { IfOk result (SharesWatched asked.now self.now) }

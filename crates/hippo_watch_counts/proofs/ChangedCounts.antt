@@ -1,4 +1,5 @@
--- Counts that are those of an audit's hits are still, once an entry was taken in; and were so, once it is taken back.
+-- Counts that are those of an audit's hits still are after an entry is taken in, and again after it
+-- is taken back.
 use Rattle.std.proofs.Common.{◌≡◌, ◌∙◌, ◌≤◌, ◌<◌, ℕ, zero, suc, ◌+◌, ◌-◌, Bool, true, false, not, cond, List, [], ◌∷◌, ◌++◌, length, get_or, Option, Some, None, is_some, refl, sym, ap, arith, if◌then◌else◌}
 use Rattle.std.specs.Prelude.{min, nat_lt, bytes_eq, position, slice_set}
 use Rattle.std.specs.List.{AllByRecursion, IsDistinct, position_or_len}
@@ -27,7 +28,7 @@ use Rattle.hippo_watch_counts.specs.Rows.{hit_of, hits_among}
 use Rattle.hippo_watch_counts.specs.Counts.{AreHits, changed_count, audit_place, changed_counts, changed_hits, row_before, taken_in, taken_back}
 use Rattle.hippo_watch_counts.proofs.ChangedRows.{row_there, there_counted, version_counted, hits_few}
 
--- ---- the place of a table, where none is named twice
+-- ---- the place of a table, if none is named twice
 all_at : {A : Type 0} (P : A → Type 0) (xs : List A) (i : ℕ) (d : A) → AllByRecursion P xs → i < length xs → P (get_or xs i d)
 all_at P [] i d all within = absurd (omega (arith, within))
 all_at P (x ∷ xs) zero d all within = all.0
@@ -51,7 +52,7 @@ place_there table tables place differ within is =
     let first = first_with table tables place differ within is in
     (λ i. cond (nat_lt (first i) (length tables)) (Some (first i)) None) ∙ ap (λ there. cond there (Some place) None) (lt-ltb place (length tables) within)
 
--- ---- what is changed at a place
+-- ---- the change at a place
 module _ (audit : Audit) (table : Name) (old new : Option Row) (counts : List ℕ) where
   abbrev changed_at : Option Place → List ℕ
   changed_at found = option_map_or (λ place. slice_set counts place (changed_count (own_conditions audit place) old new (get_or counts place 0))) found counts
@@ -70,7 +71,7 @@ module _ (audit : Audit) (table : Name) (old new : Option Row) (counts : List �
         | Some there ↦ λ at. get_or-set_other counts there place _ 0 (λ same. false≢true (sym other ∙ ap (λ n. bytes_eq (get_or audit.tables n []) table) same ∙ (position-Some (λ name. bytes_eq name table) audit.tables there [] at).1))
       ] refl
 
--- a count falls and rises by one row each
+-- a count falls and rises by at most one row each
 risen : (count before after old new : ℕ) → count ≡ before → after + old ≡ before + new → after ≤ 18446744073709551615 → old ≤ before → min (count - old + new) 18446744073709551615 ≡ after
 risen count before after old new is sum few one = omega (arith, is, sum, few, one)
 
@@ -100,13 +101,13 @@ module _ (history : History) (audit : Audit) (entry : Entry)
   hits_later : (place : Place) (schema : Schema) → schema_at history (name_at place) ≡ Some schema → hits later audit place ≡ among place (kept_at schema later)
   hits_later place schema at = ap (λ found. option_map_or (λ made. among place (kept_at made later)) found 0) (lasts (name_at place) schema at)
 
-  -- an entry that is no version of a table leaves its hits
+  -- an entry that is no version of a table leaves its hits unchanged
   hits_stay : (place : Place) → place < length audit.tables → ((schema : Schema) → schema_at history (name_at place) ≡ Some schema → kept_at schema later ≡ kept_at schema history) → hits later audit place ≡ hits history audit place
   hits_stay place within stay =
       let there = schema_there place within in
       hits_later place there.0 there.1 ∙ ap (among place) (stay there.0 there.1) ∙ sym (hits_before place there.0 there.1)
 
-  -- counts where nothing is a version
+  -- the counts, if the entry is no version
   pub AreHits-no_version : (counts : List ℕ) → is_version entry.act ≡ false → AreHits history audit counts → AreHits later audit counts
   AreHits-no_version counts none are = record {
     as_many = are.as_many;
@@ -175,7 +176,7 @@ module _ (history : History) (audit : Audit) (entry : Entry)
     abbrev one_back : List ℕ → List ℕ
     one_back counts = changed_counts audit table (row_left entry.act) (row_before history entry.act) counts
 
-    -- counts where a version is taken in
+    -- the counts, if a version is taken in
     AreHits-in : (counts : List ℕ) → AreHits history audit counts → AreHits later audit (one_in counts)
     AreHits-in counts are = record {
       as_many = as_many_changed audit table (row_before history entry.act) (row_left entry.act) counts (audit_place audit.tables table) ∙ are.as_many;
@@ -191,7 +192,7 @@ module _ (history : History) (audit : Audit) (entry : Entry)
         by place within false other =
             kept_elsewhere audit table (row_before history entry.act) (row_left entry.act) counts place other ∙ are.each place within ∙ sym (other_rows place within other)
 
-    -- and where it is taken back
+    -- and if it is taken back
     AreHits-back : (counts : List ℕ) → AreHits later audit counts → AreHits history audit (one_back counts)
     AreHits-back counts are = record {
       as_many = as_many_changed audit table (row_left entry.act) (row_before history entry.act) counts (audit_place audit.tables table) ∙ are.as_many;
@@ -211,7 +212,7 @@ module _ (history : History) (audit : Audit) (entry : Entry)
     abbrev held : AuditHits
     held = record { audit = audit; hits = counts }
 
-    -- counts once an entry was taken in
+    -- the counts after an entry is taken in
     pub AreHits-taken_in : AreHits history audit counts → AreHits later audit (taken_in history entry.act held).hits
     AreHits-taken_in are =
         elim (is_version entry.act) as (λ version. is_version entry.act ≡ version → AreHits later audit (if version then record held { hits = changed_counts audit (table_changed entry.act) (row_before history entry.act) (row_left entry.act) counts } else held).hits) [
@@ -219,7 +220,7 @@ module _ (history : History) (audit : Audit) (entry : Entry)
           | false ↦ λ none. AreHits-no_version counts none are
         ] refl
 
-    -- and as they were, once it is taken back
+    -- and as they were, after it is taken back
     pub AreHits-taken_back : AreHits later audit counts → AreHits history audit (taken_back history entry.act held).hits
     AreHits-taken_back are =
         elim (is_version entry.act) as (λ version. is_version entry.act ≡ version → AreHits history audit (if version then record held { hits = changed_counts audit (table_changed entry.act) (row_left entry.act) (row_before history entry.act) counts } else held).hits) [
@@ -230,7 +231,7 @@ module _ (history : History) (audit : Audit) (entry : Entry)
           }
         ] refl
 
--- taking in and back leaves the audit
+-- taking in and taking back leave the audit unchanged
 pub audit_stays : (history : History) (act : Act) (held : AuditHits) → ((taken_in history act held).audit ≡ held.audit) × ((taken_back history act held).audit ≡ held.audit)
 audit_stays history act held =
     elim (is_version act) as (λ version. ((if version then changed_hits (table_changed act) (row_before history act) (row_left act) held else held).audit ≡ held.audit) × ((if version then changed_hits (table_changed act) (row_left act) (row_before history act) held else held).audit ≡ held.audit)) [

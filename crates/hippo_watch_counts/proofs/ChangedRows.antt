@@ -1,4 +1,4 @@
--- How many rows of a table conditions find, once one entry more is there.
+-- The number of rows of a table that conditions find, after one more entry.
 use Rattle.std.proofs.Common.{◌≡◌, ◌∙◌, ◌≤◌, ℕ, zero, suc, ◌+◌, Bool, true, false, cond, List, [], ◌∷◌, ◌++◌, map, length, drop, filter_map, Option, Some, None, option_map, refl, ap, arith, if◌then◌else◌}
 use Rattle.std.specs.Prelude.{filter, slice_get, bytes_eq}
 use Rattle.std.specs.List.{cons_option}
@@ -24,7 +24,7 @@ use Rattle.hippo_tables_keyed.proofs.KeptRows.{flipped, shown, IsBelowAll-from_b
 use Rattle.hippo_tables_keyed.proofs.RowsAfter.{table_rows-Insert, table_rows-Update, table_rows-Delete, row_with-table_rows, IsAscending-table_rows}
 use Rattle.hippo_watch_counts.specs.Rows.{hit_of, hits_among}
 
--- the row that stood in a table
+-- the old row in a table
 abbrev pub row_there : Schema → History → Act → Option Row
 row_there schema history (Insert table row) = row_at schema history (key_of schema.key row)
 row_there schema history (Update table row) = row_at schema history (key_of schema.key row)
@@ -50,7 +50,7 @@ module _ (conditions : List (CondOf Operand)) where
     none_below key [] below = refl
     none_below key (first ∷ rest) below = rw (flipped key (key_in places first) Less below.0) (none_below key rest below.1)
 
-    -- where a row is put, it is counted, and the one that had its key no more
+    -- if a row is put, it is counted, and the one that had its key is not any more
     put_counted : (kept : BornRow) (rows : List BornRow) → IsAscending (map (key_in places) rows)
         → count (put_row places kept rows) + one (row_with (key_in places kept) (shown places rows)) ≡ count rows + one (Some kept)
     put_counted kept [] ascends = let last = counted kept [] in omega (arith, last)
@@ -78,7 +78,7 @@ module _ (conditions : List (CondOf Operand)) where
               ap (λ (same : Bool). count (first ∷ put_row places kept rest) + one (if same then Some first else remaining)) apart ∙ sum
         ] refl
 
-    -- where the row with a key is taken away, it is counted no more
+    -- if the row with a key is removed, it is not counted any more
     take_counted : (key : Key) (rows : List BornRow) → count (take_row places key rows) + one (row_with key (shown places rows)) ≡ count rows
     take_counted key [] = refl
     take_counted key (first ∷ rest) =
@@ -93,7 +93,7 @@ module _ (conditions : List (CondOf Operand)) where
           | false ↦ past
         ]
 
-    -- and it was counted, if it was there
+    -- and it was counted, if it was in the table
     found_counted : (key : Key) (rows : List BornRow) → one (row_with key (shown places rows)) ≤ count rows
     found_counted key rows = let sum = take_counted key rows in omega (arith, sum)
 
@@ -148,14 +148,14 @@ module _ (conditions : List (CondOf Operand)) where
         let few = found_counted schema.key key (table_rows schema history) in
         omega (arith, before, few)
 
-    -- the row that stood in the table is counted there
+    -- the old row in the table is counted there
     pub there_counted : (act : Act) → hit_of conditions (row_there schema history act) ≤ hits_among conditions (kept_at schema history)
     there_counted (Insert table row) = there (key_of schema.key row)
     there_counted (Update table row) = there (key_of schema.key row)
     there_counted (Delete table key) = there key
     there_counted act = omega arith
 
-    -- a version of the table changes the number of rows by the one that stood and the one that stands
+    -- a version of the table changes the number of rows by the old row and the new one
     pub version_counted : (entry : Entry) (act : Act) → entry.act ≡ act → is_version act ≡ true → bytes_eq (table_changed act) schema.name ≡ true
         → after entry + hit_of conditions (row_there schema history act) ≡ hits_among conditions (kept_at schema history) + hit_of conditions (row_left act)
     version_counted entry (Insert table row) is version same = put entry (record { row = row; born = entry.moment }) (table_rows-Insert schema history entry table row is same)
@@ -164,7 +164,7 @@ module _ (conditions : List (CondOf Operand)) where
     version_counted entry (Delete table key) is version same = taken entry key (table_rows-Delete schema history entry table key is same)
     version_counted entry act is version same = absurd (false≢true version)
 
--- a row is counted once at most
+-- a row is counted at most once
 pub at_most_one : (conditions : List (CondOf Operand)) (row : Option Row) → hit_of conditions row ≤ 1
 at_most_one conditions row = small _
   where

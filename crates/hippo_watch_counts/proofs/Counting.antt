@@ -1,4 +1,4 @@
--- The row like another one, as it is found; and counts that are made table by table.
+-- The row with the same key as another one; and counts that are made table by table.
 use Rattle.std.proofs.Common.{◌≡◌, ◌∙◌, ◌<◌, ℕ, zero, suc, List, [], ◌∷◌, ◌++◌, length, get_or, Option, Some, None, option_map, refl, sym, ap, subst, arith}
 use Rattle.std.specs.Prelude.{slice_get, option_and_then}
 use Rattle.hippo_values.specs.declared.names.Name.{Name}
@@ -38,7 +38,7 @@ like_at history row set (Some schema) is =
     let same : set ≡ kept_at schema history = cc in
     ap (λ (kept : KeyedRows). row_in (row_with (key_of kept.key row) kept)) same ∙ row_kept schema history (key_of schema.key row)
 
--- the row of a table's kept rows that is like one
+-- the row of a table's kept rows with the same key as this one
 pub like_there : (history : History) (table : Name) (row : Row) (set : KeyedRows) → Some set ≡ option_map (λ schema. kept_at schema history) (schema_at history table) → row_in (row_with (key_of set.key row) set) ≡ row_like history table row
 like_there history table row set is = like_at history row set (schema_at history table) is
 

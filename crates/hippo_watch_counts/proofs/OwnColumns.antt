@@ -1,4 +1,5 @@
--- Whether a condition's columns all belong to a table, by those of its parts; and what own conditions let pass.
+-- Whether a condition's columns all belong to a table, by those of its parts; and which rows own
+-- conditions let pass.
 use Rattle.std.proofs.Common.{◌≡◌, Bool, true, false, not, ◌&&◌, ◌||◌, cond, List, [], ◌∷◌, ◌++◌, map, refl, ap, ◌∙◌}
 use Rattle.std.specs.Prelude.{filter, ◌==◌}
 use Rattle.std.specs.List.{flat_map, list_all}
@@ -59,7 +60,7 @@ module _ {A : Type 0} (counts test : A → Bool) where
   passed true first rest is remaining = ap (λ b. test first && b) remaining
   passed false first rest is remaining = remaining
 
-  -- members that count all pass a test where each passes it or does not count
+  -- the members that count all pass a test exactly when each member passes it or does not count
   pub all_of_those : (xs : List A) → list_all test (filter counts xs) ≡ list_all (λ x. not (counts x) || test x) xs
   all_of_those [] = refl
   all_of_those (x ∷ xs) = passed (counts x) x xs refl (all_of_those xs)

@@ -13,19 +13,19 @@ use Rattle.hippo_model.specs.Hits.{value_in_row, is_hit}
 use Rattle.hippo_model.specs.Histories.{schema_at}
 use Rattle.hippo_tables_keyed.specs.RowSets.{KeyedRows, kept_at}
 
--- columns all belong to a table
+-- the columns all belong to a table
 abbrev pub are_of : Place → List Ref → Bool
 are_of table columns = list_all (λ column. column.table == table) columns
 
 abbrev pub row_truth : Row → CondOf Operand → Truth
 row_truth row condition = truth (value_in_row row) condition
 
--- conditions are all true of a row
+-- the conditions are all true of a row
 abbrev pub is_found : List (CondOf Operand) → Row → Bool
 is_found conditions row = list_all (λ condition. is_true (row_truth row condition)) conditions
 
--- how many rows conditions find: of a row, if there is one; of a table's kept rows; of a table in a
--- history
+-- the number of rows that conditions find: of one row, if there is one; below, of a table's kept
+-- rows, and of a table in a history
 abbrev pub hit_of : List (CondOf Operand) → Option Row → ℕ
 hit_of conditions row = if option_map_or (is_found conditions) row false then 1 else 0
 

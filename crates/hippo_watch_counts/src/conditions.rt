@@ -23,7 +23,7 @@ fn is_true(truth: Truth) -> bool
     matches!(truth, Truth::True)
 }
 
-// The value of an operand in a row; none, for null, where no value stands there.
+// The value of an operand in a row; none, which means null, if the row has no value there.
 fn value_in<'a>(operand: &'a Operand, row: &'a Cells) -> Option<&'a Value>
     ensures { or_null (option_copied result) ≡ value_in_row row.now operand.now }
 {
@@ -33,7 +33,7 @@ fn value_in<'a>(operand: &'a Operand, row: &'a Cells) -> Option<&'a Value>
     }
 }
 
-// What a comparison of two values says.
+// The truth of a comparison of two values.
 fn compared(op: CompareOp, left: Option<&Value>, right: Option<&Value>) -> Truth
     ensures { result ≡ comparison op (or_null (option_copied left.entry))
         (or_null (option_copied right.entry)) }
@@ -42,7 +42,7 @@ fn compared(op: CompareOp, left: Option<&Value>, right: Option<&Value>) -> Truth
     compare(op, left, right.unwrap_or(&Value::Null))
 }
 
-// What a comparison of a value with an operand says.
+// The truth of a comparison of a value with an operand.
 fn compared_with(op: CompareOp, left: Option<&Value>, right: &Operand, row: &Cells) -> Truth
     ensures { result ≡ comparison op (or_null (option_copied left.entry))
         (value_in_row row.now right.now) }

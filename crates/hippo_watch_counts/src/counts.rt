@@ -1,4 +1,4 @@
-//! How many rows of each of its tables an audit's own conditions find.
+//! Counts of an audit's hits: the rows of each of its tables that its own conditions find.
 ghost use Rattle.std.specs.Prelude.{◌≡◌, ◌<◌, ℕ, true, ◌-◌, ◌+◌, slice_index_or, slice_set, option_copied, IfOk};
 ghost use Rattle.hippo_model.specs.Terms.{History};
 ghost use Rattle.hippo_model.specs.Hits.{own_conditions};
@@ -28,14 +28,14 @@ impl Model for Counts {
     ghost view = { λ counts. counts.counts.items };
 }
 
-/// An audit, and how many rows of each of its tables its own conditions find.
+/// An audit, and the number of rows of each of its tables that its own conditions find.
 #[derive(Drop)]
 pub struct AuditHits {
     pub audit: Audit,
     pub hits: Counts,
 }
 
-// How many rows an audit's own conditions on the table at a place find.
+// The number of rows that an audit's own conditions on the table at a place find.
 fn count_in(audit: &Audit, table: usize, rows: &RowSet) -> u64
     ensures { result ≡ hits_among (own_conditions audit.now table) rows.now }
 {
@@ -46,7 +46,7 @@ fn count_in(audit: &Audit, table: usize, rows: &RowSet) -> u64
     count
 }
 
-// How many rows of a table, which is the audit's at a place, its own conditions find.
+// The number of rows of a table, which is the audit's at a place, that its own conditions find.
 fn count_now(audit: &Audit, place: usize, table: &Name, tables: &Tables) -> u64
     ensures { (history : History) → TablesStandFor tables.now history
         → result ≡ table_hits history (own_conditions audit.now place) table.now }
@@ -57,7 +57,7 @@ fn count_now(audit: &Audit, place: usize, table: &Name, tables: &Tables) -> u64
     }
 }
 
-// Those of each table.
+// The counts of all tables.
 fn counts_of(alloc: Global, audit: &Audit, tables: &Tables) -> Result<Vec<u64>, Memory>
     ensures { IfOk result (λ counts. (history : History) → TablesStandFor tables.now history
         → AreHits history audit.now counts.items) }
@@ -85,7 +85,7 @@ fn place_of(tables: &[Name], table: &Name) -> Option<usize>
     tables.iter().position(|name| name == table)
 }
 
-// A count, where a row stood and another one stands.
+// A count after an old row is replaced by a new one.
 fn changed_count(
     audit: &Audit,
     place: usize,
@@ -101,7 +101,7 @@ fn changed_count(
 }
 
 impl Counts {
-    // The count at a place; 0 where there is none.
+    // The count at a place; 0 if there is no such place.
     fn at(&self, place: usize) -> u64
         ensures { result ≡ slice_index_or self.now place 0 }
     {
@@ -119,7 +119,8 @@ impl Counts {
 }
 
 impl AuditHits {
-    /// An audit with the counts of its hits in the tables as they are; or want of memory.
+    /// An audit with the counts of its hits in the tables as they are now. Fails when out of
+    /// memory.
     pub fn new(alloc: Global, audit: Audit, tables: &Tables) -> Result<AuditHits, Memory>
         ensures audit { IfOk result (λ made. made.audit ≡ audit) }
         ensures hits { IfOk result (λ made. (history : History) → TablesStandFor tables.now history
@@ -137,14 +138,14 @@ impl AuditHits {
         }
     }
 
-    /// The count of the table at a place.
+    /// The count of the table at a place; 0 if there is no such place.
     pub fn at(&self, place: usize) -> u64
         ensures { result ≡ slice_index_or self.now.hits place 0 }
     {
         self.hits.at(place)
     }
 
-    /// Whether some table has no hit.
+    /// Whether at least one table has no hits.
     pub fn has_none(&self) -> bool
         ensures { result ≡ true → HasNone self.now.audit self.now.hits }
     {
@@ -156,8 +157,8 @@ impl AuditHits {
         false
     }
 
-    /// Changes the count of a table, if the audit has it, where a row stood and another one stands.
-    /// Takes no memory.
+    /// Changes the count of a table, if the audit has it, after an old row is replaced by a new
+    /// one. Takes no memory.
     pub fn change(&mut self, table: &Name, old: Option<&Cells>, new: Option<&Cells>)
         ensures { self.new ≡ changed_hits table.now (option_copied old.entry)
             (option_copied new.entry) self.old }

@@ -1,5 +1,5 @@
-//! How many rows of its tables an audit's own conditions find, and how a change of a row changes
-//! that.
+//! The number of rows of its tables that an audit's own conditions find, and how a change of a row
+//! changes it.
 #![tactic(auto)]
 
 mod conditions;

@@ -1,4 +1,4 @@
-//! An audit's own conditions on one of its tables: those whose columns all belong to it.
+//! An audit's own conditions on one of its tables: those whose columns all belong to that table.
 ghost use Rattle.std.specs.Prelude.{◌≡◌, ◌||◌, not, option_copied};
 ghost use Rattle.std.specs.List.{list_all};
 ghost use Rattle.hippo_model.specs.Columns.{columns_in, condition_columns};
@@ -82,7 +82,8 @@ fn holds(condition: &CondOf<Operand>, row: &Cells) -> bool
     holds_in(condition, row)
 }
 
-// Whether a condition lets a row of a table pass: it is true of the row, or no own one.
+// Whether a condition lets a row of a table pass: it is true of the row, or it is not one of the
+// table's own conditions.
 fn passes(table: usize, condition: &CondOf<Operand>, row: &Cells) -> bool
     ensures { result ≡ (not (are_of table (condition_columns condition.now))
         || is_true (row_truth row.now condition.now)) }
@@ -109,7 +110,8 @@ pub(crate) fn is_found(audit: &Audit, table: usize, row: &Cells) -> bool
     all_pass(table, outer_parts(&audit.cond), row)
 }
 
-/// Counts a row that an audit's own conditions on the table at a place find, if there is one.
+/// 1 if an audit's own conditions on the table at a place find the row; 0 if they do not, or if
+/// there is no row.
 pub(crate) fn hit_of(audit: &Audit, table: usize, row: Option<&Cells>) -> u64
     ensures { result ≡ hit_of (own_conditions audit.now table) (option_copied row.entry) }
 {

@@ -1,4 +1,4 @@
-//! What an INSERT, UPDATE or DELETE does to the counts of an audit's hits.
+//! The effect of an INSERT, UPDATE or DELETE on the counts of an audit's hits.
 ghost use Rattle.std.specs.Prelude.{◌≡◌, option_map, option_copied};
 ghost use Rattle.hippo_model.specs.Terms.{History};
 ghost use Rattle.hippo_model.specs.Rows.{key_of};
@@ -35,8 +35,8 @@ fn row_like<'a>(tables: &'a Tables, table: &Name, row: &Cells) -> Option<&'a Cel
 }
 
 impl AuditHits {
-    /// Changes the counts as an act changes them that comes next, over the tables as they are
-    /// before it. Takes no memory.
+    /// Changes the counts by the act of the next entry. `tables` are those before that entry. Takes
+    /// no memory.
     pub fn take_in(&mut self, tables: &Tables, act: &Act)
         ensures audit { self.new.audit ≡ self.old.audit }
         ensures hits { (history : History) → TablesStandFor tables.now history
@@ -54,8 +54,8 @@ impl AuditHits {
         }
     }
 
-    /// Changes the counts back, where an act was taken in that does not come next, over the same
-    /// tables. Takes no memory.
+    /// Reverts the last `take_in`, if its act is not added after all. `tables` are the same. Takes
+    /// no memory.
     pub fn take_back(&mut self, tables: &Tables, act: &Act)
         ensures audit { self.new.audit ≡ self.old.audit }
         ensures hits { (history : History) → TablesStandFor tables.now history

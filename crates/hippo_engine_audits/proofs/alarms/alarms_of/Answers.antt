@@ -1,4 +1,4 @@
--- Nothing stands before what is said.
+-- The text is empty before the alarms.
 use Rattle.std.proofs.Common.{◌∙◌, ◌++◌, ap}
 use Rattle.hippo_values.specs.Texts.{Txt}
 use Rattle.hippo_engine_world.specs.Holding.{world_of}

@@ -1,4 +1,4 @@
--- What it shares with the question is said; where nothing stands, nothing is.
+-- What the watch shares with the question is appended; if there is no watch, nothing is.
 use Rattle.hippo_engine_audits.proofs.AlarmLemmas.{alarm_printed, nobody_added}
 use Rattle.hippo_engine_audits.proofs.alarms.append_alarm.Goals as goal
 

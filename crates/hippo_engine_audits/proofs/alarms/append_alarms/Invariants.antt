@@ -1,4 +1,4 @@
--- What is said so far, and by those that are left.
+-- The alarms so far, and those of the remaining watches.
 use Rattle.std.proofs.Common.{◌≡◌}
 use Rattle.hippo_engine_audits.proofs.AlarmLemmas.{SoFar}
 use Rattle.hippo_engine_audits.proofs.alarms.append_alarms.Given as goal

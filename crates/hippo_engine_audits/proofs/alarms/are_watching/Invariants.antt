@@ -1,4 +1,4 @@
--- Whether there is a watch among those that are left.
+-- Whether there is a watch among the remaining ones.
 use Rattle.std.proofs.Common.{◌≡◌, drop}
 use Rattle.std.specs.Prelude.{is_some}
 use Rattle.std.specs.List.{list_any}

@@ -1,4 +1,5 @@
--- What the watches say of a question is what those of the world say; a text that means nothing is flagged by none.
+-- The watches' alarms for a question are those of the world; a text without a meaning is flagged by
+-- none.
 use Rattle.std.proofs.Common.{refl, ◌∙◌}
 use Rattle.std.proofs.lemmas.Result.{on_ok_weaker}
 use Rattle.hippo_engine_audits.proofs.AlarmLemmas.{printed_now, none_now}

@@ -1,5 +1,5 @@
--- What the text means by the names that are known is what it means after the history; where there is no watch, nothing
--- is said.
+-- The meaning of the text by the known names is its meaning after the history; without a watch,
+-- there is no alarm.
 use Rattle.std.proofs.Common.{refl, rules}
 use Rattle.std.proofs.lemmas.Result.{on_ok_weaker}
 use Rattle.hippo_engine_checks.specs.Asking.{question_of}

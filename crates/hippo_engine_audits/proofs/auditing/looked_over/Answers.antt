@@ -1,4 +1,4 @@
--- The job that looked over all has the flags.
+-- The job that looked at all queries has the flags.
 use Rattle.std.proofs.Common.{Ok, Err}
 use Rattle.hippo_engine_audits.proofs.AuditingLemmas.{finds_flags}
 use Rattle.hippo_engine_audits.proofs.auditing.looked_over.Goals as goal

@@ -1,4 +1,4 @@
--- What is left to print gives the whole.
+-- What is printed and what remains give the whole.
 use Rattle.std.proofs.Common.{◌≡◌, ◌++◌, drop}
 use Rattle.std.specs.List.{flat_map}
 use Rattle.hippo_engine_rules.specs.Effects.{denial_line}

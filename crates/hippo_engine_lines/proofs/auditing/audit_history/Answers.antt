@@ -1,4 +1,4 @@
--- The console is told.
+-- The flags are in the reply to the console.
 use Rattle.std.proofs.Common.{refl}
 use Rattle.hippo_engine_lines.proofs.AuditingLemmas.{Carries-does}
 use Rattle.hippo_engine_lines.proofs.auditing.audit_history.Goals as goal

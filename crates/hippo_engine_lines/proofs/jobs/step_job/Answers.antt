@@ -1,4 +1,4 @@
--- The job looks on and is put back.
+-- The job is stepped and put back.
 use Rattle.std.proofs.Common.{◌≡◌, refl, sym, subst, ℕ, Some, None}
 use Rattle.hippo_stmt_lines.specs.Forms.{steps}
 use Rattle.hippo_report.specs.declared.speaker.Speaker.TheVariants.{Console}

@@ -1,4 +1,4 @@
--- A command is judged, and what is found is performed, or why not is said.
+-- A command is judged, and its deed is performed, or the reason for not doing it is in the reply.
 use Rattle.hippo_io.specs.LineTexts.{line_text}
 use Rattle.hippo_stmt_lines.specs.Commands.{input_command}
 use Rattle.hippo_stmt_lines.specs.LentCommands.{command}

@@ -1,4 +1,4 @@
--- The line was carried out, and its reply was written or not.
+-- The line was carried out, whether or not its reply was written.
 use Rattle.hippo_io.specs.LineTexts.{line_text}
 use Rattle.hippo_stmt_lines.specs.Commands.{input_command}
 use Rattle.hippo_engine.proofs.CarryingLemmas.{Carries-written}

@@ -1,4 +1,5 @@
--- Each deed is done by its own method: what that asks for is there, and what it did is what the deed's command does.
+-- Each deed is done by its own method: the method's requirements hold, and its effect is that of
+-- the deed's command.
 use Rattle.std.proofs.Common.{ℕ, Ok, sym, subst}
 use Rattle.hippo_keeper.specs.Keeping.{KeeperState}
 use Rattle.hippo_stmt_lines.specs.Commands.{Command}
@@ -9,7 +10,7 @@ use Rattle.hippo_engine.proofs.ChangeLemmas.{changes_by}
 use Rattle.hippo_engine.proofs.JobLemmas.{AddsNothing-does}
 use Rattle.hippo_engine_lines.proofs.lines.perform.Goals as goal
 
--- what was done for a command adds nothing
+-- a deed that adds nothing
 module _ {command : Command} {old new : Engine} {keeper : KeeperState} {steps : ℕ} (at_work : AtWork old keeper) where
   by_nothing : AddsNothing command old new → Carries {A = Unit {0}} command (Ok tt) old new keeper keeper steps steps
   by_nothing adds = Carries-nothing command old new keeper steps at_work adds

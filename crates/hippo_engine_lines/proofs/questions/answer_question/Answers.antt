@@ -1,4 +1,4 @@
--- A question is kept and answered.
+-- A question is stored and answered.
 use Rattle.std.proofs.Common.{sym, subst}
 use Rattle.hippo_engine_sessions.specs.declared.sessions.Session.{Session}
 use Rattle.hippo_engine_world.specs.Holding.{world_of}

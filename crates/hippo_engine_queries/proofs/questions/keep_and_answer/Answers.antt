@@ -1,4 +1,4 @@
--- The entry that is kept is that of the question.
+-- The entry that is stored is that of the question.
 use Rattle.std.proofs.Common.{subst, sym}
 use Rattle.hippo_model.specs.declared.entry.Entry.{Entry}
 use Rattle.hippo_engine_world.specs.Holding.{world_of}

@@ -1,4 +1,4 @@
--- The entry is kept, and the answer is that of before.
+-- The entry is stored, and the answer is as of before it.
 use Rattle.std.proofs.Common.{◌∙◌, refl}
 use Rattle.hippo_engine_queries.proofs.KeptLemmas.{KeepsEntry-ok}
 use Rattle.hippo_engine_queries.proofs.questions.keep_entry.Goals as goal

@@ -1,4 +1,4 @@
--- One more, which watches what it watched.
+-- One more is changed, and keeps its audit.
 use Rattle.std.proofs.Common.{◌∙◌, ◌<◌, length, arith}
 use Rattle.std.specs.Prelude.{IfSome, option_map}
 use Rattle.hippo_engine_world.specs.Auditing.{watched, IsBefore, IsAfter}

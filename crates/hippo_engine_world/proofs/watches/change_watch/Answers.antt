@@ -1,4 +1,4 @@
--- A watch that goes back does so in the one way that asks for it.
+-- A watch is changed back only when `Back` asks for it.
 use Rattle.hippo_engine_world.proofs.watches.change_watch.Goals as goal
 
 pub returns-in-Back-clause-changes : goal.returns-in-Back-clause-changes

@@ -1,4 +1,4 @@
--- The rules in force, over the rows as they are, make the answer.
+-- The rules in force, over the unmasked rows, give the answer.
 use Rattle.hippo_eval_answer.proofs.AnswerLemmas.{rows_by_form-answer}
 use Rattle.hippo_eval_answer.proofs.answers.inquiry_of.Goals as goal
 

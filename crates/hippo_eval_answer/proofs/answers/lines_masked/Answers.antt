@@ -1,4 +1,4 @@
--- What is asked from a standpoint makes the answer.
+-- The masked query over its rows gives the answer.
 use Rattle.std.proofs.Common.{List, subst}
 use Rattle.hippo_model.specs.Terms.{ShownRow}
 use Rattle.hippo_eval.specs.declared.answers.TheConstants.{ANSWER_LIMIT}

@@ -1,4 +1,4 @@
--- The text so far and then the items that are left are all.
+-- The text so far and the cells of the remaining items give the whole.
 use Rattle.std.proofs.Common.{◌≡◌, ◌++◌, flat_map, drop}
 use Rattle.hippo_model.specs.Masking.{masked_cell}
 use Rattle.hippo_report.specs.Cells.{cell_text, comma}

@@ -1,4 +1,4 @@
--- Nothing stands before the lines.
+-- The text is empty before the lines.
 use Rattle.std.proofs.Common.{◌++◌, flat_map, refl, ap, ◌∙◌}
 use Rattle.hippo_values.specs.Texts.{Txt}
 use Rattle.hippo_report.specs.Cells.{answer_line}

@@ -1,4 +1,4 @@
--- The visit begins with no line.
+-- The visit begins without lines.
 use Rattle.std.proofs.Common.{List, [], refl, subst}
 use Rattle.hippo_model.specs.Terms.{ShownRow}
 use Rattle.hippo_eval.specs.declared.answers.TheConstants.{ANSWER_LIMIT}

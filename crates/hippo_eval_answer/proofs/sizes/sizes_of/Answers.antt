@@ -1,4 +1,4 @@
--- One size more.
+-- One more size.
 use Rattle.std.proofs.Common.{[], ◌∷◌, ◌++◌, ◌∙◌, ap, sym, length, map}
 use Rattle.std.proofs.lemmas.List.{map-append}
 use Rattle.hippo_tables_keyed.specs.RowSets.{KeyedRows}

@@ -1,4 +1,4 @@
--- One column more.
+-- One more column.
 use Rattle.std.proofs.Common.{◌≡◌, ◌∙◌, sym, ℕ, take}
 use Rattle.std.proofs.lemmas.List.{map_more}
 use Rattle.hippo_policy.specs.Books.{cell_keys}

@@ -1,4 +1,4 @@
--- The words are parted by the number, and the last one before the place is taken.
+-- The values are partitioned by the number, and the last one before the partition point is taken.
 use Rattle.std.proofs.Common.{rules, ◌∙◌, sym, ap, option_map, nat_le}
 use Rattle.std.proofs.lemmas.List.Sorted.{IsPartitionPoint-from_clause, IsPartitionedBy-leb}
 use Rattle.hippo_policy.specs.Words.{Said}

@@ -1,4 +1,4 @@
--- What stands for the columns so far.
+-- The masked expressions of the columns so far.
 use Rattle.std.proofs.Common.{◌≡◌, take, map}
 use Rattle.hippo_rewrite.specs.Rewriting.{masked_column}
 use Rattle.hippo_rewrite.proofs.expressions.mask_columns.Given as goal

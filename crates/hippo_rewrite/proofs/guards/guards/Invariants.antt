@@ -1,4 +1,4 @@
--- The guards so far, and those of the tables that are left.
+-- The guards so far, and those of the remaining tables.
 use Rattle.std.proofs.Common.{◌≡◌, ◌++◌, drop}
 use Rattle.hippo_rewrite.specs.Rewriting.{guards_from}
 use Rattle.hippo_rewrite.proofs.guards.guards.Given as goal

@@ -1,4 +1,5 @@
--- What a candidate shares serves first, where all tables are there; what is none shares nothing.
+-- A candidate shares the first tuple that serves, if all tables exist; a question that is no
+-- candidate shares nothing.
 use Rattle.std.proofs.Common.{◌∙◌, sym}
 use Rattle.std.proofs.lemmas.Result.{IfOk-weaker}
 use Rattle.hippo_watch.specs.Alarms.{ServesNow, SharesNext}

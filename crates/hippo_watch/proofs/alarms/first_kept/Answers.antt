@@ -1,4 +1,4 @@
--- What is there is that of the history, and the same on both sides.
+-- The rules, rows and choices are those of the history, and the rows are the same on both sides.
 use Rattle.std.proofs.Common.{List, Option}
 use Rattle.std.proofs.lemmas.Result.{IfOk-weaker}
 use Rattle.hippo_model.specs.declared.audit.SharedRow.{SharedRow}

@@ -1,4 +1,4 @@
--- Whether the tables that are left are there.
+-- Whether the remaining tables exist.
 use Rattle.std.proofs.Common.{◌≡◌, drop}
 use Rattle.hippo_model.specs.Terms.{History}
 use Rattle.hippo_tables.specs.Standing.{TablesStandFor, are_created}

@@ -1,4 +1,4 @@
--- The counts go back.
+-- The counts are reverted.
 use Rattle.hippo_watch.proofs.WatchLemmas.{goes_back_so}
 use Rattle.hippo_watch.proofs.watches.take_back.Goals as goal
 

@@ -1,4 +1,4 @@
--- The counts follow.
+-- The counts follow the act.
 use Rattle.hippo_watch.proofs.WatchLemmas.{follows_so}
 use Rattle.hippo_watch.proofs.watches.take_in.Goals as goal
 

@@ -1,4 +1,4 @@
--- One row more.
+-- One more row.
 use Rattle.std.proofs.Common.{◌≡◌, ◌∙◌, ◌+◌, Some, ap, arith, length, drop, ℕ}
 use Rattle.std.specs.Prelude.{filter}
 use Rattle.hippo_model.specs.Hits.{own_conditions, is_hit}

@@ -1,4 +1,4 @@
--- The rows so far, and those that are left.
+-- The rows so far, and the remaining ones.
 use Rattle.std.proofs.Common.{◌≡◌, ◌≤◌, ◌+◌, length, drop}
 use Rattle.std.specs.Prelude.{filter}
 use Rattle.hippo_model.specs.Hits.{own_conditions, is_hit}

@@ -1,4 +1,4 @@
--- Those so far.
+-- The counts so far.
 use Rattle.std.proofs.Common.{◌≡◌, length}
 use Rattle.hippo_watch_counts.proofs.Counting.{SoFar}
 use Rattle.hippo_watch_counts.proofs.counts.counts_of.Given as goal

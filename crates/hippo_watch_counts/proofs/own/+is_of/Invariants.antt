@@ -1,4 +1,4 @@
--- Whether the parts that are left have columns of the table alone.
+-- Whether the remaining parts have only columns of the table.
 use Rattle.std.proofs.Common.{◌≡◌, drop}
 use Rattle.std.specs.List.{list_all}
 use Rattle.hippo_model.specs.Columns.{condition_columns}

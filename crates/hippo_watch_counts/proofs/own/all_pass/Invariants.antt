@@ -1,4 +1,4 @@
--- Whether the conditions that are left let the row pass.
+-- Whether the remaining conditions let the row pass.
 use Rattle.std.proofs.Common.{◌≡◌, drop, not, ◌||◌}
 use Rattle.std.specs.List.{list_all}
 use Rattle.hippo_model.specs.Columns.{condition_columns}

@@ -1,4 +1,4 @@
--- Whether the operands that are left are of the table.
+-- Whether the remaining operands are of the table.
 use Rattle.std.proofs.Common.{◌≡◌, drop}
 use Rattle.std.specs.List.{list_all}
 use Rattle.hippo_model.specs.Columns.{columns_in}

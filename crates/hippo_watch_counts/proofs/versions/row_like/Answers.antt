@@ -1,4 +1,4 @@
--- The row like one, among the table's rows.
+-- The row with the same key as this one, among the table's rows.
 use Rattle.std.proofs.Common.{◌∙◌}
 use Rattle.hippo_watch_counts.proofs.Counting.{like_there}
 use Rattle.hippo_watch_counts.proofs.versions.row_like.Goals as goal

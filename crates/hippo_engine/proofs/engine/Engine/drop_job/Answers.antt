@@ -1,4 +1,4 @@
--- The job is given up.
+-- The job is dropped.
 use Rattle.std.proofs.Common.{refl}
 use Rattle.hippo_engine.specs.declared.engine.Engine.{Engine}
 use Rattle.hippo_engine.proofs.JobLemmas.{AddsNothing-dropped, job_held}

@@ -1,4 +1,4 @@
--- None stands there any more.
+-- The watch is ended.
 use Rattle.std.proofs.Common.{refl, rules}
 use Rattle.hippo_engine.proofs.WatchLemmas.{ends_watch}
 use Rattle.hippo_engine.proofs.engine.Engine.end_watch.Goals as goal

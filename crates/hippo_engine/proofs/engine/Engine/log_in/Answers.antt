@@ -1,4 +1,4 @@
--- The session is open, or memory was short.
+-- The session is open, or memory ran out.
 use Rattle.std.proofs.Common.{refl}
 use Rattle.hippo_engine_checks.specs.Deeds as deeds
 use Rattle.hippo_engine.specs.declared.engine.Engine.{Engine}

@@ -1,4 +1,4 @@
--- An entry is kept, or memory was short, or the keeper failed.
+-- The entry is kept, or memory ran out, or the keeper failed.
 use Rattle.std.proofs.Common.{refl, ◌∙◌}
 use Rattle.hippo_engine.proofs.CarryingLemmas.{IsBacked-of}
 use Rattle.hippo_engine.proofs.ChangeLemmas.{recorded, unrecorded, broken_change, told_short}

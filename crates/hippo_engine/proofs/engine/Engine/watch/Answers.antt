@@ -1,4 +1,4 @@
--- It stands at a number, or memory was short for it.
+-- The watch is set at a number, or memory ran out.
 use Rattle.std.proofs.Common.{refl}
 use Rattle.hippo_engine.proofs.WatchLemmas.{sets_watch, watch_short}
 use Rattle.hippo_engine.proofs.engine.Engine.watch.Goals as goal

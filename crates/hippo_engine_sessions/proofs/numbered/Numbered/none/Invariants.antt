@@ -1,4 +1,4 @@
--- So many hold nothing as there were turns.
+-- There are as many empty slots as there were turns.
 use Rattle.std.proofs.Common.{◌≡◌, None, replicate}
 use Rattle.hippo_engine_sessions.proofs.numbered.Numbered.none.Given as goal
 

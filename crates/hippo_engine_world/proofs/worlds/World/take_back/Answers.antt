@@ -1,4 +1,4 @@
--- What each watch does, all do; and nothing else changes.
+-- All watches change as each one does; nothing else changes.
 use Rattle.std.proofs.Common.{ap, List}
 use Rattle.std.specs.Prelude.{Option}
 use Rattle.hippo_model.specs.declared.audit.Audit.{Audit}

@@ -1,4 +1,4 @@
--- The number that is free is seen to be.
+-- The free number is free in the definitions, too.
 use Rattle.std.proofs.Common.{◌∙◌, sym}
 use Rattle.hippo_engine_world.specs.Auditing.{watched}
 use Rattle.hippo_engine_sessions.proofs.HeldLemmas.{seen-free}

@@ -1,4 +1,4 @@
--- What is held there is seen there.
+-- A job is held exactly when the definitions have one.
 use Rattle.std.proofs.Common.{◌∙◌, sym}
 use Rattle.hippo_audit_job.specs.Jobs.{open_audit}
 use Rattle.hippo_engine_sessions.proofs.HeldLemmas.{some_seen, seen-some}

@@ -1,4 +1,4 @@
--- What is held there is seen there.
+-- A watch is held exactly when the definitions have one.
 use Rattle.std.proofs.Common.{◌∙◌, sym}
 use Rattle.hippo_engine_world.specs.Auditing.{watched}
 use Rattle.hippo_engine_sessions.proofs.HeldLemmas.{some_seen, seen-some}

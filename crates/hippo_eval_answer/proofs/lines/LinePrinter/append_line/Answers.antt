@@ -1,4 +1,4 @@
--- The pieces of the line, one behind the other.
+-- The pieces of the line, concatenated.
 use Rattle.std.proofs.Common.{arith}
 use Rattle.std.proofs.lemmas.Result.{on_ok_weaker}
 use Rattle.std.proofs.lemmas.Str.{encode_ascii}

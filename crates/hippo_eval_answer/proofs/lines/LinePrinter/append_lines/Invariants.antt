@@ -1,4 +1,4 @@
--- The text so far and then the rows that are left are all.
+-- The text so far and the lines of the remaining rows give the whole.
 use Rattle.std.proofs.Common.{◌≡◌, ◌++◌, flat_map, drop}
 use Rattle.hippo_report.specs.Cells.{answer_line}
 use Rattle.hippo_eval_answer.proofs.lines.LinePrinter.append_lines.Given as goal

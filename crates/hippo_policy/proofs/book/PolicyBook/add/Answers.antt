@@ -1,4 +1,4 @@
--- The acts that say something of what a book keeps, and those that say nothing.
+-- The acts that set a value that a book keeps, and those that set none.
 use Rattle.std.proofs.Common.{refl}
 use Rattle.std.proofs.lemmas.Result.{on_ok_weaker}
 use Rattle.hippo_policy.proofs.BookLemmas.{leaves_book-rest, BookAdds-silent, BookAdds-authorize, BookAdds-deauthorize, BookAdds-allow, BookAdds-revoke}

@@ -1,4 +1,4 @@
--- The patient and item have one word more.
+-- The patient and item have one more value.
 use Rattle.hippo_policy.proofs.BookLemmas.{BookAdds-choice, as_before-choices, on_err}
 use Rattle.hippo_policy.proofs.book.PolicyBook.add_choice.Goals as goal
 

@@ -1,4 +1,4 @@
--- The item has one word more.
+-- The item has one more value.
 use Rattle.hippo_policy.proofs.BookLemmas.{BookAdds-item}
 use Rattle.hippo_policy.proofs.book.PolicyBook.add_item.Goals as goal
 

@@ -1,4 +1,4 @@
--- The cells have one word more.
+-- The cells have one more rule.
 use Rattle.std.proofs.Common.{refl}
 use Rattle.hippo_policy.proofs.BookLemmas.{as_before-rules, on_err}
 use Rattle.hippo_policy.proofs.book.PolicyBook.add_rule.Goals as goal

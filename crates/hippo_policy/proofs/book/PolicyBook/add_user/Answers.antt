@@ -1,4 +1,4 @@
--- The user has one word more.
+-- The user has one more value.
 use Rattle.std.proofs.Common.{refl}
 use Rattle.hippo_policy.proofs.BookLemmas.{as_before-users, on_err}
 use Rattle.hippo_policy.proofs.book.PolicyBook.add_user.Goals as goal

@@ -1,4 +1,4 @@
--- What was said last of the user.
+-- The last value of the user.
 use Rattle.std.proofs.Common.{◌∙◌, ap}
 use Rattle.hippo_model.specs.declared.policy.Authorization.TheVariants.{No}
 use Rattle.std.proofs.Common.{unwrap_or}

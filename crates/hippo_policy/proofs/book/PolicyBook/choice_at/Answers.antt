@@ -1,4 +1,4 @@
--- What was said last of the patient and the item.
+-- The last choice of the patient on the item.
 use Rattle.std.proofs.Common.{w64}
 use Rattle.std.proofs.lemmas.Int.{to_z-of_z}
 use Rattle.hippo_policy.proofs.book.PolicyBook.choice_at.Goals as goal

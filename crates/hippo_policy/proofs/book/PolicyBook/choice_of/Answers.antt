@@ -1,4 +1,4 @@
--- What was said last of the patient and the item.
+-- The last choice of the patient on the item.
 use Rattle.std.proofs.Common.{◌∙◌}
 use Rattle.hippo_policy.specs.declared.keys.ChoiceKey.{ChoiceKey}
 use Rattle.hippo_policy.specs.Books.{choice_word}

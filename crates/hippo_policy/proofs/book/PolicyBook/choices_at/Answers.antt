@@ -1,4 +1,4 @@
--- What is kept of choices is what the history says.
+-- The choices that are kept are those of the history.
 use Rattle.std.proofs.Common.{◌∙◌, ap}
 use Rattle.hippo_policy.specs.declared.keys.ChoiceKey.{ChoiceKey}
 use Rattle.hippo_policy.specs.Words.{latest}

@@ -1,4 +1,4 @@
--- What was said last of the item.
+-- The last value of the item.
 use Rattle.std.proofs.Common.{◌∙◌}
 use Rattle.hippo_policy.specs.Books.{item_word}
 use Rattle.hippo_policy.proofs.book.PolicyBook.item_at.Goals as goal

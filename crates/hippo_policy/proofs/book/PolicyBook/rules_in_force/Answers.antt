@@ -1,4 +1,4 @@
--- One table more.
+-- One more table.
 use Rattle.std.proofs.Common.{sym, take}
 use Rattle.std.proofs.lemmas.Option.{slice_get_within, get_or_from_slice_get}
 use Rattle.hippo_model.specs.declared.schema.Schema.{Schema}

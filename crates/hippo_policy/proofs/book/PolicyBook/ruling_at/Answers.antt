@@ -1,4 +1,4 @@
--- What was said last of the cell.
+-- The last rule of the cell.
 use Rattle.hippo_policy.specs.Books.{rule_word}
 use Rattle.hippo_policy.proofs.book.PolicyBook.ruling_at.Goals as goal
 

@@ -1,4 +1,4 @@
--- One column more, and all of them.
+-- One more column, and all of them.
 use Rattle.std.proofs.Common.{◌≡◌, ◌∙◌, refl, ap, arith, ℕ, length, take, option_copied}
 use Rattle.hippo_model.specs.declared.policy.Gate.{Gate}
 use Rattle.hippo_model.specs.Rules.{rule_at}

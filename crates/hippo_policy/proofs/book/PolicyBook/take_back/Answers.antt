@@ -1,4 +1,4 @@
--- What the last entry said is taken back.
+-- The values that the last entry set are removed.
 use Rattle.std.proofs.Common.{sym, ◌∙◌}
 use Rattle.hippo_policy.proofs.TakeBackLemmas.{before-nothing, before-cells, before-choice, before-user, before-item}
 use Rattle.hippo_policy.proofs.book.PolicyBook.take_back.Goals as goal

@@ -1,4 +1,4 @@
--- The last word among what is kept.
+-- The last choice among those that are kept.
 use Rattle.std.proofs.Common.{w64}
 use Rattle.std.proofs.lemmas.Int.{to_z-of_z}
 use Rattle.hippo_policy.proofs.choices.ChoicesAtChoiceView.choice.Goals as goal

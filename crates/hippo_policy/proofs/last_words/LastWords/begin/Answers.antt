@@ -1,4 +1,4 @@
--- What is said of a key is all that was.
+-- The new value is the only one of the key.
 use Rattle.std.proofs.Common.{[], ◌∷◌}
 use Rattle.std.specs.HashMap.{get}
 use Rattle.hippo_policy.specs.declared.sayings.Sayings.{Sayings}

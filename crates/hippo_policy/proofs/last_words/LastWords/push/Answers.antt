@@ -1,4 +1,4 @@
--- What is said of a key is added to what was.
+-- The new value is appended to those of the key.
 use Rattle.std.proofs.Common.{◌∙◌, ◌++◌, [], ◌∷◌}
 use Rattle.hippo_policy.specs.declared.sayings.Sayings.{Sayings}
 use Rattle.hippo_policy.specs.Words.{kept_words, no_earlier}

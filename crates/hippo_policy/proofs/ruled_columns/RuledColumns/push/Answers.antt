@@ -1,4 +1,4 @@
--- What is said of a column is added to what was.
+-- The new rule is appended to those of the column.
 use Rattle.std.proofs.Common.{rules, ◌∙◌, refl, length, ◌++◌, [], ◌∷◌}
 use Rattle.std.proofs.lemmas.Option.{slice_get_read}
 use Rattle.hippo_policy.specs.Words.{no_earlier}

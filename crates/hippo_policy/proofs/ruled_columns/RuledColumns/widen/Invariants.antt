@@ -1,4 +1,4 @@
--- What was said stays.
+-- The rules stay the same.
 use Rattle.std.proofs.Common.{◌≡◌}
 use Rattle.hippo_model.specs.Terms.{Place}
 use Rattle.hippo_policy.specs.Cells.{column_words}

@@ -1,4 +1,4 @@
--- The last word among what was said is that of the entries.
+-- The last rule that is kept is that of the entries.
 use Rattle.std.proofs.Common.{◌∙◌, ap}
 use Rattle.hippo_policy.specs.Words.{latest}
 use Rattle.hippo_policy.proofs.SaidLemmas.{latest-numbered_words}

@@ -1,4 +1,4 @@
--- What is said of a column is all that was said of its table.
+-- The new rule is the only one of the table.
 use Rattle.std.proofs.Common.{[], nat_eq}
 use Rattle.std.specs.HashMap.{get}
 use Rattle.hippo_model.specs.Rules.{Rule}

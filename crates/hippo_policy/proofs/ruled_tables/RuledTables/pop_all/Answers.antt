@@ -1,4 +1,4 @@
--- One cell more.
+-- One more cell.
 use Rattle.std.proofs.Common.{◌∙◌, sym, refl, ap, ◌-◌, length, take}
 use Rattle.std.proofs.lemmas.List.{take_all}
 use Rattle.hippo_policy.specs.Cells.{cell_words}

@@ -1,4 +1,4 @@
--- What was said last of the cells so far is taken back.
+-- The last rules of the cells so far are removed.
 use Rattle.std.proofs.Common.{◌≡◌, take}
 use Rattle.std.specs.List.{list_any}
 use Rattle.hippo_policy.specs.declared.keys.CellKey.{CellKey}

@@ -1,4 +1,4 @@
--- One cell more.
+-- One more cell.
 use Rattle.std.proofs.Common.{◌∙◌, sym, refl, ap, ◌++◌, [], ◌∷◌}
 use Rattle.std.proofs.lemmas.List.{take_all}
 use Rattle.hippo_model.specs.Rules.{Rule}

@@ -1,4 +1,4 @@
--- What the entry says is added for the cells so far.
+-- The entry's rule is appended for the cells so far.
 use Rattle.std.proofs.Common.{◌≡◌, take}
 use Rattle.std.specs.List.{list_any}
 use Rattle.hippo_policy.specs.declared.keys.CellKey.{CellKey}

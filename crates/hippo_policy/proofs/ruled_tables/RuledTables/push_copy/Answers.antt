@@ -1,4 +1,4 @@
--- What is said of a cell is added to what was.
+-- The new rule is appended to those of the cell.
 use Rattle.std.proofs.Common.{◌∙◌, ◌++◌, [], ◌∷◌, nat_eq}
 use Rattle.hippo_model.specs.Rules.{Rule}
 use Rattle.hippo_policy.specs.declared.ruled_columns.RuledColumns.{RuledColumns}

@@ -1,4 +1,4 @@
--- The numbers never fall.
+-- The numbers never decrease.
 use Rattle.std.proofs.Common.{◌≡◌, ◌∙◌, ap, max}
 use Rattle.std.specs.Prelude.{is_ok}
 use Rattle.hippo_policy.specs.Words.{latest_number}

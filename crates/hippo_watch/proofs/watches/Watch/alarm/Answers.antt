@@ -1,4 +1,4 @@
--- Where a table has no hit, nothing is shared; where each has one, what the audit shares.
+-- If a table has no hits, nothing is shared; otherwise, the audit's shared tuple.
 use Rattle.std.proofs.Common.{subst}
 use Rattle.std.proofs.lemmas.Result.{IfOk-weaker}
 use Rattle.hippo_model.specs.declared.audit.Audit.{Audit}
