@@ -272,7 +272,7 @@ impl LineReader {
         }
     }
 
-    // Reads until a whole line waits, the input has ended, or a too long line was skipped.
+    // Reads until a whole line waits, the input has ended, or an overlong line was skipped.
     fn find_line<S: Source>(&mut self, source: &mut S) -> Result<Found, LineFault>
         requires going { IsGoing self.old }
         ensures found { IfOk result (FindsNext self.old self.new (S.left source.old)

@@ -20,7 +20,8 @@ is_question act = false
 abbrev pub question_fits : Meaning → History → Act → Bool
 question_fits meaning history act = is_question act && is_acceptable meaning history act
 
--- whether an entry may be returned when a table's versions with numbers above `after` are read; `earlier` are the versions before it
+-- whether an entry may be returned when a table's versions with numbers above `after` are read; the
+-- versions before it are `earlier`
 abbrev pub is_wanted_version : Schema → ℕ → History → Entry → Bool
 is_wanted_version schema after earlier entry =
     nat_lt after entry.seq && version_fits schema earlier entry.act

@@ -1,5 +1,5 @@
--- Which entries can be stored: those whose parts fit the stored form, that is, the types of its
--- numbers, days and names, and its counts.
+-- Which entries can be stored: those whose parts fit the stored form. Numbers, days and names are
+-- within the ranges of their types, and lists within the counts of the stored form.
 use Rattle.std.specs.Prelude.{ℕ, Bool, true, ◌&&◌, List, Option, length, nat_lt, nat_le, bytes_eq}
 use Rattle.std.specs.List.{list_all}
 use Rattle.std.specs.Option.{option_map_or}

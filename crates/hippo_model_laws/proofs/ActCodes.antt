@@ -99,7 +99,7 @@ a_question = record { once = λ x y r s f g e. text_again x y r s (question_with
 made : {A B : Type 0} {x y : A} {r s : List ℕ} (make : A → B) → (x ≡ y) × (r ≡ s) → (make x ≡ make y) × (r ≡ s)
 made make both = (ap make both.0, both.1)
 
--- ---- values, columns, and what stands in one byte
+-- ---- values, columns, and parts of one byte
 
 value_again : (x y : Value) (r s : List ℕ) → value_is_keepable x ≡ true → value_is_keepable y ≡ true → value_bytes x ++ r ≡ value_bytes y ++ s → (x ≡ y) × (r ≡ s)
 value_again Null Null r s f g e = (refl, cc)

@@ -167,7 +167,7 @@ keys_of_two_columns_in_key_order = simp truths
 shared_key_of_two_columns : flag_of all_of_ward rooms (audit ward (column 1 ∷ []) (Compare Gt (Column (column 1)) (Literal (Int (pos 0))))) 13 ≡ row_of ward (Text (codes "a") ∷ Int (pos 2) ∷ [])
 shared_key_of_two_columns = simp truths
 
--- how many patients an audit's condition finds, before and after the first one moves
+-- how many patients match an audit's condition, before and after the first one moves
 audit_finds_a_patient : hits clinic (audit patient (column 1 ∷ []) (equals 3 (Int (pos 95120)))) 0 ≡ 1
 audit_finds_a_patient = simp (truths, named_columns, outer_parts_of)
 

@@ -14,7 +14,7 @@ short_text_limit = 22
 abbrev pub name_limit : ℕ
 name_limit = 63
 
--- the most bytes in an input line, before its line feed, and in the text of a question
+-- the most bytes in an input line, before its line feed, and in the text of a query
 abbrev pub line_limit : ℕ
 line_limit = 65536
 

@@ -7,7 +7,7 @@ pub const TEXT_LIMIT: usize = 4096;
 /// The most bytes in a name.
 pub const NAME_LIMIT: usize = 63;
 
-/// The most bytes in an input line, before its line feed, and in the text of a question.
+/// The most bytes in an input line, before its line feed, and in the text of a query.
 pub const LINE_LIMIT: usize = 65_536;
 
 /// The most days after a row's birth for which a rule may show its cells.
