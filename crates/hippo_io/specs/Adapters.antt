@@ -6,6 +6,6 @@ use Rattle.hippo_io.specs.declared.std_stream.StdStream.{StdStream}
 abbrev pub stream_of : {T : Type 0} → StdStream T → T
 stream_of stream = stream.inner
 
--- the number of errors it returned; for a sink, also the writes that wrote nothing
+-- the number of errors that the stream returned; for a sink, writes that wrote nothing count too
 abbrev pub stream_faults : {T : Type 0} → StdStream T → ℕ
 stream_faults stream = stream.faults

@@ -16,7 +16,7 @@ pub trait Source {
     ghost faults: { Self → ℕ };
 
     /// Reads the next bytes into the front of the buffer and returns how many; 0 only at the end or
-    /// if the buffer is empty. The rest of the buffer may hold anything. A failed read takes no
+    /// if the buffer has length 0. The rest of the buffer may hold anything. A failed read takes no
     /// bytes. The fault count rises exactly when the read fails.
     fn read(&mut self, buffer: &mut [u8]) -> Result<usize, Failed>
         ensures count { IfOk result (λ n. n ≤ length buffer.old) }
