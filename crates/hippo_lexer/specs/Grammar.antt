@@ -48,7 +48,7 @@ pub record OpensDay (word remaining blanks text rest : List ℕ) : Type 0 where
   pub date : keyword_of word ≡ Some KDate
   pub quotation : IsQuotedAfter remaining blanks text rest
 
--- no longer sign begins with this one and the next byte
+-- this sign and the next byte do not make a longer sign
 abbrev pub IsLongestSign : List ℕ → List ℕ → Type 0
 IsLongestSign text rest =
     (byte : ℕ) (more : List ℕ) → rest ≡ byte ∷ more → sign_of (text ++ byte ∷ []) ≡ None

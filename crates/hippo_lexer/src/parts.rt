@@ -58,7 +58,7 @@ fn blanks_len(bytes: &[u8]) -> usize
     bytes.iter().take_while(|byte| is_blank(**byte)).count()
 }
 
-// The text once its last run is found.
+// The text made of its front and its last run.
 fn ended(alloc: Global, front: Txt, run: &str) -> Result<CellText, Memory>
     ensures { IfOk result (λ text. text ≡ front ++ run.now) }
 {
