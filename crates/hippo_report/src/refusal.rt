@@ -22,7 +22,7 @@ pub enum Refusal {
     BadDate(usize),
     /// The word of an `at` line is not a moment.
     BadMoment,
-    /// An `at` line would set the clock back from this moment.
+    /// An `at` line would set the clock back. The moment is the clock's.
     MomentBack(Moment),
     /// The session is not open.
     NoSession,
