@@ -1,4 +1,4 @@
--- The field that is written of a value is read back as the value.
+-- The field that is written of a value reads back as the value.
 use Rattle.std.proofs.Common.{◌≡◌, ◌∙◌, ◌==◌, ◌<◌, ◌^◌, ℕ, suc, ℤ, pos, negsuc, List, [], ◌∷◌, true, false, length, Some, refl, ap, arith, rules, int_le}
 use Rattle.std.specs.Fmt.{decimal, signed_decimal}
 use Rattle.std.specs.Char.{is_ascii_digit}
@@ -29,7 +29,7 @@ use Rattle.hippo_csv.specs.RecordLaws.{is_empty_text}
 own : IsNumeralModel (λ ds. list_all is_ascii_digit ds ≡ true) (digits_value 10)
 own = numerals_by_value (λ ds. list_all is_ascii_digit ds ≡ true) (search rules)
 
--- some digits, as a number without a sign and behind a `-`
+-- one or more digits, as a number without a sign and after a `-`
 digit-signs : (byte : ℕ) → is_ascii_digit byte ≡ true → ((byte == 45) ≡ false) × ((byte == 43) ≡ false)
 digit-signs byte is = (grind (arith, nat_tests), grind (arith, nat_tests))
 
@@ -46,7 +46,7 @@ negative-number digits some are =
     let filled : (length digits == 0) ≡ false = grind (arith, nat_tests) in
     rw (filled, are) refl
 
--- the text of a number is one that a field of INTEGER may have, with the number's value
+-- the text of a number is a valid INTEGER field with the number's value
 pub number-told : (number : ℤ) → is_signed_number number ≡ true
     → (is_integer_text (signed_decimal number) ≡ true) × (signed_digits_value 10 (signed_decimal number) ≡ number) × ((length (signed_decimal number) == 0) ≡ false)
 number-told (pos n) range =

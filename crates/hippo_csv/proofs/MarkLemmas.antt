@@ -1,4 +1,4 @@
--- A record's text begins with no byte order mark where its first field does not.
+-- A record's text begins with no byte order mark if its first field does not.
 use Rattle.std.proofs.Common.{◌≡◌, ◌==◌, ◌<◌, ℕ, suc, ℤ, pos, negsuc, List, [], ◌∷◌, ◌++◌, true, false, length, refl, append_assoc, inl, inr, arith}
 use Rattle.std.specs.List.{list_any}
 use Rattle.std.proofs.lemmas.List.{append-nil}
@@ -23,7 +23,7 @@ use Rattle.hippo_csv.specs.Records.{cell_field}
 use Rattle.hippo_csv.specs.RecordLaws.{begins_with_mark, first_has_mark}
 use Rattle.hippo_csv.proofs.FieldTheorem.{day-within}
 
--- another first byte, or second or third, is no mark
+-- other first, second or third bytes are not a mark
 other-first : (a : ℕ) (rest : List ℕ) → (a == 239) ≡ false → strip_bom (a ∷ rest) ≡ a ∷ rest
 unfolding strip_bom
 other-first a [] other = refl
@@ -39,14 +39,14 @@ other-third : (a b c : ℕ) (rest : List ℕ) → is_bom a b c ≡ false → str
 unfolding strip_bom
 other-third a b c rest other = rw other refl
 
--- no mark is made of a short field and a byte that no mark has
+-- a short field, followed by a byte that no mark has, is not a mark
 no-bom-third : (a b c : ℕ) → (c == 191) ≡ false → is_bom a b c ≡ false
 no-bom-third a b c other = elim (cases_Bool (a == 239)) [
   | inl is ↦ elim (cases_Bool (b == 187)) [ inl too ↦ rw (is, too, other) refl | inr not ↦ rw (is, not) refl ]
   | inr not ↦ rw not refl
 ]
 
--- a field that begins with no mark, and a byte behind it that no mark has
+-- a field that does not begin with a mark, followed by a byte that no mark has
 remaining-field : (field rest : List ℕ) (next : ℕ) → (next == 239) ≡ false → (next == 187) ≡ false → (next == 191) ≡ false
     → begins_with_mark field ≡ false → strip_bom (field ++ next ∷ rest) ≡ field ++ next ∷ rest
 remaining-field [] rest next first second third none = other-first next rest first
@@ -57,7 +57,7 @@ remaining-field (a ∷ b ∷ c ∷ more) rest next first second third none = oth
 not-blank : (n : ℕ) → (suc n == 0) ≡ false
 not-blank n = ne_eqb (suc n) 0 (λ z. cc z)
 
--- a record whose first field wants no quotes
+-- a record whose first field needs no quotes
 plain-record : (field : List ℕ) (rest : List (List ℕ)) → list_any (needs_byte default_writer) field ≡ false
     → begins_with_mark field ≡ false → strip_bom (row_text default_writer (field ∷ rest)) ≡ row_text default_writer (field ∷ rest)
 unfolding is_blank fields_text
@@ -68,7 +68,7 @@ plain-record field (next ∷ more) plain none =
     let text = append_assoc field (44 ∷ field_text default_writer next ++ fields_text default_writer more) (10 ∷ []) in
     rw (plain, text) (remaining-field field _ 44 refl refl refl none)
 
--- what is written of fields of which the first begins with no mark has no mark in front
+-- a record whose first field does not begin with a mark has no mark at its front
 pub unmarked-record : (field : List ℕ) (rest : List (List ℕ)) → begins_with_mark field ≡ false
     → strip_bom (row_text default_writer (field ∷ rest)) ≡ row_text default_writer (field ∷ rest)
 unmarked-record field rest none = elim (cases_Bool (list_any (needs_byte default_writer) field)) [
@@ -76,7 +76,7 @@ unmarked-record field rest none = elim (cases_Bool (list_any (needs_byte default
   | inr plain ↦ plain-record field rest plain none
 ]
 
--- no text in ASCII begins with a mark, nor does one with another first byte
+-- an ASCII text does not begin with a mark, nor does one with another first byte
 first-unmarked : (a : ℕ) (rest : List ℕ) → (a == 239) ≡ false → begins_with_mark (a ∷ rest) ≡ false
 first-unmarked a [] other = refl
 first-unmarked a (b ∷ []) other = refl
@@ -99,7 +99,7 @@ day-unmarked day range =
     let dated = date_text-of_day (day_text day) day (range, refl) in
     ascii-unmarked (day_text day) (IsAscii-date_text (day_text day) _ _ _ dated.0 dated.1)
 
--- the first field begins with no mark where the first value is no text that does
+-- the first field does not begin with a mark unless the first value is a text that does
 pub value-unmarked : (value : Value) (row : Row) → value_is_keepable value ≡ true → first_has_mark (value ∷ row) ≡ false
     → begins_with_mark (cell_field (Shown value)) ≡ false
 value-unmarked values.Null row keep none = refl

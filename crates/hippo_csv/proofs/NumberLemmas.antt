@@ -10,13 +10,13 @@ use Rattle.hippo_values.specs.Moments.{is_signed_number}
 use Rattle.hippo_lexer.specs.Cutting.{number_of, IsNumeral}
 use Rattle.hippo_csv.specs.Loading.{is_signed_numeral}
 
--- some digits are digits, at least one
+-- one or more digits are digits, and at least one
 digits-some : (digits : List ℕ) → (not (length digits == 0) && list_all is_ascii_digit digits) ≡ true
     → (0 < length digits) × (list_all is_ascii_digit digits ≡ true)
 digits-some [] are = absurd cc
 digits-some (digit ∷ digits) are = (omega arith, (and_parts _ _ are).1)
 
--- a digit is no sign
+-- a digit is not a sign
 digit-no_plus : (byte : ℕ) → is_ascii_digit byte ≡ true → (byte == 43) ≡ false
 digit-no_plus byte is = grind (arith, nat_tests)
 
@@ -31,7 +31,7 @@ numeral (first ∷ rest) is = elim (cases_Bool (first == 45)) [
       rw other (omega arith, digits.1)
 ]
 
--- the number that the cut makes of digits is their value, where it fits
+-- the number that the code reads from digits is their value, if it fits
 pub number-of_numeral : (text : List ℕ) → is_signed_numeral text ≡ true
     → number_of text ≡ then_some (is_signed_number (signed_digits_value 10 text)) (signed_digits_value 10 text)
 unfolding number_of

@@ -1,4 +1,4 @@
--- What the definitions make of some records and fields.
+-- The definitions, computed on some records and fields.
 use Rattle.std.proofs.Common.{◌≡◌, ◌∷◌, ◌++◌, [], true, false, Some, None, Ok, Err, codes, decimal, refl, pos, negsuc}
 use Rattle.csv.proofs.OnLiterals.{csv_on_literals}
 use Rattle.csv.specs.Writing.{escaped, fields_text, is_blank}

@@ -1,4 +1,4 @@
--- What is written of a row is read back as the row.
+-- What is written of a row reads back as the row.
 use Rattle.std.proofs.Common.{◌≡◌, ◌∙◌, ◌==◌, ℕ, zero, suc, List, [], ◌∷◌, true, false, length, map, Some, Ok, refl, ap, sym, arith}
 use Rattle.std.specs.Cmp.Lexicographic.{pointwise, as_long}
 use Rattle.std.specs.List.{list_all, list_any, zip}
@@ -22,7 +22,7 @@ use Rattle.hippo_csv.proofs.ValueLemmas.{all-there}
 use Rattle.hippo_csv.proofs.FieldTheorem.{value-told}
 use Rattle.hippo_csv.proofs.MarkLemmas.{unmarked-record, value-unmarked}
 
--- a record that was written is the only one of its text
+-- a record that was written is the only one in its text
 pub written-record : (fields : List (List ℕ)) → only_member (records default_config (row_text default_writer fields)) ≡ Some (read_back fields)
 unfolding records_from next_record
 written-record fields =

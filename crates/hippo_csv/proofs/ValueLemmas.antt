@@ -1,4 +1,4 @@
--- Values, each of which is there or not.
+-- Values, some of which may be missing.
 use Rattle.std.proofs.Common.{◌≡◌, ◌∙◌, ℕ, zero, suc, ◌+◌, ◌<◌, ◌≤◌, true, false, List, [], ◌∷◌, ◌++◌, map, length, take, drop, Option, Some, None, Result, Ok, Err, refl, sym, ap, arith, filter_map, slice_get, get_or, nat_lt, ok_or}
 use Rattle.std.specs.Prelude.{is_none}
 use Rattle.std.specs.List.{position_or_len, zip}
@@ -13,7 +13,7 @@ use Rattle.hippo_csv.specs.declared.faults.CsvFault.TheVariants as faults
 use Rattle.hippo_csv.specs.Records.{field_value}
 use Rattle.hippo_csv.specs.Loading.{GivesValues, all_values}
 
--- behind values that are there stands the first that is not
+-- after values that are present comes the first missing one
 missing-remaining : (row : Row) (rest : List (Option Value)) → position_or_len is_none (map Some row ++ None ∷ rest) ≡ length row
 missing-remaining [] rest = refl
 missing-remaining (value ∷ row) rest = rw (missing-remaining row rest) (omega arith)
@@ -26,19 +26,19 @@ kept : (row : Row) → filter_map (λ value. value) (map Some row) ≡ row
 kept [] = refl
 kept (value ∷ row) = ap (λ rest. value ∷ rest) (kept row)
 
--- where each value is there
+-- if each value is present
 pub all-there : (values : List (Option Value)) (row : Row) → values ≡ map Some row → all_values values ≡ Ok row
 all-there values row are =
     let none : nat_lt (length row) (length (map Some row)) ≡ false = rw (length-map row Some) (grind (arith, nat_tests)) in
     rw (are, missing-never row, none, kept row) refl
 
--- where one is not, and each before it is
+-- if one is missing, and each before it is present
 pub one-missing : (row : Row) (rest : List (Option Value)) → all_values (map Some row ++ None ∷ rest) ≡ Err (faults.Field (length row))
 one-missing row rest =
     let within : nat_lt (length row) (length (map Some row ++ None ∷ rest)) ≡ true = rw (length-append (map Some row) (None ∷ rest), length-map row Some) (grind (arith, nat_tests)) in
     rw (missing-remaining row rest, within) refl
 
--- the value of the field at a place
+-- the value of the field at an index
 value-there : (columns : List Column) (fields : List (List ℕ)) (place : ℕ) (column : Column) (field : List ℕ)
     → slice_get columns place ≡ Some column → slice_get fields place ≡ Some field
     → slice_get (map (λ (column, field). field_value column.kind field) (zip columns fields)) place ≡ Some (field_value column.kind field)
@@ -47,7 +47,7 @@ value-there (first ∷ columns) [] place column field there also = absurd cc
 value-there (first ∷ columns) (text ∷ fields) zero column field there also = cc
 value-there (first ∷ columns) (text ∷ fields) (suc place) column field there also = value-there columns fields place column field there also
 
--- the same, where a loop over the fields has read it
+-- the same, after a loop over the fields has read it
 pub value-read : (columns : List Column) (fields : List (List ℕ)) (place : ℕ) (column : Column) (field text : List ℕ)
     → slice_get columns place ≡ Some column → place < length fields → field ≡ get_or fields place field → text ≡ field
     → slice_get (map (λ (column, field). field_value column.kind field) (zip columns fields)) place ≡ Some (field_value column.kind text)
@@ -60,7 +60,7 @@ values-few [] fields = omega arith
 values-few (first ∷ columns) [] = omega arith
 values-few (first ∷ columns) (text ∷ fields) = omega (arith, values-few columns fields)
 
--- the values up to a place, and the one there
+-- the values before an index, and the one at it
 front-more : {A : Type 0} (values : List A) (place : ℕ) (value : A) → slice_get values place ≡ Some value
     → take (place + 1) values ≡ take place values ++ value ∷ []
 front-more values place value there =
@@ -94,7 +94,7 @@ pub none-missing : (columns : List Column) (fields : List (List ℕ)) (row : Row
 none-missing columns fields row place past front =
     all-there _ row (sym (front ∙ take_all place _ (omega (arith, values-few columns fields))))
 
--- a fault of the value at a place is that of the values
+-- the fault of the value at an index is that of the values
 pub fault-so : (value : Option Value) (place : ℕ) (fault : CsvFault) (right : Result Row CsvFault)
     → GivesValues (Err fault) (ok_or value (faults.Field place)) → (value ≡ None → right ≡ Err (faults.Field place)) → GivesValues (Err fault) right
 fault-so None place faults.Count right is so = absurd cc
@@ -106,7 +106,7 @@ fault-so (Some value) place faults.Count right is so = absurd cc
 fault-so (Some value) place (faults.Field at) right is so = absurd cc
 fault-so (Some value) place faults.Memory right is so = tt
 
--- what is found is there
+-- what is found is present
 pub value-so : (value : Option Value) (place : ℕ) (found : Value) → ok_or value (faults.Field place) ≡ Ok found → value ≡ Some found
 value-so None place found is = absurd cc
 value-so (Some value) place found is = cc

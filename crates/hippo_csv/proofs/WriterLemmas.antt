@@ -1,4 +1,4 @@
--- What a writer writes: the text of a record does not depend on whether records may differ in length.
+-- The text of a record does not depend on whether records may differ in length.
 use Rattle.std.proofs.Common.{◌≡◌, ℕ, List, [], ◌∷◌, ◌++◌, ◌∙◌, true, refl, sym, ap}
 use Rattle.std.proofs.lemmas.List.{append-nil}
 use Rattle.csv.specs.Writing.{default_writer, with_flexible, escaped, field_text, fields_text, is_blank, row_text}
@@ -22,7 +22,7 @@ row-flexible [] = refl
 row-flexible (field ∷ []) = rw (escaped-flexible field) refl
 row-flexible (field ∷ next ∷ rest) = rw (escaped-flexible field, escaped-flexible next, fields-flexible rest) refl
 
--- where nothing is left to hand on, before and after, what was handed on is longer by what was written
+-- if nothing is left to write out before and after, the output grows by what was written
 pub handed_on : (old left all new rest row same : List ℕ) → new ++ rest ≡ all → rest ≡ [] → all ≡ (old ++ left) ++ row → left ≡ []
     → row ≡ same → new ≡ old ++ same
 handed_on old left all new rest row same flushed done wrote none alike =

@@ -7,7 +7,7 @@ use Rattle.csv.specs.declared.reader.Reader.{Reader}
 use Rattle.csv.specs.declared.reader.Trim.TheVariants as trims
 use Rattle.csv.specs.declared.writer.Writer.{Writer}
 
--- a reader at the start of a text, which expects no header line and cuts nothing off a field
+-- a reader at the start of a text; it expects no header line and trims no fields
 pub record IsAtStart {R : Type 0} (told : R → Option (List ℕ)) (reader : Reader R) (text : List ℕ)
     : Type 0 where
   pub config : reader_config reader ≡ default_config
@@ -16,7 +16,7 @@ pub record IsAtStart {R : Type 0} (told : R → Option (List ℕ)) (reader : Rea
   pub trim : reader_trim reader ≡ trims.None
   pub ready : Ready reader
 
--- a writer between two records, which may differ in length, with nothing left to hand on
+-- a writer between two records, which may differ in length, with nothing left to write out
 pub record IsBetween {W : Type 0} (writer : Writer W) : Type 0 where
   pub setup : writer_setup writer ≡ with_flexible default_writer true
   pub pending : writer_pending writer ≡ []

@@ -1,4 +1,4 @@
--- Rows as records of CSV (RFC 4180), as they are loaded and extracted.
+-- Rows as CSV records (RFC 4180), for loading and extracting.
 use Rattle.std.specs.Prelude.{ℕ, ◌==◌, ◌++◌, ◌&&◌, Bool, not, List, [], ◌∷◌, map, length, drop, slice_index, Option, Some, None, option_map, codes, decimal, if◌then◌else◌}
 use Rattle.std.specs.List.{list_all, zip}
 use Rattle.std.specs.Char.{is_ascii_digit}
@@ -19,16 +19,16 @@ use Rattle.hippo_model.specs.declared.schema.Schema.{Schema}
 use Rattle.hippo_model.specs.Terms.{ShownRow}
 use Rattle.hippo_report.specs.Cells.{cell_text}
 
--- the one member of a list that has just one
+-- the member of a list that has exactly one
 abbrev pub only_member : {A : Type 0} → List A → Option A
 only_member (member ∷ []) = Some member
 only_member members = None
 
--- the fields of a text that is just one record
+-- the fields of a text that is exactly one record
 abbrev pub record_fields : Txt → Option (List Txt)
 record_fields text = only_member (records default_config (strip_bom text))
 
--- digits, with a `-` before them or not
+-- the text without a `-` at its front
 abbrev pub without_sign : Txt → Txt
 without_sign text = if slice_index text 0 == 45 then drop 1 text else text
 
@@ -37,7 +37,8 @@ is_integer_text text =
     not (length (without_sign text) == 0) && list_all is_ascii_digit (without_sign text)
     && is_signed_number (signed_digits_value 10 text)
 
--- the value of a field for a column of a kind, if it is of the form; an empty field is NULL
+-- the value of a non-empty field for a column of this kind, if the field has the kind's form;
+-- `field_value` reads an empty field as NULL
 abbrev pub filled_value : ColumnKind → Txt → Option Value
 filled_value columns.Integer text =
     then_some (is_integer_text text) (values.Int (signed_digits_value 10 text))
@@ -47,7 +48,7 @@ filled_value columns.Date text = option_map values.Day (day_of text)
 abbrev pub field_value : ColumnKind → Txt → Option Value
 field_value kind text = if length text == 0 then Some values.Null else filled_value kind text
 
--- the values of a record's fields; where a field is not of its form, there is none
+-- the values of a record's fields; a field that does not have its column's form has none
 abbrev pub field_values : Schema → List Txt → List (Option Value)
 field_values schema fields =
     map (λ (column, field). field_value column.kind field) (zip schema.columns fields)

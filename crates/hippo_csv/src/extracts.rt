@@ -1,4 +1,4 @@
-//! Rows of an answer as records.
+//! Writes the rows of an answer as records.
 ghost use Rattle.std.specs.Prelude.{◌≡◌, ◌++◌, ◌∷◌, [], map, flat_map, codes, decimal, OnOk};
 ghost use Rattle.csv.specs.Records.{fields_of};
 ghost use Rattle.csv.specs.Writing.{default_writer, row_text, writer_under};
@@ -68,7 +68,7 @@ fn push_cell(cell: &Cell, text: &mut Txt, fields: &mut StringRecord) -> Result<(
     }
 }
 
-// The record of a row. The text is where a cell is printed.
+// Fills the record with the cells of a row. Cells are printed into `text`.
 fn fill_record(row: &[Cell], text: &mut Txt, fields: &mut StringRecord) -> Result<(), Memory>
     ensures { OnOk result (fields_of fields.new ≡ map cell_field row.now) }
 {
@@ -79,7 +79,7 @@ fn fill_record(row: &[Cell], text: &mut Txt, fields: &mut StringRecord) -> Resul
     Ok(())
 }
 
-// Writes a record behind those before it.
+// Writes a record after those written before.
 fn write_record(writer: &mut Writer<Vec<u8>>, fields: &StringRecord) -> Result<(), Error>
     requires { IsBetween writer.old }
     ensures between { OnOk result (IsBetween writer.new) }
@@ -91,8 +91,8 @@ fn write_record(writer: &mut Writer<Vec<u8>>, fields: &StringRecord) -> Result<(
     Ok(())
 }
 
-// What the rows of an answer are written with: one writer for all of them, whose records may differ
-// in length, the record of the row at hand, and a text where a cell is printed.
+// The state for writing the rows of an answer: one writer for all rows, whose records may differ in
+// length; the record of the current row; and a text into which cells are printed.
 #[derive(Drop)]
 struct Extractor {
     writer: Writer<Vec<u8>>,
@@ -114,7 +114,7 @@ impl Extractor {
     }
 }
 
-// A record that is no text cannot come; it is answered with want of memory.
+// A record is always a text. The other case cannot occur; it returns out of memory.
 fn append_line<const ROOM: usize>(
     session: u8,
     line: &[u8],
@@ -133,7 +133,7 @@ fn append_line<const ROOM: usize>(
     }
 }
 
-// Every fault of the writer is want of memory, since it writes into memory.
+// The writer writes into memory, so each of its faults is out of memory.
 fn append_row<const ROOM: usize>(
     session: u8,
     row: &CellRow,
@@ -179,10 +179,10 @@ fn append_answer<const ROOM: usize>(
     appended
 }
 
-/// Adds the rows of an answer to a session as records by RFC 4180: for each one `N csv `, the
-/// record, and a line feed. A text is its field as it stands, NULL the empty field, every other
-/// value is printed as in SQL, and a denied cell as `DENIED(e)` with the number of its rule. The
-/// text is unchanged where memory is short.
+/// Appends the rows of an answer for a session as RFC 4180 records: for each row `N csv `, the
+/// record, and a line feed. A text is written as it is, and NULL as an empty field. Every other
+/// value is printed as in SQL, and a denied cell as `DENIED(e)` with the number of its rule. When
+/// out of memory the text is unchanged.
 pub fn extract_lines<const ROOM: usize>(
     alloc: Global,
     session: u8,
@@ -199,8 +199,8 @@ pub fn extract_lines<const ROOM: usize>(
     written
 }
 
-/// Adds one row of an answer to a session as a record, as `extract_lines` does. The text is
-/// unchanged where memory is short.
+/// Appends one row of an answer for a session as a record, as `extract_lines` does. When out of
+/// memory the text is unchanged.
 pub fn extract_line<const ROOM: usize>(
     alloc: Global,
     session: u8,

@@ -1,17 +1,17 @@
-//! Why the fields of a record are no row.
+//! Why the fields of a record are not a row.
 ghost use Rattle.std.specs.Prelude.{◌≡◌};
 ghost use Rattle.hippo_csv.specs.declared.faults.CsvFault.TheVariants as faults;
 
 use hippo_values::Memory;
 
-/// Why the fields of a record are no row of a table.
+/// Why the fields of a record are not a row of a table.
 #[derive(Clone, Copy, PartialEq, Eq)]
 pub enum CsvFault {
-    /// There are more or fewer of them than columns.
+    /// The number of fields is not the number of columns.
     Count,
-    /// The field at this place, counted from 0, is the first that is not of its column's form.
+    /// The field at this index, from 0, is the first that does not have its column's form.
     Field(usize),
-    /// Want of memory.
+    /// Out of memory.
     Memory,
 }
 

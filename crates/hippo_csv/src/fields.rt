@@ -1,4 +1,4 @@
-//! The fields of a text that is one record.
+//! Splits a text that is one record into its fields.
 ghost use Rattle.std.specs.Prelude.{◌≡◌, Some, IfOk, option_map};
 ghost use Rattle.csv.specs.Reading.{strip_bom};
 ghost use Rattle.csv.specs.Records.{fields_of};
@@ -12,7 +12,8 @@ use std::alloc::Global;
 /// The fields of a record.
 pub type Fields = Sequence<Txt>;
 
-// A reader of a text whose records may differ in length, so that no fault tells of that.
+// A reader of a text whose records may differ in length, so that differing lengths are never a
+// fault.
 fn reader_of(alloc: Global, text: &[u8]) -> Reader<&[u8]>
     ensures { IsAtStart (λ left. Some left.now) result (strip_bom text.now) }
 {
@@ -22,7 +23,7 @@ fn reader_of(alloc: Global, text: &[u8]) -> Reader<&[u8]>
         .from_reader(alloc, text)
 }
 
-// The one record that a text is.
+// The record in a text that is exactly one record.
 fn only_record(alloc: Global, text: &[u8]) -> Result<Option<StringRecord>, Error>
     ensures { IfOk result (λ found. option_map fields_of found ≡ record_fields text.now) }
 {
@@ -47,10 +48,10 @@ fn copied_fields(alloc: Global, read: &StringRecord) -> Result<Fields, Memory>
     Ok(fields)
 }
 
-/// The fields of the one record that a text is, by RFC 4180 without a header line; none where the
-/// text is not exactly one record. A byte order mark in front is no part of it, and lines that are
-/// empty are no records. Every fault of the reader is want of memory, since it reads from memory a
-/// text whose records may have any length.
+/// The fields of a text that is exactly one RFC 4180 record, without a header line; none if the
+/// text is not exactly one record. A byte order mark at the front is skipped, and empty lines are
+/// not records. The only error is out of memory: the text is in memory and its records may have any
+/// length.
 pub fn read_fields(alloc: Global, text: &str) -> Result<Option<Fields>, Memory>
     ensures { IfOk result (λ fields. fields ≡ record_fields text.now) }
 {

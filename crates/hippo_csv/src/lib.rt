@@ -1,4 +1,4 @@
-//! Rows as records of CSV (RFC 4180), as they are loaded and extracted.
+//! Rows as CSV records (RFC 4180), for loading and extracting.
 #![tactic(auto)]
 
 mod extracts;

@@ -1,4 +1,4 @@
-//! The values of fields.
+//! Reads the values of fields.
 ghost use Rattle.std.specs.Prelude.{◌≡◌, true, length, ok_or, IfOk};
 ghost use Rattle.std.specs.Bool.{then_some};
 ghost use Rattle.std.specs.Char.{is_ascii_digit};
@@ -33,7 +33,7 @@ fn are_digits(bytes: &[u8]) -> bool
     bytes.iter().all(|byte| byte.is_ascii_digit())
 }
 
-// Digits, at least one, with a `-` before them or not.
+// One or more digits, with or without a `-` before them.
 fn is_numeral(bytes: &[u8]) -> bool
     ensures { result ≡ is_signed_numeral bytes.now }
 {
@@ -41,7 +41,7 @@ fn is_numeral(bytes: &[u8]) -> bool
     !digits.is_empty() && are_digits(digits)
 }
 
-// The number that digits write; none where it does not fit.
+// The number that digits write; none if it does not fit.
 fn number_of(text: &str) -> Option<i64>
     requires { is_signed_numeral text.now ≡ true }
     ensures { result
@@ -106,14 +106,14 @@ fn field_value(alloc: Global, kind: ColumnKind, text: &str) -> Result<Option<Val
     }
 }
 
-// The value of the field at a place.
+// The value of the field at an index.
 fn value_at(alloc: Global, kind: ColumnKind, text: &str, place: usize) -> Result<Value, CsvFault>
     ensures { GivesValues result (ok_or (field_value kind text.now) (faults.Field place)) }
 {
     field_value(alloc, kind, text)?.ok_or(CsvFault::Field(place))
 }
 
-// The values of as many fields as the table has columns.
+// The values of the fields, which are as many as the table's columns.
 fn all_values(alloc: Global, schema: &Schema, fields: &Fields) -> Result<Cells, CsvFault>
     requires { length fields.now ≡ length schema.now.columns }
     ensures { GivesValues result (all_values (field_values schema.now fields.now)) }
@@ -126,11 +126,11 @@ fn all_values(alloc: Global, schema: &Schema, fields: &Fields) -> Result<Cells, 
     Ok(row)
 }
 
-/// The row of a table that the fields of a record are. An empty field is NULL; for INTEGER a field
-/// is digits with a `-` before them or not, within 64 bits; for DATE a day as `YYYY-MM-DD`; for
-/// TEXT it is the text itself. Answered with `Count` where there are more or fewer fields than
-/// columns, else with `Field` where a field is not of its column's form: the place of the first
-/// one.
+/// The row of a table that the fields of a record make. An empty field is NULL. An INTEGER field is
+/// digits with or without a `-` before them, within 64 bits. A DATE field is a day as `YYYY-MM-DD`.
+/// A TEXT field is the text itself. Returns `Count` if there are more or fewer fields than columns;
+/// else `Field`, with the index of the first field that does not have its column's form, if there
+/// is one.
 pub fn field_values(alloc: Global, schema: &Schema, fields: &Fields) -> Result<Cells, CsvFault>
     ensures { GivesValues result (row_of_fields schema.now fields.now) }
 {

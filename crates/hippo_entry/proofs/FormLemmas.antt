@@ -13,7 +13,7 @@ use Rattle.hippo_entry_codec.specs.Readings.{leading_entry}
 use Rattle.hippo_entry_codec.proofs.EntryAgain.{entry_again}
 use Rattle.hippo_entry.specs.Forms.{HasForm, IsEntryOf}
 
--- what is read from the body of a stored form is its entry
+-- reading the body of a stored form gives its entry
 pub read_from_form : (kept : StoredEntry) (entry : Entry) → HasForm kept entry
     → leading_entry kept.body ≡ Some (entry, [])
 read_from_form kept entry form =
@@ -31,7 +31,7 @@ first_or entry (Some read) = read.0
 same_first : {x y : Entry} {r s : List ℕ} → read_as x r ≡ read_as y s → x ≡ y
 same_first {x = x} e = ap (first_or x) e
 
--- where an entry was read that has the form, it is the one
+-- an entry that was read and has the form is the one with the form
 pub found_entry : (kept : StoredEntry) (entry : Entry) (rest : List ℕ) → leading_entry kept.body ≡ Some (entry, rest)
     → HasForm kept entry → IsEntryOf kept (Some entry)
 found_entry kept entry rest read form = record {
@@ -39,7 +39,7 @@ found_entry kept entry rest read form = record {
   only = λ other has. ap Some (same_first (sym read ∙ read_from_form kept other has));
 }
 
--- where it lacks the form, no entry has it
+-- if the entry that was read does not have the form, no entry has it
 pub other_form : (kept : StoredEntry) (entry : Entry) (rest : List ℕ) → leading_entry kept.body ≡ Some (entry, rest)
     → ¬ HasForm kept entry → IsEntryOf kept None
 other_form kept entry rest read lacks = record {
@@ -51,7 +51,7 @@ other_form kept entry rest read lacks = record {
 never_some : {A : Type 0} {x : A} → Some x ≡ None → ⊥
 never_some e = absurd cc
 
--- where no entry was read, none has the form
+-- if no entry was read, no entry has the form
 pub no_entry : (kept : StoredEntry) → leading_entry kept.body ≡ None → IsEntryOf kept None
 no_entry kept read = record {
   sound = tt;
@@ -67,7 +67,7 @@ judged : (kept : StoredEntry) (entry : Entry) (rest : List ℕ) → leading_entr
 judged kept entry rest read true form = found_entry kept entry rest read (form.0 refl)
 judged kept entry rest read false form = other_form kept entry rest read (λ has. false_is_not (form.1 has))
 
--- what was read, where the test says that it has the form
+-- the entry that was read, if the test says that it has the form
 pub is_entry_of : (kept : StoredEntry) (entry : Entry) (rest : List ℕ) → leading_entry kept.body ≡ Some (entry, rest)
     → (test : Result Bool Memory) → IfOk test (λ same. IsTrue same ↔ HasForm kept entry)
     → (result : Result (Option Entry) Memory)

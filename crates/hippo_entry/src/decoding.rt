@@ -1,4 +1,4 @@
-//! The entry that has a stored form.
+//! Decodes the stored form of an entry.
 ghost use Rattle.std.specs.Prelude.{◌≡◌, ◌↔◌, IsTrue, IfOk};
 ghost use Rattle.std.specs.Bool.{then_some};
 ghost use Rattle.std.specs.Result.{result_map_both};
@@ -19,8 +19,8 @@ fn is_same(form: &StoredEntry, kept: &StoredEntry) -> bool
         && form.body.as_slice() == kept.body.as_slice()
 }
 
-// What was read is the entry only where it can be kept and this is its stored form: so no second
-// spelling is accepted.
+// What was read counts only if it can be stored and has exactly this stored form. No other spelling
+// of an entry is accepted.
 fn has_form(alloc: Global, entry: &Entry, kept: &StoredEntry) -> Result<bool, Memory>
     ensures { IfOk result (λ same. IsTrue same ↔ HasForm kept.now entry.now) }
 {
@@ -31,16 +31,16 @@ fn has_form(alloc: Global, entry: &Entry, kept: &StoredEntry) -> Result<bool, Me
     Ok(is_same(&form, kept))
 }
 
-// The value where the test holds.
+// The value, if the test holds.
 fn only_if<T: Drop>(test: Result<bool, Memory>, value: T) -> Result<Option<T>, Memory>
     ensures { result ≡ result_map_both (λ holds. then_some holds value) (λ fault. fault) test }
 {
     if test? { Ok(Some(value)) } else { Ok(None) }
 }
 
-/// The entry that can be kept and has this stored form; none just where no entry has. The only
-/// error is want of memory. It takes time in the length of the form, and no memory that a number in
-/// the form asks for before its bytes are there.
+/// The entry that can be stored and has this stored form; none exactly when no entry has it. The
+/// only error is out of memory. The time is linear in the length of the form. A count in the form
+/// never allocates memory before the bytes that it counts are present.
 pub fn decode(alloc: Global, kept: &StoredEntry) -> Result<Option<Entry>, Memory>
     ensures found { IfOk result (IsEntryOf kept.now) }
 {

@@ -1,4 +1,4 @@
-//! How an entry of the history is kept: its stored form, and the entry that has one.
+//! The stored form of an entry of the history, and how to decode it.
 #![tactic(auto)]
 
 mod decoding;

@@ -1,4 +1,4 @@
--- An entry that was written is read again, part by part.
+-- Reading an entry that was written returns it, part by part.
 use Rattle.std.proofs.Common.{◌≡◌, ℕ, ℤ, pos, negsuc, Bool, true, false, ◌&&◌, List, [], ◌∷◌, ◌++◌, length, Option}
 use Rattle.std.proofs.Common.{Some, None, refl, ap, ◌∙◌, append_assoc, arith}
 use Rattle.std.specs.Prelude.{nat_lt, nat_le, int_le}
@@ -111,7 +111,7 @@ subject_again : (subject : Option Place) → subject_of_byte (subject_byte subje
 subject_again None = refl
 subject_again (Some place) = grind arith
 
--- parts in a row, one behind the other
+-- consecutive parts
 three : (a b c rest : List ℕ) → (a ++ b ++ c) ++ rest ≡ a ++ (b ++ (c ++ rest))
 three a b c rest = append_assoc (a ++ b) c rest ∙ append_assoc a b (c ++ rest)
 
@@ -180,7 +180,7 @@ new_item_again x kind rest fits =
     ap leading_new_item (append_assoc (name_bytes x) (item_kind kind ∷ []) rest)
     ∙ rw (name_again x (item_kind kind ∷ rest) fits, item_kind_again kind) refl
 
--- three names that fit, and what stands behind them
+-- three names that fit, and what follows them
 record ThreeFit (x y z : Name) (remaining : Bool) : Type 0 where
   first : is_folded_name x ≡ true
   second : is_folded_name y ≡ true

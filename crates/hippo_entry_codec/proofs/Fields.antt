@@ -1,4 +1,4 @@
--- What was written is read again.
+-- Reading returns what was written.
 use Rattle.std.proofs.Common.{◌≡◌, ℕ, ◌<◌, ◌≤◌, ◌^◌, ℤ, Bool, true, false, ◌&&◌, List, [], ◌∷◌, ◌++◌, length, Option}
 use Rattle.std.proofs.Common.{Some, refl, ap, ◌∙◌, append_assoc, arith}
 use Rattle.std.specs.Prelude.{nat_lt, nat_le, bytes_eq}
@@ -23,7 +23,7 @@ use Rattle.hippo_model.specs.Keepable.{is_folded_name, is_text}
 use Rattle.hippo_entry_codec.specs.Readings.{leading_bytes, leading_stored_number, leading_signed, leading_text, leading_stored_name}
 use Rattle.hippo_entry_codec.specs.Readings.{leading_parts, leading_list}
 
--- where a part that fits was written, the reading gives the part, and what stands behind it
+-- if a part that fits was written, reading gives the part and the bytes after it
 pub record ReadsAgain {A : Type 0} (reading : List ℕ → Option (A × List ℕ)) (fits : A → Bool)
     (write : A → List ℕ) : Type 0 where
   pub again : (x : A) (rest : List ℕ) → fits x ≡ true → reading (write x ++ rest) ≡ Some (x, rest)
@@ -55,7 +55,7 @@ unsigned64 x f = omega (arith, ints)
 unsigned32 : (x : ℤ) → FitsSigned w32 x → cast_unsigned w32 x < 2 ^ 32
 unsigned32 x f = omega (arith, ints)
 
--- a signed number, where the unsigned one in its place is read again
+-- a signed number, if reading returns its unsigned form
 signed_of : (w : Width) (x : ℤ) (rest : List ℕ)
     → leading_stored_number w (to_be_bytes w (cast_unsigned w x) ++ rest) ≡ Some (cast_unsigned w x, rest)
     → cast_signed w (cast_unsigned w x) ≡ x

@@ -1,10 +1,10 @@
--- Bytes that a loop over members adds at the end.
+-- Bytes that a loop over members appends.
 use Rattle.std.proofs.Common.{◌≡◌, ℕ, ◌+◌, ◌<◌, List, [], ◌∷◌, ◌++◌, length, get_or, take, sym, ap, ◌∙◌, append_assoc}
 use Rattle.std.specs.List.{flat_map}
 use Rattle.std.proofs.lemmas.Grind.{flat_map-append}
 use Rattle.std.proofs.lemmas.List.{append-nil, take_more}
 
--- those of one member more
+-- those of one more member
 pub written_more : {A : Type 0} (bytes : A → List ℕ) (members : List A) (i : ℕ) (member : A) (front now longer : List ℕ) → i < length members
     → member ≡ get_or members i member → now ≡ front ++ flat_map bytes (take i members) → longer ≡ now ++ bytes member
     → longer ≡ front ++ flat_map bytes (take (i + 1) members)

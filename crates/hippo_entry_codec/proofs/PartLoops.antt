@@ -8,7 +8,7 @@ use Rattle.hippo_entry_codec.specs.declared.fault.Fault.TheVariants as fault
 use Rattle.hippo_entry_codec.specs.Readings.{FailsReading, leading_parts}
 
 module _ {A : Type 0} (reading : List ℕ → Option (A × List ℕ)) where
-  -- what was read before, and what is still read
+  -- what was read before, and what is read next
   abbrev pub with_front : List A → Option (List A × List ℕ) → Option (List A × List ℕ)
   with_front front found = found >>= λ x. Some (front ++ x.0, x.1)
 

@@ -1,4 +1,4 @@
--- The names that stand first in an act that has three.
+-- The names that come first in an act that has three.
 use Rattle.std.specs.Prelude.{ℕ, Bool, true, ◌&&◌, List, [], ◌++◌, Option, Some, None}
 use Rattle.std.specs.Option.{option_map_or}
 use Rattle.hippo_values.specs.declared.names.Name.{Name}
@@ -7,7 +7,7 @@ use Rattle.hippo_model.specs.declared.entry.Act.TheVariants.{Authorize, Deauthor
 use Rattle.hippo_model.specs.StoredForms.{name_bytes}
 use Rattle.hippo_model.specs.Keepable.{is_folded_name}
 
--- those of a grant, of a rule and of a question
+-- the three names of a grant, of a rule or of a query
 abbrev pub three_names : Act → Option (Name × Name × Name)
 three_names (Authorize user purpose recipient) = Some (user, purpose, recipient)
 three_names (Deauthorize user purpose recipient) = Some (user, purpose, recipient)
@@ -16,14 +16,14 @@ three_names (Revoke purpose recipient table columns) = Some (purpose, recipient,
 three_names (Asked user purpose recipient text) = Some (user, purpose, recipient)
 three_names act = None
 
--- their bytes
+-- the bytes of these names
 abbrev pub names_bytes : Act → List ℕ
 names_bytes act =
     option_map_or (λ (first, second, third). name_bytes first ++ name_bytes second
     ++ name_bytes third)
     (three_names act) []
 
--- whether they can be kept
+-- whether these names can be stored
 abbrev pub names_are_keepable : Act → Bool
 names_are_keepable act =
     option_map_or (λ (first, second, third). is_folded_name first && is_folded_name second

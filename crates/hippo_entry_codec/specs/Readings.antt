@@ -1,5 +1,5 @@
--- How an entry is read from bytes, part by part. What is read from a body is its entry only where
--- the bytes of that entry are the body: nothing here looks at what stands behind the last part.
+-- How an entry is read from bytes, part by part. The entry read from a body counts only if its own
+-- bytes are the whole body: nothing here checks what follows the last part.
 use Rattle.std.specs.Prelude.{◌≡◌, ℕ, zero, suc, ◌-◌, ◌==◌, ◌||◌, ℤ, Bool, true, false, nat_lt, List, [], ◌∷◌, length}
 use Rattle.std.specs.Prelude.{take, drop, Option, Some, None, if◌then◌else◌, Result, Ok, Err}
 use denote.Ref.{Bor}
@@ -26,7 +26,7 @@ use Rattle.hippo_model.specs.Terms.{Row, Place}
 use Rattle.hippo_entry_codec.specs.declared.fault.Fault.{Fault}
 use Rattle.hippo_entry_codec.specs.declared.fault.Fault.TheVariants as fault
 
--- a part that stands first, and the bytes behind it
+-- reads the part at the front; gives it and the bytes after it
 abbrev pub Reading : Type 0 → Type 0
 Reading A = List ℕ → Option (A × List ℕ)
 
@@ -34,12 +34,12 @@ abbrev pub FailsReading : {Y : Type 0} → Fault → Option Y → Type 0
 FailsReading fault.NoPart found = found ≡ None
 FailsReading fault.Memory found = Unit {0}
 
--- what a call made, seen by view, is what is there, unless memory ran out
+-- the result of a call, seen through `view`, is what was found, unless memory ran out
 abbrev pub GivesReading : {X Y : Type 0} → (X → Y) → Result X Fault → Option Y → Type 0
 GivesReading view (Ok x) found = found ≡ Some (view x)
 GivesReading view (Err e) found = FailsReading e found
 
--- a call reads the part that stands first, and hands out the bytes behind it
+-- a call reads the part at the front, and returns it with the bytes after it
 abbrev pub ReadsFront : {X : Type 0} → Reading X → List ℕ → Result (X × Bor (List ℕ)) Fault → Type 0
 ReadsFront reading bytes result = GivesReading (λ x. (x.0, x.1.now)) result (reading bytes)
 
@@ -49,7 +49,7 @@ abbrev pub leading_byte : Reading ℕ
 leading_byte [] = None
 leading_byte (byte ∷ rest) = Some (byte, rest)
 
--- so many bytes
+-- the first `count` bytes
 abbrev pub leading_bytes : ℕ → Reading (List ℕ)
 leading_bytes count bytes =
     if nat_lt (length bytes) count then None else Some (take count bytes, drop count bytes)
@@ -81,7 +81,7 @@ leading_stored_name bytes = do
 
 -- ---- lists
 
--- so many parts
+-- this many parts
 abbrev pub leading_parts : {A : Type 0} → Reading A → ℕ → Reading (List A)
 leading_parts reading zero bytes = Some ([], bytes)
 leading_parts reading (suc n) bytes = do
@@ -157,7 +157,7 @@ leading_schema bytes = do
 unfoldable pub leading_create : Reading Act
 leading_create bytes = leading_schema bytes >>= λ schema. Some (Create schema.0, schema.1)
 
--- what an act of a kind from 2 to 4 does
+-- the change of a row for a kind from 2 to 4
 abbrev pub change_of : ℕ → Name → Row → Act
 change_of kind table row =
     if kind == 2 then Insert table row else if kind == 3 then Update table row else Delete table row
@@ -168,7 +168,7 @@ leading_change kind bytes = do
   row ← leading_list leading_value table.1
   Some (change_of kind table.0 row.0, row.1)
 
--- a purpose or a recipient, of kind 5 or 6
+-- a new purpose or recipient, of kind 5 or 6
 unfoldable pub leading_new_name : ℕ → Reading Act
 leading_new_name kind bytes =
     leading_stored_name bytes >>= λ name. Some
@@ -181,7 +181,7 @@ leading_new_item bytes = do
   kind ← item_kind_of byte.0
   Some (Item item.0 kind, byte.1)
 
--- of kind 8 or 9
+-- an act of kind 8 or 9
 abbrev pub grant_of : ℕ → Name → Name → Name → Act
 grant_of kind user purpose recipient =
     if kind == 8 then Authorize user purpose recipient else Deauthorize user purpose recipient
@@ -202,7 +202,7 @@ item_of_byte byte bytes =
 unfoldable pub leading_stored_item : Reading (Option Name)
 leading_stored_item bytes = leading_byte bytes >>= λ byte. item_of_byte byte.0 byte.1
 
--- days stand only in format 2
+-- an act has days only in format 2
 unfoldable pub leading_days : ℕ → Reading (Option ℕ)
 leading_days format bytes =
     if format == 2 then (leading_stored_number w32 bytes >>= λ days. Some (Some days.0, days.1))
@@ -261,7 +261,7 @@ act_of_kind format kind bytes =
 abbrev pub moment_of : ℤ → Option ℤ
 moment_of seconds = if is_moment seconds then Some seconds else None
 
--- the entry that stands first
+-- the entry at the front
 unfoldable pub leading_entry : Reading Entry
 leading_entry bytes = do
   format ← leading_byte bytes

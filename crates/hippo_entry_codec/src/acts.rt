@@ -1,4 +1,4 @@
-//! The act of an entry, and the entry, read from bytes.
+//! Reads the act of an entry, and the entry, from bytes.
 ghost use Rattle.std.specs.Prelude.{◌≡◌};
 ghost use Rattle.hippo_entry_codec.specs.Readings.{GivesReading, ReadsFront, leading_create, change_of, leading_change, leading_new_name};
 ghost use Rattle.hippo_entry_codec.specs.Readings.{leading_new_item, leading_stored_grant, leading_stored_item, leading_days};
@@ -21,7 +21,7 @@ fn read_create(alloc: Global, bytes: &[u8]) -> Result<(Act, &[u8]), Fault>
     Ok((Act::Create(schema), rest))
 }
 
-// What an act of a kind from 2 to 4 does.
+// The change of a row for a kind from 2 to 4.
 fn change_of(kind: u8, table: Name, row: Cells) -> Act
     ensures { result ≡ change_of kind table row }
 {
@@ -41,7 +41,7 @@ fn read_change(alloc: Global, kind: u8, bytes: &[u8]) -> Result<(Act, &[u8]), Fa
     Ok((change_of(kind, table, row), rest))
 }
 
-// A purpose or a recipient, of kind 5 or 6.
+// A new purpose or recipient, of kind 5 or 6.
 #[tactic(auto, unfolding(crate::specs::Readings::leading_new_name))]
 fn read_new_name(alloc: Global, kind: u8, bytes: &[u8]) -> Result<(Act, &[u8]), Fault>
     ensures { ReadsFront (leading_new_name kind) bytes.now result }
@@ -64,7 +64,7 @@ fn read_new_item(alloc: Global, bytes: &[u8]) -> Result<(Act, &[u8]), Fault>
     Ok((Act::Item { item, kind }, rest))
 }
 
-// Of kind 8 or 9.
+// An act of kind 8 or 9.
 #[tactic(auto, unfolding(crate::specs::Readings::leading_stored_grant))]
 fn read_grant(alloc: Global, kind: u8, bytes: &[u8]) -> Result<(Act, &[u8]), Fault>
     ensures { ReadsFront (leading_stored_grant kind) bytes.now result }
@@ -108,7 +108,7 @@ fn read_item(alloc: Global, bytes: &[u8]) -> Result<(Option<Name>, &[u8]), Fault
     }
 }
 
-// Only in format 2 an act has days.
+// An act has days only in format 2.
 #[tactic(auto, unfolding(crate::specs::Readings::leading_days))]
 fn read_days(format: u8, bytes: &[u8]) -> Result<(Option<u32>, &[u8]), Fault>
     ensures { ReadsFront (leading_days format) bytes.now result }
@@ -224,7 +224,7 @@ fn moment_of(seconds: i64) -> Result<Moment, Fault>
     }
 }
 
-/// The entry that has to stand first, and the bytes behind it.
+/// Reads the entry at the front; returns it and the bytes after it.
 #[tactic(auto, unfolding(crate::specs::Readings::leading_entry))]
 pub fn read_entry(alloc: Global, bytes: &[u8]) -> Result<(Entry, &[u8]), Fault>
     ensures { ReadsFront leading_entry bytes.now result }

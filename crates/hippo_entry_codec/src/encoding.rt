@@ -1,4 +1,4 @@
-//! The stored form of an entry.
+//! Encodes an entry in its stored form.
 ghost use Rattle.std.specs.Prelude.{◌≡◌, true, [], ◌∷◌, ◌++◌, IfOk, OnOk};
 ghost use Rattle.hippo_model.specs.declared.entry.Act.TheVariants.{Choice};
 ghost use Rattle.hippo_model.specs.StoredForms.{name_bytes, text_bytes, list_bytes, place_bytes, value_bytes, subject_byte, schema_bytes};
@@ -89,7 +89,7 @@ fn write_new_item(item: &Name, kind: ItemKind, out: &mut Vec<u8>) -> Result<(), 
     write_byte(item_kind(kind), out)
 }
 
-// Adds the three names that stand first in an act that has them.
+// Appends the three names that come first in an act that has them.
 fn write_names(act: &Act, out: &mut Vec<u8>) -> Result<(), Memory>
     ensures { OnOk result (out.new.items ≡ out.old.items ++ names_bytes act.now) }
 {
@@ -193,10 +193,10 @@ impl Part for Act {
     }
 }
 
-// How many bytes a body is given room for at first; few have more.
+// The initial capacity of a body; few bodies are longer.
 const BODY_ROOM: usize = 256;
 
-/// The body of an entry.
+/// Encodes the body of an entry. Fails only when out of memory.
 pub fn write_body(alloc: Global, entry: &Entry) -> Result<Vec<u8>, Memory>
     ensures { IfOk result (λ bytes. bytes.items ≡ body entry.now) }
 {
@@ -209,7 +209,7 @@ pub fn write_body(alloc: Global, entry: &Entry) -> Result<Vec<u8>, Memory>
     Ok(out)
 }
 
-// The table whose row an act changes; empty where it changes none.
+// The table whose row an act changes; empty if it changes none.
 fn table_changed(alloc: Global, act: &Act) -> Result<Txt, Memory>
     ensures { IfOk result (λ table. table ≡ table_changed act.now) }
 {
@@ -221,9 +221,9 @@ fn table_changed(alloc: Global, act: &Act) -> Result<Txt, Memory>
     }
 }
 
-/// The stored form of an entry that can be kept: its number, moment, kind, the table whose row it
-/// changes, and its body, in format 2 for a rule with days, else in format 1. It takes time in the
-/// length of the body.
+/// Encodes an entry that can be stored: its number, moment, kind, the table whose row it changes,
+/// and its body, in format 2 for a rule with days, else in format 1. The time is linear in the
+/// length of the body. Fails only when out of memory.
 pub fn encode(alloc: Global, entry: &Entry) -> Result<StoredEntry, Memory>
     requires keepable { is_keepable entry.now ≡ true }
     ensures form { IfOk result (λ kept. kept ≡ stored entry.now) }

@@ -1,4 +1,4 @@
-//! Why bytes were not read.
+//! Why a part was not read.
 ghost use Rattle.std.specs.Prelude.{◌≡◌};
 ghost use Rattle.hippo_entry_codec.specs.declared.fault.Fault.TheVariants as fault;
 
@@ -7,9 +7,9 @@ use hippo_values::Memory;
 /// Why a part was not read.
 #[derive(Clone, Copy, PartialEq, Eq)]
 pub enum Fault {
-    /// No such part stands first.
+    /// The bytes do not begin with such a part.
     NoPart,
-    /// Want of memory.
+    /// Out of memory.
     Memory,
 }
 

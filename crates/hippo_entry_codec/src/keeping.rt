@@ -1,4 +1,4 @@
-//! Whether an entry can be kept: what the types of its parts leave open.
+//! Whether an entry can be stored: the checks that the types of its parts do not make.
 ghost use Rattle.std.specs.Prelude.{◌≡◌, ◌&&◌, nat_le, nat_lt};
 ghost use Rattle.std.specs.List.{list_all};
 ghost use Rattle.hippo_values.specs.Moments.{is_day, is_moment, is_signed_number};
@@ -13,16 +13,16 @@ use hippo_values::{
     COLUMN_LIMIT, DayNumber, LINE_LIMIT, Moment, Name, Sequence, TEXT_LIMIT, Txt, Value,
 };
 
-// A list has as many members as one byte counts.
+// The most members of a list: its count is one byte.
 const COUNT_LIMIT: usize = 255;
 
-/// A part of an entry for which a stored form may have no room.
+/// A part of an entry that may not fit in the stored form.
 pub trait Keepable {
     ghost use Rattle.std.specs.Prelude.{◌≡◌, Bool};
 
     ghost keepable: { Self → Bool };
 
-    /// Whether it can be kept.
+    /// Whether the part can be stored.
     fn is_keepable(&self) -> bool
         ensures { result ≡ keepable self.now };
 }
@@ -51,9 +51,9 @@ fn is_short(length: usize) -> bool
     length >= 1 && length <= COLUMN_LIMIT
 }
 
-// By its type every name is one in lower case, every day and moment one of the years 0001 to 9999,
-// every text UTF-8, every number one of 64 bits and every number of days one of 32; so where a test
-// of the definitions says no more, there is nothing to look at.
+// The types guarantee that a name is in lower case, a day or moment is of the years 0001 to 9999, a
+// text is UTF-8, a number has 64 bits and a number of days 32. Where the definition requires no
+// more, there is nothing to check.
 impl Keepable for Name {
     ghost use Rattle.hippo_model.specs.Keepable.{is_folded_name};
 
@@ -202,7 +202,7 @@ fn are_names(first: &Name, second: &Name, third: &Name) -> bool
     first.is_keepable() && second.is_keepable() && third.is_keepable()
 }
 
-// Whether the three names that stand first in an act can be kept, where it has them.
+// Whether the three names that come first in an act can be stored, if it has them.
 fn names_are_keepable(act: &Act) -> bool
     ensures { result ≡ names_are_keepable act.now }
 {

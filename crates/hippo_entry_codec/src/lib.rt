@@ -1,4 +1,4 @@
-//! The bytes in which entries of the history are kept: how they are written, and read again.
+//! Writes and reads the bytes in which entries of the history are stored.
 #![tactic(auto)]
 
 mod acts;

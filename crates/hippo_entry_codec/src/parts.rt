@@ -1,4 +1,4 @@
-//! The parts of an entry, in bytes.
+//! Writes the parts of an entry as bytes.
 ghost use Rattle.std.specs.Prelude.{◌≡◌, [], ◌∷◌, ◌++◌, flat_map, IfOk, OnOk};
 ghost use Rattle.hippo_model.specs.StoredForms.{number_bytes, signed_bytes, name_bytes, text_bytes, list_bytes};
 ghost use Rattle.hippo_model.specs.StoredForms.{place_bytes, value_bytes, column_kind, column_bytes};
@@ -6,19 +6,19 @@ ghost use Rattle.hippo_model.specs.StoredForms.{place_bytes, value_bytes, column
 use hippo_model::{Column, ColumnKind};
 use hippo_values::{Memory, Name, Sequence, Value};
 
-/// A part of an entry that has bytes of its own.
+/// A part of an entry that has its own bytes.
 pub trait Part {
     ghost use Rattle.std.specs.Prelude.{ℕ, List, ◌≡◌, ◌++◌, OnOk};
 
     ghost bytes: { Self → List ℕ };
 
-    /// Adds the bytes of the part at the end.
+    /// Appends the bytes of the part. Fails only when out of memory.
     fn write(&self, out: &mut Vec<u8>) -> Result<(), Memory>
         ensures { OnOk result (out.new.items ≡ out.old.items ++ bytes self.now) };
 }
 
-/// A number in one byte. Each count and place of an entry that can be kept has room in one; the
-/// case that cannot come is answered with want of memory.
+/// The number as one byte. Each count and index in an entry that can be stored fits in one byte. A
+/// larger number cannot occur; it returns out of memory.
 pub fn one_byte(number: usize) -> Result<u8, Memory>
     ensures { IfOk result (λ byte. byte ≡ number) }
 {
@@ -28,7 +28,7 @@ pub fn one_byte(number: usize) -> Result<u8, Memory>
     }
 }
 
-// A number in four bytes, as the length of each text that can be kept.
+// The number in four bytes. The length of each text that can be stored fits.
 fn four_bytes(number: usize) -> Result<u32, Memory>
     ensures { IfOk result (λ length. length ≡ number) }
 {
@@ -38,7 +38,7 @@ fn four_bytes(number: usize) -> Result<u32, Memory>
     }
 }
 
-/// Adds a byte at the end.
+/// Appends a byte. Fails only when out of memory.
 pub fn write_byte(byte: u8, out: &mut Vec<u8>) -> Result<(), Memory>
     ensures { OnOk result (out.new.items ≡ out.old.items ++ byte ∷ []) }
 {
@@ -46,7 +46,7 @@ pub fn write_byte(byte: u8, out: &mut Vec<u8>) -> Result<(), Memory>
     Ok(())
 }
 
-/// Adds a number of 64 bits at the end.
+/// Appends a 64-bit number. Fails only when out of memory.
 pub fn write_number(number: u64, out: &mut Vec<u8>) -> Result<(), Memory>
     ensures { OnOk result (out.new.items ≡ out.old.items ++ number_bytes number) }
 {
@@ -54,7 +54,7 @@ pub fn write_number(number: u64, out: &mut Vec<u8>) -> Result<(), Memory>
     Ok(())
 }
 
-/// Adds a signed number of 64 bits at the end.
+/// Appends a signed 64-bit number. Fails only when out of memory.
 pub fn write_signed(number: i64, out: &mut Vec<u8>) -> Result<(), Memory>
     ensures { OnOk result (out.new.items ≡ out.old.items ++ signed_bytes number) }
 {
@@ -62,7 +62,7 @@ pub fn write_signed(number: i64, out: &mut Vec<u8>) -> Result<(), Memory>
     Ok(())
 }
 
-/// Adds a text at the end, its length in front of it.
+/// Appends a text, with its length before it.
 pub fn write_text(text: &str, out: &mut Vec<u8>) -> Result<(), Memory>
     ensures { OnOk result (out.new.items ≡ out.old.items ++ text_bytes text.now) }
 {

@@ -1,4 +1,4 @@
-//! The parts of an entry, read from bytes.
+//! Reads the parts of an entry from bytes.
 ghost use Rattle.std.specs.Prelude.{◌≡◌};
 ghost use Rattle.std.specs.Int.{w32, w64};
 ghost use Rattle.hippo_values.specs.Names.{name_of};
@@ -18,14 +18,14 @@ pub trait Readable {
 
     ghost reading: { Reading Self };
 
-    /// The part that has to stand first, and the bytes behind it.
+    /// Reads the part at the front; returns it and the bytes after it.
     fn read(alloc: Global, bytes: &[u8]) -> Result<(Self, &[u8]), Fault>
     where
         Self: Sized,
         ensures { ReadsFront reading bytes.now result };
 }
 
-/// The first byte, and those behind it.
+/// Reads the first byte; returns it and the bytes after it.
 pub fn read_byte(bytes: &[u8]) -> Result<(u8, &[u8]), Fault>
     ensures { ReadsFront leading_byte bytes.now result }
 {
@@ -44,7 +44,7 @@ fn read_bytes(count: usize, bytes: &[u8]) -> Result<(&[u8], &[u8]), Fault>
     Ok(bytes.split_at(count))
 }
 
-/// The number of 32 bits that has to stand first.
+/// Reads the 32-bit number at the front; returns it and the bytes after it.
 pub fn read_short(bytes: &[u8]) -> Result<(u32, &[u8]), Fault>
     ensures { ReadsFront (leading_stored_number w32) bytes.now result }
 {
@@ -56,7 +56,7 @@ pub fn read_short(bytes: &[u8]) -> Result<(u32, &[u8]), Fault>
     Ok((number, rest))
 }
 
-/// The number of 64 bits that has to stand first.
+/// Reads the 64-bit number at the front; returns it and the bytes after it.
 pub fn read_number(bytes: &[u8]) -> Result<(u64, &[u8]), Fault>
     ensures { ReadsFront (leading_stored_number w64) bytes.now result }
 {
@@ -70,7 +70,7 @@ pub fn read_number(bytes: &[u8]) -> Result<(u64, &[u8]), Fault>
     Ok((number, rest))
 }
 
-/// The signed number of 64 bits that has to stand first.
+/// Reads the signed 64-bit number at the front; returns it and the bytes after it.
 pub fn read_signed(bytes: &[u8]) -> Result<(i64, &[u8]), Fault>
     ensures { ReadsFront (leading_signed w64) bytes.now result }
 {
@@ -87,7 +87,7 @@ fn text_of(bytes: &[u8]) -> Result<&str, Fault>
     }
 }
 
-/// The text that has to stand first, behind its length.
+/// Reads the text at the front, which follows its length; returns it and the bytes after it.
 #[tactic(auto, unfolding(crate::specs::Readings::leading_text))]
 pub fn read_text(alloc: Global, bytes: &[u8]) -> Result<(Txt, &[u8]), Fault>
     ensures { ReadsFront leading_text bytes.now result }
@@ -210,7 +210,7 @@ fn column_kind_of(byte: u8) -> Result<ColumnKind, Fault>
     }
 }
 
-/// What a byte says of yes and no.
+/// The Boolean that a byte encodes: 0 is false, 1 is true, and any other byte is a fault.
 pub fn bool_of(byte: u8) -> Result<bool, Fault>
     ensures { GivesReading (λ yes. yes) result (bool_of byte) }
 {
@@ -221,7 +221,7 @@ pub fn bool_of(byte: u8) -> Result<bool, Fault>
     }
 }
 
-/// The kind of an item, from its byte.
+/// The kind of an item that a byte encodes.
 pub fn item_kind_of(byte: u8) -> Result<ItemKind, Fault>
     ensures { GivesReading (λ kind. kind) result (item_kind_of byte) }
 {

@@ -1,5 +1,5 @@
-//! Stored entries as texts, for the programs that run worked rows: what their rows write, and what
-//! they show.
+//! Stored entries as texts, for the programs that run worked rows: the rows give entries in this
+//! form, and show them in it.
 #![tactic(auto)]
 
 ghost use Rattle.std.specs.Prelude.{◌≡◌};
@@ -10,8 +10,8 @@ use hippo_model::StoredEntry;
 use hippo_values::{Bytes, Memory, Txt};
 use std::alloc::Global;
 
-/// A text's first word, and what stands behind the blank after it; the whole text, and nothing,
-/// where it has no blank.
+/// Splits a text at its first space: the word before the space, and the text after it. A text
+/// without a space is returned whole, with an empty rest.
 pub fn first_word(text: &str) -> (&str, &str)
     ensures word { result.0.now ≡ before_first is_space text.now }
     ensures rest { result.1.now ≡ after_first is_space text.now }
@@ -19,7 +19,7 @@ pub fn first_word(text: &str) -> (&str, &str)
     text.split_once(' ').unwrap_or((text, ""))
 }
 
-// The bytes that hexadecimal digits write. Other characters count as want of memory.
+// The bytes in hexadecimal digits. Other characters count as out of memory.
 fn bytes_of(alloc: Global, digits: &str) -> Result<Bytes, Memory> {
     match hex::decode(alloc, digits.as_bytes()) {
         Ok(bytes) => Ok(Bytes::from_vec(bytes)),
@@ -27,9 +27,9 @@ fn bytes_of(alloc: Global, digits: &str) -> Result<Bytes, Memory> {
     }
 }
 
-/// The stored entry that a text writes: its number, its moment in seconds, its kind, its table or a
-/// hyphen for none, and its body in hexadecimal digits. A word that is no number counts as 0, and a
-/// body that is no digits as want of memory.
+/// Reads a stored entry from a text: its number, its moment in seconds, its kind, its table or a
+/// hyphen for none, and its body in hexadecimal digits. A word that is not a number counts as 0. A
+/// body that is not hexadecimal digits counts as out of memory.
 pub fn stored(alloc: Global, text: &str) -> Result<StoredEntry, Memory> {
     let (seq, rest) = first_word(text);
     let (moment, rest) = first_word(rest);
@@ -47,7 +47,7 @@ pub fn stored(alloc: Global, text: &str) -> Result<StoredEntry, Memory> {
     })
 }
 
-/// An entry as a line that [`stored`] reads.
+/// Writes an entry as a line that [`stored`] reads.
 pub fn written(alloc: Global, entry: &StoredEntry) -> Result<String, Memory> {
     let StoredEntry {
         seq,

@@ -1,4 +1,4 @@
--- How an input is cut at its first line feed.
+-- An input is split at its first line feed.
 use Rattle.std.proofs.Common.{◌≡◌, ℕ, ◌+◌, ◌<◌, ◌≤◌, Bool, true, false, cond, List, [], ◌∷◌, ◌++◌, map, length, take, drop, refl, sym, ap, ◌∙◌, arith, append-nil, append_assoc, length-append}
 use Rattle.std.proofs.lemmas.List.{take-append-drop, drop_more}
 use Rattle.std.specs.Io.BufRead.{drop_through}
@@ -16,7 +16,7 @@ before_feed (x ∷ xs) = cond (is_feed x) [] (x ∷ before_feed xs)
 abbrev after_feed : List ℕ → List ℕ
 after_feed xs = drop_through line_feed xs
 
--- the first byte of bytes without a line feed is none
+-- the first of bytes without a line feed is not one
 clear_first : (x : ℕ) (xs : List ℕ) → feeds (x ∷ xs) ≡ 0 → is_feed x ≡ false
 clear_first x xs clear =
     let P : Bool → Type 0 = λ b. cond b 1 0 + feeds xs ≡ 0 → b ≡ false in
@@ -40,7 +40,7 @@ by_test x xs other =
     let P : Bool → Type 0 = λ b. cond b ([] ∷ pieces xs) (with_first_byte x (pieces xs)) ≡ cond b [] (x ∷ before_feed xs) ∷ pieces (cond b xs (after_feed xs)) in
     elim (is_feed x) as P [ true ↦ refl | false ↦ other ]
 
--- bytes begin with a piece, and the others are those behind its line feed
+-- bytes begin with a piece; the rest are those after its line feed
 pieces-first : (x : ℕ) (xs : List ℕ) → pieces (x ∷ xs) ≡ before_feed (x ∷ xs) ∷ pieces (after_feed (x ∷ xs))
 pieces-first x [] = by_test x [] refl
 pieces-first x (y ∷ ys) = by_test x (y ∷ ys) (ap (with_first_byte x) (pieces-first y ys))
@@ -53,7 +53,7 @@ longer : (front rest : List ℕ) → length front ≤ length (front ++ rest)
 longer front rest = omega (arith, length-append front rest)
 
 module _ (waiting rest : List ℕ) where
-  -- n bytes, a line feed, and the bytes behind it
+  -- n bytes, a line feed, and the bytes after it
   whole_is : (n : ℕ) → BeginsWithLine waiting n → waiting ++ rest ≡ take n waiting ++ (line_feed ∷ (drop (n + 1) waiting ++ rest))
   whole_is n line =
       ap (λ l. l ++ rest) (sym (take-append-drop n waiting) ∙ ap (λ l. take n waiting ++ l) (drop_more waiting n 0 line.inside ∙ ap (λ b. b ∷ drop (n + 1) waiting) line.feed))
@@ -70,7 +70,7 @@ module _ (waiting rest : List ℕ) where
       lines-first (waiting ++ rest) (omega (arith, longer waiting rest, line.inside))
       ∙ ap (λ l. line_of l ∷ lines (after_feed (waiting ++ rest))) piece ∙ ap (λ l. line_of (take n waiting) ∷ lines l) (after_feed-whole n line)
 
-  -- the first line of bytes that begin with more than a line may have
+  -- the first line of bytes that begin with more than the longest line
   pub lines-long : feeds waiting ≡ 0 → line_limit < length waiting → lines (waiting ++ rest) ≡ too_long_line ∷ lines (drop_through line_feed (waiting ++ rest))
   lines-long clear long =
       let piece = before_feed-clear waiting rest clear in

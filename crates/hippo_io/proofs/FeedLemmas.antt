@@ -1,4 +1,4 @@
--- Line feeds in parts of a list, and the first one.
+-- Line feeds in parts of a list, and the first line feed.
 use Rattle.std.proofs.Common.{◌≡◌, ℕ, suc, ◌+◌, ◌-◌, ◌<◌, ◌≤◌, Bool, true, false, cond, eqb, List, [], ◌∷◌, ◌++◌, Some, None, length, get_or, take, drop, refl, sym, ap, ◌∙◌, arith, length-drop}
 use Rattle.std.proofs.Math.Seq.{take-add}
 use Rattle.std.proofs.lemmas.Bool.{ltb-false, eqb-true}
@@ -38,13 +38,13 @@ feeds_before xs n inside none =
     let long = length-take-le n xs inside in
     feeds_none (take n xs) (λ k short. ap is_feed (get_or-take n xs k 0 (omega arith)) ∙ none k (omega arith))
 
--- no line feed is in the part that was searched, nor in the rest
+-- no line feed is in the part already searched, nor in the rest
 pub feeds-searched : (xs : List ℕ) (n : ℕ) → feeds (take n xs) ≡ 0 → position is_feed (take (length xs - n) (drop n xs)) ≡ None → feeds xs ≡ 0
 feeds-searched xs n none e =
     ap feeds (sym (take-append-drop n xs)) ∙ feeds-append (take n xs) (drop n xs)
     ∙ omega (arith, feeds_unfound (drop n xs) (ap (position is_feed) (sym (take_rest xs n)) ∙ e))
 
--- the first line feed of the rest is the first one
+-- the first line feed of the rest is the first of all
 pub BeginsWithLine-searched : (xs : List ℕ) (n place : ℕ) → n ≤ length xs → feeds (take n xs) ≡ 0 → position is_feed (take (length xs - n) (drop n xs)) ≡ Some place
     → BeginsWithLine xs (n + place)
 BeginsWithLine-searched xs n place inside none e =

@@ -1,4 +1,4 @@
--- What was handed out stays so while the reader moves on from one line to the next.
+-- The returned lines stay the same while the reader moves to the next line.
 use Rattle.std.proofs.Common.{◌≡◌, ℕ, ◌+◌, ◌-◌, ◌<◌, ◌≤◌, Bool, true, List, [], ◌∷◌, ◌++◌, Some, length, take, drop, refl, sym, ap, ◌∙◌, arith, append_assoc, append-nil, length-append, length-drop, IsTrue, IsFalse, subst, Result, Ok, Err, OnErr}
 use Rattle.std.proofs.Math.Seq.{take-add, take-append_seam}
 use Rattle.std.proofs.lemmas.Bool.{false≢true}
@@ -18,7 +18,7 @@ use Rattle.hippo_io.proofs.CutLemmas.{lines-whole, lines-long, lines-rest, feeds
 clash : {X : Type 0} (b : Bool) → IsTrue b → IsFalse b → X
 clash b p q = absurd (false≢true (sym q ∙ p))
 
--- what a read moves behind the bytes that wait is at the front of those that were left
+-- the bytes that a read adds to the waiting ones are the first of those that were left
 record Moved (input : List ℕ) (before after : Position) (left_after : Option (List ℕ)) : Type 0 where
   within : after.taken ≤ length input
   told : left_after ≡ Some (drop after.taken input)
@@ -93,7 +93,7 @@ module _ (input : List ℕ) (handed : List LineText) (reader : Position) (left :
       }
 
   module _ (end : drop reader.taken input ≡ []) where
-    -- after the bytes behind the last line feed
+    -- after the bytes that follow the last line feed
     pub HasHandedOut-rest : feeds reader.waiting ≡ 0 → 0 < length reader.waiting
         → HasHandedOut input (handed ++ line_of reader.waiting ∷ []) (record reader { waiting = []; ended = true }) left
     HasHandedOut-rest clear some = record {
@@ -108,7 +108,7 @@ module _ (input : List ℕ) (handed : List LineText) (reader : Position) (left :
       at_end = λ e. end;
     }
 
-    -- where none is left
+    -- when none is left
     pub HasHandedOut-end : reader.waiting ≡ []
         → HasHandedOut input handed (record reader { waiting = []; ended = true }) left × (handed ≡ lines input) × (left ≡ Some [])
     HasHandedOut-end none =
@@ -125,14 +125,14 @@ module _ (input : List ℕ) (handed : List LineText) (reader : Position) (left :
           h.told ∙ ap Some end,
         )
 
--- The reader is inside of a line that is too long: these lines were handed out before it.
+-- The reader is inside a line that is too long; these lines were returned before it.
 pub record IsSkipping (input : List ℕ) (handed : List LineText) (reader : Position) (left : Option (List ℕ)) : Type 0 where
   pub within : reader.taken ≤ length input
   pub told : left ≡ Some (drop reader.taken input)
   pub others : lines input ≡ handed ++ too_long_line ∷ lines (drop_through line_feed (reader.waiting ++ drop reader.taken input))
   pub fed : feeds (take reader.taken input) ≡ length handed + feeds reader.waiting
 
--- more bytes wait than a line may have
+-- more bytes wait than the longest line has
 pub IsSkipping-begun : (input : List ℕ) (handed : List LineText) (reader : Position) (left : Option (List ℕ)) → IsGoing reader → feeds reader.waiting ≡ 0
     → line_limit < length reader.waiting → HasHandedOut input handed reader left → IsSkipping input handed reader left
 IsSkipping-begun input handed reader left going clear long h = record {
@@ -142,7 +142,7 @@ IsSkipping-begun input handed reader left going clear long h = record {
   fed = h.fed going.unended;
 }
 
--- the bytes that wait are skipped
+-- the waiting bytes are skipped
 pub IsSkipping-emptied : (input : List ℕ) (handed : List LineText) (before after : Position) (left : Option (List ℕ)) → feeds before.waiting ≡ 0
     → after ≡ record before { waiting = [] } → IsSkipping input handed before left → IsSkipping input handed after left
 IsSkipping-emptied input handed before after left clear e h =
@@ -187,7 +187,7 @@ HasHandedOut-skipped input handed before after left n going line e h =
       at_end = λ e. clash before.ended e going.unended;
     })
 
--- the input ends inside of the line
+-- the input ends inside the line
 pub HasHandedOut-skipped_end : (input : List ℕ) (handed : List LineText) (reader : Position) (left : Option (List ℕ)) → IsGoing reader → reader.waiting ≡ []
     → drop reader.taken input ≡ [] → IsSkipping input handed reader left → HasHandedOut input (handed ++ too_long_line ∷ []) (record reader { ended = true }) left
 HasHandedOut-skipped_end input handed reader left going none end h =
@@ -207,7 +207,7 @@ pub on_err : {T E : Type 0} {P : Type 0} (r : Result T E) → P → OnErr r P
 on_err (Ok x) p = tt
 on_err (Err e) p = p
 
--- nothing is left behind the bytes that were taken
+-- no bytes are left after those that were read
 pub nothing_left : (input : List ℕ) (n m : ℕ) (left : Option (List ℕ)) → IsAtEnd left → left ≡ Some (drop n input) → m ≡ n → drop m input ≡ []
 nothing_left input n m left end told same = ap (λ k. drop k input) same ∙ end (drop n input) told
 

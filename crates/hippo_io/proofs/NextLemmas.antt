@@ -1,4 +1,4 @@
--- What a call for the next line does, by what it found.
+-- The effect of a call for the next line, by what it found.
 use Rattle.std.proofs.Common.{◌≡◌, ℕ, ◌+◌, ◌-◌, ◌<◌, ◌≤◌, ◌↔◌, List, [], ◌++◌, ◌∷◌, Some, None, length, take, drop, sym, ap, ◌∙◌, subst, arith, length-drop, length-take, Ok, true, MatchOption, IfSome}
 use Rattle.std.specs.Prelude.{Option, slice_range}
 use Rattle.hippo_io.specs.Lines.{LineText, line_of, lines}
@@ -16,7 +16,7 @@ use Rattle.hippo_io.proofs.HandedLemmas.{HasHandedOut-whole, HasHandedOut-rest}
 abbrev pub HasLimit : Position → Type 0
 HasLimit reader = (reader.failure ≡ Some TooMuch) ↔ (input_limit < reader.taken)
 
--- a reader without a failure has not taken too much
+-- a reader without a failure has not read too much
 within_limit : (reader : Position) → reader.failure ≡ None → HasLimit reader → input_limit < reader.taken → ⊥
 within_limit reader unfailed limit over = cc (limit.1 over)
 
@@ -39,7 +39,7 @@ found before after left_before left_after line text going unfailed_after limit i
 }
 
 module _ (fields : Inside) (window : IsWindow fields) (before mid : Position) (left_before left_after : Option (List ℕ)) (is_mid : position_of fields ≡ mid) (going : IsGoing before) (line : Line) where
-  -- a whole line waits, and is let go with its line feed
+  -- a whole line waits, and is skipped with its line feed
   pub NextLine-whole : (n : ℕ) → FindsWhole before mid left_before left_after n → line_text line ≡ Some (line_of (slice_range fields.buffer.items fields.start (fields.start + n)))
       → NextLine before (position_of (record fields { start = fields.start + (n + 1) })) left_before left_after (Ok line)
   NextLine-whole n finds_mid is =
@@ -55,7 +55,7 @@ module _ (fields : Inside) (window : IsWindow fields) (before mid : Position) (l
       (omega (arith, finds.same, finds.line.inside, length-drop (n + 1) waiting, window.taken))
       (λ input handed h. HasHandedOut-whole input handed (position_of fields) left_after finds.going (finds.kept input handed h) n finds.line))
 
-  -- the input ends behind the bytes that wait, and these are let go
+  -- the input ends after the waiting bytes, and these are skipped
   pub NextLine-rest : FindsRest before mid left_before left_after → (fields.start ≡ fields.end → ⊥) → line_text line ≡ Some (line_of (slice_range fields.buffer.items fields.start fields.end))
       → NextLine before (position_of (record fields { start = fields.end; ended = true })) left_before left_after (Ok line)
   NextLine-rest finds_mid more is =

@@ -7,13 +7,13 @@ use Rattle.std.specs.Prelude.{Option, slice_range}
 use borrow.Rule.Slice.PartMut.{put_mid}
 use Rattle.hippo_io.specs.Told.{Takes, TakesAfter}
 
--- what stands up to n bytes behind the place of a write
+-- the n bytes from the place of a write on
 take_after : (a k n : ℕ) (xs ys : List ℕ) → a ≤ length xs → n ≤ length ys → take (a + n) (put_mid a k xs ys) ≡ take a xs ++ take n ys
 take_after a k n xs ys inside short =
     let e : length (take a xs) ≡ a = length-take-le a xs inside in
     ap (λ m. take (m + n) (put_mid a k xs ys)) (sym e) ∙ take-append-add (take a xs) _ n ∙ ap (λ l. take a xs ++ l) (take-append-le n ys _ short)
 
--- as many bytes as were taken were there
+-- the source had as many bytes as were read
 told_enough : (n : ℕ) (told buffer : List ℕ) → n ≤ length buffer → take n told ≡ take n buffer → n ≤ length told
 told_enough n told buffer short same = omega (arith, ap length same, length-take n told, length-take n buffer)
 
@@ -27,7 +27,7 @@ TakesAfter-from_read (Ok n) old new a k xs ys inside short taken = λ told is.
     )
 TakesAfter-from_read (Err e) old new a k xs ys inside short taken = taken
 
--- the part that begins n later
+-- the part that begins n bytes later
 pub window_later : (xs : List ℕ) (from n to : ℕ) → slice_range xs (from + n) to ≡ drop n (slice_range xs from to)
 window_later xs from n to = between_is xs (from + n) to ∙ sym (drop-drop n from (take to xs)) ∙ ap (drop n) (sym (between_is xs from to))
 

@@ -1,11 +1,11 @@
--- Calls in a row: what they append and take together.
+-- The combined effect of calls in a row.
 use Rattle.std.proofs.Common.{ℕ, ◌+◌, ◌-◌, List, Some, ◌++◌, length, take, drop, append_assoc, ap, ◌∙◌, sym}
 use Rattle.std.proofs.Math.Seq.{take-add}
 use Rattle.std.proofs.lemmas.List.{take_rest}
 use Rattle.std.specs.Prelude.{Option}
 use Rattle.hippo_io.specs.Told.{Appends}
 
--- the first bytes of a piece, and then the next of them, out of what is left of it
+-- the first bytes of a piece, and then the first of the rest
 pub Appends-more : (old mid new : Option (List ℕ)) (bytes : List ℕ) (done n : ℕ)
     → Appends old mid (take done bytes) → Appends mid new (take n (take (length bytes - done) (drop done bytes))) → Appends old new (take (done + n) bytes)
 Appends-more old mid new bytes done n first second told is =

@@ -1,4 +1,4 @@
--- What the sources and sinks over std's readers and writers are made of.
+-- The parts of the sources and sinks over std's readers and writers.
 use Rattle.std.specs.Prelude.{ℕ}
 use Rattle.hippo_io.specs.declared.std_stream.StdStream.{StdStream}
 
@@ -6,6 +6,6 @@ use Rattle.hippo_io.specs.declared.std_stream.StdStream.{StdStream}
 abbrev pub stream_of : {T : Type 0} → StdStream T → T
 stream_of stream = stream.inner
 
--- how many errors it answered; for a sink, and how many times it took nothing
+-- the number of errors that the stream returned; for a sink, writes that wrote nothing count too
 abbrev pub stream_faults : {T : Type 0} → StdStream T → ℕ
 stream_faults stream = stream.faults

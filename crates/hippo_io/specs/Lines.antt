@@ -1,4 +1,4 @@
--- The cut of an input into lines.
+-- Splits an input into lines.
 use Rattle.std.specs.Prelude.{ℕ, List, [], ◌∷◌, map, length, count_by, ◌==◌, nat_lt, if◌then◌else◌}
 use Rattle.std.specs.Str.{is_utf8}
 use Rattle.std.specs.Io.BufRead.{strip_last}
@@ -12,28 +12,28 @@ line_feed = 10
 abbrev pub carriage_return : ℕ
 carriage_return = 13
 
--- the byte in front of the first piece
+-- puts the byte in front of the first piece
 abbrev pub with_first_byte : ℕ → List (List ℕ) → List (List ℕ)
 with_first_byte byte [] = (byte ∷ []) ∷ []
 with_first_byte byte (piece ∷ others) = (byte ∷ piece) ∷ others
 
--- the pieces before the line feeds, and a last piece where bytes stand behind the last line feed
+-- the pieces before the line feeds; the bytes after the last line feed, if any, are a last piece
 abbrev pub pieces : List ℕ → List (List ℕ)
 pieces [] = []
 pieces (byte ∷ bytes) =
     if byte == line_feed then [] ∷ pieces bytes else with_first_byte byte (pieces bytes)
 
--- a line: its bytes, or why it is no text
+-- a line: its bytes, or why it is not a text
 pub data LineText : Type 0 where
   text_line : List ℕ → LineText
   too_long_line : LineText
   not_utf8_line : LineText
 
--- bytes that are a line unless they are not UTF-8
+-- the line of these bytes: their text if they are UTF-8
 abbrev pub text_or_not : List ℕ → LineText
 text_or_not bytes = if is_utf8 bytes then text_line bytes else not_utf8_line
 
--- the line of a piece: one carriage return at its end is dropped, but counts for the limit
+-- the line of a piece; one carriage return at its end is dropped, but counts for the limit
 abbrev pub line_of : List ℕ → LineText
 line_of piece =
     if nat_lt line_limit (length piece) then too_long_line
@@ -43,6 +43,6 @@ line_of piece =
 abbrev pub lines : List ℕ → List LineText
 lines input = map line_of (pieces input)
 
--- how many line feeds there are
+-- the number of line feeds
 abbrev pub feeds : List ℕ → ℕ
 feeds bytes = count_by (λ byte. byte == line_feed) bytes

@@ -1,4 +1,4 @@
--- How a line reader moves on from one line to the next.
+-- How a line reader moves from one line to the next.
 use Rattle.std.specs.Prelude.{◌≡◌, ℕ, ◌+◌, ◌-◌, ◌<◌, ◌≤◌, min, IsFalse, List, [], ◌∷◌, ◌++◌, length, take, drop, slice_index, Option, Some, None}
 use Rattle.hippo_values.specs.Limits.{line_limit}
 use Rattle.hippo_io.specs.Lines.{LineText, too_long_line, line_feed, feeds}
@@ -9,13 +9,13 @@ use Rattle.hippo_io.specs.declared.lines.Found.{Found}
 use Rattle.hippo_io.specs.declared.lines.Found.TheVariants.{Whole, Rest, Skipped}
 use Rattle.hippo_io.specs.declared.lines.LineFault.{LineFault}
 
--- the bytes begin with n bytes and a line feed, which is the first one
+-- the bytes begin with n bytes and the first line feed
 pub record BeginsWithLine (bytes : List ℕ) (n : ℕ) : Type 0 where
   pub inside : n < length bytes
   pub before : feeds (take n bytes) ≡ 0
   pub feed : slice_index bytes n ≡ line_feed
 
--- neither at the end of the input nor stopped by a fault
+-- not at the end of the input, and not stopped by a fault
 pub record IsGoing (reader : Position) : Type 0 where
   pub unended : IsFalse reader.ended
   pub unfailed : reader.failure ≡ None
@@ -30,11 +30,11 @@ pub record Refills (before after : Position) (left_before left_after : Option (L
   pub taken : after.taken ≡ before.taken + n
   pub limit : after.taken ≤ input_limit
 
--- whatever bytes the old one tells, the new one tells the others than the first n
+-- the new one holds what is left of the old one without its first n bytes, if that is known
 abbrev pub Loses : Option (List ℕ) → Option (List ℕ) → ℕ → Type 0
 Loses old new n = (told : List ℕ) → old ≡ Some told → (n ≤ length told) × (new ≡ Some (drop n told))
 
--- no more bytes wait: of those up to the limit, none was taken
+-- the read failed; of the bytes up to the limit, none was read
 pub record FailsToRefill (before after : Position) (left_before left_after : Option (List ℕ))
     (fault : LineFault)
     : Type 0 where
@@ -43,18 +43,18 @@ pub record FailsToRefill (before after : Position) (left_before left_after : Opt
   pub later : before.taken ≤ after.taken
   pub left : Loses left_before left_after (after.taken - before.taken)
 
--- whatever was handed out is so still
+-- the lines returned so far stay the same
 abbrev pub KeepsHandedOut : Position → Position → Option (List ℕ) → Option (List ℕ) → Type 0
 KeepsHandedOut before after left_before left_after = (input : List ℕ) (handed : List LineText)
     → HasHandedOut input handed before left_before → HasHandedOut input handed after left_after
 
--- one more line, which is too long, is handed out
+-- one more line, which is too long, is returned
 abbrev pub SkipsLine : Position → Position → Option (List ℕ) → Option (List ℕ) → Type 0
 SkipsLine before after left_before left_after = (input : List ℕ) (handed : List LineText)
     → HasHandedOut input handed before left_before
     → HasHandedOut input (handed ++ too_long_line ∷ []) after left_after
 
--- the reader gives up, whatever was handed out
+-- the reader gives up, for all lines returned so far
 abbrev pub GivesUp : Position → Position → Option (List ℕ) → Option (List ℕ) → Type 0
 GivesUp before after left_before left_after = (input : List ℕ) (handed : List LineText)
     → HasHandedOut input handed before left_before → HasGivenUp input handed after left_after
@@ -68,7 +68,7 @@ pub record FindsWhole (before after : Position) (left_before left_after : Option
   pub short : n ≤ line_limit
   pub same : bytes_handed_out after ≡ bytes_handed_out before
 
--- the input ends behind the bytes that wait
+-- the input ends after the waiting bytes
 pub record FindsRest (before after : Position) (left_before left_after : Option (List ℕ))
     : Type 0 where
   pub going : IsGoing after
@@ -86,7 +86,7 @@ pub record FindsSkipped (before after : Position) (left_before left_after : Opti
   pub skipped : SkipsLine before after left_before left_after
   pub later : bytes_handed_out before < bytes_handed_out after
 
--- what stands in the way of the next line
+-- what comes next
 abbrev pub FindsNext : Position → Position → Option (List ℕ) → Option (List ℕ) → Found → Type 0
 FindsNext before after left_before left_after (Whole n) =
     FindsWhole before after left_before left_after n

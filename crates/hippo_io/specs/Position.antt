@@ -1,14 +1,14 @@
--- Where a line reader stands.
+-- The state of a line reader between two calls.
 use Rattle.std.specs.Prelude.{ℕ, Bool, List, Option}
 use Rattle.hippo_io.specs.declared.lines.LineFault.{LineFault}
 
--- a line reader between two calls
+-- the state of a line reader between two calls
 pub record Position : Type 0 where
-  -- the bytes taken and not yet handed out
+  -- the bytes read and not yet returned
   pub waiting : List ℕ
-  -- how many bytes were taken from the source
+  -- how many bytes were read from the source
   pub taken : ℕ
-  -- whether the source has come to its end
+  -- whether the source has ended
   pub ended : Bool
-  -- the fault that was answered
+  -- the fault that was returned
   pub failure : Option LineFault

@@ -1,31 +1,29 @@
--- What a call does to the bytes that a source or a sink tells.
+-- The effect of a call on the bytes of a source or a sink, if these are known.
 use Rattle.std.specs.Prelude.{◌≡◌, ℕ, ◌≤◌, List, [], ◌++◌, length, take, drop, Option, Some}
 
--- whatever bytes the old one tells, the new one tells the same
+-- if the old bytes are known, the new ones are the same
 abbrev pub Keeps : Option (List ℕ) → Option (List ℕ) → Type 0
 Keeps old new = (told : List ℕ) → old ≡ Some told → new ≡ Some told
 
--- whatever bytes the old one tells, the first n of them are at the front of the buffer, and the new
--- one tells the others
+-- if the old bytes are known, the first n of them are at the front of the buffer, and the others
+-- are left
 abbrev pub Takes : Option (List ℕ) → Option (List ℕ) → ℕ → List ℕ → Type 0
 Takes old new n buffer =
     (told : List ℕ) → old ≡ Some told → (take n told ≡ take n buffer) × (new ≡ Some (drop n told))
 
--- it tells no byte, or does not tell
+-- no bytes are left, or they are not known
 abbrev pub IsAtEnd : Option (List ℕ) → Type 0
 IsAtEnd known = (told : List ℕ) → known ≡ Some told → told ≡ []
 
--- whatever bytes the old one tells, the new one tells them with these behind them
+-- if the old bytes are known, the new ones are those followed by these
 abbrev pub Appends : Option (List ℕ) → Option (List ℕ) → List ℕ → Type 0
 Appends old new bytes = (told : List ℕ) → old ≡ Some told → new ≡ Some (told ++ bytes)
 
--- whatever bytes the old one tells, the new one tells them with the first so many of these behind
--- them
+-- if the old bytes are known, the new ones are those followed by a prefix of these
 abbrev pub AppendsFront : Option (List ℕ) → Option (List ℕ) → List ℕ → Type 0
 AppendsFront old new bytes = (n : ℕ) × Appends old new (take n bytes)
 
--- whatever bytes the old one tells, the first n of them are now behind the others, and the new one
--- tells the rest
+-- if the old bytes are known, the first n of them now follow the others, and the rest is left
 abbrev pub TakesAfter : Option (List ℕ) → Option (List ℕ) → ℕ → List ℕ → List ℕ → Type 0
 TakesAfter old new n others together =
     (told : List ℕ) → old ≡ Some told

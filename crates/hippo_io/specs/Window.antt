@@ -1,4 +1,4 @@
--- What a line reader's fields say.
+-- The meaning of a line reader's fields.
 use Rattle.std.specs.Prelude.{◌≡◌, ◌+◌, ◌-◌, ◌≤◌, ◌<◌, ◌↔◌, Some, vec_len, slice_range}
 use Rattle.hippo_values.specs.Limits.{line_limit}
 use Rattle.hippo_io.specs.Position.{Position}
@@ -6,7 +6,7 @@ use Rattle.hippo_io.specs.HandingOut.{input_limit}
 use Rattle.hippo_io.specs.declared.lines.LineReader.TheInside.{Inside}
 use Rattle.hippo_io.specs.declared.lines.LineFault.TheVariants.{TooMuch}
 
--- the position that the fields stand for
+-- the position that the fields represent
 abbrev pub position_of : Inside → Position
 position_of fields = record {
   waiting = slice_range fields.buffer.items fields.start fields.end;
@@ -15,7 +15,7 @@ position_of fields = record {
   failure = fields.failure;
 }
 
--- the bytes that wait lie in the buffer
+-- the waiting bytes are in the buffer
 pub record IsWindow (fields : Inside) : Type 0 where
   pub ordered : fields.start ≤ fields.end
   pub in_buffer : fields.end ≤ vec_len fields.buffer

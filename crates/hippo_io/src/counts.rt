@@ -1,4 +1,4 @@
-//! Counts of faults, and the lists of calls that are to fail.
+//! Fault counts, and the lists of calls that must fail.
 ghost use Rattle.std.specs.Prelude.{◌≡◌, ◌≤◌};
 ghost use Rattle.hippo_io.specs.Faults.{next_count};
 ghost use Rattle.hippo_io.specs.Playback.{new_tally, fails_next, after_call, after_fault};
@@ -6,7 +6,7 @@ ghost use Rattle.hippo_io.specs.Playback.{new_tally, fails_next, after_call, aft
 use hippo_values::Calls;
 use std::marker::Model;
 
-/// Counts calls and faults, and knows by their numbers which calls are to fail.
+/// Counts calls and faults, and knows the numbers of the calls that must fail.
 #[derive(Drop)]
 pub(crate) struct CallCounter {
     failing: Calls,
@@ -22,7 +22,7 @@ impl Model for CallCounter {
     ghost view = { λ a. record { failing = a.failing; made = a.made; faults = a.faults } };
 }
 
-// A count that stands still at its last value.
+// Adds one to a count, which saturates at its largest value.
 pub(crate) fn one_more(count: u64) -> u64
     ensures { result ≡ next_count count }
 {
@@ -40,7 +40,7 @@ impl CallCounter {
         }
     }
 
-    /// Counts a call, and answers whether it is to fail.
+    /// Counts a call and returns whether it must fail.
     pub(crate) fn begin_call(&mut self) -> bool
         ensures fails { result ≡ fails_next self.old }
         ensures counted { self.new ≡ after_call self.old }

@@ -1,4 +1,4 @@
-//! Where bytes come from and go to, and the cut of the input into lines.
+//! Sources and sinks of bytes, and the splitting of the input into lines.
 #![tactic(auto)]
 
 mod counts;

@@ -1,4 +1,4 @@
-//! The input cut into lines, however its bytes arrive.
+//! Splits the input into lines, however its bytes arrive.
 ghost use Rattle.std.specs.Prelude.{◌≡◌, ◌≢◌, ℕ, List, ◌+◌, ◌-◌, ◌<◌, ◌≤◌, ◌↔◌, ◌⊎◌, length, take, drop, slice_range, true, [], Some, None, Err, OnOk, OnErr, IfOk, IfErr, IsErrOf, IsSome, IsTrue, MatchOption, position, ◌==◌};
 ghost use Rattle.std.specs.Borrow.{sem};
 ghost use Rattle.std.specs.Io.BufRead.{Rests, strip_last};
@@ -15,39 +15,39 @@ use memchr::memchr;
 use std::alloc::Global;
 use std::marker::Model;
 
-// How many bytes are read at most.
+// The most bytes that are read.
 const INPUT_LIMIT: u64 = 1 << 40;
 
-/// A line of the input, or its end.
+/// A line of the input, or the end of the input.
 #[derive(Clone, Copy, Debug, PartialEq, Eq)]
 pub enum Line<'a> {
-    /// The bytes before the line feed or the end of the input, without the one carriage return at
-    /// their end.
+    /// The bytes before the line feed or the end of the input, without one carriage return at their
+    /// end.
     Text(&'a str),
-    /// More than 65,536 bytes stand before the line feed or the end of the input, a carriage return
-    /// among them.
+    /// More than 65,536 bytes come before the line feed or the end of the input, counting any
+    /// carriage return.
     TooLong,
-    /// The line is not too long, and its bytes are not UTF-8.
+    /// The line is not too long, but its bytes are not UTF-8.
     NotUtf8,
     /// No byte of the input is left.
     End,
 }
 
-/// Why no further line can be read.
+/// Why no more lines can be read.
 #[derive(Clone, Copy, Debug, PartialEq, Eq)]
 pub enum LineFault {
-    /// The source failed. The lines whose line feeds were taken from it have been handed out.
+    /// The source failed. The lines whose line feeds were read from it have been returned.
     Read,
-    /// More than 2^40 bytes were taken. The lines whose line feeds are among the first 2^40 have
-    /// been handed out.
+    /// More than 2^40 bytes were read. The lines whose line feeds are among the first 2^40 bytes
+    /// have been returned.
     TooMuch,
 }
 
-/// Cuts the bytes of a source into lines. A line ends at a line feed or at the end of the input,
+/// Splits the bytes of a source into lines. A line ends at a line feed or at the end of the input,
 /// has at most 65,536 bytes before that, and loses one carriage return at its end.
 #[derive(Drop)]
 pub struct LineReader {
-    // `buffer[start..end]` was taken from the source and not yet handed out.
+    // `buffer[start..end]` was read from the source and not yet returned.
     buffer: Vec<u8>,
     start: usize,
     end: usize,
@@ -69,18 +69,18 @@ impl Model for LineReader {
     ghost invariant = { IsWindow };
 }
 
-// What waits behind the lines that were handed out.
+// What follows the lines returned so far.
 #[derive(Clone, Copy)]
 enum Found {
-    // A line of so many bytes, and its line feed.
+    // A line of this many bytes, and its line feed.
     Whole(usize),
-    // The bytes before the end of the input.
+    // The last bytes of the input, without a line feed.
     Rest,
-    // A line that was too long stood there, and was skipped.
+    // A line that was too long; it was skipped.
     Skipped,
 }
 
-// Moves the bytes from `start` to `end` to the front.
+// Moves `buffer[start..end]` to the front.
 fn move_to_front(buffer: &mut [u8], start: usize, end: usize)
     requires ordered { start ≤ end }
     requires in_buffer { end ≤ length buffer.old }
@@ -91,7 +91,7 @@ fn move_to_front(buffer: &mut [u8], start: usize, end: usize)
     }
 }
 
-// Reads at most so many bytes into the buffer, behind those that fill it so far.
+// Reads at most `most` bytes into the buffer, after the bytes already in it.
 fn read_after<S: Source>(
     source: &mut S,
     buffer: &mut [u8],
@@ -121,7 +121,7 @@ fn feed_place(bytes: &[u8]) -> Option<usize>
     memchr(b'\n', bytes)
 }
 
-// The place of the first line feed; none stands among the bytes that were searched before.
+// The index of the first line feed. The first `searched` bytes are known to have none.
 fn find_feed(bytes: &[u8], searched: usize) -> Option<usize>
     requires searched { searched ≤ length bytes.now }
     requires none { feeds (take searched bytes.now) ≡ 0 }
@@ -158,7 +158,7 @@ impl LineReader {
     ghost use Rattle.hippo_io.specs.contracts.lines.LineReader.{the_row};
     ghost use Rattle.hippo_io.specs.declared.lines.LineFault.TheVariants.{Read, TooMuch};
 
-    /// A reader with room for the longest line.
+    /// A reader whose buffer holds the longest line. Fails only when out of memory.
     pub fn new(alloc: Global) -> Result<LineReader, Memory>
         ensures position { IfOk result (λ reader. reader ≡ at_beginning) }
         ensures handed { IfOk result (λ reader.
@@ -183,7 +183,7 @@ impl LineReader {
         &self.buffer[self.start..self.end]
     }
 
-    // Skips the first bytes that wait.
+    // Skips the first `count` waiting bytes.
     fn let_go(&mut self, count: usize)
         requires { count ≤ length self.old.waiting }
         ensures { self.new ≡ record self.old { waiting = drop count self.old.waiting } }
@@ -203,7 +203,7 @@ impl LineReader {
         self.ended = true;
     }
 
-    // Reads once, and answers how many bytes came: none only at the end of the input.
+    // Reads once and returns how many bytes arrived; 0 only at the end of the input.
     fn refill<S: Source>(&mut self, source: &mut S) -> Result<usize, LineFault>
         requires going { IsGoing self.old }
         requires room { length self.old.waiting ≤ line_limit }
@@ -240,7 +240,8 @@ impl LineReader {
         }
     }
 
-    // Skips the bytes that wait, and the others up to the next line feed or the end of the input.
+    // Skips the waiting bytes, and then all bytes through the next line feed or the end of the
+    // input.
     fn skip_line<S: Source>(&mut self, source: &mut S) -> Result<(), LineFault>
         requires going { IsGoing self.old }
         requires clear { feeds self.old.waiting ≡ 0 }
@@ -271,8 +272,7 @@ impl LineReader {
         }
     }
 
-    // Reads until a whole line waits, or the input has ended, or a line that is too long was
-    // skipped.
+    // Reads until a whole line waits, the input has ended, or an overlong line was skipped.
     fn find_line<S: Source>(&mut self, source: &mut S) -> Result<Found, LineFault>
         requires going { IsGoing self.old }
         ensures found { IfOk result (FindsNext self.old self.new (S.left source.old)
@@ -303,13 +303,13 @@ impl LineReader {
         }
     }
 
-    /// The next line, or the end once all lines are handed out. A line that is too long is skipped
-    /// through its line feed.
+    /// Returns the next line, or `End` once all lines are returned. A line that is too long is
+    /// skipped through its line feed.
     ///
-    /// Answers `Read` only where the source failed, in this call or in an earlier one, and
-    /// `TooMuch` exactly where more than 2^40 bytes were taken from it. After a fault, and after
-    /// the end, it answers the same again and does not read. The source's count of faults is as
-    /// before, unless the answer is `Read`.
+    /// Returns `Read` only if the source failed, in this call or in an earlier one, and `TooMuch`
+    /// exactly when more than 2^40 bytes were read from it. After a fault, and after the end, it
+    /// returns the same again and does not read. The source's count of faults stays the same,
+    /// unless the result is `Read`.
     pub fn next_line<S: Source>(&mut self, source: &mut S) -> Result<Line<'_>, LineFault>
         ensures* next { sem 𝓛 (Rests the_row self.entry (λ new.
             NextLine self.old new (S.left source.old) (S.left source.new) result)) }

@@ -1,4 +1,4 @@
-//! A sink in memory that tells what was written, and fails where it is told to.
+//! A sink in memory that exposes what was written, and fails at chosen calls.
 ghost use Rattle.std.specs.Prelude.{◌≡◌, ◌<◌, ◌≤◌, [], Some, length, take, IfOk, OnOk, OnErr, is_err};
 ghost use Rattle.hippo_io.specs.Faults.{HasRisen};
 ghost use Rattle.hippo_io.specs.Playback.{new_tally, write_fails, tally_after};
@@ -11,8 +11,8 @@ use hippo_values::{Calls, Memory};
 use std::alloc::Global;
 use std::marker::Model;
 
-/// A sink that keeps bytes in memory and fails at the calls that it is told. It has all its room
-/// from the beginning.
+/// A sink that keeps bytes in memory and fails at chosen calls. All its memory is allocated when it
+/// is made.
 #[derive(Drop)]
 pub struct MemorySink {
     bytes: Vec<u8>,
@@ -32,8 +32,9 @@ impl Model for MemorySink {
 }
 
 impl MemorySink {
-    /// An empty sink with room for so many bytes. The calls of `write` whose numbers, counted from
-    /// 1, are in `failing` fail, and so does one whose piece does not fit.
+    /// An empty sink with room for `room` bytes. The calls of `write` whose numbers, counted from
+    /// 1, are in `failing` fail, and so does a write that does not fit. Fails only when out of
+    /// memory.
     pub fn new(alloc: Global, room: usize, failing: Calls) -> Result<MemorySink, Memory>
         ensures written { IfOk result (λ sink. sink.written ≡ []) }
         ensures room { IfOk result (λ sink. sink.room ≡ room) }
@@ -46,7 +47,7 @@ impl MemorySink {
         })
     }
 
-    /// The bytes that were written.
+    /// The bytes written so far.
     pub fn bytes(&self) -> &[u8]
         ensures { result.now ≡ self.now.written }
     {

@@ -1,4 +1,4 @@
-//! A source in memory that tells what is left, and fails where it is told to.
+//! A source in memory that exposes the bytes that are left, and fails at chosen calls.
 ghost use Rattle.std.specs.Prelude.{◌≡◌, ◌<◌, ◌≤◌, Some, length, min, take, IfOk, OnOk, OnErr, is_err};
 ghost use Rattle.hippo_io.specs.Faults.{HasRisen};
 ghost use Rattle.hippo_io.specs.Playback.{new_tally, fails_next, tally_after};
@@ -9,7 +9,7 @@ use crate::source::{Failed, Source};
 use hippo_values::{Bytes, Calls};
 use std::marker::Model;
 
-/// A source that gives bytes out of memory and fails at the calls that it is told.
+/// A source that reads from memory and fails at chosen calls.
 #[derive(Drop)]
 pub struct MemorySource {
     bytes: Bytes,
@@ -43,7 +43,7 @@ impl MemorySource {
     }
 }
 
-// Copies as many bytes as both have, and answers how many.
+// Copies as many bytes as fit, and returns how many.
 fn copy_front(from: &[u8], to: &mut [u8]) -> usize
     ensures count { result ≡ min (length from.now) (length to.old) }
     ensures bytes { take result to.new ≡ take result from.now }

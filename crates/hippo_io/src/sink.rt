@@ -1,21 +1,20 @@
-//! Where bytes go to.
+//! Where bytes are written.
 ghost use Rattle.std.specs.Prelude.{◌≡◌, ℕ, ◌<◌, ◌≤◌, List, Option, length, take, IfOk, OnOk, OnErr};
 ghost use Rattle.hippo_io.specs.Faults.{HasRisen};
 ghost use Rattle.hippo_io.specs.Told.{Keeps, Appends, AppendsFront};
 
 use crate::source::Failed;
 
-/// Where bytes go to.
+/// Where bytes are written.
 pub trait Sink {
-    // The bytes written so far, where the sink tells them.
+    // The bytes written so far, if they are known to the proof.
     ghost written: { Self → Option (List ℕ) };
 
-    // How often a write failed; the count stands still at its last value.
+    // How often a write failed; the count saturates at its largest value.
     ghost faults: { Self → ℕ };
 
-    /// Writes the first bytes of the piece, and answers how many; none only where the piece is
-    /// empty. A write that failed wrote none. The count of faults rises where the write failed, and
-    /// only there.
+    /// Writes a prefix of the piece and returns its length, which is 0 only if the piece is empty.
+    /// A failed write writes nothing. The fault count rises exactly when the write fails.
     fn write(&mut self, piece: &[u8]) -> Result<usize, Failed>
         ensures count { IfOk result (λ n. n ≤ length piece.now) }
         ensures some { IfOk result (λ n. 0 < length piece.now → 0 < n) }
@@ -27,7 +26,7 @@ pub trait Sink {
         ensures faults { faults self.old ≤ faults self.new };
 }
 
-/// Writes all bytes. Where a write fails, the bytes before it are written.
+/// Writes all bytes. If a write fails, only the bytes before it are written.
 pub fn write_whole<K: Sink>(sink: &mut K, bytes: &[u8]) -> Result<(), Failed>
     ensures ok { OnOk result (Appends (K.written sink.old) (K.written sink.new) bytes.now) }
     ensures failed { OnErr result (AppendsFront (K.written sink.old) (K.written sink.new)

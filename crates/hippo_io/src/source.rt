@@ -1,4 +1,4 @@
-//! Where bytes come from.
+//! Where bytes are read.
 ghost use Rattle.std.specs.Prelude.{◌≡◌, ℕ, ◌<◌, ◌≤◌, List, Option, length, IfOk, OnOk, OnErr};
 ghost use Rattle.hippo_io.specs.Faults.{HasRisen};
 ghost use Rattle.hippo_io.specs.Told.{Keeps, Takes, IsAtEnd};
@@ -7,17 +7,17 @@ ghost use Rattle.hippo_io.specs.Told.{Keeps, Takes, IsAtEnd};
 #[derive(Clone, Copy, Debug, PartialEq, Eq)]
 pub struct Failed;
 
-/// Where bytes come from.
+/// Where bytes are read.
 pub trait Source {
-    // The bytes still to come, where the source tells them.
+    // The bytes still to come, if they are known to the proof.
     ghost left: { Self → Option (List ℕ) };
 
-    // How often a read failed; the count stands still at its last value.
+    // How often a read failed; the count saturates at its largest value.
     ghost faults: { Self → ℕ };
 
-    /// Moves the next bytes to the front of the buffer, and answers how many; none only at the end
-    /// or where the buffer has no room. What stands behind them in the buffer is free. A read that
-    /// failed moved none. The count of faults rises where the read failed, and only there.
+    /// Reads the next bytes into the front of the buffer and returns how many; 0 only at the end or
+    /// if the buffer has length 0. The rest of the buffer may hold anything. A failed read takes no
+    /// bytes. The fault count rises exactly when the read fails.
     fn read(&mut self, buffer: &mut [u8]) -> Result<usize, Failed>
         ensures count { IfOk result (λ n. n ≤ length buffer.old) }
         ensures taken { IfOk result (λ n. Takes (left self.old) (left self.new) n buffer.new) }

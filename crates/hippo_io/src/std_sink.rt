@@ -10,8 +10,8 @@ use crate::source::Failed;
 use crate::std_stream::StdStream;
 use std::io::Write;
 
-/// A sink over any writer. It counts each error of the writer as a fault, and each write of a piece
-/// with bytes that takes none of them.
+/// A sink over any writer. It counts as a fault each error of the writer, and each write of a
+/// non-empty piece that writes nothing.
 pub type StdSink<W> = StdStream<W>;
 
 impl<W: Write> Sink for StdStream<W> {

@@ -9,7 +9,7 @@ use crate::source::{Failed, Source};
 use crate::std_stream::StdStream;
 use std::io::Read;
 
-/// A source over any reader. It counts each error of the reader as a fault, and does not try again.
+/// A source over any reader. It counts each error of the reader as a fault, and does not retry.
 pub type StdSource<R> = StdStream<R>;
 
 impl<R: Read> Source for StdStream<R> {

@@ -1,4 +1,4 @@
-//! What is over a stream of std, and counts its faults.
+//! Wraps a stream of std and counts its faults.
 ghost use Rattle.std.specs.Prelude.{◌≡◌};
 ghost use Rattle.hippo_io.specs.Adapters.{stream_of, stream_faults};
 
@@ -10,8 +10,8 @@ pub struct StdStream<T> {
 }
 
 impl<T> StdStream<T> {
-    /// A source of the reader's bytes; a sink that writes to the writer at once and never flushes
-    /// it.
+    /// A source of the reader's bytes, or a sink that writes to the writer at once and never
+    /// flushes it.
     pub fn new(inner: T) -> StdStream<T>
         ensures stream { stream_of result ≡ inner }
         ensures faults { stream_faults result ≡ 0 }

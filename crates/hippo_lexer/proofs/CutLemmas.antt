@@ -1,4 +1,4 @@
--- The steps of the cut through a text.
+-- The steps that split a text into tokens.
 use Rattle.std.proofs.Common.{◌≡◌, ℕ, suc, ◌+◌, ◌-◌, ◌<◌, ◌≤◌, false, List, [], ◌∷◌, ◌++◌, length, drop, Result, Ok, Err, refl, sym, ap, ◌∙◌, inl, inr, arith, one-add}
 use Rattle.std.specs.Prelude.{IsUtf8, IsCharBoundary}
 use Rattle.std.proofs.lemmas.Bool.{cases_Bool}
@@ -17,7 +17,7 @@ use Rattle.hippo_lexer.proofs.FrontLemmas.{boundary-ascii}
 use Rattle.hippo_lexer.proofs.RunLemmas.{tokens_from-token, tokens_from-fault}
 use Rattle.hippo_lexer.proofs.TokenLemmas.{token-is, fault-is}
 
--- blanks are passed over
+-- blanks are skipped
 pub tokens_from-blanks : (place : ℕ) (bytes : List ℕ) → tokens_from place 0 bytes ≡ tokens_from (place + blanks_len bytes) 0 (drop (blanks_len bytes) bytes)
 unfolding tokens_from
 tokens_from-blanks place [] = refl
@@ -36,7 +36,7 @@ front_more : (front : List Token) (token : Token) (outcome : Result (List Token)
 front_more front token (Ok tokens) = ap Ok (sym (append_assoc front (token ∷ []) tokens))
 front_more front token (Err fault) = refl
 
--- what the cut found first is the front of the text, which may be cut behind it
+-- the text begins with what was found first, and may be split after it
 pub record IsCutOff (bytes : List ℕ) (n : ℕ) : Type 0 where
   pub text : List ℕ
   pub rest : List ℕ

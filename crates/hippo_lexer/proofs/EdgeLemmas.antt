@@ -1,4 +1,4 @@
--- How a token begins and ends: with a byte of ASCII that is no blank.
+-- A token begins and ends with an ASCII byte that is not a blank.
 use Rattle.std.proofs.Common.{◌≡◌, ℕ, zero, suc, ◌-◌, ◌<◌, Bool, true, false, List, [], ◌∷◌, ◌++◌, length, get_or, Some, ℤ, refl, sym, ap, ◌∙◌, inl, inr, arith}
 use Rattle.std.specs.Prelude.{nat_lt}
 use Rattle.std.specs.List.{list_all}
@@ -16,7 +16,7 @@ use Rattle.hippo_lexer.proofs.FrontLemmas.{small_digit, small_word_byte}
 use Rattle.hippo_lexer.proofs.NumeralLemmas.{number_begins}
 use Rattle.hippo_lexer.proofs.SignLemmas.{sign-begins, sign-plain}
 
--- a text that begins with a byte of ASCII that is no blank
+-- a text that begins with an ASCII byte that is not a blank
 pub record BeginsPlain (bytes : List ℕ) : Type 0 where
   pub first : ℕ
   pub tail : List ℕ
@@ -24,11 +24,11 @@ pub record BeginsPlain (bytes : List ℕ) : Type 0 where
   pub blank : is_blank first ≡ false
   pub small : first < 128
 
--- a text that ends with a byte of ASCII
+-- a text that ends with an ASCII byte
 abbrev pub EndsPlain : List ℕ → Type 0
 EndsPlain text = get_or text (length text - 1) 0 < 128
 
--- What is known of single bytes.
+-- Facts about single bytes.
 letter_plain : (byte : ℕ) → is_ascii_alphabetic byte ≡ true → (is_blank byte ≡ false) × (byte < 128)
 letter_plain byte h = (grind (arith, nat_tests), grind (arith, nat_tests))
 
@@ -77,7 +77,7 @@ token_begins text rest kind (a_quoted_text _ said _ spelled ends) = record { fir
 token_begins text rest kind (a_day _ word remaining blanks said _ day opens is_day spelled) = begins-more word (blanks ++ quoted_text said) text (word_begins word opens.whole.form) spelled
 token_begins text rest kind (a_sign _ _ sign h longest) = sign_begins_plain text sign h
 
--- a text that begins with a byte that is no blank
+-- a text that begins with a byte that is not a blank
 abbrev pub BeginsFilled : List ℕ → Type 0
 BeginsFilled bytes = (first : ℕ) × (tail : List ℕ) × (bytes ≡ first ∷ tail) × (is_blank first ≡ false)
 

@@ -1,4 +1,4 @@
--- At each byte that is no blank a token begins or a fault.
+-- A token or a fault begins at each byte that is not a blank.
 use Rattle.std.proofs.Common.{◌≡◌, ℕ, ◌⊎◌, true, false, ◌||◌, List, ◌∷◌, ◌++◌, take, Option, Some, None, refl, sym, ap, ◌∙◌, inl, inr, IfSome, IfNone, ℤ}
 use Rattle.std.specs.Char.{is_ascii_alphabetic, is_ascii_digit}
 use Rattle.std.proofs.lemmas.Bool.{cases_Bool, eqb-true, or_parts}
@@ -91,7 +91,7 @@ sign_is place byte rest blank letter numeral quote = elim (sign_or_none byte res
       inr (_, stray place byte _ rest (record { blank = blank; letter = letter; digit = parts.0; minus = parts.1; quote = quote; sign = none.0; longer = none.1 }) refl)
 ]
 
--- a token or a fault begins at each byte that is no blank
+-- a token or a fault begins at each byte that is not a blank
 pub token_or_fault : (place byte : ℕ) (rest : List ℕ) → is_blank byte ≡ false → HasToken (byte ∷ rest) ⊎ HasFault place (byte ∷ rest)
 token_or_fault place byte rest blank = elim (cases_Bool (is_ascii_alphabetic byte)) [
   | inl letter ↦ word_is place (byte ∷ rest) _ _ (sym (take-append-drop (word_len (byte ∷ rest)) (byte ∷ rest))) (cut_whole byte rest letter)

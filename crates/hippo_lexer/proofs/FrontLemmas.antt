@@ -1,4 +1,4 @@
--- What stands at the front of a text: where it may be cut, and what its bytes are.
+-- The front of a text: where the text may be split, and what its bytes are.
 use Rattle.std.proofs.Common.{leb, ◌≡◌, ℕ, zero, suc, ◌+◌, ◌-◌, ◌<◌, ◌≤◌, Bool, true, List, [], ◌∷◌, length, take, get_or, inl, inr, refl, arith, zero-add}
 use Rattle.std.specs.Prelude.{IsUtf8, IsCharBoundary}
 use Rattle.std.specs.List.{prefix_len, list_all}
@@ -12,7 +12,7 @@ use Rattle.hippo_values.specs.Names.{is_word_byte}
 use Rattle.hippo_lexer.specs.Spelling.{is_blank, is_minus}
 use Rattle.hippo_lexer.specs.Cutting.{word_len, digits_len, blanks_len, sign_len, number_len, IsNumeral}
 
--- a text may be cut behind bytes of ASCII
+-- a text may be split after ASCII bytes
 pub boundary-ascii : (bytes : List ℕ) (n : ℕ) → IsUtf8 bytes → n ≤ length bytes → (0 < n → get_or bytes (n - 1) 0 < 128) → IsCharBoundary bytes n
 boundary-ascii bytes zero utf8 small ascii = IsCharBoundary-start bytes utf8
 boundary-ascii bytes (suc n) utf8 small ascii =
@@ -29,7 +29,7 @@ small_word_byte byte h = grind (arith, nat_tests)
 pub small_blank : (byte : ℕ) → is_blank byte ≡ true → byte < 128
 small_blank byte h = grind (arith, nat_tests)
 
--- a text may be cut behind the bytes of ASCII that pass a test
+-- a text may be split after the ASCII bytes that pass a test
 boundary-prefix : (test : ℕ → Bool) → ((byte : ℕ) → test byte ≡ true → byte < 128) → (bytes : List ℕ) → IsUtf8 bytes → IsCharBoundary bytes (prefix_len test bytes)
 boundary-prefix test small bytes utf8 =
     boundary-ascii bytes (prefix_len test bytes) utf8 (prefix_len-le-length test bytes)
@@ -50,7 +50,7 @@ all_digits-front (byte ∷ rest) = elim (cases_Bool (is_ascii_digit byte)) [
   | inr other ↦ rw other refl
 ]
 
--- the bytes of a `-` and digits are of ASCII
+-- the bytes of a `-` and of digits are ASCII
 last_small : (byte : ℕ) (rest : List ℕ) (n : ℕ) → byte ≡ 45 → n ≤ digits_len rest → get_or (byte ∷ rest) n 0 < 128
 last_small byte rest zero dash within = omega arith
 last_small byte rest (suc n) dash within = small_digit _ (prefix_len_passes is_ascii_digit rest n 0 (omega arith))

@@ -1,4 +1,4 @@
--- What a parsed number is.
+-- The value of a parsed number.
 use Rattle.std.proofs.Common.{◌≡◌, ℕ, Bool, true, List, [], ◌∷◌, Result, Ok, Err, refl, arith, w64, ℤ, pos, neg_ℤ, int_le, inl, inr, rules}
 use Rattle.std.specs.Result.{result_ok, OkIff}
 use Rattle.std.specs.Bool.{then_some}
@@ -15,7 +15,7 @@ use Rattle.hippo_lexer.specs.Cutting.{number_of, IsNumeral}
 digits : IsNumeralModel (λ ds. list_all is_ascii_digit ds ≡ true) (digits_value 10)
 digits = numerals_by_value (λ ds. list_all is_ascii_digit ds ≡ true) (search rules)
 
--- an answer that is `value` just where the test passes
+-- a result that is `value` exactly when the test passes
 if_ok : {E : Type 0} (r : Result ℤ E) (P : Type 0) (value : ℤ) (test : Bool) → OkIff r P value → (test ≡ true → P) → (P → test ≡ true) → result_ok r ≡ then_some test value
 if_ok (Ok x) P value test h to from = rw (from h.0, h.1) refl
 if_ok (Err e) P value test h to from = elim (cases_Bool test) [ inl passed ↦ absurd (h (to passed)) | inr failed ↦ rw failed refl ]

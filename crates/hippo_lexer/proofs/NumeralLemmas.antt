@@ -50,14 +50,14 @@ number_lens : (text rest : List ℕ) (number : ℤ) → IsNumber text number →
 number_lens text rest number (plain _ _ are value) ends = plain_lens text rest are ends
 number_lens text rest number (negative _ digits _ are spelled value) ends = rw spelled (negative_lens digits rest are ends)
 
--- a number is found where it fits, and only there
+-- a number is found exactly when it fits
 choice : (number written : ℤ) → number ≡ written → (IsSignedNumber number → if_in_range written ≡ Some number) × (¬ (IsSignedNumber number) → if_in_range written ≡ None)
 choice number written same = elim (cases_Bool (is_signed_number written)) [
   | inl fits ↦ (λ _. rw fits (ap Some (sym same)), λ large. absurd (large (subst IsSignedNumber (sym same) (fits-signed written fits))))
   | inr large ↦ (λ fits. absurd (false≢true (sym large ∙ signed-fits written (subst IsSignedNumber same fits))), λ _. rw large refl)
 ]
 
--- a number's value is what the cut makes of its text
+-- a number's value is the one that the code reads from its text
 plain_value : (digits : List ℕ) (number : ℤ) → AreDigits digits → number ≡ pos (digits_value 10 digits) → (IsSignedNumber number → number_of digits ≡ Some number) × (¬ (IsSignedNumber number) → number_of digits ≡ None)
 unfolding number_of
 plain_value [] number are value = absurd (omega (arith, are.0))
@@ -78,7 +78,7 @@ in_range_or_not number = elim (cases_Bool (is_signed_number number)) [
   | inr large ↦ inr (λ fits. false≢true (sym large ∙ signed-fits number fits))
 ]
 
--- what the cut says of a number
+-- the result on a number
 number_step : (place : ℕ) (text rest : List ℕ) (number : ℤ) → IsNumber text number → begins_with is_ascii_digit rest ≡ false → number_first place (text ++ rest) ≡ (ok_or (number_of text) (faults.NumberTooLarge place) >>= λ n. if begins_with is_word_byte rest then Err (faults.BadToken (place + length text)) else Ok (kinds.Number n, length text))
 unfolding number_first
 number_step place text rest number h ends =

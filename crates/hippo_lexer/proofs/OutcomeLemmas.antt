@@ -1,4 +1,4 @@
--- What an exact outcome says by the grammar.
+-- The meaning of an exact outcome by the grammar.
 use Rattle.std.proofs.Common.{◌≡◌, ◌≤◌, ◌⊎◌, ℕ, List, Result, Ok, Err, IfOk, IfErr, All, refl, sym, inl, inr}
 use Rattle.std.specs.Prelude.{IsUtf8}
 use Rattle.std.specs.List.{AllPairs}
@@ -21,7 +21,7 @@ outcome-one text = (outcome_is text, λ other h. sym (cut-is 0 text other h))
 is_outcome : (text : List ℕ) (outcome : Outcome) → outcome_of text ≡ outcome → IsOutcome text outcome
 is_outcome text outcome same = rw same at (outcome-one text).0
 
--- What an exact outcome is.
+-- The meaning of an exact outcome.
 pub given-found : (text : List ℕ) (given : Outcome) → GivesOutcome given (outcome_of text) → IfOk given (λ tokens. IsOutcome text (Ok tokens))
 given-found text (Ok tokens) h = is_outcome text (Ok tokens) h
 given-found text (Err fault) h = tt

@@ -1,10 +1,10 @@
--- The longest front of a list that passes a test.
+-- The longest prefix of a list whose members pass a test.
 use Rattle.std.proofs.Common.{◌≡◌, ℕ, Bool, true, false, List, [], ◌∷◌, ◌++◌, length, take, drop, refl, inl, inr, one-add}
 use Rattle.std.specs.List.{prefix_len, list_all}
 use Rattle.std.proofs.lemmas.Bool.{cases_Bool, and_parts}
 use Rattle.hippo_lexer.specs.Spelling.{begins_with}
 
--- its elements pass
+-- its members pass
 pub all-front : (test : ℕ → Bool) (bytes : List ℕ) → list_all test (take (prefix_len test bytes) bytes) ≡ true
 all-front test [] = refl
 all-front test (byte ∷ rest) = elim (cases_Bool (test byte)) [
@@ -12,7 +12,7 @@ all-front test (byte ∷ rest) = elim (cases_Bool (test byte)) [
   | inr failed ↦ rw failed refl
 ]
 
--- what stands behind it doesn't begin so
+-- the rest does not begin with a member that passes
 pub ends-front : (test : ℕ → Bool) (bytes : List ℕ) → begins_with test (drop (prefix_len test bytes) bytes) ≡ false
 ends-front test [] = refl
 ends-front test (byte ∷ rest) = elim (cases_Bool (test byte)) [
@@ -20,7 +20,7 @@ ends-front test (byte ∷ rest) = elim (cases_Bool (test byte)) [
   | inr failed ↦ rw (failed, failed) refl
 ]
 
--- and such a front is the longest one
+-- such a prefix is the longest one
 pub len-front : (test : ℕ → Bool) (front rest : List ℕ) → list_all test front ≡ true → begins_with test rest ≡ false → prefix_len test (front ++ rest) ≡ length front
 len-front test [] [] passes ends = refl
 len-front test [] (byte ∷ rest) passes ends = rw ends refl

@@ -20,7 +20,7 @@ closing-doubled_quotes (byte ∷ text) rest ends = elim (cases_Bool (is_quote by
       rw other (closing-other byte (doubled_quotes text ++ 39 ∷ rest) other ∙ (ap (onto (byte ∷ []) 1) (closing-doubled_quotes text rest ends) ∙ rw count refl))
 ]
 
--- without that quote it doesn't close
+-- without that quote it does not close
 closing-unclosed : (text : List ℕ) → closing (doubled_quotes text) ≡ None
 closing-unclosed [] = closing-nil
 closing-unclosed (byte ∷ text) = elim (cases_Bool (is_quote byte)) [
@@ -28,14 +28,14 @@ closing-unclosed (byte ∷ text) = elim (cases_Bool (is_quote byte)) [
   | inr other ↦ rw other (closing-other byte (doubled_quotes text) other ∙ ap (onto (byte ∷ []) 1) (closing-unclosed text))
 ]
 
--- bytes behind an opening quote: a text that closes, or one that does not
+-- the bytes after an opening quote: a text that closes, or one that does not
 abbrev Closes : List ℕ → Type 0
 Closes bytes = (text : List ℕ) × (rest : List ℕ) × (bytes ≡ doubled_quotes text ++ 39 ∷ rest) × (begins_with is_quote rest ≡ false)
 
 abbrev StaysOpen : List ℕ → Type 0
 StaysOpen bytes = (text : List ℕ) × (bytes ≡ doubled_quotes text)
 
--- one byte more in front
+-- one more byte at the front
 more_quote : (bytes : List ℕ) → Closes bytes ⊎ StaysOpen bytes → Closes (39 ∷ 39 ∷ bytes) ⊎ StaysOpen (39 ∷ 39 ∷ bytes)
 more_quote bytes (inl closed) = inl (39 ∷ closed.0, closed.1, ap (λ b. 39 ∷ 39 ∷ b) closed.2, closed.3)
 more_quote bytes (inr open_text) = inr (39 ∷ open_text.0, ap (λ b. 39 ∷ 39 ∷ b) open_text.1)
@@ -58,14 +58,14 @@ closes_or_not (byte ∷ next ∷ rest) = elim (cases_Bool (is_quote byte)) [
   | inr other ↦ more_other byte (next ∷ rest) other (closes_or_not (next ∷ rest))
 ]
 
--- the cut finds a quoted text by its spelling
+-- a quoted text is found by its spelling
 pub quoted_first-is : (text rest : List ℕ) → begins_with is_quote rest ≡ false → quoted_first (quoted_text text ++ rest) ≡ Some (text, length (quoted_text text))
 unfolding quoted_first
 quoted_first-is text rest ends =
     let count : 1 + (length (doubled_quotes text) + 1) ≡ length (quoted_text text) = simp length-append (omega arith) in
     rw (append_assoc (doubled_quotes text) (39 ∷ []) rest) (ap (onto [] 1) (closing-doubled_quotes text rest ends) ∙ rw count refl)
 
--- and none where it stays open
+-- and none is found if it stays open
 pub quoted_first-unclosed : (text : List ℕ) → quoted_first (39 ∷ doubled_quotes text) ≡ None
 unfolding quoted_first
 quoted_first-unclosed text = ap (onto [] 1) (closing-unclosed text)

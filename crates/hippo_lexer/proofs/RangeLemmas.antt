@@ -3,7 +3,7 @@ use Rattle.std.proofs.Common.{◌≡◌, ℕ, zero, suc, ◌+◌, ◌<◌, Bool,
 use Rattle.std.specs.List.{list_any, range_with_len}
 use Rattle.std.proofs.lemmas.Bool.{or_from, or_left, or_right}
 
--- one number from `low` on passes
+-- some number from `low` on passes
 pub list_any-range_true : (test : ℕ → Bool) (low n k : ℕ) → k < n → test (low + k) ≡ true → list_any test (range_with_len low n) ≡ true
 list_any-range_true test low zero k small h = absurd (omega arith)
 list_any-range_true test low (suc n) zero small h = or_left (test low) _ (rw add-zero at h)

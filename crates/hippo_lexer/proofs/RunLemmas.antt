@@ -1,4 +1,4 @@
--- The cut's outcome is the grammar's, for each text.
+-- The outcome of the code is that of the grammar, for each text.
 use Rattle.std.proofs.Common.{◌≡◌, ℕ, zero, suc, ◌+◌, ◌-◌, ◌<◌, ◌≤◌, false, List, [], ◌∷◌, ◌++◌, length, Result, Ok, Err, refl, sym, ap, ◌∙◌, inl, inr, arith}
 use Rattle.std.proofs.lemmas.Bool.{cases_Bool}
 use Rattle.std.proofs.lemmas.List.{length-append}
@@ -12,7 +12,7 @@ use Rattle.hippo_lexer.proofs.EdgeLemmas.{BeginsPlain, token_begins, fault_begin
 use Rattle.hippo_lexer.proofs.FirstLemmas.{token_or_fault}
 use Rattle.hippo_lexer.proofs.TokenLemmas.{token-is, fault-is}
 
--- bytes of a token are passed over
+-- the bytes of a token are skipped
 pub tokens_from-skip : (place : ℕ) (text rest : List ℕ) → tokens_from place (length text) (text ++ rest) ≡ tokens_from (place + length text) 0 rest
 unfolding tokens_from
 tokens_from-skip place [] rest = let here : place + 0 ≡ place = omega arith in rw here refl
@@ -31,18 +31,18 @@ token_step place byte tail rest kind blank first =
     let there : place + 1 + length tail ≡ place + suc (length tail) = omega arith in
     rw (blank, first, count, tokens_from-skip (place + 1) tail rest, there) (one_front _ _)
 
--- a token in front
+-- a token at the front
 pub tokens_from-token : (place : ℕ) (bytes text rest : List ℕ) (kind : TokenKind) → BeginsPlain text → bytes ≡ text ++ rest → token_first place bytes ≡ Ok (kind, length text) → tokens_from place 0 bytes ≡ with_first_token (record { kind = kind; start = place; end = place + length text }) (tokens_from (place + length text) 0 rest)
 tokens_from-token place bytes text rest kind begins cut first =
     let here = rw (cut, begins.parts) at first in
     rw (cut, begins.parts) (token_step place begins.first begins.tail rest kind begins.blank here)
 
--- a fault in front
+-- a fault at the front
 pub tokens_from-fault : (place byte : ℕ) (rest : List ℕ) (fault : LexFault) → is_blank byte ≡ false → token_first place (byte ∷ rest) ≡ Err fault → tokens_from place 0 (byte ∷ rest) ≡ Err fault
 unfolding tokens_from
 tokens_from-fault place byte rest fault blank first = rw (blank, first) refl
 
--- what the grammar has comes of the cut
+-- the outcome by the grammar is that of the code
 pub cut-is : (place : ℕ) (bytes : List ℕ) (outcome : Result (List Token) LexFault) → IsCut place bytes outcome → tokens_from place 0 bytes ≡ outcome
 unfolding tokens_from
 cut-is place bytes outcome (at_end _) = refl
@@ -75,6 +75,6 @@ cut_within (suc n) place (byte ∷ rest) small = elim (cases_Bool (is_blank byte
   ]
 ]
 
--- the outcome of a text, and there is no other
+-- the outcome of a text, which is its only one
 pub outcome_is : (text : List ℕ) → IsOutcome text (tokens_from 0 0 text)
 outcome_is text = let is_cut = cut_within (length text) 0 text (omega arith) in rw (cut-is 0 text is_cut.0 is_cut.1) is_cut.1

@@ -11,7 +11,7 @@ use Rattle.hippo_lexer.specs.Spelling.{is_blank, is_quote, is_minus, begins_with
 use Rattle.hippo_lexer.specs.Cutting.{sign_first}
 use Rattle.hippo_lexer.specs.Grammar.{IsLongestSign}
 
--- what holds of each text in a table holds of one that is found there
+-- a test that each text in a table passes holds for a text found there
 lookup-passes : {X : Type 0} (table : List (List ℕ × X)) (test : List ℕ → Bool) (text : List ℕ) (found : X) → list_all (λ e. test e.0) table ≡ true → lookup (λ known. bytes_eq known text) table ≡ Some found → test text ≡ true
 lookup-passes [] test text found all h = cc
 lookup-passes (entry ∷ table) test text found all h = elim (cases_Bool (bytes_eq entry.0 text)) [
@@ -40,12 +40,12 @@ sign-short text sign h =
     let parts = and_parts (nat_lt 0 (length text)) (nat_lt (length text) 3) (lookup-passes sign_table is_short text sign refl h) in
     (ltb-true 0 (length text) parts.0, ltb-true (length text) 3 parts.1)
 
--- a text of three bytes or more is no sign
+-- a text of three or more bytes is not a sign
 not_long : (text : List ℕ) (o : Option Symbol) → sign_of text ≡ o → 2 < length text → o ≡ None
 not_long text None h long = refl
 not_long text (Some sign) h long = let short = (sign-short text sign h).1 in absurd (omega arith)
 
--- the cut finds a sign by the grammar
+-- a sign is found by the grammar
 pub sign_first-is : (text rest : List ℕ) (sign : Symbol) → sign_of text ≡ Some sign → IsLongestSign text rest → sign_first (text ++ rest) ≡ Some (sign, length text)
 unfolding sign_first
 sign_first-is [] rest sign h longest = let short = (sign-short [] sign h).0 in absurd (omega arith)

@@ -1,4 +1,4 @@
--- Where the tokens of a text stand in it.
+-- The places of a text's tokens.
 use Rattle.std.proofs.Common.{◌≡◌, ℕ, ◌+◌, ◌-◌, ◌<◌, ◌≤◌, List, [], ◌∷◌, ◌++◌, length, get_or, Result, Ok, Err, IfOk, All, refl, sym, ap, ◌∙◌, arith}
 use Rattle.std.specs.Prelude.{IsUtf8}
 use Rattle.std.specs.List.{AllPairs}
@@ -14,7 +14,7 @@ use Rattle.hippo_lexer.specs.Grammar.{IsCut, at_end, at_blank, at_token, at_faul
 use Rattle.hippo_lexer.proofs.EdgeLemmas.{BeginsPlain, EndsPlain, token_begins, token_ends}
 use Rattle.hippo_lexer.proofs.FrontLemmas.{boundary-ascii}
 
--- the tokens stand one behind another, from the place on
+-- the tokens follow each other, from the place on
 abbrev InOrder : List ℕ → ℕ → List Token → Type 0
 InOrder text place [] = Unit {0}
 InOrder text place (token ∷ tokens) = (place ≤ token.start) × IsSpan text token × InOrder text token.end tokens
@@ -57,7 +57,7 @@ in_order text front place bytes outcome utf8 parts size (at_token _ _ said rest 
     more_tokens text place _ later outcome (omega arith) span remaining first
 in_order text front place bytes outcome utf8 parts size (at_fault _ _ fault h) = tt
 
--- From this order: each token is a span, and each later one stands behind.
+-- From this order: each token is a span, and each later one comes after it.
 spans_by_recursion : (text : List ℕ) (place : ℕ) (tokens : List Token) → InOrder text place tokens → AllByRecursion (IsSpan text) tokens
 spans_by_recursion text place [] h = tt
 spans_by_recursion text place (token ∷ tokens) h = (h.1, spans_by_recursion text token.end tokens h.2)

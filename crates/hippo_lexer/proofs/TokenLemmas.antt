@@ -1,4 +1,4 @@
--- What stands first in a text, by the grammar and by the cut.
+-- The first token of a text, by the grammar and by the code.
 use Rattle.std.proofs.Common.{◌≡◌, ℕ, ◌+◌, true, false, not, ◌&&◌, ◌||◌, List, [], ◌∷◌, ◌++◌, length, Some, Ok, Err, ok_or, if◌then◌else◌, ℤ, refl, sym, ap, ◌∙◌, arith}
 use Rattle.std.specs.Char.{is_ascii_alphabetic, is_ascii_digit}
 use Rattle.std.proofs.lemmas.Bool.{and_parts, both_ways, not-true}
@@ -22,7 +22,7 @@ use Rattle.hippo_lexer.proofs.SignLemmas.{sign-begins, sign_first-is, no_sign}
 use Rattle.hippo_lexer.proofs.WholeLemmas.{whole-begins, word_step, date-day, date-alone}
 use Rattle.hippo_lexer.proofs.WordLemmas.{kind-keyword, kind-refused, kind-name, kind-long}
 
--- Which part the first byte chooses.
+-- The first byte selects the kind of token.
 letter_first : (place : ℕ) (bytes : List ℕ) → begins_with is_ascii_alphabetic bytes ≡ true → token_first place bytes ≡ word_first place bytes
 unfolding token_first
 letter_first place bytes letter = rw letter refl
@@ -44,7 +44,7 @@ number_cut place text rest number h =
     let begins = number_begins text number h in
     rw begins.2 (number_chosen place begins.0 (begins.1 ++ rest) begins.3 begins.4)
 
--- The cut finds the token that the grammar has.
+-- The code finds the token that the grammar has.
 keyword_end : (place n : ℕ) (rest : List ℕ) (keyword : Keyword) → (keyword ≡ KDate → (blanks text more : List ℕ) → ¬ (IsQuotedAfter rest blanks text more)) → (if is_date (kinds.Keyword keyword) then date_first place n rest else Ok (kinds.Keyword keyword, n)) ≡ Ok (kinds.Keyword keyword, n)
 keyword_end place n rest KDate alone = date-alone place n rest (alone refl)
 keyword_end place n rest _ alone = refl
@@ -73,7 +73,7 @@ sign_cut place (byte ∷ text) rest sign h =
 quoted_cut : (place : ℕ) (text rest : List ℕ) → begins_with is_quote rest ≡ false → token_first place (quoted_text text ++ rest) ≡ Ok (kinds.Quoted text, length (quoted_text text))
 quoted_cut place text rest ends = quote_chosen place _ ∙ rw (quoted_first-is text rest ends) refl
 
--- a day's text, and what stands behind it, in two groupings
+-- a day's text and what follows it, grouped in two ways
 pub regrouped : (word blanks said rest remaining written : List ℕ) → remaining ≡ blanks ++ (said ++ rest) → written ≡ word ++ (blanks ++ said) → written ++ rest ≡ word ++ remaining
 regrouped word blanks said rest remaining written parts spelled =
     ap (λ w. w ++ rest) spelled ∙ (append_assoc word (blanks ++ said) rest ∙ ap (λ b. word ++ b) (append_assoc blanks said rest ∙ sym parts))
@@ -101,7 +101,7 @@ day_missing : (place n : ℕ) (text : List ℕ) (m : ℕ) → ((day : ℤ) → �
 unfolding day_first
 day_missing place n text m none = rw (day_of-no_day text none) refl
 
--- And the fault.
+-- And so it does the fault.
 pub fault-is : (place : ℕ) (bytes : List ℕ) (fault : LexFault) → IsFault place bytes fault → token_first place bytes ≡ Err fault
 fault-is place bytes fault (long_word _ _ word rest whole long spelled) = ap (token_first place) spelled ∙ (word_cut place word rest whole ∙ rw (kind-long word long) refl)
 fault-is place bytes fault (letter_after _ at _ text rest number h fits ends letter spelled there) =

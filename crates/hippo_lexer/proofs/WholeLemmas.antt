@@ -1,4 +1,4 @@
--- Whole words, and days behind the word DATE.
+-- Whole words, and days after the word DATE.
 use Rattle.std.proofs.Common.{◌≡◌, ℕ, ◌+◌, ◌⊎◌, true, false, List, [], ◌∷◌, ◌++◌, length, take, drop, Some, None, Ok, ok_or, if◌then◌else◌, refl, sym, ap, ◌∙◌, inl, inr, arith, one-add}
 use Rattle.std.specs.Char.{is_ascii_alphabetic}
 use Rattle.std.proofs.lemmas.Bool.{cases_Bool, and_parts, and_from, both_ways, eqb-true}
@@ -18,7 +18,7 @@ use Rattle.hippo_lexer.proofs.QuotedLemmas.{quoted_first-is, quoted_first-unclos
 letter_in_word : (byte : ℕ) → is_ascii_alphabetic byte ≡ true → is_word_byte byte ≡ true
 letter_in_word byte h = grind (arith, nat_tests)
 
--- a whole word is what the cut takes off
+-- a whole word is what the code splits off
 pub whole-begins : (word rest : List ℕ) → IsWholeWord word rest → begins_with is_ascii_alphabetic (word ++ rest) ≡ true
 whole-begins [] rest h = absurd (both_ways _ refl h.form)
 whole-begins (byte ∷ word) rest h = (and_parts _ _ h.form).0
@@ -26,7 +26,7 @@ whole-begins (byte ∷ word) rest h = (and_parts _ _ h.form).0
 whole-len : (word rest : List ℕ) → IsWholeWord word rest → word_len (word ++ rest) ≡ length word
 whole-len word rest h = len-front is_word_byte word rest (and_parts _ _ h.form).1 h.ends
 
--- and what it cuts off is one
+-- and what the code splits off is a whole word
 pub cut_whole : (byte : ℕ) (rest : List ℕ) → is_ascii_alphabetic byte ≡ true → IsWholeWord (take (word_len (byte ∷ rest)) (byte ∷ rest)) (drop (word_len (byte ∷ rest)) (byte ∷ rest))
 cut_whole byte rest letter = record {
   form = and_from _ _ (rw (letter_in_word byte letter, one-add) letter) (all-front is_word_byte (byte ∷ rest));
@@ -37,12 +37,12 @@ pub front_is_word : (bytes : List ℕ) → begins_with is_ascii_alphabetic bytes
 front_is_word [] letter = absurd (both_ways _ refl letter)
 front_is_word (byte ∷ rest) letter = (cut_whole byte rest letter).form
 
--- what the cut says of a word
+-- the result on a word
 pub word_step : (place : ℕ) (word rest : List ℕ) → IsWholeWord word rest → word_first place (word ++ rest) ≡ (ok_or (word_kind word) (faults.BadToken place) >>= λ kind. if is_date kind then date_first place (length word) rest else Ok (kind, length word))
 unfolding word_first
 word_step place word rest h = rw (whole-len word rest h, take_at word rest (length word) refl, drop_at word rest (length word) refl) refl
 
--- a quoted text behind blanks is found
+-- a quoted text after blanks is found
 quoted_len : (remaining blanks text rest : List ℕ) → IsQuotedAfter remaining blanks text rest → blanks_len remaining ≡ length blanks
 quoted_len remaining blanks text rest h = rw h.parts (len-front is_blank blanks (quoted_text text ++ rest) h.gap refl)
 
@@ -50,7 +50,7 @@ pub quoted_there : (remaining blanks text rest : List ℕ) → IsQuotedAfter rem
 quoted_there remaining blanks text rest h =
     rw (quoted_len remaining blanks text rest h, h.parts, drop_at blanks (quoted_text text ++ rest) (length blanks) refl) (quoted_first-is text rest h.ends)
 
--- or none stands there
+-- or there is none
 quoted_at : (bytes : List ℕ) → ((text : List ℕ) × (rest : List ℕ) × (bytes ≡ quoted_text text ++ rest) × (begins_with is_quote rest ≡ false)) ⊎ (quoted_first bytes ≡ None)
 unfolding quoted_first
 quoted_at [] = inr refl

@@ -1,4 +1,4 @@
--- The table of the code says of each byte whether it stands in words.
+-- The code's table says of each byte whether it is a word byte.
 use Rattle.std.proofs.Common.{◌≡◌, ℕ, ◌<◌, ◌==◌, Bool, false, map, slice_index_or, refl, sym, ap, ◌∙◌, zero-add}
 use Rattle.std.specs.List.{range_with_len}
 use Rattle.std.proofs.Math.ListN.{get_or}

@@ -1,4 +1,4 @@
--- Which kind of token a word is.
+-- The kind of token of each word.
 use Rattle.std.proofs.Common.{◌≡◌, ℕ, ◌<◌, ◌≤◌, ◌⊎◌, Bool, true, false, not, ◌&&◌, List, [], ◌∷◌, length, Option, Some, None, is_some, option_map, refl, sym, ap, ◌∙◌, inl, inr, arith, bytes_eq}
 use Rattle.std.specs.Map.{keys_of}
 use Rattle.std.specs.Char.{to_ascii_lowercase}
@@ -17,11 +17,11 @@ use Rattle.hippo_values.proofs.OptionLemmas.{none_there, some_there}
 use Rattle.hippo_lexer.specs.declared.kinds.TokenKind.TheVariants as kinds
 use Rattle.hippo_lexer.specs.Cutting.{kind_of_word, word_kind}
 
--- the words that stand in the grammar
+-- the keywords of the grammar
 abbrev grammar_words : List (List ℕ)
 grammar_words = keys_of keywords
 
--- a word among others is one of them in lower case
+-- a word that is among others equals one of them in lower case
 among_one : (words : List (List ℕ)) (test : List ℕ → Bool) (word : List ℕ) → list_all test words ≡ true → is_among words word ≡ true → test (lower_case word) ≡ true
 among_one [] test word all among = absurd (both_ways _ refl among)
 among_one (known ∷ words) test word all among = elim (cases_Bool (bytes_eq known (lower_case word))) [
@@ -29,7 +29,7 @@ among_one (known ∷ words) test word all among = elim (cases_Bool (bytes_eq kno
   | inr other ↦ among_one words test word (and_parts _ _ all).1 (rw other at among)
 ]
 
--- a word is a keyword where it is among them
+-- a word is a keyword if it is among them
 pub keyword-among : (word : List ℕ) → is_some (keyword_of word) ≡ is_among grammar_words word
 keyword-among word = is_some-lookup (λ known. bytes_eq known (lower_case word)) keywords
 

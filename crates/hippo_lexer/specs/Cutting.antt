@@ -1,5 +1,5 @@
--- How a text is cut into tokens, from the left. What the tokens are is said by the relation
--- `IsOutcome`, and that `outcome_of` is a text's one outcome by it is proved.
+-- Splits a text into tokens, from left to right. The relation `IsOutcome` says what the tokens
+-- are. It is proved that each text has exactly one outcome by it, `outcome_of`.
 use Rattle.std.specs.Prelude.{◌≡◌, ℕ, zero, suc, ◌+◌, ◌-◌, ◌<◌, ◌==◌, Bool, true, false, ◌||◌, List, [], ◌∷◌, length, take, drop, ℤ, pos, neg_ℤ, ◌++◌, Option, Some, None, Result, Ok, Err, option_map, ok_or, if◌then◌else◌}
 use Rattle.std.specs.Bool.{then_some}
 use Rattle.std.specs.Option.{option_or, option_map_or}
@@ -22,7 +22,7 @@ use Rattle.hippo_lexer.specs.declared.faults.LexFault.{LexFault}
 use Rattle.hippo_lexer.specs.declared.faults.LexFault.TheVariants as faults
 use Rattle.hippo_lexer.specs.Spelling.{is_blank, is_quote, is_minus, begins_with, sign_of}
 
--- What a call gives is this, or want of memory.
+-- the result of a call is this fault, unless it ran out of memory
 abbrev pub FailsOutcome : {A : Type 0} → LexFault → Result A LexFault → Type 0
 FailsOutcome faults.Memory right = Unit {0}
 FailsOutcome (faults.BadToken place) right = right ≡ Err (faults.BadToken place)
@@ -33,13 +33,13 @@ abbrev pub GivesOutcome : {A : Type 0} → Result A LexFault → Result A LexFau
 GivesOutcome (Ok x) right = right ≡ Ok x
 GivesOutcome (Err fault) right = FailsOutcome fault right
 
--- the token that a word is
+-- the token of a word
 abbrev pub kind_of_word : Word → TokenKind
 kind_of_word (words.Name name) = kinds.Word name
 kind_of_word (words.Keyword keyword) = kinds.Keyword keyword
 kind_of_word (words.Unsupported word) = kinds.Unsupported word
 
--- what kind of token a word is; none where it is too long
+-- the kind of token that a word is; none if the word is too long
 abbrev pub word_kind : List ℕ → Option TokenKind
 word_kind word = option_map kind_of_word (word_of word)
 
@@ -53,15 +53,15 @@ digits_len bytes = prefix_len is_ascii_digit bytes
 abbrev pub blanks_len : List ℕ → ℕ
 blanks_len bytes = prefix_len is_blank bytes
 
--- What stands first is a kind of token and its length, or a fault.
+-- the first token of a text: its kind and length, or a fault
 abbrev pub First : Type 0
 First = Result (TokenKind × ℕ) LexFault
 
--- a number that fits in 64 bits
+-- the number, if it fits in 64 bits
 abbrev pub if_in_range : ℤ → Option ℤ
 if_in_range number = then_some (is_signed_number number) number
 
--- the number that digits write, behind a `-` or not; none where it does not fit
+-- the number written by digits, with or without a `-`; none if it does not fit
 unfoldable pub number_of : List ℕ → Option ℤ
 number_of [] = None
 number_of (first ∷ rest) =
@@ -69,14 +69,14 @@ number_of (first ∷ rest) =
     then if_in_range (neg_ℤ (pos (digits_value 10 rest)))
     else if_in_range (pos (digits_value 10 (first ∷ rest)))
 
--- the length of the `-` at the front, and that of the number with it
+-- the length of the `-` at the front, and of the number including it
 abbrev pub sign_len : List ℕ → ℕ
 sign_len bytes = if begins_with is_minus bytes then 1 else 0
 
 abbrev pub number_len : List ℕ → ℕ
 number_len bytes = sign_len bytes + digits_len (drop (sign_len bytes) bytes)
 
--- digits, one or more, behind a `-` or not
+-- one or more digits, with or without a `-` before them
 abbrev pub IsNumeral : List ℕ → Type 0
 IsNumeral bytes =
     (sign_len bytes < length bytes) × (list_all is_ascii_digit (drop (sign_len bytes) bytes) ≡ true)
@@ -90,11 +90,11 @@ number_first place bytes =
           then Err (faults.BadToken (place + number_len bytes))
           else Ok (kinds.Number number, number_len bytes))
 
--- a closed text and its length, behind a front of n bytes that stand for `front`
+-- puts `front` before a closed text; `front` is written in n bytes, which add to the length
 abbrev pub onto : List ℕ → ℕ → Option (List ℕ × ℕ) → Option (List ℕ × ℕ)
 onto front n closed = option_map (λ found. (front ++ found.0, n + found.1)) closed
 
--- behind an opening quote: the text up to the closing one, and the length with that one
+-- after an opening quote: the text up to the closing quote, and the length including that quote
 unfoldable pub closing : List ℕ → Option (List ℕ × ℕ)
 closing [] = None
 closing (byte ∷ []) = if is_quote byte then Some ([], 1) else None
@@ -103,12 +103,12 @@ closing (byte ∷ next ∷ rest) =
     then (if is_quote next then onto (39 ∷ []) 2 (closing rest) else Some ([], 1))
     else onto (byte ∷ []) 1 (closing (next ∷ rest))
 
--- the text in quotes at the front, and its length with them
+-- the quoted text at the front, and its length including the quotes
 unfoldable pub quoted_first : List ℕ → Option (List ℕ × ℕ)
 quoted_first [] = None
 quoted_first (byte ∷ rest) = if is_quote byte then onto [] 1 (closing rest) else None
 
--- the day that a text writes as YYYY-MM-DD, among all
+-- the day that a text writes as YYYY-MM-DD
 unfoldable pub day_of : List ℕ → Option ℤ
 day_of text = written_among day_text first_day day_count text
 
@@ -117,13 +117,13 @@ abbrev pub is_date : TokenKind → Bool
 is_date (kinds.Keyword KDate) = true
 is_date _ = false
 
--- the day in quotes behind the word DATE, with the n bytes of the word and the blanks before it
+-- the token of DATE with a quoted day; n is the length of the word DATE and the blanks after it
 unfoldable pub day_first : ℕ → ℕ → List ℕ × ℕ → First
 day_first place n quoted = do
   day ← ok_or (day_of quoted.0) (faults.BadDate place)
   Ok (kinds.Day day, n + quoted.1)
 
--- the token of the word DATE of n bytes, with what stands behind it
+-- the token of the word DATE of n bytes, given the text that follows it
 unfoldable pub date_first : ℕ → ℕ → List ℕ → First
 date_first place n remaining =
     option_map_or (day_first place (n + blanks_len remaining))
@@ -153,7 +153,7 @@ abbrev pub sign_token : ℕ → List ℕ → First
 sign_token place bytes =
     ok_or (sign_first bytes) (faults.BadToken place) >>= λ found. Ok (kinds.Symbol found.0, found.1)
 
--- what stands first in a text that begins with no blank
+-- the first token of a text that does not begin with a blank
 unfoldable pub token_first : ℕ → List ℕ → First
 token_first place bytes =
     if begins_with is_ascii_alphabetic bytes then word_first place bytes else
@@ -161,12 +161,12 @@ token_first place bytes =
     else
     (if begins_with is_quote bytes then quoted_token place bytes else sign_token place bytes))
 
--- tokens in front of others
+-- puts tokens before others
 abbrev pub with_front_tokens : List Token → Result (List Token) LexFault
     → Result (List Token) LexFault
 with_front_tokens tokens others = others >>= λ more. Ok (tokens ++ more)
 
--- the tokens of what stands at a place, once so many bytes are passed over, or the first fault
+-- the tokens of the text at `place` after its first `skip` bytes, or the first fault
 unfoldable pub tokens_from : ℕ → ℕ → List ℕ → Result (List Token) LexFault
 tokens_from place skip [] = Ok []
 tokens_from place (suc skip) (byte ∷ rest) = tokens_from (place + 1) skip rest

@@ -1,5 +1,5 @@
--- The tokens of a text: how each is spelled, that the longest is taken, and which fault a text has
--- where it has none.
+-- The tokens of a text: how each is spelled, that each is the longest possible, and which fault a
+-- text without tokens has.
 use Rattle.std.specs.Prelude.{◌≡◌, ℕ, ◌+◌, ◌<◌, true, false, List, [], ◌∷◌, ◌++◌, length, ℤ, pos, neg_ℤ, IsCharBoundary, Some, None, Result, Ok, Err}
 use Rattle.std.specs.List.{list_all}
 use Rattle.std.specs.Char.{is_ascii_alphabetic, is_ascii_digit}
@@ -19,43 +19,44 @@ use Rattle.hippo_lexer.specs.declared.faults.LexFault.TheVariants as faults
 pub use Rattle.hippo_values_text.specs.Quoting.{quoted_text}
 use Rattle.hippo_lexer.specs.Spelling.{is_blank, is_quote, is_minus, begins_with, sign_of, doubled_quotes}
 
--- a word, and what stands behind does not go on with it
+-- a whole word: the text that follows does not continue it
 pub record IsWholeWord (word remaining : List ℕ) : Type 0 where
   pub form : is_word word ≡ true
   pub ends : begins_with is_word_byte remaining ≡ false
 
--- digits, one or more
+-- one or more digits
 abbrev pub AreDigits : List ℕ → Type 0
 AreDigits digits = (0 < length digits) × (list_all is_ascii_digit digits ≡ true)
 
--- digits, with a `-` directly before them or not, and the number that they write, however large
+-- one or more digits, with or without a `-` directly before them, and the number that they write,
+-- however large
 pub data IsNumber : List ℕ → ℤ → Type 0 where
   plain : (digits : List ℕ) (number : ℤ) → AreDigits digits → number ≡ pos (digits_value 10 digits)
       → IsNumber digits number
   negative : (text digits : List ℕ) (number : ℤ) → AreDigits digits → text ≡ 45 ∷ digits
       → number ≡ neg_ℤ (pos (digits_value 10 digits)) → IsNumber text number
 
--- behind blanks or none a quoted text, and then what does not go on with it
+-- a quoted text after any number of blanks; the text that follows does not continue it
 pub record IsQuotedAfter (remaining blanks text rest : List ℕ) : Type 0 where
   pub gap : list_all is_blank blanks ≡ true
   pub parts : remaining ≡ blanks ++ (quoted_text text ++ rest)
   pub ends : begins_with is_quote rest ≡ false
 
--- the word DATE, behind which a quoted text stands
+-- the word DATE, followed by a quoted text
 pub record OpensDay (word remaining blanks text rest : List ℕ) : Type 0 where
   pub whole : IsWholeWord word remaining
   pub date : keyword_of word ≡ Some KDate
   pub quotation : IsQuotedAfter remaining blanks text rest
 
--- no byte more makes a longer sign of it
+-- this sign and the next byte do not make a longer sign
 abbrev pub IsLongestSign : List ℕ → List ℕ → Type 0
 IsLongestSign text rest =
     (byte : ℕ) (more : List ℕ) → rest ≡ byte ∷ more → sign_of (text ++ byte ∷ []) ≡ None
 
--- The text is a token of this kind where `rest` stands behind it: a word of the grammar, DATE only
--- where no quoted text stands behind it; a word of SQL that is refused; another word of at most 63
--- bytes; a number that fits, behind which no digit, letter or `_` stands; a quoted text; DATE with
--- a quoted text that is a day; a sign, the longest there.
+-- The text is a token of this kind if `rest` follows it. A token is one of these: a keyword, but
+-- DATE only if no quoted text follows it; a word of SQL that hippo refuses; another word of at most
+-- 63 bytes; a number that fits, with no digit, letter or `_` after it; a quoted text; DATE with a
+-- quoted text that is a day; the longest possible sign.
 pub data IsToken : List ℕ → TokenKind → List ℕ → Type 0 where
   a_keyword : (word rest : List ℕ) (keyword : Keyword) → IsWholeWord word rest
       → keyword_of word ≡ Some keyword
@@ -78,7 +79,7 @@ pub data IsToken : List ℕ → TokenKind → List ℕ → Type 0 where
   a_sign : (text rest : List ℕ) (sign : Symbol) → sign_of text ≡ Some sign → IsLongestSign text rest
       → IsToken text (kinds.Symbol sign) rest
 
--- a byte with which nothing begins
+-- a byte that begins no token
 pub record IsStray (byte : ℕ) (rest : List ℕ) : Type 0 where
   pub blank : is_blank byte ≡ false
   pub letter : is_ascii_alphabetic byte ≡ false
@@ -88,10 +89,10 @@ pub record IsStray (byte : ℕ) (rest : List ℕ) : Type 0 where
   pub sign : sign_of (byte ∷ []) ≡ None
   pub longer : IsLongestSign (byte ∷ []) rest
 
--- No token stands first in this text, which stands at the place, and this is why: a word of more
--- than 63 bytes; a letter or `_` directly behind a number that fits; a number that does not fit; a
--- `-` without a digit; a quote from which to the end each other quote is doubled; DATE with a
--- quoted text that is no day; a byte with which nothing begins.
+-- No token begins this text, which is at the place, for one of these reasons: a word of more than
+-- 63 bytes; a letter or `_` directly after a number that fits; a number that does not fit; a `-`
+-- without a digit; an opening quote after which every quote up to the end is doubled; DATE with a
+-- quoted text that is not a day; a byte that begins no token.
 pub data IsFault : ℕ → List ℕ → LexFault → Type 0 where
   long_word : (place : ℕ) (bytes word rest : List ℕ) → IsWholeWord word rest
       → name_limit < length word
@@ -117,13 +118,13 @@ pub data IsFault : ℕ → List ℕ → LexFault → Type 0 where
   stray : (place byte : ℕ) (bytes rest : List ℕ) → IsStray byte rest → bytes ≡ byte ∷ rest
       → IsFault place bytes (faults.BadToken place)
 
--- a token in front of what comes of the rest
+-- puts a token before the outcome of the rest
 abbrev pub with_first_token : Token → Result (List Token) LexFault → Result (List Token) LexFault
 with_first_token token (Ok tokens) = Ok (token ∷ tokens)
 with_first_token token (Err fault) = Err fault
 
--- The text, which stands at the place, has these tokens, or this is its first fault: blanks are
--- passed over, and then the token or the fault counts that stands first.
+-- The text, which is at the place, has these tokens, or this is its first fault: blanks are
+-- skipped, and then the first token or fault counts.
 pub data IsCut : ℕ → List ℕ → Result (List Token) LexFault → Type 0 where
   at_end : (place : ℕ) → IsCut place [] (Ok [])
   at_blank : (place byte : ℕ) (rest : List ℕ) (outcome : Result (List Token) LexFault)
@@ -138,17 +139,17 @@ pub data IsCut : ℕ → List ℕ → Result (List Token) LexFault → Type 0 wh
   at_fault : (place : ℕ) (bytes : List ℕ) (fault : LexFault) → IsFault place bytes fault
       → IsCut place bytes (Err fault)
 
--- what comes of a whole text
+-- the outcome of a whole text
 abbrev pub IsOutcome : List ℕ → Result (List Token) LexFault → Type 0
 IsOutcome text outcome = IsCut 0 text outcome
 
--- this comes of the text, and nothing else does
+-- this is the text's outcome, and its only one
 abbrev pub IsOnlyOutcome : List ℕ → Result (List Token) LexFault → Type 0
 IsOnlyOutcome text outcome =
     IsOutcome text outcome × ((other : Result (List Token) LexFault) → IsOutcome text other
     → other ≡ outcome)
 
--- the token stands in the text, and is cut out at the bounds of characters
+-- the token is in the text, and begins and ends at character boundaries
 pub record IsSpan (text : List ℕ) (token : Token) : Type 0 where
   pub some : token.start < token.end
   pub from : IsCharBoundary text token.start

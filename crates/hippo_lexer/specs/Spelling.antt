@@ -1,4 +1,4 @@
--- How signs, numbers and texts are spelled, by bytes.
+-- How signs, numbers and texts are spelled, in bytes.
 use Rattle.std.specs.Prelude.{ℕ, ◌==◌, Bool, false, ◌||◌, List, [], ◌∷◌, codes, bytes_eq, Option}
 use Rattle.std.specs.Map.{lookup}
 pub use Rattle.hippo_values_text.specs.Quoting.{is_quote, doubled_quotes}
@@ -9,7 +9,7 @@ use Rattle.hippo_lexer.specs.declared.kinds.Symbol.TheVariants.{LeftParen, Right
 abbrev pub is_blank : ℕ → Bool
 is_blank byte = byte == 32 || byte == 9
 
--- whether the first byte is such
+-- whether the first byte passes the test
 abbrev pub begins_with : (ℕ → Bool) → List ℕ → Bool
 begins_with test [] = false
 begins_with test (byte ∷ rest) = test byte
@@ -25,6 +25,6 @@ sign_table =
     ∷ (codes "<", Less) ∷ (codes "<=", LessEqual) ∷ (codes ">", Greater)
     ∷ (codes ">=", GreaterEqual) ∷ (codes ";", Semicolon) ∷ []
 
--- the sign that a text is
+-- the sign with this text
 unfoldable pub sign_of : List ℕ → Option Symbol
 sign_of text = lookup (λ known. bytes_eq known text) sign_table

@@ -1,5 +1,4 @@
--- What is refused before the grammar is read: tokens that nest too deep, and words of SQL that it
--- lacks.
+-- What is refused before parsing: tokens that nest too deep, and unsupported words of SQL.
 use Rattle.std.specs.Prelude.{ℕ, ◌+◌, Bool, true, false, ◌||◌, List, length, take, count_by, position, nat_lt, Option, Some, None, Result, Ok, Err, if◌then◌else◌}
 use Rattle.std.specs.List.{list_any, range_with_len}
 use denote.Enum.Bare.{sameb}
@@ -17,7 +16,7 @@ use Rattle.hippo_lexer.specs.declared.faults.SyntaxFault.TheVariants.{TooDeep, U
 abbrev pub same_symbol : Symbol → Symbol → Bool
 same_symbol one other = sameb symbols.the_type one other
 
--- whether a token is a symbol, and this one
+-- whether a token is this symbol
 abbrev pub is_symbol : Symbol → TokenKind → Bool
 is_symbol symbol (kinds.Symbol other) = same_symbol other symbol
 is_symbol symbol _ = false
@@ -35,7 +34,7 @@ abbrev pub negates : TokenKind → Bool
 negates (kinds.Keyword KNot) = true
 negates _ = false
 
--- whether a token is a word of SQL that is refused
+-- whether a token is a word of SQL that hippo refuses
 abbrev pub is_unsupported : TokenKind → Bool
 is_unsupported (kinds.Unsupported _) = true
 is_unsupported _ = false
@@ -49,18 +48,19 @@ abbrev pub is_steep : List Token → Bool
 is_steep tokens =
     nat_lt (token_count is_right_paren tokens + depth_limit) (token_count is_left_paren tokens)
 
--- whether some prefix of the tokens is such, or more tokens than the limit are NOT
+-- whether `(` outnumbers `)` by more than the limit in some prefix of the tokens, or more tokens
+-- than the limit are NOT
 abbrev pub is_too_deep : List Token → Bool
 is_too_deep tokens =
     list_any (λ n. is_steep (take n tokens)) (range_with_len 0 (length tokens + 1))
     || nat_lt depth_limit (token_count negates tokens)
 
--- the first refused word, as a fault
+-- the fault for the first refused word, if there is one
 abbrev pub support_of : Option ℕ → Result (Unit {0}) SyntaxFault
 support_of None = Ok tt
 support_of (Some place) = Err (Unsupported place)
 
--- what the words of a statement are refused for: its depth, else its first refused word
+-- the check of a statement's words: first the depth, then the first refused word
 unfoldable pub words_check : List Token → Result (Unit {0}) SyntaxFault
 words_check tokens =
     if is_too_deep tokens then Err TooDeep

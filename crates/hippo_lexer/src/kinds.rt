@@ -1,4 +1,4 @@
-//! What a token says, and where it stands.
+//! Tokens, and their places in the text.
 use hippo_values::{CellText, DayNumber, Keyword, Name, Sequence, Txt};
 
 /// A sign of one or two bytes.
@@ -19,23 +19,23 @@ pub enum Symbol {
     Semicolon,
 }
 
-/// What a token says.
+/// The kind and value of a token.
 #[derive(Debug, Drop, PartialEq, Eq)]
 pub enum TokenKind {
     /// A word that is not reserved.
     Word(Name),
     Keyword(Keyword),
-    /// A word of SQL that is refused wherever it stands, in lower case.
+    /// A word of SQL that hippo refuses everywhere, in lower case.
     Unsupported(Txt),
     Number(i64),
-    /// The text between two `'`, in which each `''` stands for one `'`.
+    /// The text between two `'`, with each `''` replaced by one `'`.
     Quoted(CellText),
     Day(DayNumber),
     Symbol(Symbol),
 }
 
-/// A token and where it stands in the text: from the byte `start` up to the byte before `end`,
-/// counted from 0.
+/// A token and its place in the text: it begins at the byte `start` and ends before the byte `end`,
+/// both from 0.
 #[derive(Debug, Drop, PartialEq, Eq)]
 pub struct Token {
     pub kind: TokenKind,
@@ -43,5 +43,5 @@ pub struct Token {
     pub end: usize,
 }
 
-/// The tokens of a text, in its order.
+/// The tokens of a text, in order.
 pub type Tokens = Sequence<Token>;

@@ -1,4 +1,4 @@
-//! Texts are cut into tokens.
+//! Splits texts into tokens.
 
 ghost use Rattle.std.specs.Prelude.{◌≡◌, ◌≤◌, ◌⊎◌, List, All, AllPairs, Result, IfOk, IfErr};
 ghost use Rattle.hippo_lexer.specs.declared.kinds.Token.{Token};
@@ -12,10 +12,10 @@ use crate::parts::{token_first, without_blanks};
 use hippo_values::Sequence;
 use std::alloc::Global;
 
-// How many bytes a token takes with the blanks before it, about.
+// The approximate length in bytes of a token with the blanks before it.
 const TOKEN_LENGTH: usize = 4;
 
-// So many tokens take less than a kibibyte, above which allocators are slower.
+// This many tokens take less than a kibibyte; allocators are slower above that size.
 const FEW_TOKENS: usize = 11;
 
 fn cut_tokens(alloc: Global, text: &str) -> Result<Tokens, LexFault>
@@ -36,22 +36,23 @@ fn cut_tokens(alloc: Global, text: &str) -> Result<Tokens, LexFault>
     Ok(found)
 }
 
-/// The tokens of a text with their places, each the longest that can stand there. `BadToken`,
-/// `NumberTooLarge` and `BadDate` have the place of the one fault that stands first; the other
-/// error is want of memory. The time is linear in the text.
+/// Splits a text into tokens with their places. Each token is the longest possible.
+///
+/// `BadToken`, `NumberTooLarge` and `BadDate` have the place of the first fault in the text.
+/// The only other error is out of memory. The time is linear in the length of the text.
 pub fn tokens(alloc: Global, text: &str) -> Result<Tokens, LexFault>
-    // By the grammar these are the text's tokens, or this is its first fault.
+    // By the grammar, these are the text's tokens, or this is its first fault.
     ensures found { IfOk result (λ tokens. IsOutcome text.now (Ok tokens)) }
     ensures fault { IfErr result (λ fault. (fault ≡ LexFault.Memory)
         ⊎ IsOutcome text.now (Err fault)) }
 
-    // Whatever the text has is given, unless memory runs out, and a text has one outcome.
+    // A text has exactly one outcome, and the call returns it unless it runs out of memory.
     ensures only { (outcome : Result (List Token) LexFault) → IsOutcome text.now outcome
         → (result ≡ outcome) ⊎ (result ≡ Err LexFault.Memory) }
     ensures one { IsOnlyOutcome text.now (outcome_of text.now) }
     ensures exact { GivesOutcome result (outcome_of text.now) }
 
-    // Each token can be cut out of the text, and each later one stands behind it.
+    // Each token is at character boundaries, and each later token comes after it.
     ensures spans { IfOk result (All (IsSpan text.now)) }
     ensures order { IfOk result (AllPairs (λ a b. a.end ≤ b.start)) }
 {

@@ -1,4 +1,4 @@
-//! The first token of a text by its kind: words, numbers, quoted texts, days and signs.
+//! The first token of a text, by its kind: words, numbers, quoted texts, days and signs.
 ghost use Rattle.std.specs.Prelude.{◌≡◌, true, if◌then◌else◌, Ok, ◌+◌, ◌++◌, ◌<◌, ◌≤◌, ◌^◌, length, drop, IfOk, IfSome};
 ghost use Rattle.std.specs.Char.{is_ascii_alphabetic};
 ghost use Rattle.hippo_values.specs.Names.{is_word_byte, is_word};
@@ -12,7 +12,7 @@ use hippo_values::{CellText, DayNumber, Keyword, Memory, Txt, Word, read_word};
 use hippo_values_text::read_day;
 use std::alloc::Global;
 
-// Of each byte, 1 where it is a letter, a digit or `_`: a look-up takes half the time of the tests.
+// 1 for each byte that is a letter, a digit or `_`. A lookup takes half the time of the tests.
 const WORD_BYTES: [u8; 256] = [
     0, 0, 0, 0, 0, 0, 0, 0, 0, 0, 0, 0, 0, 0, 0, 0, 0, 0, 0, 0, 0, 0, 0, 0, 0, 0, 0, 0, 0, 0, 0, 0,
     0, 0, 0, 0, 0, 0, 0, 0, 0, 0, 0, 0, 0, 0, 0, 0, 1, 1, 1, 1, 1, 1, 1, 1, 1, 1, 0, 0, 0, 0, 0, 0,
@@ -58,7 +58,7 @@ fn blanks_len(bytes: &[u8]) -> usize
     bytes.iter().take_while(|byte| is_blank(**byte)).count()
 }
 
-// A text whose last run is found.
+// The text made of its front and its last run.
 fn ended(alloc: Global, front: Txt, run: &str) -> Result<CellText, Memory>
     ensures { IfOk result (λ text. text ≡ front ++ run.now) }
 {
@@ -70,7 +70,7 @@ fn ended(alloc: Global, front: Txt, run: &str) -> Result<CellText, Memory>
     CellText::from_str(alloc, text.as_str())
 }
 
-// Behind an opening quote: the text up to the closing one, and the length with that one.
+// After an opening quote: the text up to the closing quote, and the length including that quote.
 fn closing(alloc: Global, remaining: &str) -> Result<Option<(CellText, usize)>, Memory>
     ensures found { IfOk result (λ found. found ≡ closing remaining.now) }
     ensures within { IfOk result (λ found. IfSome found (λ quoted. quoted.1 ≤ length remaining.now)) }
@@ -90,7 +90,7 @@ fn closing(alloc: Global, remaining: &str) -> Result<Option<(CellText, usize)>, 
     Ok(None)
 }
 
-// The text in quotes at the front, and its length with them.
+// The quoted text at the front, and its length including the quotes.
 #[tactic(auto, unfolding(crate::specs::Cutting::quoted_first))]
 fn quoted_first(alloc: Global, text: &str) -> Result<Option<(CellText, usize)>, Memory>
     ensures found { IfOk result (λ found. found ≡ quoted_first text.now) }
@@ -132,7 +132,7 @@ fn sign_len(bytes: &[u8]) -> usize
     }
 }
 
-// The number that digits write, behind a `-` or not; none where it does not fit.
+// The number written by digits, with or without a `-`; none if it does not fit.
 fn number_of(text: &str) -> Option<i64>
     requires { IsNumeral text.now }
     ensures { result ≡ number_of text.now }
@@ -140,7 +140,7 @@ fn number_of(text: &str) -> Option<i64>
     text.parse::<i64>().ok()
 }
 
-// The length of the number at the front, with its `-`.
+// The length of the number at the front, including its `-`.
 fn number_len(bytes: &[u8]) -> usize
     ensures { result ≡ number_len bytes.now }
 {
@@ -167,15 +167,15 @@ fn number_first(place: usize, text: &str) -> Result<(TokenKind, usize), LexFault
     Ok((TokenKind::Number(number), len))
 }
 
-// The day that a text writes.
+// The day written in a text.
 fn day_of(text: &CellText) -> Option<DayNumber>
     ensures { result ≡ day_of text.now }
 {
     read_day(text.as_str())
 }
 
-// The day of a quoted text behind the word DATE. `len` counts the bytes from that word up to the
-// text.
+// The day in a quoted text after the word DATE. `len` counts the bytes before the quoted text, from
+// that word on.
 #[tactic(auto, unfolding(crate::specs::Cutting::day_first))]
 fn day_first(
     place: usize,
@@ -208,7 +208,7 @@ fn date_first(
     }
 }
 
-// The token of a word of `len` bytes, and its length.
+// The token of a classified word of `len` bytes, and its length.
 fn said_first(
     alloc: Global,
     place: usize,
@@ -254,8 +254,8 @@ fn sign_token(place: usize, text: &str) -> Result<(TokenKind, usize), LexFault>
     Ok((TokenKind::Symbol(sign), len))
 }
 
-/// What stands first in a text that begins with no blank and stands at `place`: a kind of token and
-/// its length.
+/// The first token of a text that does not begin with a blank: its kind and its length. The text
+/// begins at `place`.
 #[tactic(auto, unfolding(crate::specs::Cutting::token_first))]
 pub fn token_first(alloc: Global, place: usize, text: &str) -> Result<(TokenKind, usize), LexFault>
     requires { place + length text.now < 2 ^ 64 }
@@ -271,7 +271,7 @@ pub fn token_first(alloc: Global, place: usize, text: &str) -> Result<(TokenKind
     }
 }
 
-/// What stands behind the blanks at the front.
+/// The text without the blanks at its front.
 pub fn without_blanks(text: &str) -> &str
     ensures rest { result.now ≡ drop (blanks_len text.now) text.now }
     ensures within { length result.now ≤ length text.now }

@@ -45,7 +45,7 @@ fn sign_of_one(byte: u8) -> Option<(Symbol, usize)>
     }
 }
 
-/// The sign at the front, the longest one, and its length.
+/// The longest sign at the front, and its length.
 #[tactic(auto, unfolding(crate::specs::Cutting::sign_first))]
 pub fn sign_first(bytes: &[u8]) -> Option<(Symbol, usize)>
     ensures { result ≡ sign_first bytes.now }

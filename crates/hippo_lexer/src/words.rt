@@ -1,4 +1,4 @@
-//! Whether the words of a statement are fit to be read.
+//! Checks the words of a statement before it is parsed.
 ghost use Rattle.std.specs.Prelude.{◌≡◌, ◌+◌, length, take, nat_lt, position};
 ghost use Rattle.std.specs.List.{list_any, range_with_len};
 ghost use Rattle.hippo_values.specs.Limits.{depth_limit};
@@ -66,16 +66,16 @@ fn goes_too_deep(tokens: &[Token]) -> bool
     nests_too_deep(tokens) || negates_too_often(tokens)
 }
 
-// Tokens of which there are few need no count.
+// A statement with few tokens needs no count.
 fn is_too_deep(tokens: &[Token]) -> bool
     ensures { result ≡ is_too_deep tokens.now }
 {
     tokens.len() > DEPTH_LIMIT && goes_too_deep(tokens)
 }
 
-/// Whether the words of a statement are fit to be read: `TooDeep` where in some prefix of the
-/// tokens `(` outnumbers `)` by more than 64, or where more than 64 tokens are NOT; else
-/// `Unsupported` with the place of the first word of SQL that is refused. It takes no memory.
+/// Checks the words of a statement before it is parsed. Returns `TooDeep` if in some prefix of the
+/// tokens `(` outnumbers `)` by more than 64, or if more than 64 tokens are NOT. Else returns
+/// `Unsupported` with the index of the first word of SQL that hippo refuses. Allocates nothing.
 #[tactic(auto, unfolding(crate::specs::Words::words_check))]
 pub fn check_words(tokens: &Tokens) -> Result<(), SyntaxFault>
     ensures { result ≡ words_check tokens.now }

@@ -1,4 +1,4 @@
--- A condition whose operands stay as they are stays as it is, by induction over the condition.
+-- Replacing each operand by itself leaves a condition unchanged; by induction over the condition.
 use Rattle.std.proofs.Common.{◌≡◌, List, [], ◌∷◌, map, refl, sym, ap, subst, ◌∙◌}
 use Rattle.std.proofs.lemmas.List.{map-id}
 use Rattle.hippo_model.specs.declared.query.CondOf.{CondOf, CondOf-F, fold-roll-CondOf, roll-CondOf, map-CondOf, ind-CondOf}
@@ -26,7 +26,7 @@ module _ (O : Type 0) where
   abbrev plain_layer : CondOf-F O Kept → CondOf-F O (CondOf O)
   plain_layer layer = map-CondOf O Kept (CondOf O) (λ part. part.0) layer
 
-  -- one layer, whose parts are unchanged
+  -- one layer whose parts are unchanged
   layer_unchanged : (layer : CondOf-F O Kept) → changed_layer same (map-CondOf O (CondOf O) (CondOf O) (changed_operands same) (plain_layer layer)) ≡ roll-CondOf O (plain_layer layer)
   layer_unchanged (All parts) = ap conditions.All (parts_unchanged parts) ∙ sym (conditions.rolls-All (parts_of parts))
   layer_unchanged (Any parts) = ap conditions.Any (parts_unchanged parts) ∙ sym (conditions.rolls-Any (parts_of parts))

@@ -1,4 +1,4 @@
--- What each kind of condition is folded to, by what its parts are.
+-- The fold of each kind of condition, by the folds of its parts.
 use Rattle.std.proofs.Common.{◌≡◌, List, map, sym, ap, ◌∙◌}
 use Rattle.hippo_values.specs.declared.truths.CompareOp.{CompareOp}
 use Rattle.hippo_model.specs.declared.query.CondOf.{CondOf, CondOf-F, fold-CondOf, fold-roll-CondOf, roll-CondOf, map-CondOf}

@@ -1,4 +1,4 @@
--- A condition is true exactly where the parts of its outermost All are.
+-- A condition is true exactly when the parts of its outermost All are true.
 use Rattle.std.proofs.Common.{◌≡◌, Bool, true, ◌&&◌, List, [], ◌∷◌, map, refl, sym, ap, subst, ◌∙◌}
 use Rattle.std.specs.List.{list_all}
 use Rattle.std.proofs.Math.Bool.{and-true}
@@ -45,6 +45,6 @@ module _ {O : Type 0} (value : O → Value) where
   opened : (layer : CondOf-F O (CondOf O)) → IsSame (roll-CondOf O layer)
   opened layer = subst (λ (l : CondOf-F O (CondOf O)). list_all is_held (parts_in l (roll-CondOf O layer)) ≡ is_held (roll-CondOf O layer)) (sym (out-roll-CondOf O layer)) (by_layer layer)
 
-  -- the parts hold exactly where the condition is true
+  -- the parts are true exactly when the condition is
   pub parts-hold : (condition : CondOf O) → IsSame condition
   parts-hold = ind-CondOf O IsSame (λ layer parts is. opened layer)

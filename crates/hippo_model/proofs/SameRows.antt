@@ -1,4 +1,4 @@
--- Each cell, and each row of cells, is the same as itself.
+-- Each cell, and each row of cells, equals itself.
 use Rattle.std.proofs.Common.{◌≡◌, true, [], ◌∷◌, refl}
 use Rattle.std.specs.Cmp.{eq_by_cmp_equiv, nat_eq_equiv}
 use Rattle.std.proofs.lemmas.Bool.{and_from}

@@ -1,4 +1,5 @@
--- The answer of a query: select, project and join over views, and then its form.
+-- The answer of a query: it selects, projects and joins over views, and then applies the query's
+-- form.
 use Rattle.std.specs.Prelude.{Bool, List, [], ◌∷◌, map, filter, flat_map, slice_index_or}
 use Rattle.hippo_values.specs.declared.values.Value.{Value}
 use Rattle.hippo_model.specs.declared.audit.Audit.{Audit}
@@ -15,7 +16,7 @@ use Rattle.hippo_model.specs.Views.{view_at, unmasked_at}
 use Rattle.hippo_model.specs.Conditions.{truth, is_true}
 use Rattle.hippo_model.specs.Forms.{value_in, rows_by_form}
 
--- all combinations, one member of each list, the first list slowest
+-- all combinations of one member of each list; the first list varies slowest
 abbrev pub product : {A : Type 0} → List (List A) → List (List A)
 product [] = [] ∷ []
 product (first ∷ rest) = flat_map (λ member. map (λ others. member ∷ others) (product rest)) first
@@ -35,30 +36,28 @@ passes condition combination = is_true (truth (operand_value combination) condit
 abbrev pub selected_cells : List Ref → List ShownRow → ShownRow
 selected_cells items combination = map (cell_in combination) items
 
--- the selected cells of the combinations whose condition is true; equal rows stay
+-- the selected cells of the combinations for which the condition is true; equal rows are all kept
 abbrev pub answer_of : List Ref → CondOf Operand → List (List ShownRow) → List ShownRow
 answer_of items condition combinations =
     map (selected_cells items) (filter (passes condition) combinations)
 
--- what a query answers over these combinations
+-- the answer of a query over these combinations
 abbrev pub query_answer : Query → List (List ShownRow) → List ShownRow
 query_answer query combinations =
     rows_by_form query.form (answer_of query.items query.cond combinations)
 
--- the combinations of the rows of a query's tables, as they are seen
+-- the combinations of the rows that the context may see of a query's tables
 abbrev pub seen_combinations : History → Context → Query → List (List ShownRow)
 seen_combinations history context query = product (map (view_at history context) query.tables)
 
--- a query's answer for a purpose and recipient at a moment, over the views of its tables
+-- a query's answer in a context, over the views of its tables
 abbrev pub answer : History → Context → Query → List ShownRow
 answer history context query = query_answer query (seen_combinations history context query)
 
--- what an audit expression answers over these combinations
+-- the answer of an audit expression over these combinations
 abbrev pub audit_answer : Audit → List (List ShownRow) → List ShownRow
 audit_answer audit combinations = answer_of audit.columns audit.cond combinations
 
 -- the combinations of the rows of an audit's tables, with every cell shown
 abbrev pub unmasked_combinations : History → Audit → List (List ShownRow)
 unmasked_combinations history audit = product (map (unmasked_at history) audit.tables)
-
--- an audit expression's answer, over unmasked rows

@@ -1,7 +1,7 @@
--- Which queries an audit flags, and by which shared tuple (after the indispensable tuples of
--- Agrawal and others, Auditing Compliance with a Hippocratic Database, VLDB 2004; that answers are
--- compared as bags, that a query is judged over its view and the audit over unmasked rows, and
--- SHOWN are this project's own).
+-- Which queries an audit flags, and with which shared tuple. This follows the indispensable tuples
+-- of Agrawal and others, Auditing Compliance with a Hippocratic Database, VLDB 2004. Three points
+-- are this project's own: answers are compared as bags; a query is judged over its view, but the
+-- audit over unmasked rows; and SHOWN.
 use Rattle.std.specs.Prelude.{ℕ, ◌-◌, Bool, false, not, ◌&&◌, ◌||◌, int_le, List, [], map, filter, filter_map, find, take, drop, slice_index_or, Option, Some, None, is_some, option_and_then, if◌then◌else◌, bytes_eq}
 use Rattle.std.specs.List.{list_any, list_all, position_or_len}
 use Rattle.std.specs.Option.{option_map_or}
@@ -28,11 +28,11 @@ use Rattle.hippo_model.specs.Answers.{product, query_answer, seen_combinations, 
 use Rattle.hippo_model.specs.Bags.{same_bag}
 use Rattle.hippo_model.specs.Columns.{names_all}
 
--- the tables in both FROM lists, in the audit's order
+-- the tables that are in both FROM lists, in the audit's order
 abbrev pub common : Query → Audit → List Name
 common query audit = filter (λ table. list_any (bytes_eq table) query.tables) audit.tables
 
--- the rows of a table by their keys
+-- the rows of a table, identified by their keys
 abbrev pub shared_rows : History → Name → List SharedRow
 shared_rows history table =
     let by_key : Schema → BornRow → SharedRow =
@@ -40,7 +40,7 @@ shared_rows history table =
     option_map_or (λ schema. map (by_key schema) (table_rows schema history))
     (schema_at history table) []
 
--- a virtual tuple is a row of each common table; they stand in the order of the product
+-- a virtual tuple is one row of each common table; the tuples are in the order of the product
 abbrev pub virtual_tuples : History → List Name → List (List SharedRow)
 virtual_tuples history tables = product (map (shared_rows history) tables)
 
@@ -51,39 +51,41 @@ key_at history tables combination table =
     map value_in (slice_index_or combination (position_or_len (bytes_eq table) tables) []) in
     option_map_or (λ schema. key_of schema.key row) (schema_at history table) []
 
--- whether a combination's rows of the common tables have exactly the keys of a virtual tuple
+-- whether the combination's rows of the common tables have exactly the keys of the virtual tuple
 abbrev pub has_tuple : History → List Name → List SharedRow → List ShownRow → Bool
 has_tuple history tables tuple combination =
     list_all (λ shared. same_cells (key_at history tables combination shared.table) shared.key)
     tuple
 
--- whether an answer is another bag when the combinations that pass the test are taken out
+-- whether the answer changes, compared as a bag, when the combinations that pass the test are
+-- removed
 abbrev pub needs : (List (List ShownRow) → List ShownRow) → (List ShownRow → Bool)
     → List (List ShownRow) → Bool
 needs answered is_out combinations =
     not (same_bag (answered (filter (λ combination. not (is_out combination)) combinations))
     (answered combinations))
 
--- a query needs a virtual tuple where its answer without it is another bag; it is judged over its
--- view
+-- a query needs a virtual tuple if its answer without the tuple is a different bag; the query is
+-- judged over its view
 abbrev pub query_needs : History → Context → Query → List SharedRow → Bool
 query_needs history context query tuple =
     needs (query_answer query) (has_tuple history query.tables tuple)
     (seen_combinations history context query)
 
--- an audit expression needs it where its answer without it, over unmasked rows, is another bag
+-- an audit expression needs a virtual tuple if its answer without the tuple, over unmasked rows, is
+-- a different bag
 abbrev pub audit_needs : History → Audit → List SharedRow → Bool
 audit_needs history audit tuple =
     needs (audit_answer audit) (has_tuple history audit.tables tuple)
     (unmasked_combinations history audit)
 
--- the row that a virtual tuple names in a table
+-- the row of a table whose key is in the virtual tuple
 abbrev pub row_named : History → List SharedRow → Schema → Option BornRow
 row_named history tuple schema =
     option_and_then (λ shared. born_row_at schema history shared.key)
     (find (λ shared. bytes_eq shared.table schema.name) tuple)
 
--- whether the verdict on a column's cell, of the row that a virtual tuple names, is Shown
+-- whether the verdict on a column's cell is Shown, in the row that the virtual tuple names
 abbrev pub is_seen : History → Context → List Name → List SharedRow → Ref → Bool
 is_seen history context tables tuple column =
     let sees : Schema → BornRow → Bool =
@@ -91,14 +93,14 @@ is_seen history context tables tuple column =
     option_map_or (λ schema. option_map_or (sees schema) (row_named history tuple schema) false)
     (schema_at history (slice_index_or tables column.table [])) false
 
--- a virtual tuple serves where both need it and, if the audit asks for cells that were shown, each
--- audited one was
+-- a virtual tuple serves if the query and the audit both need it; if the audit asks for shown cells
+-- only, each audited cell must also be shown
 abbrev pub serves : History → Context → Query → Audit → List SharedRow → Bool
 serves history context query audit tuple =
     query_needs history context query tuple && audit_needs history audit tuple
     && (not audit.shown || list_all (is_seen history context audit.tables tuple) audit.columns)
 
--- both ends of the period are included
+-- a period includes both of its ends
 abbrev pub in_period : Audit → Moment → Bool
 in_period audit moment = int_le audit.from moment && int_le moment audit.to
 
@@ -107,7 +109,7 @@ is_exempt audit purpose recipient =
     list_any (λ pair. bytes_eq pair.purpose purpose && bytes_eq pair.recipient recipient)
     audit.exempt
 
--- whether a query is in the period, not exempt, and names every audited column
+-- whether a query is in the period, is not exempt, and names every audited column
 abbrev pub is_candidate : Context → Query → Audit → Bool
 is_candidate context query audit =
     in_period audit context.moment && not (is_exempt audit context.purpose context.recipient)
@@ -118,8 +120,8 @@ abbrev pub first_serving : History → Context → Query → Audit → Option (L
 first_serving history context query audit =
     find (serves history context query audit) (virtual_tuples history (common query audit))
 
--- the shared tuple of a query and an audit: the first virtual tuple that serves, where the query is
--- a candidate
+-- the shared tuple of a query and an audit: the first virtual tuple that serves, if the query is a
+-- candidate
 abbrev pub shared_by : History → Context → Query → Audit → Option (List SharedRow)
 shared_by history context query audit =
     if is_candidate context query audit then first_serving history context query audit else None
@@ -135,11 +137,11 @@ abbrev pub shared_tuple : Meaning → History → Audit → Entry → Option (Li
 shared_tuple meaning history audit entry =
     shared_in meaning (before_entry entry history) audit entry.moment entry.act
 
--- an entry is flagged where it has a shared tuple
+-- an audit flags an entry if they have a shared tuple
 abbrev pub is_flagged : Meaning → History → Audit → Entry → Bool
 is_flagged meaning history audit entry = is_some (shared_tuple meaning history audit entry)
 
--- an entry as a flag, where an audit flags it
+-- the flag of an entry, given its shared tuple
 abbrev pub flag_by : Entry → Act → List SharedRow → Option Flag
 flag_by entry (Asked user purpose recipient text) tuple =
     Some (record {
@@ -155,7 +157,7 @@ abbrev pub flag_of : Meaning → History → Audit → Entry → Option Flag
 flag_of meaning history audit entry =
     option_and_then (flag_by entry entry.act) (shared_tuple meaning history audit entry)
 
--- the flags of the entries above a number, up to another
+-- the flags of the entries with numbers above `above`, up to and including `upto`
 abbrev pub flags_between : Meaning → History → Audit → ℕ → ℕ → List Flag
 flags_between meaning history audit above upto =
     filter_map (flag_of meaning history audit) (take (upto - above) (drop above history))

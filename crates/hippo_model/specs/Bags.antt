@@ -1,4 +1,4 @@
--- Answers compared as bags: the same rows, each as often.
+-- Answers compared as bags: they have the same rows, each equally often.
 use Rattle.std.specs.Prelude.{ℕ, Bool, false, ◌==◌, List, ◌++◌, count_by}
 use Rattle.std.specs.List.{list_all}
 use Rattle.std.specs.Ordering.{is_eq}
@@ -16,11 +16,11 @@ same_cell a b = false
 abbrev pub same_row : ShownRow → ShownRow → Bool
 same_row = pointwise same_cell
 
--- how often a row stands in a list
+-- how often a row occurs in a list
 abbrev pub occurrences : ShownRow → List ShownRow → ℕ
 occurrences row rows = count_by (same_row row) rows
 
--- each row stands as often in the one list as in the other
+-- each row occurs equally often in both lists
 abbrev pub same_bag : List ShownRow → List ShownRow → Bool
 same_bag left right =
     list_all (λ row. occurrences row left == occurrences row right) (left ++ right)

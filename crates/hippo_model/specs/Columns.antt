@@ -15,7 +15,7 @@ abbrev pub columns_in : Operand → List Ref
 columns_in (Column column) = column ∷ []
 columns_in (Literal value) = []
 
--- the columns of a condition, where those of its parts are known
+-- the columns of a condition, given those of its parts
 abbrev pub columns_layer : CondOf-F Operand (List Ref) → List Ref
 columns_layer (All parts) = flat_map (λ columns. columns) parts
 columns_layer (Any parts) = flat_map (λ columns. columns) parts
@@ -28,12 +28,12 @@ columns_layer (Missing operand) = columns_in operand
 abbrev pub condition_columns : CondOf Operand → List Ref
 condition_columns condition = fold-CondOf Operand (List Ref) columns_layer condition
 
--- a column by its table's name and its place there
+-- a column, as its table's name and its index in the table
 abbrev pub named_column : List Name → Ref → Name × Place
 named_column tables column = (slice_index_or tables column.table [], column.column)
 
--- the columns that stand anywhere in a query: in its items, as an argument, in GROUP BY, in ON or
--- in WHERE
+-- the columns that occur anywhere in a query: as an item, as an argument, in GROUP BY, in ON or in
+-- WHERE
 abbrev pub query_columns : Query → List (Name × Place)
 query_columns query = map (named_column query.tables) (query.items ++ condition_columns query.cond)
 

@@ -22,7 +22,7 @@ abbrev pub is_null : Value → Bool
 is_null Null = true
 is_null value = false
 
--- the truth of a condition, where the truths of its parts are known
+-- the truth of a condition, given the truths of its parts
 abbrev pub truth_layer : {O : Type 0} → (O → Value) → CondOf-F O Truth → Truth
 truth_layer value (All parts) = least parts
 truth_layer value (Any parts) = greatest parts
@@ -35,7 +35,7 @@ truth_layer value (Among operand list) =
     greatest (map (λ member. comparison Eq (value operand) (value member)) list)
 truth_layer value (Missing operand) = truth_of (is_null (value operand))
 
--- the truth of a condition, where each operand has a value
+-- the truth of a condition, given a value for each operand
 abbrev pub truth : {O : Type 0} → (O → Value) → CondOf O → Truth
 truth {O} value condition = fold-CondOf O Truth (truth_layer value) condition
 
@@ -44,7 +44,7 @@ is_true True = true
 is_true Unknown = false
 is_true False = false
 
--- a condition with its operands changed, where its parts are changed already
+-- a condition with its operands replaced, given its parts with their operands replaced
 abbrev pub changed_layer : {O P : Type 0} → (O → P) → CondOf-F O (CondOf P) → CondOf P
 changed_layer change (All parts) = conditions.All parts
 changed_layer change (Any parts) = conditions.Any parts
@@ -55,11 +55,11 @@ changed_layer change (Between operand low high) =
 changed_layer change (Among operand list) = conditions.Among (change operand) (map change list)
 changed_layer change (Missing operand) = conditions.Missing (change operand)
 
--- a condition with its operands changed
+-- a condition with its operands replaced
 abbrev pub changed_operands : {O P : Type 0} → (O → P) → CondOf O → CondOf P
 changed_operands {O} {P} change condition =
     fold-CondOf O (CondOf P) (changed_layer change) condition
 
--- the parts of a condition's outermost All; a condition that is no All is its own one part
+-- the parts of a condition's outermost All; a condition that is not an All is its own only part
 abbrev pub outer_parts : {O : Type 0} → CondOf O → List (CondOf O)
 outer_parts {O} condition = elim (out-CondOf O condition) [ All parts ↦ parts | _ ↦ condition ∷ [] ]

@@ -1,4 +1,4 @@
--- Which cells were denied to a query that was asked, and by which rules.
+-- The cells that were denied to a query, and the rules that deny them.
 use Rattle.std.specs.Prelude.{ℕ, Bool, ◌||◌, List, [], filter_map, flat_map, nat_eq, Option, Some, None, if◌then◌else◌}
 use Rattle.std.specs.List.{list_any, enumerate_from}
 use Rattle.std.specs.Option.{option_map_or}
@@ -32,13 +32,13 @@ denial_by schema row column Shown = None
 denial_by schema row column (Denied rule) =
     Some (record { table = schema.name; key = key_of schema.key row; column = column; rule = rule })
 
--- a column of the key, or one that the query names
+-- whether a column is in the key, or the query names it
 abbrev pub is_listed : Query → Schema → Place → Bool
 is_listed query schema place =
     list_any (nat_eq place) schema.key || list_any (same_column (schema.name, place))
     (query_columns query)
 
--- the denied cells of a row that are listed, in the schema's order
+-- the denied cells among a row's listed columns, in the schema's order
 abbrev pub row_denials : History → Context → Query → Schema → BornRow → List Denial
 row_denials history context query schema kept =
     let denial : Place → Column → Option Denial =
@@ -48,25 +48,25 @@ row_denials history context query schema kept =
     else None)
     (enumerate_from 0 schema.columns)
 
--- those of a table's rows, in the order of their keys
+-- the listed denied cells of a table's rows, in the order of their keys
 abbrev pub table_denials : History → Context → Query → Schema → List Denial
 table_denials history context query schema =
     flat_map (row_denials history context query schema) (table_rows schema history)
 
--- those of a query's tables, in the order of FROM
+-- the listed denied cells of a query's tables, in the order of FROM
 abbrev pub query_denials : History → Context → Query → List Denial
 query_denials history context query =
     flat_map (λ table. option_map_or (table_denials history context query) (schema_at history table)
     []) query.tables
 
--- those of an act that asks, where the entries before it stand
+-- the listed denied cells of a query that an act records, given the entries before it
 abbrev pub denials_in : Meaning → History → Moment → Act → List Denial
 denials_in meaning history moment (Asked user purpose recipient text) =
     let context : Context = record { purpose = purpose; recipient = recipient; moment = moment } in
     option_map_or (query_denials history context) (meaning history text) []
 denials_in meaning history moment act = []
 
--- the cells that were denied to an entry, at its own time
+-- the cells that were denied to an entry's query, at the entry's own time
 abbrev pub denials : Meaning → History → Entry → List Denial
 denials meaning history entry =
     denials_in meaning (before_entry entry history) entry.moment entry.act

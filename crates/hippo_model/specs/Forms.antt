@@ -19,23 +19,23 @@ abbrev pub value_in : Cell → Value
 value_in (Shown value) = value
 value_in (Denied rule) = Null
 
--- the different rows, each at its first place
+-- the different rows, each where it first occurs
 abbrev pub different_rows : List ShownRow → List ShownRow
 different_rows [] = []
 different_rows (first ∷ rest) =
     first ∷ filter (λ row. not (same_row first row)) (different_rows rest)
 
--- the lesser of two values; a null yields to the other
+-- the lesser of two values; null is ignored unless both are null
 abbrev pub lesser : Value → Value → Value
 lesser Null other = other
 lesser value Null = value
 lesser value other = if is_le (value_cmp value other) then value else other
 
--- the greater of two values; null is the least of all
+-- the greater of two values; null is the least value
 abbrev pub greater : Value → Value → Value
 greater value other = if is_le (value_cmp value other) then other else value
 
--- what stays of values, where one of each two does; null where there are none
+-- reduces a list to one value by a function of two values; null if the list is empty
 abbrev pub staying_value : (Value → Value → Value) → List Value → Value
 staying_value stays [] = Null
 staying_value stays (first ∷ rest) = stays first (staying_value stays rest)
@@ -46,27 +46,27 @@ least_value values = staying_value lesser values
 abbrev pub greatest_value : List Value → Value
 greatest_value values = staying_value greater values
 
--- the rows whose first cells are these
+-- the rows that begin with these cells
 abbrev pub members : List ShownRow → ShownRow → Place → List ShownRow
 members rows key keys = filter (λ row. same_row key (take keys row)) rows
 
 abbrev pub values_in : Place → List ShownRow → List Value
 values_in place rows = map (λ row. value_in (slice_index_or row place (Denied 0))) rows
 
--- a cell of a group's row: one of the cells that all of its members share, or the least or greatest
--- of their values
+-- a cell of a group's row: a cell that all members share, or the least or greatest of the members'
+-- values
 abbrev pub group_cell : ShownRow → List ShownRow → Out → Cell
 group_cell key rows (Column place) = slice_index_or key place (Denied 0)
 group_cell key rows (Min place) = Shown (least_value (values_in place rows))
 group_cell key rows (Max place) = Shown (greatest_value (values_in place rows))
 
--- one row for each different list of the first cells, at the place of its first
+-- one row for each different list of first cells, where it first occurs
 abbrev pub grouped_rows : Shape → List ShownRow → List ShownRow
 grouped_rows shape rows =
     map (λ key. map (group_cell key (members rows key shape.keys)) shape.outs)
     (different_rows (map (take shape.keys) rows))
 
--- the rows of an answer by its form
+-- applies a query's form to the rows of its answer
 abbrev pub rows_by_form : Form → List ShownRow → List ShownRow
 rows_by_form Plain rows = rows
 rows_by_form Distinct rows = different_rows rows

@@ -1,5 +1,5 @@
--- Which entries can be kept: those whose parts have room in the stored form, as the types of
--- numbers, days and names say and the counts of the stored form allow.
+-- Which entries can be stored: those whose parts fit the stored form. Numbers, days and names are
+-- within the ranges of their types, and lists within the counts of the stored form.
 use Rattle.std.specs.Prelude.{ℕ, Bool, true, ◌&&◌, List, Option, length, nat_lt, nat_le, bytes_eq}
 use Rattle.std.specs.List.{list_all}
 use Rattle.std.specs.Option.{option_map_or}
@@ -18,19 +18,19 @@ use Rattle.hippo_model.specs.declared.entry.Act.TheVariants.{Create, Insert, Upd
 use Rattle.hippo_model.specs.declared.entry.Entry.{Entry}
 use Rattle.hippo_model.specs.Terms.{Row, Place}
 
--- a name in lower case
+-- a valid name in lower case
 abbrev pub is_folded_name : Name → Bool
 is_folded_name name = is_name name && bytes_eq (lower_case name) name
 
--- UTF-8 of at most so many bytes
+-- UTF-8 of at most `limit` bytes
 abbrev pub is_text : ℕ → Txt → Bool
 is_text limit text = nat_le (length text) limit && is_utf8 text
 
--- a list whose count goes into one byte
+-- a list whose length fits in one byte
 abbrev pub has_count : {A : Type 0} → List A → Bool
 has_count members = nat_lt (length members) 256
 
--- a list of at least one member and of no more than a table has columns
+-- a list with at least one member, and no more members than a table may have columns
 abbrev pub is_short : {A : Type 0} → List A → Bool
 is_short members = nat_le 1 (length members) && nat_le (length members) column_limit
 
@@ -67,11 +67,11 @@ schema_is_keepable schema =
 abbrev pub item_is_keepable : Option Name → Bool
 item_is_keepable item = option_map_or is_folded_name item true
 
--- a number of 32 bits
+-- a number of days fits in 32 bits
 abbrev pub days_are_keepable : Option ℕ → Bool
 days_are_keepable days = option_map_or (λ number. nat_lt number 4294967296) days true
 
--- the text of a question: 1 to 65,536 bytes
+-- the text of a query: 1 to 65,536 bytes
 abbrev pub question_is_keepable : Txt → Bool
 question_is_keepable text = nat_le 1 (length text) && is_text line_limit text
 

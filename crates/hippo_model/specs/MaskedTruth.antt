@@ -8,7 +8,7 @@ use Rattle.hippo_model.specs.Conditions.{truth}
 use Rattle.hippo_model.specs.Forms.{value_in}
 use Rattle.hippo_model.specs.Masking.{Choices, masked_cell}
 
--- the value that a comparison sees of an expression
+-- the value of an expression in a comparison
 abbrev pub masked_value : Choices → Combination → Expr → Value
 masked_value choices rows expr = value_in (masked_cell choices rows expr)
 

@@ -1,4 +1,4 @@
--- What a query with the policy's rules written into it answers, over unmasked rows and their
+-- The answer of a query with the policy's rules written into it, over unmasked rows and their
 -- births.
 use Rattle.std.specs.Prelude.{ℕ, ℤ, int_le, Bool, true, false, not, ◌&&◌, List, map, filter, slice_get, Option, if◌then◌else◌}
 use Rattle.std.specs.List.{list_all}
@@ -21,7 +21,7 @@ use Rattle.hippo_model.specs.Conditions.{truth, is_true}
 use Rattle.hippo_model.specs.Forms.{value_in}
 use Rattle.hippo_model.specs.Answers.{product}
 
--- the choice of each patient on each item
+-- each patient's choice on each item
 abbrev pub Choices : Type 0
 Choices = ℤ → Name → Option Bool
 
@@ -31,12 +31,13 @@ raw_value combination column =
     option_map_or (λ kept. cell_at kept.row column.column) (slice_get combination column.table)
     NullValue
 
--- whether the row of a column was born later than a second
+-- whether the row of a column was born after a second
 abbrev pub is_younger : Combination → Ref → ℤ → Bool
 is_younger combination column after =
     option_map_or (λ kept. not (int_le kept.born after)) (slice_get combination column.table) false
 
--- whether the patient with a number agrees to an item, by the choices; nobody is no patient
+-- whether the patient with this number agrees to the item, by these choices; false if there is no
+-- number
 abbrev pub agrees_by : Choices → Option ℤ → Name → Bool → Bool
 agrees_by choices subject item opt_in =
     option_map_or (λ number. agrees (if opt_in then OptIn else OptOut) (choices number item))
@@ -45,7 +46,7 @@ agrees_by choices subject item opt_in =
 abbrev pub shown_if : Bool → Value → ℕ → Cell
 shown_if test value rule = if test then Shown value else Denied rule
 
--- the cell that an expression stands for in a combination
+-- the cell that an expression gives in a combination
 abbrev pub masked_cell : Choices → Combination → Expr → Cell
 masked_cell choices rows (Keep column) = Shown (raw_value rows column)
 masked_cell choices rows (Null rule) = Denied rule
@@ -61,21 +62,22 @@ abbrev pub is_shown_cell : Cell → Bool
 is_shown_cell (Shown value) = true
 is_shown_cell (Denied rule) = false
 
--- whether each guard of a combination is shown
+-- whether each guard is shown in a combination
 abbrev pub is_guarded : Choices → Masked → Combination → Bool
 is_guarded choices query rows =
     list_all (λ guard. is_shown_cell (masked_cell choices rows guard.expr)) query.guards
 
--- whether the condition is true of a combination
+-- whether the condition is true in a combination
 abbrev pub masked_passes : Choices → Masked → Combination → Bool
 masked_passes choices query rows =
     is_true (truth (λ expr. value_in (masked_cell choices rows expr)) query.cond)
 
--- the items of a combination
+-- the cells of a query's items in a combination
 abbrev pub masked_items : Choices → Masked → Combination → ShownRow
 masked_items choices query rows = map (masked_cell choices rows) query.items
 
--- the items of the combinations that stay and pass, in the order of the product
+-- the items of each combination whose guards are shown and whose condition is true, in the order of
+-- the product
 abbrev pub masked_answer : Choices → Masked → List (List BornRow) → List ShownRow
 masked_answer choices query tables =
     map (masked_items choices query)

@@ -17,7 +17,7 @@ use Rattle.hippo_model.specs.Terms.{History, Row, Key, Place}
 use Rattle.hippo_values.specs.Order.{cells_cmp, same_cells}
 use Rattle.hippo_model.specs.Histories.{last_word}
 
--- the value in a row's column
+-- the value in a column of a row
 abbrev pub cell_at : Row → Place → Value
 cell_at row place = slice_index_or row place Null
 
@@ -36,7 +36,7 @@ abbrev pub names_key : Schema → Key → Act → Bool
 names_key schema key act =
     option_map_or (λ named. same_cells named key) (key_named schema act) false
 
--- the row that a change leaves: its own, or none where it deletes
+-- the row after a change: the change's own row, or none if it deletes
 abbrev pub row_left : Act → Option Row
 row_left (Insert table row) = Some row
 row_left (Update table row) = Some row
@@ -57,19 +57,19 @@ abbrev pub is_insert : Act → Bool
 is_insert (Insert table row) = true
 is_insert act = false
 
--- the moment of the last Insert of the key, or the least moment where there is none
+-- the moment of the last INSERT of the key; the first moment if there is none
 abbrev pub born_at : Schema → History → Key → Moment
 born_at schema history key =
     let inserts : Entry → Bool = λ entry. is_insert entry.act && names_key schema key entry.act in
     unwrap_or (last_word (λ entry. then_some (inserts entry) entry.moment) history) first_moment
 
--- the row with a key, and the moment at which it was born
+-- the row with a key, and its birth
 abbrev pub born_row_at : Schema → History → Key → Option BornRow
 born_row_at schema history key =
     option_map (λ row. record { row = row; born = born_at schema history key })
     (row_at schema history key)
 
--- a key put in its place among others, once
+-- inserts a key into a sorted list, unless it is there already
 abbrev pub insert_key : Key → List Key → List Key
 insert_key key [] = key ∷ []
 insert_key key (first ∷ rest) =

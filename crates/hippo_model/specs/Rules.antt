@@ -1,4 +1,4 @@
--- Rules, choices and authorizations: the last word of the history on each.
+-- Rules, choices and authorizations: the last entry on each decides.
 use Rattle.std.specs.Prelude.{ℕ, ℤ, Bool, ◌&&◌, List, Option, None, nat_eq, unwrap_or, bytes_eq}
 use Rattle.std.specs.Bool.{then_some}
 use Rattle.std.specs.List.{list_any}
@@ -11,8 +11,8 @@ use Rattle.hippo_model.specs.declared.policy.Authorization.TheVariants.{Yes, No}
 use Rattle.hippo_model.specs.Terms.{History, Place}
 use Rattle.hippo_model.specs.Histories.{last_word}
 
--- what entry number n says of a cell: it allows it, with an item or without, and for so many days
--- or without end; or it revokes it
+-- the rule that an entry sets for a cell, with the entry's number: it allows the cell, with or
+-- without an item, for a number of days or without end; or it revokes it
 pub data Rule : Type 0 where
   allowed : ℕ → Option Name → Option ℕ → Rule
   revoked : ℕ → Rule
@@ -24,7 +24,7 @@ pub record RuledCell : Type 0 where
   pub table : Name
   pub column : Place
 
--- whether a rule with these words names the cell
+-- whether a rule on this purpose, recipient, table and columns names the cell
 abbrev pub is_named_by : RuledCell → Name → Name → Name → List Place → Bool
 is_named_by cell purpose recipient table columns =
     bytes_eq purpose cell.purpose && bytes_eq recipient cell.recipient && bytes_eq table cell.table
@@ -60,8 +60,8 @@ authorization_in user purpose recipient number (Deauthorize u p r) =
     then_some (bytes_eq u user && bytes_eq p purpose && bytes_eq r recipient) (No number)
 authorization_in user purpose recipient number act = None
 
--- whether a user may ask for a purpose and recipient: as the last AUTHORIZE or DEAUTHORIZE of the
--- three says
+-- whether a user may ask for a purpose and recipient: the last AUTHORIZE or DEAUTHORIZE of these
+-- three decides
 abbrev pub authorized_at : History → Name → Name → Name → Authorization
 authorized_at history user purpose recipient =
     unwrap_or (last_word (λ entry. authorization_in user purpose recipient entry.seq entry.act)

@@ -1,7 +1,8 @@
--- How an entry is kept: its number, moment, kind and table, and a body of bytes, in format 1, or in
--- format 2 where a rule has a number of days. Numbers are big-endian, and those below 0 in two's
--- complement; a name is its length in one byte and its bytes, a long text its length in four bytes
--- and its bytes, a list its count in one byte and its members.
+-- How an entry is stored: its number, moment, kind and table, and a body of bytes. The body is in
+-- format 2 for a rule with a number of days, else in format 1. Numbers are big-endian, and negative
+-- ones are in two's complement. A name is its length in one byte and then its bytes. A long text is
+-- its length in four bytes and then its bytes. A list is its count in one byte and then its
+-- members.
 use Rattle.std.specs.Prelude.{ℕ, ◌+◌, ℤ, List, [], ◌∷◌, ◌++◌, flat_map, length, Option, Some, None}
 use Rattle.std.specs.Int.{w32, w64, to_be_bytes, cast_unsigned, from_bool}
 use Rattle.hippo_values.specs.declared.names.Name.{Name}
@@ -40,7 +41,7 @@ list_bytes member members = length members ∷ flat_map member members
 abbrev pub place_bytes : ℕ → List ℕ
 place_bytes place = place ∷ []
 
--- a value: its kind in one byte, and what it is
+-- a value: its kind in one byte, and then its content
 abbrev pub value_bytes : Value → List ℕ
 value_bytes Null = 0 ∷ []
 value_bytes (Int number) = 1 ∷ signed_bytes number
@@ -56,7 +57,7 @@ abbrev pub column_bytes : Column → List ℕ
 column_bytes column =
     name_bytes column.name ++ column_kind column.kind ∷ from_bool column.not_null ∷ []
 
--- 0 where a table has no subject, and else the subject's place, counted from 1
+-- 0 if a table has no subject; else the index of the subject's column, counted from 1
 abbrev pub subject_byte : Option ℕ → ℕ
 subject_byte None = 0
 subject_byte (Some place) = place + 1
@@ -74,7 +75,7 @@ abbrev pub item_bytes : Option Name → List ℕ
 item_bytes None = 0 ∷ []
 item_bytes (Some item) = 1 ∷ name_bytes item
 
--- the days of a rule that has some, in four bytes
+-- the days of a rule in four bytes; nothing for a rule without days
 abbrev pub days_bytes : Option ℕ → List ℕ
 days_bytes None = []
 days_bytes (Some days) = to_be_bytes w32 days
@@ -121,20 +122,20 @@ act_bytes (Choice subject item agreed) =
 act_bytes (Asked user purpose recipient text) =
     name_bytes user ++ name_bytes purpose ++ name_bytes recipient ++ text_bytes text
 
--- the format, the number, the moment, the kind, and what the act says
+-- the format, the number, the moment, the kind, and then the content of the act
 abbrev pub body : Entry → List ℕ
 body entry =
     act_format entry.act ∷ number_bytes entry.seq ++ signed_bytes entry.moment
     ++ act_kind entry.act ∷ act_bytes entry.act
 
--- the table whose row an act changes
+-- the table whose row an act changes; empty if it changes none
 abbrev pub table_changed : Act → Txt
 table_changed (Insert table row) = table
 table_changed (Update table row) = table
 table_changed (Delete table key) = table
 table_changed act = []
 
--- the stored form of an entry that can be kept
+-- the stored form of an entry that can be stored
 abbrev pub stored : Entry → StoredEntry
 stored entry = record {
   seq = entry.seq;

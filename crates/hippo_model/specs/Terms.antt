@@ -1,5 +1,5 @@
--- The types that definitions speak of. A name, a text and a moment are those of the code, which are
--- seen as bytes and seconds.
+-- The types that definitions use. Names, texts and moments are the code's types, seen as bytes and
+-- seconds.
 use Rattle.std.specs.Prelude.{ℕ, List, Option}
 use Rattle.hippo_values.specs.Texts.{Txt}
 use Rattle.hippo_values.specs.declared.values.Value.{Value}
@@ -8,7 +8,7 @@ use Rattle.hippo_model.specs.declared.cells.Cell.{Cell}
 use Rattle.hippo_model.specs.declared.entry.Entry.{Entry}
 use Rattle.hippo_model.specs.declared.query.Query.{Query}
 
--- the numbered entries, the first being number 1
+-- the numbered entries; the first is number 1
 abbrev pub History : Type 0
 History = List Entry
 
@@ -23,7 +23,7 @@ Key = List Value
 abbrev pub ShownRow : Type 0
 ShownRow = List Cell
 
--- a place in a list, counted from 0
+-- an index in a list, counted from 0
 abbrev pub Place : Type 0
 Place = ℕ
 
@@ -31,6 +31,6 @@ Place = ℕ
 abbrev pub Combination : Type 0
 Combination = List BornRow
 
--- the query that a text means after some entries, where it means one
+-- the query that a text means after some entries, if it means one
 abbrev pub Meaning : Type 0
 Meaning = List Entry → Txt → Option Query

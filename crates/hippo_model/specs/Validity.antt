@@ -38,7 +38,7 @@ is_purpose history purpose = list_any (λ entry. creates_purpose purpose entry.a
 abbrev pub is_recipient : History → Name → Bool
 is_recipient history recipient = list_any (λ entry. creates_recipient recipient entry.act) history
 
--- no member stands twice
+-- no member occurs twice
 abbrev pub all_differ : {A : Type 0} → (A → A → Bool) → List A → Bool
 all_differ same [] = true
 all_differ same (first ∷ rest) = not (list_any (same first) rest) && all_differ same rest
@@ -47,7 +47,7 @@ abbrev pub is_integer : ColumnKind → Bool
 is_integer Integer = true
 is_integer kind = false
 
--- whether a schema has a column at a place, and the column passes
+-- whether a schema has a column at this index, and the column passes the test
 abbrev pub column_passes : (Column → Bool) → Schema → Place → Bool
 column_passes test schema place = option_map_or test (slice_get schema.columns place) false
 
@@ -57,19 +57,18 @@ key_column_fits column = column.not_null
 abbrev pub subject_column_fits : Column → Bool
 subject_column_fits column = column.not_null && is_integer column.kind
 
--- column names differ; the key's places differ and the key's columns are NOT NULL; the subject is a
--- NOT NULL INTEGER
+-- column names differ; the key's columns differ and are NOT NULL; the subject is a NOT NULL INTEGER
 abbrev pub is_well_formed : Schema → Bool
 is_well_formed schema =
     all_differ bytes_eq (map (λ column. column.name) schema.columns) && all_differ nat_eq schema.key
     && list_all (column_passes key_column_fits schema) schema.key
     && option_map_or (column_passes subject_column_fits schema) schema.subject true
 
--- whether a table is created, and its schema passes
+-- whether a table exists, and its schema passes the test
 abbrev pub table_passes : History → (Schema → Bool) → Name → Bool
 table_passes history test table = option_map_or test (schema_at history table) false
 
--- at least one place of a column, and none twice
+-- at least one column index, all within the schema, and none twice
 abbrev pub has_columns : List Place → Schema → Bool
 has_columns places schema =
     nat_lt 0 (length places) && all_differ nat_eq places
@@ -82,13 +81,13 @@ is_authorized (No number) = false
 abbrev pub has_subject : Schema → Bool
 has_subject schema = is_some schema.subject
 
--- an item exists, and the table has a subject
+-- a rule's item exists, and the table has a subject
 abbrev pub item_fits : History → Name → Option Name → Bool
 item_fits history table None = true
 item_fits history table (Some item) =
     is_some (item_at history item) && table_passes history has_subject table
 
--- 1 to 36,500 days, a hundred years
+-- a rule's days are 1 to 36,500, a hundred years
 abbrev pub days_fit : Option ℕ → Bool
 days_fit None = true
 days_fit (Some days) = nat_le 1 days && nat_le days retention_limit
@@ -96,12 +95,12 @@ days_fit (Some days) = nat_le 1 days && nat_le days retention_limit
 abbrev pub pair_exists : History → Name → Name → Bool
 pair_exists history purpose recipient = is_purpose history purpose && is_recipient history recipient
 
--- whether a rule's pair exists, and its table with its columns
+-- whether a rule's purpose and recipient exist, and so do its table and columns
 abbrev pub rule_fits : History → Name → Name → Name → List Place → Bool
 rule_fits history purpose recipient table columns =
     pair_exists history purpose recipient && table_passes history (has_columns columns) table
 
--- fewer than 64 tables are created, none of this name, and the schema is well formed
+-- fewer than 64 tables exist, none of them has this name, and the schema is well formed
 abbrev pub create_fits : History → Schema → Bool
 create_fits history schema =
     nat_lt (count_by (λ entry. creates_table entry.act) history) table_limit
@@ -134,12 +133,12 @@ is_acceptable meaning history (Choice subject item agreed) = is_some (item_at hi
 is_acceptable meaning history (Asked user purpose recipient text) =
     is_authorized (authorized_at history user purpose recipient) && is_some (meaning history text)
 
--- moments do not fall
+-- whether the moment is not before that of the last entry
 abbrev pub keeps_order : History → Moment → Bool
 keeps_order history moment =
     option_map_or (λ last. int_le last moment) (last_word (λ entry. Some entry.moment) history) true
 
--- whether an entry may follow those so far: it can be kept, has the next number and no earlier
+-- whether an entry may follow those so far: it can be stored, it has the next number and no earlier
 -- moment, and its act is acceptable
 abbrev pub may_follow : Meaning → History → Entry → Bool
 may_follow meaning history entry =
@@ -156,6 +155,6 @@ damage_after meaning history (entry ∷ later) =
 abbrev pub damage : Meaning → History → Option ℕ
 damage meaning history = damage_after meaning [] history
 
--- each entry may follow those before it
+-- whether each entry may follow those before it
 abbrev pub is_valid : Meaning → History → Bool
 is_valid meaning history = is_none (damage meaning history)

@@ -1,4 +1,4 @@
--- What fits a column.
+-- Which values fit a column.
 use Rattle.std.specs.Prelude.{Bool, true, false, not, ◌&&◌}
 use Rattle.hippo_values.specs.Texts.{keeps_text_rule}
 use Rattle.hippo_values.specs.declared.values.Value.{Value}
@@ -13,8 +13,8 @@ has_kind TextColumn (Text text) = true
 has_kind Date (Day day) = true
 has_kind kind value = false
 
--- what may stand in a column: its kind, with texts that keep the text rule, and NULL unless it is
--- NOT NULL
+-- a value fits a column if it is of the column's kind and, if it is a text, keeps the text rule;
+-- NULL fits unless the column is NOT NULL
 abbrev pub fits : Column → Value → Bool
 fits column Null = not column.not_null
 fits column (Text text) = has_kind column.kind (Text text) && keeps_text_rule text

@@ -1,4 +1,4 @@
--- The versions of rows that a history holds: its inserts, updates and deletes.
+-- The versions of rows in a history: its inserts, updates and deletes.
 use Rattle.std.specs.Prelude.{ℕ, Bool, true, false, not, ◌&&◌, filter_map, count_by, slice_get, is_some, bytes_eq}
 use Rattle.std.specs.Cmp.Lexicographic.{pointwise}
 use Rattle.hippo_model.specs.declared.entry.Act.{Act}
@@ -18,7 +18,7 @@ is_version act = false
 abbrev pub versions : History → ℕ
 versions history = count_by (λ entry. is_version entry.act) history
 
--- as many values as columns, each of which fits
+-- a row has one value for each column, and each value fits
 abbrev pub row_fits : Schema → Row → Bool
 row_fits schema row = pointwise fits schema.columns row
 

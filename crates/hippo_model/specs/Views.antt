@@ -1,6 +1,6 @@
--- What a purpose and recipient see of a table: forbidden cells denied, rows with a forbidden key
--- gone (table semantics of LeFevre and others, Limiting Disclosure in Hippocratic Databases, VLDB
--- 2004).
+-- What a purpose and recipient see of a table: forbidden cells are denied, and rows with a
+-- forbidden key cell are left out (table semantics of LeFevre and others, Limiting Disclosure in
+-- Hippocratic Databases, VLDB 2004).
 use Rattle.std.specs.Prelude.{Bool, true, false, List, [], map, filter_map, Option}
 use Rattle.std.specs.Bool.{then_some}
 use Rattle.std.specs.List.{list_all, enumerate_from}
@@ -26,12 +26,12 @@ abbrev pub cell_by : Verdict → Value → Cell
 cell_by Shown value = ShownCell value
 cell_by (Denied rule) value = DeniedCell rule
 
--- a row's cells, each as its verdict says
+-- a row with each cell shown or denied by its verdict
 abbrev pub masked_row : (Place → Verdict) → Row → ShownRow
 masked_row verdicts row =
     map (λ (place, value). cell_by (verdicts place) value) (enumerate_from 0 row)
 
--- a row is in the view where each cell of its key is shown
+-- a row is in the view if each cell of its key is shown
 abbrev pub view_row : History → Context → Schema → BornRow → Option ShownRow
 view_row history context schema kept =
     let verdicts = verdict history context schema kept in
@@ -43,11 +43,11 @@ abbrev pub view : History → Context → Schema → List ShownRow
 view history context schema =
     filter_map (view_row history context schema) (table_rows schema history)
 
--- the view of a table by its name; it is empty where the table is not created
+-- the view of a table, by the table's name; empty if the table does not exist
 abbrev pub view_at : History → Context → Name → List ShownRow
 view_at history context table = option_map_or (view history context) (schema_at history table) []
 
--- the rows of a table by its name, with every cell shown
+-- the rows of a table, by the table's name, with every cell shown
 abbrev pub unmasked_at : History → Name → List ShownRow
 unmasked_at history table =
     option_map_or (λ schema. map (λ kept. map ShownCell kept.row) (table_rows schema history))

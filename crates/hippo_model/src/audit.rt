@@ -1,4 +1,4 @@
-//! Audit expressions, and what an audit finds.
+//! Audit expressions, and the flags that an audit reports.
 use crate::cells::Cells;
 use crate::query::{CondOf, Operand, Refs};
 use crate::schema::Names;
@@ -26,7 +26,7 @@ pub struct Audit {
     pub cond: CondOf<Operand>,
 }
 
-/// A row of a table, by its key.
+/// A row of a table, identified by its key.
 #[derive(Drop)]
 pub struct SharedRow {
     pub table: Name,
@@ -36,7 +36,7 @@ pub struct SharedRow {
 /// One row of each table that a query and an audit have in common.
 pub type SharedTuple = Sequence<SharedRow>;
 
-/// A query that an audit found, with the rows that it shares.
+/// A query that an audit flags, with the rows of its shared tuple.
 #[derive(Drop)]
 pub struct Flag {
     pub seq: u64,

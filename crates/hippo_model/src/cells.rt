@@ -10,8 +10,8 @@ use std::hash::Hash;
 /// The values of a row, one for each column, or those of its key, in the key's order.
 pub type Cells = Sequence<Value>;
 
-/// A value shown, or denied by the rule with this entry number (0 where no rule ever spoke of the
-/// cell).
+/// A shown value, or a cell denied by the rule with this entry number; 0 if no rule ever named the
+/// cell.
 #[derive(Drop, PartialEq, Eq, PartialOrd, Ord, Hash)]
 pub enum Cell {
     Shown(Value),
@@ -44,7 +44,7 @@ fn copied_cell(alloc: Global, row: &[Value], place: usize) -> Result<Value, Memo
     row.get(place).unwrap_or(&Value::Null).copy(alloc)
 }
 
-/// The values in a row's key columns, in the key's order.
+/// Copies the values of a row's key columns, in the key's order. Fails only when out of memory.
 pub fn copied_key(alloc: Global, places: &[usize], row: &[Value]) -> Result<Cells, Memory>
     ensures { IfOk result (λ key. key ≡ key_of places.now row.now) }
 {

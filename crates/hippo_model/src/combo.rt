@@ -1,4 +1,4 @@
-//! One row of each table of a statement, the order of joining, and patients' choices.
+//! One row of each table of a statement, the join order, and patients' choices.
 ghost use Rattle.std.specs.Prelude.{◌≡◌, ◌<◌, ◌-◌, ◌↔◌, [], ◌∷◌, ◌++◌, length, take, option_map, slice_get, slice_set, Some, IsTrue, OnOk, OnErr};
 
 use crate::cells::Cells;
@@ -7,13 +7,13 @@ use hippo_values::{Memory, Moment, Name, Sequence};
 use std::alloc::Global;
 use std::marker::Model;
 
-/// The order in which a query's tables are joined, by their places in FROM.
+/// The order in which a query's tables are joined, as their indexes in FROM.
 #[derive(Drop)]
 pub struct Plan {
     pub order: Places,
 }
 
-/// How many rows each of a query's tables has, in the order of FROM.
+/// The number of rows of each of a query's tables, in the order of FROM.
 pub type Sizes = Sequence<u64>;
 
 /// The choices of patients on items.
@@ -23,12 +23,13 @@ pub trait ChoiceView {
     /// The choice of a patient on an item, by the patient's number and the item's bytes.
     ghost choices: { Self → ℤ → List ℕ → Option Bool };
 
-    /// Whether the patient with this number said yes or no to the item; none where neither.
+    /// The choice on the item of the patient with this number, `true` for YES; none if the patient
+    /// made no choice.
     fn choice(&self, subject: i64, item: &Name) -> Option<bool>
         ensures { result ≡ choices self.now subject item.now };
 }
 
-// A row that stands elsewhere, and the moment at which it was born.
+// A borrowed row, and the moment at which it was born.
 #[derive(Drop)]
 struct LentRow<'a> {
     row: &'a Cells,
@@ -53,7 +54,7 @@ impl<'a> Model for Combo<'a> {
 }
 
 impl<'a> Combo<'a> {
-    /// No row; takes no memory.
+    /// A combination without rows; allocates nothing.
     pub fn new(alloc: Global) -> Combo<'a>
         ensures { result ≡ [] }
     {
@@ -62,7 +63,7 @@ impl<'a> Combo<'a> {
         }
     }
 
-    /// Adds the next table's row.
+    /// Adds the next table's row. Fails only when out of memory.
     pub fn push(&mut self, row: &'a Cells, born: Moment) -> Result<(), Memory>
         ensures ok { OnOk result (self.new
             ≡ self.old ++ record { row = row.now; born = born } ∷ []) }
@@ -74,7 +75,7 @@ impl<'a> Combo<'a> {
         }
     }
 
-    /// Puts a row in the place of that of the table at a place, counted from 0.
+    /// Replaces the row of the table at an index, from 0.
     pub fn set(&mut self, place: usize, row: &'a Cells, born: Moment)
         requires { place < length self.old }
         ensures { self.new
@@ -83,7 +84,7 @@ impl<'a> Combo<'a> {
         self.rows[place] = LentRow { row, born };
     }
 
-    /// Takes away the last table's row, if there is one.
+    /// Removes the last table's row, if there is one.
     pub fn pop(&mut self)
         ensures { self.new ≡ take (length self.old - 1) self.old }
     {
@@ -103,7 +104,7 @@ impl<'a> Combo<'a> {
         self.rows.is_empty()
     }
 
-    /// The row of the table at a place, counted from 0.
+    /// The row of the table at an index, from 0.
     pub fn row(&self, place: usize) -> &'a Cells
         requires { place < length self.now }
         ensures { option_map (λ kept. kept.row) (slice_get self.now place) ≡ Some result.now }
@@ -111,7 +112,7 @@ impl<'a> Combo<'a> {
         self.rows[place].row
     }
 
-    /// The moment at which the row of the table at a place was born.
+    /// The moment at which the row of the table at an index was born.
     pub fn born(&self, place: usize) -> Moment
         requires { place < length self.now }
         ensures { option_map (λ kept. kept.born) (slice_get self.now place) ≡ Some result }

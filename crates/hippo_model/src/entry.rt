@@ -5,7 +5,7 @@ use crate::schema::{Places, Schema};
 use hippo_values::{Duplicate, Memory, Moment, Name, Sequence, Txt};
 use std::alloc::Global;
 
-/// How a patient's silence on an item is read.
+/// How a patient's missing choice on an item counts.
 #[derive(Clone, Copy, Debug, PartialEq, Eq)]
 pub enum ItemKind {
     /// Only a patient who said YES has agreed.
@@ -53,8 +53,8 @@ pub enum Act {
         table: Name,
         columns: Places,
         item: Option<Name>,
-        /// For how many days from a row's birth its cells are shown; without end where there is no
-        /// number.
+        /// For how many days from a row's birth its cells are shown; without a number, they are
+        /// shown without end.
         days: Option<u32>,
     },
     Revoke {
@@ -68,7 +68,7 @@ pub enum Act {
         item: Name,
         yes: bool,
     },
-    /// A query that was asked, by whom and for which purpose and recipient.
+    /// A query that was asked: by whom, and for which purpose and recipient.
     Asked {
         user: Name,
         purpose: Name,
@@ -85,11 +85,11 @@ pub struct Entry {
     pub act: Act,
 }
 
-/// The numbered history: its first entry has number 1.
+/// The history: numbered entries, the first of which has number 1.
 pub type History = Sequence<Entry>;
 
-// The copy of an act, by a table of its kinds: those of one part, which is copied; then the others,
-// with the parts that are copied, and behind `;` those that are plain.
+// Copies an act. The table lists the kinds of acts: first those whose only part is copied; then the
+// others, each with the parts that are copied and, after `;`, the parts that are `Copy`.
 macro_rules! copied_act {
     (
         $act:expr, $alloc:expr,

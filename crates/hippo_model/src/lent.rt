@@ -1,4 +1,4 @@
-//! Lists of loans.
+//! Lists of references.
 ghost use Rattle.std.specs.Prelude.{◌≡◌, ◌<◌, ◌↔◌, [], ◌∷◌, ◌++◌, length, slice_get, Some, IsTrue, OnOk, OnErr};
 
 use crate::schema::Schema;
@@ -6,7 +6,7 @@ use hippo_values::Memory;
 use std::alloc::Global;
 use std::marker::Model;
 
-/// A list of what stands elsewhere.
+/// A list of references to members that are stored elsewhere.
 #[derive(Drop)]
 pub struct Lent<'a, T> {
     loans: Vec<&'a T>,
@@ -24,7 +24,7 @@ impl<'a, T> Model for Lent<'a, T> {
 }
 
 impl<'a, T> Lent<'a, T> {
-    /// No loan; takes no memory.
+    /// The empty list; allocates nothing.
     pub fn new(alloc: Global) -> Lent<'a, T>
         ensures { result ≡ [] }
     {
@@ -33,7 +33,7 @@ impl<'a, T> Lent<'a, T> {
         }
     }
 
-    /// Adds a loan at the end.
+    /// Adds a reference at the end. Fails only when out of memory.
     pub fn push(&mut self, loan: &'a T) -> Result<(), Memory>
         ensures ok { OnOk result (self.new ≡ self.old ++ loan.now ∷ []) }
         ensures err { OnErr result (self.new ≡ self.old) }
@@ -42,7 +42,7 @@ impl<'a, T> Lent<'a, T> {
         Ok(())
     }
 
-    /// The number of loans.
+    /// The number of references.
     pub fn len(&self) -> usize
         ensures { result ≡ length self.now }
     {
@@ -55,7 +55,7 @@ impl<'a, T> Lent<'a, T> {
         self.loans.is_empty()
     }
 
-    /// What is lent at a place, counted from 0.
+    /// The member at an index, from 0.
     pub fn get(&self, place: usize) -> &'a T
         requires { place < length self.now }
         ensures { slice_get self.now place ≡ Some result.now }

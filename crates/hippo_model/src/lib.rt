@@ -1,4 +1,4 @@
-//! The types of the database and, in `specs/`, what a history of it means.
+//! The types of the database. `specs/` defines what a history means.
 #![tactic(auto)]
 
 mod audit;

@@ -1,56 +1,54 @@
-//! Why a statement that is read has no meaning in a history.
+//! Why a parsed statement has no meaning in a history.
 ghost use Rattle.std.specs.Prelude.{◌≡◌};
 ghost use Rattle.hippo_model.specs.declared.name_fault.NameFault.TheVariants as faults;
 
 use hippo_values::{Boxed, Memory, Name, Txt};
 use std::alloc::{AllocError, AllocFailed};
 
-/// Why a statement that is in the grammar means nothing after the entries so far, with what its
-/// refusal names. Names are boxed, since results that may be faults are handed on often.
+/// Why a grammatical statement has no meaning after the entries so far, with what its refusal
+/// names. Names are boxed because results with faults are passed on often.
 #[derive(Drop)]
 pub enum NameFault {
-    /// The table that is not there.
+    /// The table does not exist.
     UnknownTable(Boxed<Name>),
-    /// The column that is in none of the tables where it may stand, as it is written, in lower
-    /// case.
+    /// None of the tables that may have the column has it; the column as written, in lower case.
     UnknownColumn(Txt),
-    /// The column, written without its table, that is in more than one of the statement's tables.
+    /// The column is written without its table, and more than one of the statement's tables has it.
     AmbiguousColumn(Boxed<Name>),
-    /// The purpose that is not there.
+    /// The purpose does not exist.
     UnknownPurpose(Boxed<Name>),
-    /// The recipient that is not there.
+    /// The recipient does not exist.
     UnknownRecipient(Boxed<Name>),
-    /// The item that is not there.
+    /// The item does not exist.
     UnknownItem(Boxed<Name>),
-    /// The name that is taken by one of its kind.
+    /// The name is already used by something of the same kind.
     AlreadyThere(Boxed<Name>),
-    /// The name that stands twice where each may stand once.
+    /// The name appears twice where names must differ.
     RepeatedName(Boxed<Name>),
-    /// A literal is not of its column's kind, operands that are compared differ in kind, or a
-    /// SUBJECT is not INTEGER.
+    /// A literal is not of its column's kind, compared operands differ in kind, or a SUBJECT is not
+    /// INTEGER.
     TypeMismatch,
-    /// The NOT NULL column for which NULL stands.
+    /// NULL is given for this NOT NULL column.
     NullNotAllowed(Boxed<Name>),
-    /// How many columns the table has, which is not how many values stand there.
+    /// The number of values differs from the table's number of columns, which is given here.
     WrongCount(u64),
-    /// The key's column that is set.
+    /// The statement sets this column of the key.
     KeyChanged(Boxed<Name>),
-    /// The table without SUBJECT for which a rule names an item.
+    /// A rule names an item for this table, which has no SUBJECT.
     NoSubject(Boxed<Name>),
     /// A quoted text is too long for a column, or has a control character.
     BadText,
-    /// The columns of WHERE are not those of the key, each once.
+    /// The columns in WHERE are not those of the key, each once.
     NotTheKey,
-    /// How many of such parts there may be, of which there are more.
+    /// There are more such parts than this limit.
     TooManyParts(u64),
-    /// A text of an audit's period is no moment.
+    /// A text in an audit's period is not a moment.
     BadMoment,
     /// An audit's period ends before it begins.
     PeriodBack,
-    /// The column that is selected and does not stand in GROUP BY, or stands there and is not
-    /// selected.
+    /// This column is selected but not in GROUP BY, or in GROUP BY but not selected.
     NotGrouped(Boxed<Name>),
-    /// Want of memory.
+    /// Out of memory.
     Memory,
 }
 

@@ -1,4 +1,4 @@
-//! Conditions with their operands changed.
+//! Replaces the operands of conditions.
 ghost use Rattle.std.specs.Prelude.{◌≡◌, IfOk, map};
 ghost use Rattle.hippo_model.specs.declared.query.CondOf.TheVariants.{Not, Compare, Between, Among, Missing};
 ghost use Rattle.hippo_model.specs.Conditions.{changed_operands};
@@ -7,16 +7,16 @@ use crate::query::CondOf;
 use hippo_values::{Boxed, CompareOp, Duplicate, Memory, Sequence};
 use std::alloc::Global;
 
-/// What stands for an operand of a condition.
+/// A replacement for the operands of a condition.
 pub trait Change<O, P> {
-    /// What each operand becomes.
+    /// The replacement of each operand.
     ghost to: { Self → O → P };
 
     fn change(&self, alloc: Global, operand: &O) -> Result<P, Memory>
         ensures { IfOk result (λ made. made ≡ to self.now operand.now) };
 }
 
-/// The condition with each operand changed.
+/// Copies a condition and replaces each operand.
 #[cycle(changed_condition)]
 pub fn changed_condition<O, P: Drop, C: Change<O, P>>(
     alloc: Global,
@@ -133,7 +133,7 @@ fn changed_missing<O, P: Drop, C: Change<O, P>>(
     Ok(CondOf::Missing { value })
 }
 
-// Each operand becomes its copy.
+// Replaces each operand by its copy.
 struct Copies;
 
 impl<O: Duplicate> Change<O, O> for Copies {

@@ -1,4 +1,4 @@
-//! What rules, authorizations and verdicts say, as of some entry number.
+//! Rules, authorizations and verdicts, as of some entry number.
 use crate::schema::Places;
 use hippo_values::{Name, Sequence};
 
@@ -7,13 +7,13 @@ use hippo_values::{Name, Sequence};
 pub enum RuleAt<'a> {
     /// No rule ever named the cell.
     Unnamed,
-    /// Allowed by this entry, for so many days from a row's birth, or without end.
+    /// Allowed by this entry, for a number of days from a row's birth, or without end.
     Always {
         rule: u64,
         days: Option<u32>,
     },
-    /// Allowed by this entry as the patient's choice on an item says, for so many days or without
-    /// end.
+    /// Allowed by this entry if the patient's choice on an item agrees, for a number of days or
+    /// without end.
     With {
         rule: u64,
         item: &'a Name,
@@ -28,11 +28,12 @@ pub enum RuleAt<'a> {
 #[derive(Clone, Copy)]
 pub enum Authorization {
     Yes,
-    /// Not authorized, by the last entry that says so, or 0 where none speaks of the user.
+    /// Not authorized. The number of the entry that decides this; 0 if no entry names the user with
+    /// the purpose and recipient.
     No(u64),
 }
 
-/// Whether a cell is shown, or which rule denies it (0 where no rule names the cell).
+/// Whether a cell is shown, or which rule denies it; 0 if no rule names the cell.
 #[derive(Clone, Copy)]
 pub enum Verdict {
     Shown,
@@ -44,13 +45,13 @@ pub enum Verdict {
 pub enum Gate {
     Always,
     Never(u64),
-    /// Shown in rows that were born later than the second `after`.
+    /// Shown in rows that were born after the second `after`.
     Aged {
         rule: u64,
         after: i64,
     },
-    /// Shown as the patient's choice on an item says, and in no row that was not born later than
-    /// `after`.
+    /// Shown if the patient's choice on an item agrees; with `after`, only in rows that were born
+    /// after that second.
     With {
         rule: u64,
         item: Name,
@@ -61,14 +62,14 @@ pub enum Gate {
 
 pub type Gates = Sequence<Gate>;
 
-/// The rules of one table for a purpose and recipient, at some entry number.
+/// The rules of one table for a purpose and recipient, as of some entry number.
 #[derive(Drop)]
 pub struct TableRules {
-    /// One for each column.
+    /// One gate for each column.
     pub gates: Gates,
     pub key: Places,
     pub subject: Option<usize>,
 }
 
-/// One for each table of the list that was asked.
+/// The rules of each table in the requested list.
 pub type RulesInForce = Sequence<TableRules>;

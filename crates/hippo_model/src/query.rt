@@ -1,4 +1,4 @@
-//! Queries and conditions once their columns are found, and with the policy written into them.
+//! Queries and conditions with resolved columns, before and after the policy is written into them.
 ghost use Rattle.std.specs.Prelude.{◌≡◌, IfOk};
 ghost use Rattle.hippo_model.specs.declared.query.Operand.TheVariants.{Literal};
 ghost use Rattle.hippo_model.specs.declared.query.Form.TheVariants.{Grouped};
@@ -10,9 +10,9 @@ use std::alloc::Global;
 /// A column of a statement's tables.
 #[derive(Clone, Copy, PartialEq, Eq)]
 pub struct Ref {
-    /// The table's place in FROM, from 0.
+    /// The table's index in FROM, from 0.
     pub table: usize,
-    /// The column's place in the table's schema, from 0.
+    /// The column's index in the table's schema, from 0.
     pub column: usize,
 }
 
@@ -27,7 +27,7 @@ pub enum Operand {
 
 pub type Operands = Sequence<Operand>;
 
-/// A condition over operands of some kind.
+/// A condition over operands of some type.
 #[derive(Debug, Drop)]
 pub enum CondOf<O> {
     All(Sequence<CondOf<O>>),
@@ -40,7 +40,7 @@ pub enum CondOf<O> {
     Missing { value: O },
 }
 
-/// What a group's row shows: each number is a place in the query's items.
+/// A cell of a group's row; each number is an index into the query's items.
 #[derive(Clone, Copy, PartialEq, Eq)]
 pub enum Out {
     Column(usize),
@@ -50,27 +50,27 @@ pub enum Out {
 
 pub type Outs = Sequence<Out>;
 
-/// How a grouped query's rows are made: its first `keys` items are the GROUP BY columns, the others
+/// How a grouped query makes its rows: the first `keys` items are the GROUP BY columns, the others
 /// the arguments of MIN and MAX.
 #[derive(Drop)]
 pub struct Shape {
     pub keys: usize,
-    /// The row's cells, in their order.
+    /// The row's cells, in order.
     pub outs: Outs,
 }
 
-/// Which rows a query answers.
+/// Which rows a query returns.
 #[derive(Drop)]
 pub enum Form {
-    /// One for each combination of rows.
+    /// One row for each combination of rows.
     Plain,
-    /// Equal ones once.
+    /// Equal rows once.
     Distinct,
-    /// One for each group of rows.
+    /// One row for each group.
     Grouped(Shape),
 }
 
-/// A select, each of whose columns is found in one table of its FROM list.
+/// A select whose columns are resolved: each belongs to one table of its FROM list.
 #[derive(Drop)]
 pub struct Query {
     pub items: Refs,
@@ -79,19 +79,19 @@ pub struct Query {
     pub form: Form,
 }
 
-/// What stands for a column reference where the policy's rules are written into a query.
+/// What replaces a column reference when the policy's rules are written into a query.
 #[derive(Drop)]
 pub enum Expr {
     Keep(Ref),
     Null(u64),
-    /// Shown in rows that were born later than the second `after`.
+    /// Shown in rows that were born after the second `after`.
     Aged {
         column: Ref,
         rule: u64,
         after: i64,
     },
-    /// Shown as the patient's choice on an item says, and in no row that was not born later than
-    /// `after`.
+    /// Shown if the patient's choice on an item agrees; with `after`, only in rows that were born
+    /// after that second.
     Case {
         column: Ref,
         subject: Ref,
@@ -105,10 +105,10 @@ pub enum Expr {
 
 pub type Exprs = Sequence<Expr>;
 
-/// A key cell that has to be shown for a row to count.
+/// A key cell that must be shown for its row to be used.
 #[derive(Drop)]
 pub struct Guard {
-    /// The table's place in FROM.
+    /// The table's index in FROM.
     pub table: usize,
     pub expr: Expr,
 }

@@ -18,7 +18,7 @@ pub struct Column {
 
 pub type Columns = Sequence<Column>;
 
-/// Places, counted from 0: of a table's columns in its schema, say.
+/// Indexes from 0, such as those of a table's columns in its schema.
 pub type Places = Sequence<usize>;
 
 pub type Names = Sequence<Name>;
@@ -28,9 +28,9 @@ pub type Names = Sequence<Name>;
 pub struct Schema {
     pub name: Name,
     pub columns: Columns,
-    /// The places of the key's columns, in the key's order.
+    /// The indexes of the key's columns, in the key's order.
     pub key: Places,
-    /// The place of the column that holds the number of the patient whom a row is about.
+    /// The index of the column that holds the number of the patient whom a row is about.
     pub subject: Option<usize>,
 }
 

@@ -1,17 +1,17 @@
-//! Entries as they are kept.
+//! Entries as they are stored.
 use hippo_values::{Bytes, Duplicate, Memory, Sequence, Txt};
 use std::alloc::Global;
 
-/// An entry of the history as it is kept: its body in bytes, and beside it what a keeper looks
-/// entries up by.
+/// An entry of the history as it is stored: its body in bytes, and the fields by which a keeper
+/// looks entries up.
 #[derive(Drop)]
 pub struct StoredEntry {
     pub seq: u64,
-    /// Seconds from 1970-01-01T00:00:00Z.
+    /// Seconds since 1970-01-01T00:00:00Z.
     pub moment: i64,
     /// The kind of the entry's act, from 1 to 13.
     pub kind: u8,
-    /// The table whose row the entry changes; empty where it changes none.
+    /// The table whose row the entry changes; empty if it changes none.
     pub table: Txt,
     pub body: Bytes,
 }

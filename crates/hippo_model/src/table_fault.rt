@@ -1,13 +1,12 @@
-//! Why a change of a row cannot be made.
+//! Why a row cannot be changed.
 
-/// Why a change does not fit the rows as they are.
+/// Why a change does not fit the existing rows.
 #[derive(Drop)]
 pub enum TableFault {
-    /// A row has the key of the one that is inserted; the number of the last entry that names the
-    /// key.
+    /// A row with the inserted key exists. The number is that of the last entry that names the key.
     KeyThere(u64),
-    /// No row has the key that is updated or deleted.
+    /// No row has the key to update or delete.
     KeyMissing,
-    /// Want of memory.
+    /// Out of memory.
     Memory,
 }

@@ -1,11 +1,10 @@
-//! Changes that wait for the rows that are there.
+//! Changes whose effect depends on the existing rows.
 use crate::cells::Cells;
 use crate::entry::Act;
 use crate::schema::Places;
 use hippo_values::Name;
 
-/// A change that is right by names and types; what it does may still wait for the rows that are
-/// there.
+/// A change with correct names and types. Its effect may still depend on the existing rows.
 #[derive(Drop)]
 pub enum Wanted {
     Ready(Act),

@@ -1,4 +1,4 @@
--- What is written of an act is read in one way only, and so is an entry's body.
+-- The bytes of an act can be read in only one way, and so can those of an entry's body.
 use Rattle.std.proofs.Common.{◌≡◌, ℕ, ◌<◌, ◌^◌, ℤ, pos, negsuc, Bool, true, false, ◌&&◌, List, [], ◌∷◌, ◌++◌, length, map, Option, Some, None, refl, sym, ap, ◌∙◌, append_assoc, arith}
 use Rattle.std.specs.Prelude.{nat_lt, nat_le, int_le}
 use Rattle.std.specs.Int.{w32, w64, to_be_bytes, cast_unsigned, cast_signed, from_bool}
@@ -95,11 +95,11 @@ question_within text f = is_within 65536 text (omega arith) (and_parts (nat_le 1
 pub a_question : IsReadOnce question_is_keepable text_bytes
 a_question = record { once = λ x y r s f g e. text_again x y r s (question_within x f) (question_within y g) e }
 
--- what something is made of, and what stands behind it
+-- what is made of parts, and what follows it
 made : {A B : Type 0} {x y : A} {r s : List ℕ} (make : A → B) → (x ≡ y) × (r ≡ s) → (make x ≡ make y) × (r ≡ s)
 made make both = (ap make both.0, both.1)
 
--- ---- values, columns, and what stands in one byte
+-- ---- values, columns, and parts of one byte
 
 value_again : (x y : Value) (r s : List ℕ) → value_is_keepable x ≡ true → value_is_keepable y ≡ true → value_bytes x ++ r ≡ value_bytes y ++ s → (x ≡ y) × (r ≡ s)
 value_again Null Null r s f g e = (refl, cc)
@@ -183,7 +183,7 @@ item_again x y r s f g e = absurd cc
 pub an_item : IsReadOnce item_is_keepable item_bytes
 an_item = record { once = item_again }
 
--- the format tells whether days stand at the end
+-- the format says whether days come at the end
 abbrev days_format : Option ℕ → ℕ
 days_format None = 1
 days_format (Some days) = 2
@@ -202,7 +202,7 @@ same_item_kind OptIn OptIn e = refl
 same_item_kind OptOut OptOut e = refl
 same_item_kind x y e = absurd cc
 
--- a part in one byte
+-- a part of one byte
 pub a_kind : IsReadOnce any (λ kind. item_kind kind ∷ [])
 a_kind = record { once = λ x y r s f g e. let bytes : item_kind x ≡ item_kind y = cc in (same_item_kind x y bytes, cc) }
 
@@ -260,15 +260,15 @@ body_again x y r s f g e =
     let act = act_again x.act y.act r s fits.1 fits2.1 formats kinds fields in
     (λ i. record { seq = (front.0 i).0; moment = (front.0 i).1; act = act.0 i }, act.1)
 
--- a body tells the whole entry, and where it ends
+-- a body determines the whole entry, and where the body ends
 pub a_body : IsReadOnce is_keepable body
 a_body = record { once = body_again }
 
--- a stored form is that of one entry
+-- a stored form belongs to one entry
 pub stored_again : (x y : Entry) → is_keepable x ≡ true → is_keepable y ≡ true → stored x ≡ stored y → x ≡ y
 stored_again x y f g e = last a_body x y f g (ap (λ (kept : StoredEntry). kept.body) e)
 
--- and so is the list of stored forms of a history
+-- and the list of stored forms belongs to one history
 pub all_stored_again : (xs ys : History) → list_all is_keepable xs ≡ true → list_all is_keepable ys ≡ true → map stored xs ≡ map stored ys → xs ≡ ys
 all_stored_again [] [] f g e = refl
 all_stored_again [] (y ∷ ys) f g e = absurd cc

@@ -1,4 +1,4 @@
--- Answers, computed on small histories. Each example is named by what it shows.
+-- Answers, computed on small histories. Each example is named for what it shows.
 use Rattle.std.proofs.Common.{◌≡◌, ℤ, pos, List, [], ◌∷◌, ◌++◌, Some, None, true, false, refl, codes}
 use Rattle.hippo_values.specs.declared.values.Value.TheVariants.{Null, Int, Text}
 use Rattle.hippo_model.specs.declared.born_row.BornRow.{BornRow}
@@ -25,7 +25,7 @@ phones_revoked = clinic ++ entry 8 (Allow treatment nurse patient (2 ∷ []) Non
 revoked_column_names_its_revocation : ask phones_revoked (select (column 2 ∷ []) always) ≡ (Denied 9 ∷ []) ∷ (Denied 9 ∷ []) ∷ []
 revoked_column_names_its_revocation = simp truths
 
--- the phone of the first patient, as an opt-in item decides
+-- the phone of the first patient, if an opt-in item allows it
 abbrev calls : History
 calls = clinic ++ entry 8 (Item (codes "calls") OptIn) ∷ entry 9 (Allow treatment nurse patient (2 ∷ []) (Some (codes "calls")) None) ∷ []
 
@@ -70,7 +70,8 @@ equal_rows_stay = simp truths
 abbrev both : List BornRow
 both = born_in_the_morning ada ∷ born_in_the_morning bob ∷ []
 
--- the same rules written into a query: the number is kept, and the phone goes by the patient's choice on mail
+-- the same rules written into a query: the number is always shown, the phone by the patient's
+-- choice on mail
 abbrev masked : Masked
 masked = record {
   items = Keep (column 0) ∷ Case (column 2) (column 0) (codes "mail") 9 false None ∷ NullBy 0 ∷ [];
@@ -86,7 +87,7 @@ rules_in_a_query_mask_its_cells = simp truths
 denied_guard_removes_its_row : masked_answer (choice_at mail) (record masked { guards = record { table = 0; expr = NullBy 8 } ∷ [] }) (both ∷ []) ≡ []
 denied_guard_removes_its_row = refl
 
--- phones written with an age: shown in rows that were born after a second
+-- phones with an age: shown in rows that were born after a second
 abbrev aged : ℤ → Masked
 aged after = record masked { items = Aged (column 2) 8 after ∷ [] }
 
@@ -96,7 +97,7 @@ row_born_after_the_second_is_shown = simp truths
 row_born_in_the_second_is_denied : masked_answer (choice_at mail) (aged (pos 1704182400)) (both ∷ []) ≡ (Denied 8 ∷ []) ∷ (Denied 8 ∷ []) ∷ []
 row_born_in_the_second_is_denied = simp truths
 
--- the same, as the patient's choice on mail says
+-- the same, by the patient's choice on mail
 abbrev aged_by_choice : ℤ → Masked
 aged_by_choice after = record masked { items = Case (column 2) (column 0) (codes "mail") 9 false (Some after) ∷ [] }
 

@@ -1,4 +1,4 @@
--- Audits, computed on small histories. Each example is named by what it shows.
+-- Audits, computed on small histories. Each example is named for what it shows.
 use Rattle.hippo_model.specs.declared.query.Form.TheVariants.{Plain}
 use Rattle.std.proofs.Common.{◌≡◌, ℕ, ℤ, pos, negsuc, List, [], ◌∷◌, ◌++◌, Option, Some, None, false, refl, codes}
 use Rattle.hippo_values.specs.declared.truths.CompareOp.TheVariants.{Gt}
@@ -29,7 +29,7 @@ use Rattle.hippo_model_laws.proofs.ExampleHistories.{treatment, nurse, ann, cler
 abbrev pub audit : List ℕ → List Ref → CondOf Operand → Audit
 audit table columns condition = audit_between (pos 1704153600) (pos 1704239999) columns (table ∷ []) condition
 
--- every question is this one
+-- every query text means this query
 abbrev pub asks : Query → Meaning
 asks query history text = Some query
 
@@ -61,7 +61,7 @@ column_named_in_WHERE_alone_is_flagged = simp (truths, named_columns)
 column_named_nowhere_is_not_flagged : flag_of names_by_zip zips_asked (audit patient (column 2 ∷ []) (equals 1 (Text (codes "Ada")))) 9 ≡ None
 column_named_nowhere_is_not_flagged = simp named_columns
 
--- the first patient moves between two equal questions
+-- the first patient moves between two equal queries
 abbrev moved : History
 moved =
     clinic ++ asked 8 ∷ entry 9 (Update patient (Int (pos 1) ∷ Text (codes "Ada") ∷ Text (codes "555-1") ∷ Int (pos 90210) ∷ [])) ∷ asked 10 ∷ []
@@ -94,7 +94,8 @@ rules_are_those_of_the_query = simp truths
 deleted_row_is_not_shared : flag_of second_name gone names_of_the_second 10 ≡ None
 deleted_row_is_not_shared = simp truths
 
--- a patient's number and name are shown unless the patient said NO, as the second one does between two equal questions
+-- a patient's number and name are shown unless the patient said NO; the second patient says NO
+-- between two equal queries
 abbrev refused : History
 refused =
     clinic ++ entry 8 (Item (codes "contact") OptOut) ∷ entry 9 (Allow treatment nurse patient (0 ∷ 1 ∷ []) (Some (codes "contact")) None)
@@ -106,7 +107,7 @@ choices_are_those_of_the_query = simp truths
 row_that_was_refused_is_not_shared : flag_of second_name refused names_of_the_second 12 ≡ None
 row_that_was_refused_is_not_shared = simp truths
 
--- four questions, a second apart
+-- four queries, a second apart
 abbrev asked_at : ℕ → ℤ → Entry
 asked_at number moment = record { seq = number; moment = moment; act = Asked ann treatment nurse (codes "q") }
 
@@ -125,7 +126,7 @@ at_the_end_of_the_period = simp truths
 after_the_period : shared_tuple (asks names) clinic seconds (asked_at 11 (pos 1704182403)) ≡ None
 after_the_period = refl
 
--- the same names are asked for two recipients, of which one is exempt
+-- the same names are queried for two recipients, one of which is exempt
 abbrev two_recipients : History
 two_recipients = clinic ++ entry 8 (Recipient clerk) ∷ entry 9 (Authorize ann treatment clerk) ∷ entry 10 (Allow treatment clerk patient (0 ∷ 1 ∷ []) None None) ∷ []
 
@@ -166,7 +167,7 @@ keys_of_two_columns_in_key_order = simp truths
 shared_key_of_two_columns : flag_of all_of_ward rooms (audit ward (column 1 ∷ []) (Compare Gt (Column (column 1)) (Literal (Int (pos 0))))) 13 ≡ row_of ward (Text (codes "a") ∷ Int (pos 2) ∷ [])
 shared_key_of_two_columns = simp truths
 
--- how many patients an audit's condition finds, before and after the first one moves
+-- how many patients match an audit's condition, before and after the first one moves
 audit_finds_a_patient : hits clinic (audit patient (column 1 ∷ []) (equals 3 (Int (pos 95120)))) 0 ≡ 1
 audit_finds_a_patient = simp (truths, named_columns, outer_parts_of)
 

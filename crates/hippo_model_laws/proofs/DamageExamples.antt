@@ -9,15 +9,15 @@ use Rattle.hippo_model.specs.Terms.{Meaning}
 use Rattle.hippo_model.specs.Validity.{damage}
 use Rattle.hippo_model_laws.proofs.ExampleHistories.{treatment, nurse, ann, patient, patients, number_column, required, entry, ada, bob, clinic, column, select, always, asked, words_and_texts}
 
--- every question is this one
+-- every query text means this query
 abbrev pub meaning : Meaning
 meaning history text = Some (select (column 1 ∷ []) always)
 
--- the damage of the clinic's history with one entry more
+-- the damage of the clinic's history with one more entry
 abbrev damage_by : Entry → Option ℕ
 damage_by next = damage meaning (clinic ++ next ∷ [])
 
--- a table with no subject
+-- a table without a subject
 abbrev wards : Schema
 wards = record { name = codes "ward"; columns = required (number_column (codes "room")) ∷ []; key = 0 ∷ []; subject = None }
 
@@ -29,7 +29,7 @@ missing_entry : damage meaning (entry 1 (Create patients) ∷ entry 3 (Recipient
 unfolding words_and_texts
 missing_entry = refl
 
--- one second before the entries that stand
+-- one second before the entries so far
 falling_moment : damage meaning (take 6 clinic ++ record { seq = 7; moment = pos 1704182399; act = Insert patient bob } ∷ []) ≡ Some 7
 unfolding words_and_texts
 falling_moment = refl

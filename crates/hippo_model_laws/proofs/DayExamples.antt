@@ -92,7 +92,7 @@ the_day_is_not_damaged : damage meaning day ≡ None
 unfolding words_and_texts
 the_day_is_not_damaged = refl
 
--- a clerk's question at 09:30:00
+-- a clerk's query at 09:30:00
 abbrev billed : Context
 billed = record { purpose = billing; recipient = clerk; moment = pos 1709544600 }
 
@@ -135,7 +135,7 @@ shown_names_are_flagged = simp truths
 denied_name_is_not_flagged_as_shown : shared_tuple meaning day names_shown_in_south carl_asks ≡ None
 denied_name_is_not_flagged_as_shown = simp truths
 
--- who asked for the second patient's phone, or saw it
+-- who queried or saw the second patient's phone
 abbrev phone_asked : Audit
 phone_asked = record names_in_south { columns = column 2 ∷ []; tables = patient ∷ []; cond = Compare Eq (ColumnOperand (column 1)) (Literal (Text (codes "Bob"))) }
 

@@ -1,4 +1,4 @@
--- A small history, and how the worked examples ask of it.
+-- A small history, and helpers for the worked examples.
 use Rattle.hippo_model.specs.declared.query.Form.TheVariants.{Plain}
 use Rattle.std.proofs.Common.{ℕ, ℤ, pos, true, false, List, [], ◌∷◌, Some, None, codes}
 use Rattle.hippo_values.specs.declared.values.Value.{Value}
@@ -26,7 +26,7 @@ use Rattle.std.specs.Str.{is_utf8, chars}
 use lib.Utf8.{encode}
 use Rattle.hippo_values.specs.Names.{keywords, unsupported_words}
 
--- what is unfolded to compute which names and texts can be kept
+-- unfolded to compute which names and texts can be stored
 unfoldable pub words_and_texts : ⊤
 unfolding keywords unsupported_words is_utf8 chars encode
 words_and_texts = tt
@@ -104,7 +104,7 @@ select items condition = record { items = items; tables = patient ∷ []; cond =
 abbrev pub always : CondOf Operand
 always = All []
 
--- a nurse's question, at a moment
+-- a nurse's query, at a moment
 abbrev pub nursing : ℤ → Context
 nursing moment = record { purpose = treatment; recipient = nurse; moment = moment }
 
@@ -114,7 +114,7 @@ ask history query = answer history (nursing morning) query
 abbrev pub asked : ℕ → Entry
 asked number = entry number (Asked ann treatment nurse (codes "q"))
 
--- who asked for the columns of some rows from one second to another; nobody is exempt
+-- who queried the columns of some rows from one second to another; nobody is exempt
 abbrev pub audit_between : ℤ → ℤ → List Ref → List (List ℕ) → CondOf Operand → Audit
 audit_between from to columns tables condition = record {
   from = from;

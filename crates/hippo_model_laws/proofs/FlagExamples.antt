@@ -1,4 +1,4 @@
--- The flags of a stretch of entries, computed on a small history.
+-- The flags of a range of entries, computed on a small history.
 use Rattle.std.proofs.Common.{◌≡◌, ℕ, pos, List, [], ◌∷◌, ◌++◌, refl, codes}
 use Rattle.hippo_values.specs.declared.values.Value.TheVariants.{Int, Text}
 use Rattle.hippo_model.specs.declared.audit.Flag.{Flag}
@@ -9,11 +9,11 @@ use Rattle.hippo_model.proofs.Truths.{truths}
 use Rattle.hippo_model_laws.proofs.AuditExamples.{audit, asks}
 use Rattle.hippo_model_laws.proofs.ExampleHistories.{treatment, nurse, ann, morning, patient, entry, clinic, column, select, always, asked}
 
--- two equal questions, and between them a change
+-- two equal queries, and a change between them
 abbrev asked_twice : History
 asked_twice = clinic ++ asked 8 ∷ entry 9 (Update patient (Int (pos 1) ∷ Text (codes "Ada") ∷ Text (codes "555-3") ∷ Int (pos 95120) ∷ [])) ∷ asked 10 ∷ []
 
--- the flags of those who saw a name
+-- the flags of the queries that show a name
 abbrev flags : ℕ → ℕ → List Flag
 flags above upto = flags_between (asks (select (column 1 ∷ []) always)) asked_twice (audit patient (column 1 ∷ []) always) above upto
 

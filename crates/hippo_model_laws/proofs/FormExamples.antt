@@ -1,4 +1,5 @@
--- Distinct and grouped answers and their audits, computed on small histories. Each example is named by what it shows.
+-- Distinct and grouped answers and their audits, computed on small histories. Each example is named
+-- for what it shows.
 use Rattle.std.proofs.Common.{◌≡◌, ℕ, pos, List, [], ◌∷◌, ◌++◌, None, codes}
 use Rattle.hippo_values.specs.declared.values.Value.TheVariants.{Null, Int, Text}
 use Rattle.hippo_model.specs.declared.audit.Audit.{Audit}
@@ -43,11 +44,11 @@ row_that_stands_alone_is_shared = simp truths
 rows_denied_alike_are_not_shared : shared_tuple (asks (distinct (column 2))) with_two_adas (audit patient (column 2 ∷ []) always) (asked 9) ≡ None
 rows_denied_alike_are_not_shared = simp truths
 
--- zips may be seen, and phones may not
+-- zips are allowed, phones are not
 abbrev zips_of_two_adas : History
 zips_of_two_adas = clinic ++ entry 8 (Allow treatment nurse patient (3 ∷ []) None None) ∷ entry 9 (Insert patient second_ada) ∷ []
 
--- by name: what is shown of the other items
+-- grouped by name, with these cells from the other items
 abbrev by_name : List Ref → List Out → Query
 by_name arguments outs = record { items = column 1 ∷ arguments; tables = patient ∷ []; cond = always; form = Grouped (record { keys = 1; outs = outs }) }
 

@@ -1,4 +1,4 @@
--- What may be handed over where versions or questions were asked for, and which stored entries fit.
+-- Which entries may be returned when versions or queries are read, and which stored entries fit.
 use Rattle.std.proofs.Common.{◌≡◌, ℤ, pos, true, false, Bool, [], ◌∷◌, ◌++◌, None, refl, sym, ap, ◌∙◌, codes, take, arith}
 use Rattle.std.proofs.lemmas.Bool.{false≢true}
 use Rattle.std.proofs.lemmas.List.{append-nil}
@@ -51,7 +51,7 @@ version_of_another_table = refl
 question_is_no_version : is_wanted_version patients 6 clinic (asked 8) ≡ false
 question_is_no_version = refl
 
--- questions of a period
+-- the queries of a period
 abbrev is_asked_in : ℤ → ℤ → Entry → Bool
 is_asked_in from to entry = is_wanted_question meaning from to 7 clinic entry
 
@@ -79,7 +79,7 @@ question_that_means_nothing = refl
 version_is_no_question : is_asked_in morning morning (entry 8 (Update patient ada)) ≡ false
 version_is_no_question = refl
 
--- stored entries that fit, and that do not
+-- stored entries that fit, and stored entries that do not
 bob_can_be_kept : is_keepable bob_comes ≡ true
 unfolding words_and_texts
 bob_can_be_kept = refl
@@ -96,7 +96,7 @@ stored_question_that_was_asked : IsFit (is_wanted_question meaning morning morni
 unfolding words_and_texts
 stored_question_that_was_asked = record { entry = asked 8; form = refl; keepable = refl; asked = refl }
 
--- whatever was asked
+-- a stored entry that fits no read
 abbrev IsNeverFit : StoredEntry → Type 0
 IsNeverFit kept = (was_asked : Entry → Bool) → ¬ (IsFit was_asked kept)
 

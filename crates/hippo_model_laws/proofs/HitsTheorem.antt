@@ -1,4 +1,4 @@
--- What an audit needs passes the audit's own conditions on each of its tables.
+-- A combination that an audit needs satisfies the audit's conditions on each table alone.
 use Rattle.std.proofs.Common.{◌≡◌, ℕ, zero, suc, ◌<◌, Bool, true, false, not, cond, ◌&&◌, ◌||◌, List, [], ◌∷◌, map, length, Option, Some, None, get_or, refl, sym, ap, subst, ◌∙◌, arith}
 use Rattle.std.specs.Prelude.{filter, flat_map, find, is_some, option_and_then, ◌==◌, if◌then◌else◌}
 use Rattle.std.specs.List.{list_any, list_all}
@@ -44,7 +44,8 @@ module _ {A : Type 0} where
   with_one test true first rest here later = and_from (test first) (list_all test rest) (here refl) later
   with_one test false first rest here later = later
 
-  -- the members of a list that count pass what follows from one test that all pass
+  -- if `counts` and `held` imply `test`, and all members pass `held`, then the members that pass
+  -- `counts` pass `test`
   all_of_filter : (counts held test : A → Bool) → ((x : A) → counts x ≡ true → held x ≡ true → test x ≡ true) → (xs : List A) → list_all held xs ≡ true → list_all test (filter counts xs) ≡ true
   all_of_filter counts held test each [] all = refl
   all_of_filter counts held test each (x ∷ xs) all =
@@ -55,7 +56,7 @@ module _ {A : Type 0} where
   none_with_one true first rest later remaining none = absurd (omega (arith, none))
   none_with_one false first rest later remaining none = remaining none
 
-  -- where no member passes, each fails
+  -- if no member passes, each one fails
   none_of_filter : (test : A → Bool) (xs : List A) → length (filter test xs) ≡ 0 → list_all (λ x. not (test x)) xs ≡ true
   none_of_filter test [] none = refl
   none_of_filter test (x ∷ xs) none = none_with_one (test x) x (filter test xs) (list_all (λ y. not (test y)) xs) (none_of_filter test xs) none
@@ -75,7 +76,8 @@ module _ {A : Type 0} where
       ap (list_all test) (flat_map-cons f x xs) ∙ list_all-append test (f x) (flat_map f xs)
       ∙ and_from (list_all test (f x)) (list_all test (flat_map f xs)) (each x both.0) (all_of_flat_map passes test f each xs both.1)
 
--- what each member of a list of the product passes, is passed at its place in each combination
+-- if each member of a list of the product passes a test, so does the member at its index in each
+-- combination
 module _ {A : Type 0} (test : A → Bool) (blank : A) where
   pub all_of_product : (lists : List (List A)) (place : ℕ) → place < length lists → list_all test (get_or lists place []) ≡ true → list_all (λ combination. test (get_or combination place blank)) (product lists) ≡ true
   all_of_product [] place within all = absurd (omega (arith, within))
@@ -87,7 +89,7 @@ module _ {A : Type 0} (test : A → Bool) (blank : A) where
       all_of_flat_map (λ member. true) (λ combination. test (get_or combination (suc place) blank)) (λ member. map (λ others. member ∷ others) (product lists))
       (λ member passed. list_all-map (λ combination. test (get_or combination (suc place) blank)) (λ others. member ∷ others) (product lists) ∙ remaining) first (always true refl first)
 
--- the value of an operand in a row of the one table whose columns it has
+-- the value of an operand in a row of the table whose columns it uses
 abbrev value_of : ShownRow → Operand → Value
 value_of row (Column column) = value_in (get_or row column.column (Denied 0))
 value_of row (Literal value) = value
@@ -140,7 +142,8 @@ and_then_none next none None = refl
 and_then_none next none (Some x) = none x
 
 module _ (history : History) (audit : Audit) where
-  -- where the audit's condition is true, the row of a table is found by the audit's own conditions on it
+  -- if the audit's condition is true, the row of a table matches the audit's conditions on that
+  -- table alone
   found_where_true : (table : Place) (combination : List ShownRow) → passes audit.cond combination ≡ true → is_found (own_conditions audit table) (get_or combination table []) ≡ true
   found_where_true table combination passed =
       all_of_filter (λ part. list_all (is_of table) (condition_columns part)) (λ part. is_true (truth (operand_value combination) part)) (λ part. is_true (truth (value_of (get_or combination table [])) part))
@@ -166,13 +169,13 @@ module _ (history : History) (audit : Audit) where
         (ap (list_all (λ row. not (is_found own row))) (get_or-map (unmasked_at history) audit.tables no_hits.table [] [] no_hits.within)
         ∙ none_found (schema_at history (get_or audit.tables no_hits.table [])) no_hits.none)
 
-    -- an audit without hits needs nothing
+    -- an audit without such rows needs no tuple
     pub needs_none : (tuple : List SharedRow) → audit_needs history audit tuple ≡ false
     needs_none tuple =
         needs_what_is_lost (selected_cells audit.columns) (passes audit.cond) (has_tuple history audit.tables tuple) (unmasked_combinations history audit)
         ∙ none_lost (has_tuple history audit.tables tuple) (passes audit.cond) (λ combination. is_found own (get_or combination no_hits.table [])) (found_where_true no_hits.table) (unmasked_combinations history audit) none_in_product
 
-    -- nothing serves
+    -- no tuple serves
     pub serves_none : (context : Context) (query : Query) (tuple : List SharedRow) → serves history context query audit tuple ≡ false
     serves_none context query tuple =
         middle_fails (query_needs history context query tuple) (audit_needs history audit tuple) (not audit.shown || list_all (is_seen history context audit.tables tuple) audit.columns) (needs_none tuple)

@@ -1,4 +1,4 @@
--- Which combinations an answer cannot do without.
+-- Which combinations an answer needs.
 use Rattle.std.proofs.Common.{◌≡◌, ℕ, ◌+◌, ◌<◌, Bool, true, false, not, cond, ◌&&◌, ◌||◌, List, [], ◌∷◌, ◌++◌, map, refl, sym, ap, ◌∙◌, arith}
 use Rattle.std.specs.Prelude.{filter, ◌==◌}
 use Rattle.std.specs.List.{list_any, list_all}
@@ -11,7 +11,7 @@ use Rattle.hippo_model.specs.Terms.{ShownRow}
 use Rattle.hippo_model.specs.Bags.{same_row, occurrences, same_bag}
 use Rattle.hippo_model.proofs.SameRows.{same_row-refl}
 
--- the same rows make the same bag
+-- equal lists of rows are the same bag
 same_counts : (rows some : List ShownRow) → list_all (λ row. occurrences row rows == occurrences row rows) some ≡ true
 same_counts rows [] = refl
 same_counts rows (row ∷ some) = and_from _ _ (nat_eq_equiv.refl (occurrences row rows)) (same_counts rows some)
@@ -45,7 +45,7 @@ module _ {C : Type 0} (row_of : C → ShownRow) (passes is_out : C → Bool) whe
   counted : (row first : ShownRow) (rest : List ShownRow) → occurrences row (first ∷ rest) ≡ one_if (same_row row first) + occurrences row rest
   counted row first rest = sum_by-cons (λ other. cond (same_row row other) 1 0) first rest
 
-  -- what one combination adds to the answer, to what is left and to what is lost
+  -- what one combination adds to the answer, to the rest and to the lost rows
   sum_of_one : (row : ShownRow) (out test : Bool) (first : ShownRow) (whole part : List ShownRow) (gone : ℕ) → occurrences row whole ≡ occurrences row part + gone
       → occurrences row (cond test (first ∷ whole) whole) ≡ occurrences row (cond (not out) (cond test (first ∷ part) part) part) + (one_if ((out && test) && same_row row first) + gone)
   sum_of_one row true true first whole part gone e = let k = counted row first whole in omega arith
@@ -53,7 +53,7 @@ module _ {C : Type 0} (row_of : C → ShownRow) (passes is_out : C → Bool) whe
   sum_of_one row false true first whole part gone e = let k = counted row first whole in let m = counted row first part in omega arith
   sum_of_one row false false first whole part gone e = omega arith
 
-  -- a row stands in the answer as often as in what is left, and as it is lost
+  -- a row occurs in the answer as often as in the rest and in the lost rows together
   sum_of : (row : ShownRow) (combinations : List C) → occurrences row (answered combinations) ≡ occurrences row (left combinations) + lost row combinations
   sum_of row [] = refl
   sum_of row (c ∷ combinations) =
@@ -85,7 +85,7 @@ module _ {C : Type 0} (row_of : C → ShownRow) (passes is_out : C → Bool) whe
   lost_here_or_later test first false true some whole gone later any all = let l = later any (and_parts (test first) (list_all test whole) all).1 in (l.0, l.1, omega (arith, l.2))
   lost_here_or_later test first false false some whole gone later any all = let l = later any all in (l.0, l.1, omega (arith, l.2))
 
-  -- a test that each row of an answer passes is passed by a row that is lost, where one is
+  -- a test that each row of an answer passes is passed by a lost row, if there is one
   lost_row : (test : ShownRow → Bool) (combinations : List C) → list_any is_lost combinations ≡ true → list_all test (answered combinations) ≡ true → LostRow test combinations
   lost_row test [] some all = absurd cc
   lost_row test (c ∷ combinations) some all =
@@ -105,7 +105,7 @@ module _ {C : Type 0} (row_of : C → ShownRow) (passes is_out : C → Bool) whe
   the_same : (combinations : List C) → list_any is_lost combinations ≡ false → same_bag (left combinations) (answered combinations) ≡ true
   the_same combinations none = rw (same_if_none combinations none) (same_counts (answered combinations) (answered combinations ++ answered combinations))
 
-  -- an answer becomes another bag exactly where something is lost
+  -- the answer becomes a different bag exactly when something is lost
   pub needs_what_is_lost : (combinations : List C) → not (same_bag (left combinations) (answered combinations)) ≡ list_any is_lost combinations
   needs_what_is_lost combinations =
       elim (list_any is_lost combinations) as (λ lost. list_any is_lost combinations ≡ lost → not (same_bag (left combinations) (answered combinations)) ≡ lost) [

@@ -1,4 +1,4 @@
--- Of how many histories stored entries can be.
+-- Stored entries belong to at most one history.
 use Rattle.std.proofs.Common.{◌≡◌, ℕ, ◌-◌, ◌<◌, true, List, [], ◌∷◌, ◌++◌, take, drop, refl, sym, ap, subst, ◌∙◌, arith, inl, inr}
 use Rattle.std.specs.List.{list_all}
 use Rattle.std.proofs.lemmas.Bool.{and_parts, and_from, cases_lt}
@@ -22,7 +22,7 @@ list_all-append (first ∷ history) entry all one =
 can_be_kept : (meaning : Meaning) (history : History) (entry : Entry) → may_follow meaning history entry ≡ true → is_keepable entry ≡ true
 can_be_kept meaning history entry may = (and_parts _ _ (and_parts _ _ (and_parts _ _ may).0).0).0
 
--- each entry of a valid history can be kept
+-- each entry of a valid history can be stored
 pub all_can_be_kept : (meaning : Meaning) (history : History) → is_valid meaning history ≡ true → list_all is_keepable history ≡ true
 all_can_be_kept meaning history valid =
     holds_of_each_valid meaning (λ h. list_all is_keepable h ≡ true) (λ h entry is_good so_far may. list_all-append h entry so_far (can_be_kept meaning h entry may)) refl history valid
@@ -31,7 +31,7 @@ pub one_history : (meaning : Meaning) (store : List StoredEntry) (a b : History)
 one_history meaning store a b first second =
     all_stored_again a b (all_can_be_kept meaning a first.valid) (all_can_be_kept meaning b second.valid) (first.forms ∙ sym second.forms)
 
--- the first stored entries are those of the first entries
+-- the first stored entries belong to the first entries
 pub store_front : (meaning : Meaning) (store : List StoredEntry) (history : History) (n : ℕ) → IsStoreOf meaning store history → IsStoreOf meaning (take n store) (take n history)
 store_front meaning store history n whole = record {
   forms = sym (take-map stored n history) ∙ ap (take n) whole.forms;
@@ -41,7 +41,7 @@ store_front meaning store history n whole = record {
 pub of_none : (meaning : Meaning) (store : List StoredEntry) (place : ℕ) → IsDamagedAt meaning store place → (history : History) → ¬ (IsStoreOf meaning store history)
 of_none meaning store place damaged history whole = damaged.beyond (take place history) (store_front meaning store history place whole)
 
--- a place of damage is not below another
+-- a place of damage is not before another one
 not_below : (meaning : Meaning) (store : List StoredEntry) (p q : ℕ) → IsDamagedAt meaning store p → IsDamagedAt meaning store q → ¬ (p < q)
 not_below meaning store p q first second below =
     let shorter : take p (take (q - 1) store) ≡ take p store = take-take p (q - 1) store (omega arith) in

@@ -1,11 +1,11 @@
--- The entries of an order of the patients by their postal code.
+-- The entries of an order of the patients by postal code.
 use Rattle.std.proofs.Common.{◌≡◌, pos, [], ◌∷◌, refl}
 use Rattle.hippo_values.specs.declared.values.Value.TheVariants.{Null, Int}
 use Rattle.hippo_tables_keyed.specs.RowSets.{KeyedRows}
 use Rattle.hippo_tables_rows.specs.ColumnOrders.{order_key, HasOrderKey}
 use Rattle.hippo_model_laws.proofs.ExampleHistories.{ada, bob, born_in_the_morning}
 
--- Bob's row has no code, so his entry is the first one
+-- Bob's row has no code, so his entry comes first
 abbrev by_code : KeyedRows
 by_code = record {
   key = 0 ∷ 1 ∷ [];

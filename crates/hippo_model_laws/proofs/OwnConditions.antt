@@ -1,4 +1,4 @@
--- A condition on one table's columns has the same truth over each reading of them.
+-- A condition on one table's columns has the same truth whichever of two readings values them.
 use Rattle.std.proofs.Common.{◌≡◌, Bool, true, List, [], ◌∷◌, ◌++◌, map, refl, sym, ap, subst, ◌∙◌}
 use Rattle.std.specs.Prelude.{flat_map}
 use Rattle.std.specs.List.{list_all}
@@ -60,7 +60,7 @@ module _ (is_own : Ref → Bool) (read other : Operand → Value) (agree : (oper
   abbrev plain_layer : CondOf-F Operand Agreeing → CondOf-F Operand (CondOf Operand)
   plain_layer layer = map-CondOf Operand Agreeing (CondOf Operand) (λ part. part.0) layer
 
-  -- one layer, whose parts agree
+  -- one layer whose parts agree
   layer_agrees : (layer : CondOf-F Operand Agreeing) → list_all is_own (columns_layer (map-CondOf Operand (CondOf Operand) (List Ref) condition_columns (plain_layer layer))) ≡ true
       → truth_layer read (map-CondOf Operand (CondOf Operand) Truth (truth read) (plain_layer layer)) ≡ truth_layer other (map-CondOf Operand (CondOf Operand) Truth (truth other) (plain_layer layer))
   layer_agrees (All parts) own = least_agrees parts own
@@ -84,6 +84,6 @@ module _ (is_own : Ref → Bool) (read other : Operand → Value) (agree : (oper
       ∙ layer_agrees layer (sym (ap (list_all is_own) (fold-roll-CondOf Operand (List Ref) columns_layer (plain_layer layer))) ∙ own)
       ∙ sym (fold-roll-CondOf Operand Truth (truth_layer other) (plain_layer layer))
 
-  -- give a condition whose columns all pass it the same truth
+  -- a condition whose columns all pass the test has the same truth in both readings
   pub truth-own : (condition : CondOf Operand) → Agrees condition
   truth-own = ind-CondOf Operand Agrees (λ layer parts is. subst (λ (plain : CondOf-F Operand (CondOf Operand)). Agrees (roll-CondOf Operand plain)) is (rolled_agrees parts))

@@ -1,4 +1,5 @@
--- Rules that end some days after a row's birth, computed on a small history. Each example is named by what it shows.
+-- Rules that end some days after a row's birth, computed on a small history. Each example is named
+-- for what it shows.
 use Rattle.std.proofs.Common.{◌≡◌, ℕ, ℤ, pos, List, [], ◌∷◌, ◌++◌, Some, None, refl, codes}
 use Rattle.hippo_values.specs.declared.values.Value.TheVariants.{Int, Text}
 use Rattle.hippo_model.specs.declared.cells.Cell.TheVariants.{Shown, Denied}

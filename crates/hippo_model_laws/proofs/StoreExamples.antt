@@ -1,4 +1,4 @@
--- Entries as they are kept, and stores whose damage shows in their bytes alone.
+-- Stored entries, and stores whose damage shows in their bytes alone.
 use Rattle.std.proofs.Common.{◌≡◌, ℕ, pos, negsuc, true, false, Bool, ◌&&◌, List, [], ◌∷◌, ◌++◌, Some, refl, sym, ap, ◌∙◌, codes, take, drop}
 use Rattle.std.specs.Prelude.{None, nat_le, map}
 use Rattle.std.specs.List.{list_all}
@@ -58,7 +58,7 @@ care_can_be_kept = refl
 abbrev care : Entry
 care = entry 1 (Purpose (codes "care"))
 
--- care's body with one byte more, with its last byte less, and in format 0
+-- care's body with one more byte, without its last byte, and in format 0
 one_byte_more_is_no_body : (other : Entry) → is_keepable other ≡ true → ¬ (body other ≡ body care ++ 0 ∷ [])
 one_byte_more_is_no_body other keepable e =
     let remaining = (a_body.once care other (0 ∷ []) [] care_can_be_kept keepable (sym e ∙ sym (append-nil (body other)))).1 in absurd cc
@@ -78,7 +78,7 @@ reserved_word_cannot_be_kept : is_keepable (entry 1 (Purpose (codes "select"))) 
 unfolding words_and_texts
 reserved_word_cannot_be_kept = refl
 
--- the kind is one of the thirteen, and the body tells the number that stands beside it
+-- the kind is one of the thirteen, and the body has the same number as the field beside it
 abbrev agrees_with_itself : StoredEntry → Bool
 agrees_with_itself kept = nat_le kept.kind 13 && bytes_eq (take 8 (drop 1 kept.body)) (number_bytes kept.seq)
 
@@ -93,11 +93,11 @@ all_agree : (history : History) → list_all agrees_with_itself (map stored hist
 all_agree [] = refl
 all_agree (entry ∷ later) = rw (stored_agrees_with_itself entry) (all_agree later)
 
--- a store in which some entry does not agree with itself is that of no history
+-- a store with an entry that does not agree with itself belongs to no history
 of_no_history : (store : List StoredEntry) → list_all agrees_with_itself store ≡ false → (history : History) → ¬ (IsStoreOf meaning store history)
 of_no_history store wrong history is_store = false≢true (sym wrong ∙ sym (ap (list_all agrees_with_itself) is_store.forms) ∙ all_agree history)
 
--- the clinic's store with its last two entries, or one entry more, as they are given
+-- the clinic's store with its last two entries, or one more entry, given as they are
 abbrev six : List StoredEntry
 six = map stored (take 6 clinic)
 

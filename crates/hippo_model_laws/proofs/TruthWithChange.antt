@@ -1,4 +1,4 @@
--- The truth of a condition with changed operands, by induction over the condition.
+-- The truth of a condition with replaced operands, by induction over the condition.
 use Rattle.std.proofs.Common.{◌≡◌, List, [], ◌∷◌, map, refl, sym, ap, subst, ◌∙◌}
 use Rattle.hippo_values.specs.declared.values.Value.{Value}
 use Rattle.hippo_values.specs.declared.truths.Truth.{Truth}
@@ -10,7 +10,7 @@ use Rattle.hippo_model.specs.Conditions.{least, greatest, truth_layer, truth, ch
 use Rattle.hippo_model.proofs.Truths.{truth-All, truth-Any, truth-Not, truth-Compare, truth-Between, truth-Among, truth-Missing}
 
 module _ {O P : Type 0} (change : O → P) (value : P → Value) where
-  -- the value of what an operand is changed to
+  -- the value of an operand's replacement
   abbrev changed_value : O → Value
   changed_value operand = value (change operand)
 
@@ -38,7 +38,7 @@ module _ {O P : Type 0} (change : O → P) (value : P → Value) where
   abbrev plain_layer : CondOf-F O Agreeing → CondOf-F O (CondOf O)
   plain_layer layer = map-CondOf O Agreeing (CondOf O) (λ part. part.0) layer
 
-  -- one layer, whose parts agree
+  -- one layer whose parts agree
   layer_agrees : (layer : CondOf-F O Agreeing) → truth value (changed_layer change (map-CondOf O (CondOf O) (CondOf P) (changed_operands change) (plain_layer layer)))
       ≡ truth_layer changed_value (map-CondOf O (CondOf O) Truth (truth changed_value) (plain_layer layer))
   layer_agrees (All parts) = truth-All value (map (changed_operands change) (parts_of parts)) ∙ least_agrees parts

@@ -16,7 +16,7 @@ if_or : (test : Bool) (found place later : Option ℕ) → (if test then option_
 if_or true found place later = refl
 if_or false found place later = refl
 
--- damage is found in the first entries, or behind them
+-- damage is found in the first entries or after them
 pub damage_after-append : (meaning : Meaning) (front first rest : History) → damage_after meaning front (first ++ rest) ≡ option_or (damage_after meaning front first) (damage_after meaning (front ++ first) rest)
 damage_after-append meaning front [] rest = rw (append-nil front) refl
 damage_after-append meaning front (entry ∷ first) rest =
@@ -32,7 +32,7 @@ none_of_or : (x y : Option ℕ) → is_none (option_or x y) ≡ true → is_none
 none_of_or None y e = refl
 none_of_or (Some n) y e = e
 
--- a front of a valid history is valid
+-- a prefix of a valid history is valid
 pub front_is_valid : (meaning : Meaning) (front rest : History) → is_valid meaning (front ++ rest) ≡ true → is_valid meaning front ≡ true
 front_is_valid meaning front rest valid =
     none_of_or (damage meaning front) (damage_after meaning front rest) (sym (ap is_none (damage_after-append meaning [] front rest)) ∙ valid)
@@ -42,7 +42,8 @@ none_of_one None true place = refl
 none_of_one None false place = refl
 none_of_one (Some n) test place = refl
 
--- a history with one entry more is valid where the history is, and the entry may follow it
+-- a history with one more entry is valid exactly when the history is valid and the entry may follow
+-- it
 pub is_valid-append : (meaning : Meaning) (history : History) (entry : Entry) → is_valid meaning (history ++ entry ∷ []) ≡ (is_valid meaning history && may_follow meaning history entry)
 is_valid-append meaning history entry =
     ap is_none (damage_after-append meaning [] history (entry ∷ [])) ∙ none_of_one (damage meaning history) (may_follow meaning history entry) (length history + 1)
@@ -64,7 +65,8 @@ module _ (meaning : Meaning) (holds : History → Type 0)
       let still : is_valid meaning (front ++ entry ∷ []) ≡ true = rw (is_valid-append meaning front entry, valid) both.0 in
       subst holds (append_assoc front (entry ∷ []) later) (kept_after (front ++ entry ∷ []) later still (kept front entry valid so_far both.0) both.1)
 
-  -- what holds of the empty history, and is kept by each entry that may follow, holds of each valid history
+  -- a property that holds for the empty history, and that each entry that may follow preserves,
+  -- holds for each valid history
   pub holds_of_each_valid : holds [] → (history : History) → is_valid meaning history ≡ true → holds history
   holds_of_each_valid at_first history valid = kept_after [] history refl at_first (none (damage meaning history) valid)
 
@@ -94,13 +96,13 @@ numbers meaning front (first ∷ later) sound (suc place) entry e =
     let number = numbers meaning (front ++ first ∷ []) later both.1 place entry e in
     omega (arith, length-append front (first ∷ []))
 
--- in a valid history the entry at a place has the number one above the place
+-- in a valid history the entry at an index has the index plus 1 as its number
 pub entry_has_its_number : (meaning : Meaning) (history : History) → is_valid meaning history ≡ true → (place : Place) (entry : Entry) → slice_get history place ≡ Some entry → entry.seq ≡ place + 1
 entry_has_its_number meaning history valid place entry e =
     let number = numbers meaning [] history (none (damage meaning history) valid) place entry e in
     omega arith
 
--- the entries before one that stands in a valid history are the same when entries are added
+-- the entries before one in a valid history stay the same when entries are added
 pub before-append : (meaning : Meaning) (history : History) (entry : Entry) → StandsIn meaning history entry → (later : History) → before_entry entry (history ++ later) ≡ before_entry entry history
 before-append meaning history entry s later =
     let number : entry.seq ≡ s.place + 1 = entry_has_its_number meaning history s.valid s.place entry s.stands in

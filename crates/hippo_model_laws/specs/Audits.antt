@@ -7,13 +7,13 @@ use Rattle.hippo_model.specs.Audits.{shared_tuple, is_flagged}
 use Rattle.hippo_model.specs.Denials.{denials}
 use Rattle.hippo_model.specs.Validity.{is_valid}
 
--- an entry stands in a valid history
+-- an entry is in a valid history
 pub record StandsIn (meaning : Meaning) (history : History) (entry : Entry) : Type 0 where
   pub valid : is_valid meaning history ≡ true
   pub place : Place
   pub stands : slice_get history place ≡ Some entry
 
--- what an audit says of an entry stays the same when entries are added
+-- the result of an audit on an entry stays the same when entries are added
 abbrev pub FlagsLast : Type 0
 FlagsLast =
     (meaning : Meaning) (history : History) (entry : Entry) → StandsIn meaning history entry
@@ -22,7 +22,7 @@ FlagsLast =
     ≡ shared_tuple meaning history audit entry)
     × (is_flagged meaning (history ++ later) audit entry ≡ is_flagged meaning history audit entry)
 
--- what was denied to an entry stays the same when entries are added
+-- the cells denied to an entry stay the same when entries are added
 abbrev pub DenialsLast : Type 0
 DenialsLast =
     (meaning : Meaning) (history : History) (entry : Entry) → StandsIn meaning history entry

@@ -4,8 +4,8 @@ use Rattle.hippo_values.specs.declared.values.Value.{Value}
 use Rattle.hippo_model.specs.declared.query.CondOf.{CondOf}
 use Rattle.hippo_model.specs.Conditions.{truth, changed_operands}
 
--- the truth of a condition with its operands changed is that of the condition itself, where each
--- operand has the value of what it is changed to
+-- the truth of a condition with its operands replaced is that of the condition itself, with each
+-- operand valued as its replacement
 abbrev pub TruthIsThatOfOperands : Type 0 → Type 0 → Type 0
 TruthIsThatOfOperands O P =
     (change : O → P) (value : P → Value) (condition : CondOf O)

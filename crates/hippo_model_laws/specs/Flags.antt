@@ -4,8 +4,8 @@ use Rattle.hippo_model.specs.declared.audit.Audit.{Audit}
 use Rattle.hippo_model.specs.Terms.{History, Meaning}
 use Rattle.hippo_model.specs.Audits.{flags_between}
 
--- the flags of a stretch of entry numbers are those of its parts, one after the other, wherever it
--- is cut
+-- the flags of a range of entry numbers are those of its parts, one after the other, wherever the
+-- range is split
 abbrev pub FlagsAreThoseOfParts : Type 0
 FlagsAreThoseOfParts =
     (meaning : Meaning) (history : History) (audit : Audit) (above cut upto : ℕ) → above ≤ cut

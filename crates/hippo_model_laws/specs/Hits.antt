@@ -1,4 +1,4 @@
--- Laws on the hits of an audit's own conditions on its tables.
+-- Laws on the rows that match an audit's conditions on one table.
 use Rattle.std.specs.Prelude.{◌≡◌, ◌<◌, false, List, length, None}
 use Rattle.hippo_model.specs.declared.audit.Audit.{Audit}
 use Rattle.hippo_model.specs.declared.audit.SharedRow.{SharedRow}
@@ -10,14 +10,14 @@ use Rattle.hippo_model.specs.Verdicts.{Context}
 use Rattle.hippo_model.specs.Audits.{audit_needs, serves, shared_by, is_flagged}
 use Rattle.hippo_model.specs.Hits.{hits}
 
--- one of an audit's tables has no row that the audit's own conditions on it find
+-- no row of one of an audit's tables matches the audit's conditions on that table
 pub record HasNoHits (history : History) (audit : Audit) : Type 0 where
   pub table : Place
   pub within : table < length audit.tables
   pub none : hits history audit table ≡ 0
 
--- an audit without hits needs nothing, so nothing serves, no query shares a tuple with it, and no
--- entry is flagged
+-- an audit without such rows needs no virtual tuple; so no tuple serves, no query shares a tuple
+-- with it, and no entry is flagged
 pub record NoHitsNoFlags : Type 0 where
   pub needs : (history : History) (audit : Audit) → HasNoHits history audit
       → (tuple : List SharedRow)

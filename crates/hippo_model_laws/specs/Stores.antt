@@ -7,15 +7,15 @@ use Rattle.hippo_model.specs.StoredForms.{body, stored}
 use Rattle.hippo_model.specs.Keepable.{is_keepable}
 use Rattle.hippo_model.specs.Stores.{IsStoreOf, IsDamagedAt}
 
--- where the bodies of entries that can be kept stand first in the same bytes, they are one entry,
--- with one rest
+-- if the same bytes begin with the bodies of two entries that can be stored, the entries are the
+-- same, and so are the bytes after the bodies
 abbrev pub BodyTellsEntry : Type 0
 BodyTellsEntry =
     (a b : Entry) (rest other : List ℕ) → is_keepable a ≡ true → is_keepable b ≡ true
     → body a ++ rest ≡ body b ++ other
     → (a ≡ b) × (rest ≡ other)
 
--- entries that can be kept and have one stored form are one
+-- entries that can be stored and have the same stored form are the same
 abbrev pub StoredFormTellsEntry : Type 0
 StoredFormTellsEntry =
     (a b : Entry) → is_keepable a ≡ true → is_keepable b ≡ true → stored a ≡ stored b → a ≡ b
@@ -26,7 +26,7 @@ StoreTellsHistory =
     (meaning : Meaning) (store : List StoredEntry) (a b : History)
     → IsStoreOf meaning store a → IsStoreOf meaning store b → a ≡ b
 
--- stored entries that are damaged are those of no valid history, and have one place of damage
+-- damaged stored entries are not those of any valid history, and they have one place of damage
 pub record DamageTellsPlace : Type 0 where
   pub of_none : (meaning : Meaning) (store : List StoredEntry) (place : ℕ)
       → IsDamagedAt meaning store place

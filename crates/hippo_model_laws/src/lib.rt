@@ -1,5 +1,5 @@
-//! Laws over the definitions of `hippo_model`: each is the contract of a function that does
-//! nothing. Worked examples of the definitions stand in `proofs/`.
+//! Laws over the definitions of `hippo_model`. Each law is the contract of a function that does
+//! nothing. Worked examples of the definitions are in `proofs/`.
 #![tactic(auto)]
 
 pub mod answers;

@@ -1,4 +1,4 @@
--- Who speaks in a line that begins with a number.
+-- The sender of a line that begins with a number.
 use Rattle.std.proofs.Common.{◌≡◌, ℕ, zero, suc, true, refl}
 use Rattle.hippo_report.specs.declared.speaker.Speaker.TheVariants.{Console, Session}
 use Rattle.hippo_report.specs.Speakers.{speaker_at, is_somebody}
@@ -11,7 +11,7 @@ pub session_at : (number : ℕ) → (number ≡ 0 → ⊥) → speaker_at number
 session_at zero other = absurd (other refl)
 session_at (suc number) other = refl
 
--- it is not nobody
+-- the sender is the console or a session
 pub somebody_at : (number : ℕ) → is_somebody (speaker_at number) ≡ true
 somebody_at zero = refl
 somebody_at (suc number) = refl

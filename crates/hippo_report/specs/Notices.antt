@@ -1,4 +1,4 @@
--- Replies that say that a line was carried out, or how many rows or flags there were.
+-- Replies that confirm a line, or give the number of rows or flags.
 use Rattle.std.specs.Prelude.{ℕ, ◌++◌, codes, decimal}
 use Rattle.hippo_values.specs.Texts.{Txt}
 use Rattle.hippo_report.specs.declared.speaker.Speaker.{Speaker}

@@ -12,8 +12,8 @@ use Rattle.hippo_report.specs.declared.refusal.Refusal.TheVariants as refusals
 use Rattle.hippo_report.specs.declared.speaker.Speaker.{Speaker}
 use Rattle.hippo_report.specs.Speakers.{who_text}
 
--- the code and the name of a refusal of a statement that is in the grammar and means nothing, and
--- what it names, if it names anything
+-- the code and name of a refusal of a meaningless statement, and what the refusal names, if
+-- anything
 abbrev pub fault_said : NameFault → Txt × Option Txt
 fault_said (faults.UnknownTable name) = (codes "30 UnknownTable", Some name)
 fault_said (faults.UnknownColumn text) = (codes "31 UnknownColumn", Some text)
@@ -36,7 +36,7 @@ fault_said faults.PeriodBack = (codes "56 PeriodBack", None)
 fault_said (faults.NotGrouped name) = (codes "60 NotGrouped", Some name)
 fault_said faults.Memory = (codes "90 Memory", None)
 
--- the code and the name of a refusal, and what it names, if it names anything
+-- the code and name of a refusal, and what it names, if anything
 abbrev pub refusal_said : Refusal → Txt × Option Txt
 refusal_said refusals.BadLine = (codes "10 BadLine", None)
 refusal_said refusals.LineTooLong = (codes "11 LineTooLong", None)
@@ -69,7 +69,7 @@ refusal_said refusals.WatchLimit = (codes "63 WatchLimit", None)
 refusal_said (refusals.NoWatch number) = (codes "64 NoWatch", Some (decimal number))
 refusal_said refusals.Memory = (codes "90 Memory", None)
 
--- what is said to somebody by a title, and what it names
+-- the reply to a sender: a code and name, and what it names
 unfoldable pub said_of : Txt → Txt → Option Txt → Txt
 said_of who title None = who ++ (codes " no " ++ (title ++ codes "\n"))
 said_of who title (Some detail) =
@@ -80,7 +80,7 @@ abbrev pub refusal_line : Speaker → Refusal → Txt
 refusal_line who refusal =
     said_of (who_text who) (refusal_said refusal).0 (refusal_said refusal).1
 
--- what a refusal names, as its text
+-- what a refusal names, as text
 abbrev pub detail_text : Detail → Option Txt
 detail_text details.Nothing = None
 detail_text (details.Text text) = Some text.now

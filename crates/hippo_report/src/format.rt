@@ -1,4 +1,4 @@
-/// How flags are printed.
+/// The output format of flags.
 #[derive(Clone, Copy, PartialEq, Eq)]
 pub enum Format {
     Text,

@@ -1,5 +1,5 @@
-//! The text of replies: rows, denied cells, what was done, and refusals; and the parts that other
-//! lines are made of.
+//! The text of replies: rows, denied cells, confirmations and refusals; and the pieces from which
+//! other lines are made.
 #![tactic(auto)]
 
 mod format;

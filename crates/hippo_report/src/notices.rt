@@ -1,4 +1,4 @@
-//! Replies that say that a line was carried out, or how many rows or flags there were.
+//! Replies that confirm a line, or give the number of rows or flags.
 ghost use Rattle.hippo_report.specs.Adding.{AddsWithin};
 ghost use Rattle.hippo_report.specs.Notices.{done_line, number_line};
 
@@ -7,9 +7,9 @@ use crate::speaker::Speaker;
 use hippo_values::{Memory, RoomyTxt};
 use itoa::Buffer;
 
-/// Adds the reply to a line that was carried out: `N ok`, where N is the session's number, 0 for
-/// the console, and `-` where the line is nobody's. The text is unchanged where memory is short,
-/// which it never is within the room.
+/// Appends the reply to a line that was carried out: `N ok`. N is the session's number, 0 for the
+/// console, and `-` if the line names no session. When out of memory the text is unchanged; within
+/// its guaranteed capacity this never happens.
 pub fn done_line<const ROOM: usize>(who: Speaker, out: &mut RoomyTxt<ROOM>) -> Result<(), Memory>
     ensures { AddsWithin ROOM (done_line who) result out.old out.new }
 {
@@ -20,8 +20,8 @@ pub fn done_line<const ROOM: usize>(who: Speaker, out: &mut RoomyTxt<ROOM>) -> R
     }
 }
 
-/// Adds a word and a number, to a session or to the console: `N WORD NUMBER`. The text is unchanged
-/// where memory is short, which it never is within the room.
+/// Appends a word and a number, to a session or to the console: `N WORD NUMBER`. When out of memory
+/// the text is unchanged; within its guaranteed capacity this never happens.
 pub fn number_line<const ROOM: usize>(
     session: u8,
     word: &str,

@@ -1,4 +1,4 @@
-//! Parts of a reply that are added to a text.
+//! Appends parts of a reply to a text.
 ghost use Rattle.std.specs.Prelude.{◌≡◌, ◌+◌, ◌≤◌, length, map, IsOk};
 ghost use Rattle.std.specs.Str.{IsAscii};
 ghost use Rattle.std.specs.List.{concat};
@@ -18,8 +18,8 @@ fn append_each<const ROOM: usize>(pieces: &[&str], out: &mut RoomyTxt<ROOM>) -> 
     Ok(())
 }
 
-/// Adds the pieces one after the other. The text is unchanged where memory is short, which it never
-/// is within the room.
+/// Appends the pieces in order. When out of memory the text is unchanged; within its guaranteed
+/// capacity this never happens.
 pub fn append_pieces<const ROOM: usize>(
     pieces: &[&str],
     out: &mut RoomyTxt<ROOM>,
@@ -34,7 +34,7 @@ pub fn append_pieces<const ROOM: usize>(
     printed
 }
 
-/// The text that bytes of ASCII are.
+/// ASCII bytes as a text.
 pub fn ascii_text(bytes: &[u8]) -> &str
     requires { IsAscii bytes.now }
     ensures { result.now ≡ bytes.now }

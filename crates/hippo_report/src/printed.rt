@@ -1,4 +1,4 @@
-//! What a reply prints of values, cells and shared rows.
+//! The printed form of values, cells and shared rows in replies.
 ghost use Rattle.std.specs.Prelude.{◌++◌, flat_map, decimal, codes};
 ghost use Rattle.hippo_values_text.specs.Printing.{value_text, AddsText};
 ghost use Rattle.hippo_report.specs.Adding.{AddsWhole};
@@ -13,10 +13,10 @@ use itoa::Buffer;
 pub trait Printed<const ROOM: usize> {
     ghost use Rattle.std.specs.Prelude.{ℕ, List};
 
-    /// How it is printed.
+    /// The printed form.
     ghost text: { Self → List ℕ };
 
-    /// Adds it at the end.
+    /// Appends the printed form. When out of memory, part of it may have been appended.
     fn print(&self, out: &mut RoomyTxt<ROOM>) -> Result<(), Memory>
         ensures adds { AddsText (text self.now) result out.old out.new };
 }
@@ -51,7 +51,7 @@ impl<const ROOM: usize> Printed<ROOM> for Cell {
     }
 }
 
-/// Adds a part. The text is unchanged where memory is short.
+/// Appends a part. When out of memory the text is unchanged.
 pub fn append_whole<const ROOM: usize, T: Printed<ROOM>>(
     part: &T,
     out: &mut RoomyTxt<ROOM>,
@@ -66,7 +66,8 @@ pub fn append_whole<const ROOM: usize, T: Printed<ROOM>>(
     printed
 }
 
-/// Adds the members of a list, each behind a separator.
+/// Appends the members of a list, each after a separator. When out of memory, part of them may have
+/// been appended.
 pub fn append_later<const ROOM: usize, T: Printed<ROOM>>(
     separator: &str,
     rest: &[T],
@@ -82,7 +83,8 @@ pub fn append_later<const ROOM: usize, T: Printed<ROOM>>(
     Ok(())
 }
 
-/// Adds the members of a list, with a separator between them.
+/// Appends the members of a list, with a separator between them. When out of memory, part of them
+/// may have been appended.
 pub fn append_joined<const ROOM: usize, T: Printed<ROOM>>(
     separator: &str,
     members: &[T],
@@ -98,7 +100,8 @@ pub fn append_joined<const ROOM: usize, T: Printed<ROOM>>(
     append_later(separator, &members[1..], out)
 }
 
-/// Adds a table's name, and a key between parentheses.
+/// Appends a table's name, and a key in parentheses. When out of memory, part of them may have been
+/// appended.
 pub fn append_keyed<const ROOM: usize>(
     table: &Name,
     key: &Cells,

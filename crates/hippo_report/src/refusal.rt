@@ -6,37 +6,38 @@ use hippo_values::{Boxed, Moment, Name, Txt};
 pub enum Refusal {
     /// The line is not UTF-8, or has none of the forms of a line.
     BadLine,
-    /// More than 65,536 bytes stand before the line's end.
+    /// More than 65,536 bytes come before the line's end.
     LineTooLong,
     /// No token begins at this byte of the statement.
     BadToken(usize),
-    /// The tokens are no statement.
+    /// The tokens are not a statement.
     BadSyntax,
     /// The word of SQL that is not supported, in upper case.
     Unsupported(Txt),
-    /// Parentheses or NOT stand more than 64 deep.
+    /// Parentheses are nested more than 64 deep, or NOT occurs more than 64 times.
     TooDeep,
-    /// The number at this byte of the statement is beyond 64 bits.
+    /// The number at this byte of the statement does not fit in 64 bits.
     NumberTooLarge(usize),
-    /// The text behind DATE at this byte of the statement is no day.
+    /// The text after DATE at this byte of the statement is not a day.
     BadDate(usize),
-    /// The word of an `at` line is no moment.
+    /// The word of an `at` line is not a moment.
     BadMoment,
-    /// The clock's moment, before which an `at` line would set it.
+    /// An `at` line would set the clock back. The moment is the clock's.
     MomentBack(Moment),
     /// The session is not open.
     NoSession,
     /// The session is open already.
     SessionOpen,
-    /// The entry by which the user is not authorized, 0 where none speaks of the user.
+    /// The user is not authorized. The number of the entry that decides this; 0 if no entry names
+    /// the user with the purpose and recipient.
     NotAuthorized(u64),
-    /// Only the console may do so.
+    /// Only the console may send this line.
     ConsoleOnly,
-    /// Only a session may do so.
+    /// Only a session may send this line.
     SessionsOnly,
-    /// The statement is in the grammar and means nothing after the entries so far.
+    /// The statement is grammatical, but has no meaning after the entries so far.
     Meaningless(NameFault),
-    /// The last entry that names the key, which is live.
+    /// The key is live. The number is that of the last entry that names the key.
     KeyThere(u64),
     /// The key is not live.
     KeyMissing,
@@ -44,25 +45,25 @@ pub enum Refusal {
     TooManyRows,
     /// Four cursors are open in the session.
     CursorLimit,
-    /// The cursor that is not open.
+    /// This cursor is not open.
     NoCursor(u64),
-    /// There are eight audit jobs.
+    /// There are already eight audit jobs.
     JobLimit,
-    /// The audit job that is not there.
+    /// This audit job does not exist.
     NoJob(u64),
-    /// The history has as many entries as it may have.
+    /// The history has reached its largest number of entries.
     HistoryFull,
-    /// The number that is not an asked query's entry.
+    /// This number is not the number of an entry that records a query.
     NoSuchQuery(i64),
     /// The bytes of a record are not exactly one record.
     BadRecord,
-    /// The column whose field is not of its form.
+    /// The field of this column does not have the column's form.
     BadField(Boxed<Name>),
-    /// There are eight watches.
+    /// There are already eight watches.
     WatchLimit,
-    /// The watch that is not set.
+    /// This watch does not exist.
     NoWatch(u64),
-    /// Want of memory.
+    /// Out of memory.
     Memory,
 }
 

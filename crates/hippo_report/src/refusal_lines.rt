@@ -11,7 +11,7 @@ use hippo_values::{Memory, RoomyTxt};
 use hippo_values_text::moment_text;
 use itoa::Buffer;
 
-// The code and the name of a refusal of a statement that means nothing, and what it names.
+// The code and name of a refusal of a meaningless statement, and what the refusal names.
 fn fault_said(fault: &NameFault) -> (&'static str, Detail<'_>)
     ensures title { result.0.now ≡ (fault_said fault.now).0 }
     ensures detail { detail_text result.1 ≡ (fault_said fault.now).1 }
@@ -46,7 +46,7 @@ fn fault_said(fault: &NameFault) -> (&'static str, Detail<'_>)
     }
 }
 
-// The code and the name of a refusal, and what it names.
+// The code and name of a refusal, and what it names.
 fn refusal_said(refusal: &Refusal) -> (&'static str, Detail<'_>)
     ensures title { result.0.now ≡ (refusal_said refusal.now).0 }
     ensures detail { detail_text result.1 ≡ (refusal_said refusal.now).1 }
@@ -140,9 +140,10 @@ fn append_refusal<const ROOM: usize>(
     append_said(who, title, &detail, out)
 }
 
-/// Adds the reply to a line that is not carried out: `N no CODE NAME`, with what the refusal names
-/// behind it; N is the session's number, 0 for the console, and `-` where the line is nobody's. The
-/// text is unchanged where memory is short, which it never is within the room.
+/// Appends the reply to a line that is not carried out: `N no CODE NAME`, followed by what the
+/// refusal names. N is the session's number, 0 for the console, and `-` if the line names no
+/// session. When out of memory the text is unchanged; within its guaranteed capacity this never
+/// happens.
 pub fn refusal_line<const ROOM: usize>(
     who: Speaker,
     refusal: &Refusal,

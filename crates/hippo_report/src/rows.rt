@@ -1,4 +1,4 @@
-//! Rows of answers, and cells that were denied.
+//! Rows of answers, and denied cells.
 ghost use Rattle.std.specs.Prelude.{flat_map};
 ghost use Rattle.hippo_values_text.specs.Printing.{AddsText};
 ghost use Rattle.hippo_report.specs.Adding.{AddsWhole};
@@ -10,7 +10,7 @@ use hippo_model::{CellRow, Cells};
 use hippo_values::{Memory, Name, RoomyTxt};
 use itoa::Buffer;
 
-// One row of an answer to a session.
+// One row of an answer for a session.
 #[derive(Clone, Copy)]
 struct AnswerRow<'a> {
     session: u8,
@@ -30,9 +30,9 @@ impl<'a, const ROOM: usize> Printed<ROOM> for AnswerRow<'a> {
     }
 }
 
-/// Adds one row of an answer to a session: `N row CELLS`, where a value is printed as in SQL and a
-/// denied cell as `DENIED(e)` with the number of its rule. The text is unchanged where memory is
-/// short.
+/// Appends one row of an answer for a session: `N row CELLS`. A value is printed as in SQL, and a
+/// denied cell as `DENIED(e)` with the number of its rule. When out of memory the text is
+/// unchanged.
 pub fn answer_line<const ROOM: usize>(
     session: u8,
     row: &CellRow,
@@ -56,7 +56,7 @@ fn append_answers<const ROOM: usize>(
     Ok(())
 }
 
-// Rows of an answer to a session.
+// Rows of an answer for a session.
 #[derive(Clone, Copy)]
 struct AnswerRows<'a> {
     session: u8,
@@ -74,8 +74,8 @@ impl<'a, const ROOM: usize> Printed<ROOM> for AnswerRows<'a> {
     }
 }
 
-/// Adds rows of an answer to a session, each as `answer_line` does. The text is unchanged where
-/// memory is short.
+/// Appends rows of an answer for a session, each as `answer_line` does. When out of memory the text
+/// is unchanged.
 pub fn answer_lines<const ROOM: usize>(
     session: u8,
     rows: &[CellRow],
@@ -86,7 +86,7 @@ pub fn answer_lines<const ROOM: usize>(
     append_whole(&AnswerRows { session, rows }, out)
 }
 
-// A cell that was denied, and the rule.
+// A denied cell, and the rule that denies it.
 #[derive(Clone, Copy)]
 struct DeniedCell<'a> {
     table: &'a Name,
@@ -116,8 +116,8 @@ impl<'a, const ROOM: usize> Printed<ROOM> for DeniedCell<'a> {
     }
 }
 
-/// Adds one cell that was denied: `0 denied TABLE(KEY) COLUMN RULE`. The text is unchanged where
-/// memory is short.
+/// Appends one denied cell: `0 denied TABLE(KEY) COLUMN RULE`. When out of memory the text is
+/// unchanged.
 pub fn denied_line<const ROOM: usize>(
     table: &Name,
     key: &Cells,

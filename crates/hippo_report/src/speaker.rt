@@ -1,8 +1,8 @@
-//! Who a line speaks for.
+//! The sender of a line.
 ghost use Rattle.std.specs.Prelude.{◌≡◌};
 ghost use Rattle.hippo_report.specs.Speakers.{speaker_at};
 
-/// Who a line speaks for; its reply begins so.
+/// The sender of a line. The reply to the line begins with the sender.
 #[derive(Clone, Copy, PartialEq, Eq)]
 pub enum Speaker {
     /// The line names no session.
@@ -14,7 +14,7 @@ pub enum Speaker {
 }
 
 impl Speaker {
-    /// Who speaks in a line that begins with a number.
+    /// The sender of a line that begins with this number.
     #[tactic(auto, using(crate::proofs::SpeakerLemmas::console_at, crate::proofs::SpeakerLemmas::session_at))]
     pub fn at(number: u8) -> Speaker
         ensures { result ≡ speaker_at number }

@@ -16,7 +16,7 @@ use Rattle.hippo_report.specs.declared.format.Format.{Format}
 use Rattle.hippo_report.specs.declared.format.Format.TheVariants as formats
 use Rattle.hippo_report.specs.Cells.{separated_text, shared_text, tuple_text}
 
--- the number, moment, user, purpose and recipient of a flagged question, with spaces between them
+-- the number, moment, user, purpose and recipient of a flagged query, with spaces between them
 abbrev pub question_text : Flag → Txt
 question_text flag =
     concat (decimal flag.seq ∷ codes " " ∷ moment_text flag.moment ∷ codes " " ∷ flag.user
@@ -26,20 +26,20 @@ question_text flag =
 abbrev pub flag_text : Flag → Txt
 flag_text flag = question_text flag ++ (tuple_text flag.shared ++ codes "\n")
 
--- a value of a key: a number, or a text
+-- a value of a key: a number or a text
 abbrev pub value_data : Value → Data
 value_data Null = null
 value_data (Int integer) = number (of_integer integer)
 value_data (Text text) = string text
 value_data (Day day) = string (day_text day)
 
--- a table's name and a list of the key's values
+-- a row as the table's name and the list of the key's values
 abbrev pub shared_data : SharedRow → Data
 shared_data shared =
     array (item (string shared.table) (item (array (items_of (map value_data shared.key)))
     no_items))
 
--- an object with its members in the order of their keys
+-- a flag as an object with its members sorted by their keys
 abbrev pub flag_data : Flag → Data
 flag_data flag =
     object (member (codes "moment") (string (moment_text flag.moment))
@@ -49,7 +49,7 @@ flag_data flag =
     (member (codes "shared") (array (items_of (map shared_data flag.shared)))
     (member (codes "user") (string flag.user) no_members)))))
 
--- six fields, the last of which has the shared rows with a space between them
+-- a flag as six fields; the last one has the shared rows with a space between them
 abbrev pub flag_fields : Flag → List Txt
 flag_fields flag =
     decimal flag.seq ∷ moment_text flag.moment ∷ flag.user ∷ flag.pair.purpose ∷ flag.pair.recipient
@@ -60,6 +60,6 @@ formatted_flag formats.Text flag = flag_text flag
 formatted_flag formats.Json flag = compact_text (flag_data flag) ++ codes "\n"
 formatted_flag formats.Csv flag = row_text default_writer (flag_fields flag)
 
--- one flagged question
+-- one flagged query
 abbrev pub flag_line : Format → Flag → Txt
 flag_line format flag = codes "0 flag " ++ formatted_flag format flag

@@ -1,4 +1,4 @@
-//! The line by which a watch says what it flags.
+//! The line by which a watch reports a flag.
 ghost use Rattle.std.specs.Prelude.{◌≡◌, ◌++◌, OnOk};
 ghost use Rattle.hippo_report_flags.specs.AlarmLines.{alarm_text};
 
@@ -7,9 +7,9 @@ use hippo_report::{append_later, append_pieces};
 use hippo_values::{Memory, RoomyTxt};
 use itoa::Buffer;
 
-/// Adds the line by which a watch says that it flags a question: `0 alarm`, the watch's number, the
-/// question's, and the rows that they share, each behind a space. The error is want of memory; a
-/// front of the line may then stand there.
+/// Appends the line by which a watch reports that it flags a query: `0 alarm`, the watch's number,
+/// the query's number, and the rows that they share, each after a space. The only error is out of
+/// memory; part of the line may then have been appended.
 pub fn alarm_line<const ROOM: usize>(
     watch: u64,
     question: u64,

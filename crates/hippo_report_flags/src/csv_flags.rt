@@ -13,7 +13,7 @@ use hippo_values::{Memory, Txt};
 use itoa::Buffer;
 use std::alloc::{AllocError, Global};
 
-// The record of these fields, with a line feed behind it.
+// The record of these fields, followed by a line feed.
 fn record_text(alloc: Global, fields: &StringRecord) -> Result<Vec<u8>, Error>
     ensures { IfOk result (λ text. text.items ≡ row_text default_writer (fields_of fields.now)) }
 {
@@ -53,8 +53,8 @@ fn flag_record(
     Ok(record)
 }
 
-/// The bytes of a flag as one record. Every fault of the writer is want of memory, since it writes
-/// into memory.
+/// The bytes of a flag as one record. The writer writes into memory, so each of its faults is out
+/// of memory.
 pub fn flag_bytes(alloc: Global, flag: &Flag, moment: &str) -> Result<Vec<u8>, Memory>
     requires moment { moment.now ≡ moment_text flag.now.moment }
     ensures { IfOk result (λ text. text.items ≡ row_text default_writer (flag_fields flag.now)) }

@@ -1,4 +1,4 @@
-//! Flagged questions.
+//! Flagged queries.
 ghost use Rattle.std.specs.Prelude.{◌≡◌, ◌++◌, codes, OnOk, OnErr};
 ghost use Rattle.csv.specs.Writing.{default_writer, row_text};
 ghost use Rattle.serde_json.specs.Written.{compact_text};
@@ -81,7 +81,7 @@ fn append_json<const ROOM: usize>(
     out.append("\n")
 }
 
-// A record that is no text cannot come; it is answered with want of memory.
+// A record is always a text. The other case cannot occur; it returns out of memory.
 fn append_csv<const ROOM: usize>(
     alloc: Global,
     dated: &DatedFlag<'_>,
@@ -115,7 +115,7 @@ fn append_dated<const ROOM: usize>(
     }
 }
 
-// A flag as it is printed in a format.
+// A flag as a format prints it.
 #[derive(Clone, Copy)]
 struct FlagLine<'a> {
     alloc: Global,
@@ -148,9 +148,9 @@ impl<'a, const ROOM: usize> Printed<ROOM> for FlagLine<'a> {
     }
 }
 
-/// Adds one flagged question: `0 flag` and its number, moment, user, purpose, recipient and shared
-/// tuple, as words, as a JSON object or as a CSV record. The text is unchanged where memory is
-/// short.
+/// Appends one flagged query: `0 flag`, and then its number, moment, user, purpose, recipient and
+/// shared tuple, as words, as a JSON object or as a CSV record. When out of memory the text is
+/// unchanged.
 pub fn flag_line<const ROOM: usize>(
     alloc: Global,
     format: Format,

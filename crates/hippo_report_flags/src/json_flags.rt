@@ -19,7 +19,7 @@ fn day_data(alloc: Global, day: DayNumber) -> Result<serde_json::Value, AllocErr
     serde_json::Value::try_from_str(alloc, ascii_text(&day_text(day)))
 }
 
-// What has a form in JSON.
+// Something with a JSON form.
 trait JsonForm {
     ghost use Rattle.serde_json.specs.Data.{Data};
     ghost use Rattle.serde_json.specs.View.{view};
@@ -89,7 +89,7 @@ fn object_data(
     })
 }
 
-/// A flag as an object, without spaces.
+/// A flag as a JSON object, without spaces. Fails only when out of memory.
 #[tactic(auto, using(crate::proofs::JsonLemmas::flag_has_no_float))]
 pub fn flag_json(alloc: Global, flag: &Flag, moment: &str) -> Result<String, AllocError>
     requires { moment.now ≡ moment_text flag.now.moment }

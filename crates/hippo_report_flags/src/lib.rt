@@ -1,5 +1,5 @@
-//! A flagged question as a line, in each of three formats: as words, as an object of JSON, and as a
-//! record of CSV; and the line by which a watch flags one at once.
+//! A flagged query as a line, in three formats: as words, as a JSON object, and as a CSV record;
+//! and the line by which a watch reports a flag at once.
 #![tactic(auto)]
 
 mod alarms;

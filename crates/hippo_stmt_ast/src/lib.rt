@@ -1,4 +1,4 @@
-//! Statements as they are written, before a history gives their names a meaning.
+//! The syntax tree of statements, before a history resolves their names.
 #![tactic(auto)]
 
 mod statement;

@@ -1,8 +1,8 @@
-//! Selects, audit expressions and whole statements, with names for what they name.
+//! Selects, audit expressions and whole statements, with unresolved names.
 use hippo_model::{Cells, Columns, CondOf, ItemKind, Names, Pairs};
 use hippo_values::{Boxed, Name, Sequence, Txt, Value};
 
-/// A column as it is written, with its table or without.
+/// A column as written, with or without its table.
 #[derive(Debug, Drop)]
 pub struct RawColumn {
     pub table: Option<Name>,
@@ -11,8 +11,7 @@ pub struct RawColumn {
 
 pub type RawColumns = Sequence<RawColumn>;
 
-/// What a condition compares, as it is written. The column is boxed, since conditions are moved
-/// often.
+/// An operand of a comparison, as written. The column is boxed because conditions are moved often.
 #[derive(Debug, Drop)]
 pub enum RawOperand {
     Column(Boxed<RawColumn>),
@@ -21,7 +20,7 @@ pub enum RawOperand {
 
 pub type RawCond = CondOf<RawOperand>;
 
-/// An item of a select list, as it is written.
+/// An item of a select list, as written.
 #[derive(Debug, Drop)]
 pub enum RawItem {
     All,
@@ -31,7 +30,7 @@ pub enum RawItem {
 
 pub type RawItems = Sequence<RawItem>;
 
-/// A member of a grouped select's list, as it is written.
+/// An item of a grouped select's list, as written.
 #[derive(Debug, Drop)]
 pub enum RawOut {
     Column(RawColumn),
@@ -41,18 +40,18 @@ pub enum RawOut {
 
 pub type RawOuts = Sequence<RawOut>;
 
-/// Which rows a select answers, as it is written.
+/// Which rows a select returns, as written.
 #[derive(Debug, Drop)]
 pub enum RawForm {
-    /// One for each combination of rows.
+    /// One row for each combination of rows.
     Plain,
-    /// Equal ones once.
+    /// Equal rows once.
     Distinct,
-    /// One for each group of rows that are equal in the columns `by`.
+    /// One row for each group of rows that are equal in the columns `by`.
     Grouped { outs: RawOuts, by: RawColumns },
 }
 
-/// A select as it is written. That of a grouped one has no `items`: its list is in its form.
+/// A select as written. A grouped select has no `items`: its list is in its form.
 #[derive(Debug, Drop)]
 pub struct RawSelect {
     pub items: RawItems,
@@ -61,7 +60,7 @@ pub struct RawSelect {
     pub form: RawForm,
 }
 
-/// An audit expression as it is written.
+/// An audit expression as written.
 #[derive(Debug, Drop)]
 pub struct RawAudit {
     pub from: Txt,
@@ -73,7 +72,7 @@ pub struct RawAudit {
     pub cond: RawCond,
 }
 
-/// A statement as it is written; its lists are in the text's order.
+/// A statement as written; its lists are in the order of the text.
 #[derive(Debug, Drop)]
 pub enum Stmt {
     CreateTable {
@@ -104,8 +103,8 @@ pub enum Stmt {
         table: Name,
         columns: Names,
         item: Option<Name>,
-        /// For how many days from a row's birth its cells are shown; without end where none is
-        /// written.
+        /// For how many days from a row's birth its cells are shown; without a number, they are
+        /// shown without end.
         days: Option<u32>,
     },
     Revoke {
@@ -146,13 +145,13 @@ pub enum Stmt {
         start: usize,
         end: usize,
     },
-    /// OPEN: a select whose answer is handed out by and by.
+    /// OPEN: a select whose answer is fetched in parts.
     Ask {
         select: RawSelect,
         start: usize,
         end: usize,
     },
-    /// A select whose rows are written as records of CSV.
+    /// A select whose rows are written as CSV records.
     Extract {
         select: RawSelect,
         start: usize,

@@ -1,4 +1,4 @@
--- The table of the code, cut by letters, finds what the two lists say.
+-- The code's table, split by first letter, finds the same as the two lists of the definition.
 use Rattle.std.proofs.Common.{◌≡◌, ℕ, ◌+◌, ◌-◌, ◌<◌, ◌≤◌, ◌==◌, Bool, true, false, ◌&&◌, List, [], ◌∷◌, ◌++◌, map, take, drop, replicate, slice_index_or, Some, None, cond, if◌then◌else◌, refl, sym, ap, ◌∙◌, inl, inr, arith, zero-add, bytes_eq, nat_le, Bor}
 use Rattle.std.specs.Option.{option_or}
 use Rattle.std.specs.Map.{lookup}
@@ -24,7 +24,7 @@ Entries = List (List ℕ × Reserved)
 abbrev entries : Entries
 entries = map (λ e. (e.0, reserved.Keyword e.1)) keywords ++ map (λ word. (word, reserved.Unsupported)) unsupported_words
 
--- A look-up over both lists.
+-- A lookup in two lists, one after the other.
 lookup-append : {X : Type 0} (test : List ℕ → Bool) (front back : List (List ℕ × X)) → lookup test (front ++ back) ≡ option_or (lookup test front) (lookup test back)
 lookup-append test [] back = refl
 lookup-append test (entry ∷ front) back = elim (cases_Bool (test entry.0)) [
@@ -46,7 +46,7 @@ lookup-entries word =
     ∙ (ap (λ o. option_or o (lookup test (map (λ w. (w, reserved.Unsupported)) unsupported_words))) (lookup-map_values reserved.Keyword test keywords)
     ∙ ap (option_or _) (lookup-marked test reserved.Unsupported unsupported_words))
 
--- The words of one letter, by the definition and by the code.
+-- The words that begin with a letter, by the definition and by the code.
 abbrev begins : ℕ → List ℕ → Bool
 begins letter [] = false
 begins letter (first ∷ rest) = first == letter
@@ -73,7 +73,7 @@ part_is k small =
     sym (get_or-map-range_with_len part_of 0 26 k k [] small (zero-add k))
     ∙ (ap (λ lists. get_or lists k []) parts_are ∙ get_or-map-range_with_len of_letter 0 26 k k [] small (zero-add k))
 
--- Its bounds.
+-- The bounds of that part of the table.
 abbrev is_part : ℕ → Bool
 is_part k = nat_le (start_of k) (start_of (k + 1)) && nat_le (start_of (k + 1)) 80
 
@@ -86,7 +86,7 @@ bounds k small =
     let both = and_parts _ _ is in
     (leb-true _ _ both.0, leb-true _ _ both.1)
 
--- a look-up that folds the words of a table
+-- a lookup that folds the case of the table's words
 abbrev plain : List (Bor (List ℕ) × Reserved) → Entries
 plain table = map (λ e. (lower_case e.0.now, e.1)) table
 
@@ -99,7 +99,7 @@ lookup-part word table start count =
     lookup-plain word (take count (drop start table))
     ∙ ap (lookup (λ known. bytes_eq known word)) (sym (ap (take count) (drop-map _ start table) ∙ take-map _ count (drop start table)))
 
--- The first letter of a word tells where to look.
+-- The first letter of a word selects the part of the table to search.
 letter_first : (first k : ℕ) → (if is_ascii_alphabetic first then Some (to_ascii_lowercase first - 97) else None) ≡ Some k → (to_ascii_lowercase first == 97 + k) ≡ true
 letter_first first k letter = elim (cases_Bool (is_ascii_alphabetic first)) [
   | inl is ↦ let same : Some (to_ascii_lowercase first - 97) ≡ Some k = rw is at letter in let k_is : to_ascii_lowercase first - 97 ≡ k = cc in grind (arith, nat_tests)

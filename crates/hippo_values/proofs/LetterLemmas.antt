@@ -1,4 +1,5 @@
--- A letter in lower case is a byte with the bit of lower case set just where it is the byte in lower case.
+-- A lower-case letter equals a byte with the lower-case bit set exactly when it equals the byte in
+-- lower case.
 use Rattle.std.proofs.Common.{◌≡◌, ℕ, ◌<◌, ◌≤◌, ◌==◌, Bool, true, List, [], ◌∷◌, map, take, drop, length, bit_or, if◌then◌else◌, refl, sym, ap, ◌∙◌, inl, inr, arith, zero-add, zero, suc, bytes_eq}
 use Rattle.std.specs.List.{list_all, zip, range_with_len}
 use Rattle.std.specs.Char.{is_ascii_alphabetic, is_ascii_lowercase, to_ascii_lowercase}
@@ -9,7 +10,7 @@ use Rattle.std.proofs.lemmas.Nat.{le_or_l}
 use Rattle.std.proofs.lemmas.List.FromFn.{get_or-map-range_with_len}
 use Rattle.hippo_values.specs.Names.{lower_case}
 
--- a byte that is a letter in lower case, or 0
+-- a byte that is a lower-case letter, or 0
 abbrev letter_or_0 : ℕ → ℕ
 letter_or_0 byte = if is_ascii_lowercase byte then byte else 0
 
@@ -58,7 +59,7 @@ written_letters (letter ∷ letters) (byte ∷ word) h long =
     let same : length letters ≡ length word = omega (arith, long) in
     rw (written_letter letter byte parts.0, written_letters letters word parts.1 same) refl
 
--- A word of the same length is the known one where each letter is written.
+-- A word of the same length equals the known word if each letter matches.
 pub written : (known word : List ℕ) → list_all is_ascii_lowercase known ≡ true → length known ≡ length word → list_all (λ p. p.0 == bit_or p.1 32) (zip known word) ≡ bytes_eq (lower_case known) (lower_case word)
 written known word h long = rw (lower_case-letters known h) (written_letters known word h long)
 
@@ -70,7 +71,7 @@ letter_lowered byte letter =
     let same : (to_ascii_lowercase byte == bit_or byte 32) ≡ true = written_letter (to_ascii_lowercase byte) byte small ∙ itself in
     grind (arith, nat_tests)
 
--- What holds of all members holds of those of a part.
+-- What holds for all members holds for all members of a suffix.
 all-drop : {X : Type 0} (test : X → Bool) (count : ℕ) (members : List X) → list_all test members ≡ true → list_all test (drop count members) ≡ true
 all-drop test zero members h = h
 all-drop test (suc count) [] h = refl

@@ -1,4 +1,4 @@
--- A name in lower case is a name still, and its bytes are ASCII.
+-- A name in lower case is still a name, and its bytes are ASCII.
 use Rattle.std.proofs.Common.{◌≡◌, ℕ, zero, suc, ◌≤◌, List, [], ◌∷◌, ◌++◌, map, take, ◌&&◌, length, nat_le, Option, Some, None, option_map, true, if◌then◌else◌, refl, ap, arith, bytes_eq, IsTrue, ◌<◌}
 use Rattle.std.specs.List.{list_any, list_all}
 use Rattle.std.specs.Map.{lookup}
@@ -32,7 +32,7 @@ begins_with_letter-lower_case : (word : List ℕ) → begins_with_letter (lower_
 begins_with_letter-lower_case [] = refl
 begins_with_letter-lower_case (b ∷ bs) = is_ascii_alphabetic-lowercase b
 
--- why a word in lower case is no name
+-- why a lower-case word is not a name
 abbrev reserved_in : List ℕ → Option Reserved
 reserved_in word =
     option_or (option_map reserved.Keyword (lookup (λ known. bytes_eq known word) keywords))
@@ -41,7 +41,7 @@ reserved_in word =
 reserved_of-lower_case : (word : List ℕ) → reserved_of (lower_case word) ≡ reserved_of word
 reserved_of-lower_case word = ap reserved_in (lower_case-lower_case word)
 
--- A word in lower case is a name just where the word is.
+-- A word in lower case is a name exactly when the word is.
 pub is_name-lower_case : (word : List ℕ) → is_name (lower_case word) ≡ is_name word
 is_name-lower_case word =
     cc (
@@ -51,7 +51,7 @@ is_name-lower_case word =
       reserved_of-lower_case word,
     )
 
--- A word of a name's form that is not reserved is a name.
+-- An unreserved word with the form of a name is a name.
 pub is_name-free : (word : List ℕ) → (is_word word && nat_le (length word) 63) ≡ true → reserved_of word ≡ None → is_name word ≡ true
 is_name-free word form free = rw (form, free) refl
 
@@ -71,7 +71,8 @@ name-ascii name bytes same named =
     let word = and_parts _ _ (and_parts _ _ whole.0).0 in
     IsAscii-same bytes name same (IsAscii-of_bytes name (word_bytes-ascii name word.1))
 
--- Where the bytes in front of others are folded with some behind them, the front is the word in lower case.
+-- If the first bytes are folded together with some of those after them, the first bytes are the
+-- word in lower case.
 pub folded_front : (word copied zeros folded remaining : List ℕ) (count : ℕ) → copied ≡ word → folded ≡ map to_ascii_lowercase (take count (copied ++ zeros)) → length word ≤ count → take (length word) (folded ++ remaining) ≡ lower_case word
 folded_front [] copied zeros folded remaining count same is within = refl
 folded_front (byte ∷ word) copied zeros folded remaining zero same is within = absurd (omega (arith, within))

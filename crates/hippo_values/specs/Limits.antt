@@ -1,52 +1,52 @@
--- The limits of the language: how long its parts may be, in bytes, how many of them there may be,
--- how deep a statement may be nested, and the largest numbers that a line may name.
+-- The limits of the language: the longest lengths, in bytes, the largest counts, the deepest
+-- nesting of a statement, and the largest numbers that a line may name.
 use Rattle.std.specs.Prelude.{ℕ}
 
--- a text in a cell
+-- the most bytes in a text cell
 abbrev pub text_limit : ℕ
 text_limit = 4096
 
--- a text in a cell that takes no memory
+-- the most bytes in a text cell that is stored inline
 abbrev pub short_text_limit : ℕ
 short_text_limit = 22
 
--- a name
+-- the most bytes in a name
 abbrev pub name_limit : ℕ
 name_limit = 63
 
--- a line of the input before its line feed, and the text of a question
+-- the most bytes in an input line, before its line feed, and in the text of a query
 abbrev pub line_limit : ℕ
 line_limit = 65536
 
--- the days after a row's birth for which a rule may show its cells: a hundred years
+-- the most days after a row's birth for which a rule may show its cells: a hundred years
 abbrev pub retention_limit : ℕ
 retention_limit = 36500
 
--- the tables of a database
+-- the most tables in a database
 abbrev pub table_limit : ℕ
 table_limit = 64
 
--- the columns of a table
+-- the most columns in a table
 abbrev pub column_limit : ℕ
 column_limit = 64
 
--- how far `(` may outnumber `)` in a front of a statement, and how often it may say NOT
+-- the most by which `(` may outnumber `)` in any prefix of a statement, and the most NOTs in it
 abbrev pub depth_limit : ℕ
 depth_limit = 64
 
--- the tables of a FROM list
+-- the most tables in a FROM list
 abbrev pub from_limit : ℕ
 from_limit = 4
 
--- the items of a select, the columns of its GROUP BY, and the columns of an audit
+-- the most items of a select, columns of its GROUP BY, and columns of an audit
 abbrev pub item_limit : ℕ
 item_limit = 128
 
--- the exempt pairs of an audit
+-- the most exempt pairs of an audit
 abbrev pub pair_limit : ℕ
 pair_limit = 64
 
--- sessions are counted from 0, which is the console
+-- the largest session number; sessions are counted from 0, which is the console
 abbrev pub session_limit : ℕ
 session_limit = 64
 
@@ -59,10 +59,10 @@ job_limit = 8
 abbrev pub watch_limit : ℕ
 watch_limit = 8
 
--- the rows that one line may fetch
+-- the most rows that one line may fetch
 abbrev pub fetch_limit : ℕ
 fetch_limit = 100000
 
--- the entries that one step of a job may look at
+-- the most entries that one step of a job may read
 abbrev pub step_limit : ℕ
 step_limit = 1000000

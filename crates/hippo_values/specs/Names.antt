@@ -1,4 +1,4 @@
--- What a name is, and which words are reserved.
+-- Which words are names, and which words are reserved.
 use Rattle.std.specs.Prelude.{ℕ, ◌-◌, ◌==◌, Bool, false, not, ◌&&◌, ◌||◌, List, [], ◌∷◌, map, length, nat_le, Option, Some, None, is_some, option_map, if◌then◌else◌, codes, bytes_eq}
 use Rattle.std.specs.Option.{option_or}
 use Rattle.std.specs.List.{list_any, list_all}
@@ -10,11 +10,11 @@ use Rattle.hippo_values.specs.declared.keywords.Keyword.TheVariants.{KAnd, KAllo
 use Rattle.hippo_values.specs.declared.keywords.Reserved.{Reserved}
 use Rattle.hippo_values.specs.declared.keywords.Reserved.TheVariants as reserved
 
--- the word in lower case
+-- a word in lower case
 abbrev pub lower_case : List ℕ → List ℕ
 lower_case word = map to_ascii_lowercase word
 
--- the words that stand in the grammar, each with its keyword
+-- the keywords of the grammar
 unfoldable pub keywords : List (List ℕ × Keyword)
 keywords =
     (codes "and", KAnd) ∷ (codes "allow", KAllow) ∷ (codes "audit", KAudit)
@@ -35,7 +35,7 @@ keywords =
     ∷ (codes "values", KValues) ∷ (codes "where", KWhere) ∷ (codes "with", KWith)
     ∷ (codes "yes", KYes) ∷ (codes "or", KOr) ∷ []
 
--- words of SQL that are refused wherever they stand
+-- the words of SQL that hippo refuses everywhere
 unfoldable pub unsupported_words : List (List ℕ)
 unsupported_words =
     codes "all" ∷ codes "alter" ∷ codes "any" ∷ codes "as" ∷ codes "avg" ∷ codes "case"
@@ -44,15 +44,15 @@ unsupported_words =
     ∷ codes "limit" ∷ codes "natural" ∷ codes "offset" ∷ codes "order" ∷ codes "outer"
     ∷ codes "right" ∷ codes "sum" ∷ codes "union" ∷ codes "using" ∷ codes "window" ∷ []
 
--- the keyword that a word writes, in whatever case
+-- the keyword that a word spells, in any case
 abbrev pub keyword_of : List ℕ → Option Keyword
 keyword_of word = lookup (λ known. bytes_eq known (lower_case word)) keywords
 
--- whether the word is one of these, in whatever case
+-- whether a word, in any case, is one of these
 abbrev pub is_among : List (List ℕ) → List ℕ → Bool
 is_among words word = list_any (λ known. bytes_eq known (lower_case word)) words
 
--- why a word is no name, if it is reserved
+-- why a word cannot be a name, if it is reserved
 abbrev pub reserved_of : List ℕ → Option Reserved
 reserved_of word =
     option_or (option_map reserved.Keyword (keyword_of word))
@@ -69,7 +69,7 @@ abbrev pub begins_with_letter : List ℕ → Bool
 begins_with_letter [] = false
 begins_with_letter (first ∷ rest) = is_ascii_alphabetic first
 
--- the place of the first letter in the alphabet, from 0
+-- the index of the first letter in the alphabet, from 0
 abbrev pub letter_of : List ℕ → Option ℕ
 letter_of [] = None
 letter_of (first ∷ rest) =
@@ -83,6 +83,6 @@ is_word word = begins_with_letter word && list_all is_word_byte word
 abbrev pub is_name : List ℕ → Bool
 is_name word = is_word word && nat_le (length word) name_limit && not (is_reserved word)
 
--- the name that a word writes
+-- the name that a word spells: the word in lower case, if it is a name
 abbrev pub name_of : List ℕ → Option (List ℕ)
 name_of word = if is_name word then Some (lower_case word) else None

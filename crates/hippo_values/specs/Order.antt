@@ -1,4 +1,4 @@
--- The order of values, and of the rows and keys that they make.
+-- The order of values, rows and keys.
 use Rattle.std.specs.Prelude.{ℕ, Bool, List}
 use Rattle.std.specs.Ordering.{is_eq, int_cmp, nat_cmp}
 use Rattle.std.specs.declared.cmp.Ordering.{Ordering}
@@ -6,21 +6,21 @@ use Rattle.std.specs.Cmp.Lexicographic.{slice_cmp}
 use Rattle.hippo_values.specs.declared.values.Value.{Value}
 use Rattle.hippo_values.specs.declared.values.Value.TheVariants.{Null, Int, Text, Day}
 
--- the kinds in their order: NULL, INTEGER, TEXT, DATE
+-- the kinds in ascending order: NULL, INTEGER, TEXT, DATE
 abbrev pub kind_rank : Value → ℕ
 kind_rank Null = 0
 kind_rank (Int number) = 1
 kind_rank (Text text) = 2
 kind_rank (Day day) = 3
 
--- values are ordered by kind, and then within it; texts by their bytes
+-- values are ordered by kind, and then within the kind; texts by their bytes
 abbrev pub value_cmp : Value → Value → Ordering
 value_cmp (Int a) (Int b) = int_cmp a b
 value_cmp (Text a) (Text b) = slice_cmp nat_cmp a b
 value_cmp (Day a) (Day b) = int_cmp a b
 value_cmp a b = nat_cmp (kind_rank a) (kind_rank b)
 
--- rows and keys are ordered by their first different value
+-- rows and keys are ordered by the first value that differs
 abbrev pub cells_cmp : List Value → List Value → Ordering
 cells_cmp = slice_cmp value_cmp
 

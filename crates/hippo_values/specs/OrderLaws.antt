@@ -1,5 +1,5 @@
--- The order of values is total, and equal at no two different ones: what the `Ord` of `Value`
--- cites.
+-- The order of values is total, and only equal values compare as equal. The `Ord` impl of `Value`
+-- cites these laws.
 use Rattle.std.proofs.Common.{◌≡◌, ℕ, ℤ, pos, List, [], Some, refl}
 use Rattle.std.specs.Ordering.{eq_by_cmp, int_cmp, nat_cmp, ordering_then}
 use Rattle.std.specs.Cmp.{IsPartialOrder, IsTotalOrder, int_cmp_total, nat_cmp_total, on_total, po, then_total}
@@ -11,7 +11,7 @@ use Rattle.hippo_values.specs.declared.values.Value.TheVariants.{Null, Int, Text
 use Rattle.hippo_values.specs.contracts.values.ValuePartialEq.TheImpl as derived
 use Rattle.hippo_values.specs.Order.{kind_rank, value_cmp}
 
--- the number that a value is made of, and the text
+-- the number in a value, and the text in it
 abbrev number_or_zero : Value → ℤ
 number_or_zero Null = pos 0
 number_or_zero (Int number) = number
@@ -24,7 +24,7 @@ text_in (Int number) = []
 text_in (Text text) = text
 text_in (Day day) = []
 
--- the order by kind, number and text
+-- the order by kind, then number, then text
 abbrev by_parts : Value → Value → Ordering
 by_parts a b = ordering_then (nat_cmp (kind_rank a) (kind_rank b))
     (ordering_then (int_cmp (number_or_zero a) (number_or_zero b))
@@ -58,7 +58,7 @@ value_total = record {
       (by_parts_total.congr x y z);
 }
 
--- `==` holds of the values that the order does not tell apart
+-- `==` is true exactly of the values that the order calls equal
 pub value_ties : (a b : Value) → (derived.ghosts).eq a b ≡ eq_by_cmp value_cmp a b
 value_ties Null Null = refl
 value_ties (Int a) (Int b) = refl

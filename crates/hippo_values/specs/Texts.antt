@@ -1,4 +1,4 @@
--- Which texts may stand in a cell.
+-- Which texts are allowed in a cell.
 use Rattle.std.specs.Prelude.{ℕ, Bool, not, ◌&&◌, ◌==◌, List, length, nat_le}
 use Rattle.std.specs.List.{list_all}
 use Rattle.hippo_values.specs.Limits.{text_limit}
@@ -7,11 +7,11 @@ use Rattle.hippo_values.specs.Limits.{text_limit}
 abbrev pub Txt : Type 0
 Txt = List ℕ
 
--- no control character of ASCII, which are U+0000 to U+001F and U+007F
+-- not an ASCII control character, that is, not U+0000 to U+001F or U+007F
 abbrev pub is_plain : ℕ → Bool
 is_plain byte = nat_le 32 byte && not (byte == 127)
 
--- a text in a cell has at most 4096 bytes and no control character of ASCII
+-- a text in a cell has at most 4096 bytes and no ASCII control character
 abbrev pub keeps_text_rule : List ℕ → Bool
 keeps_text_rule text = nat_le (length text) text_limit && list_all is_plain text
 

@@ -1,4 +1,4 @@
-//! A box that contracts see as what it holds.
+//! A box whose contracts see only the value in it.
 ghost use Rattle.std.specs.Prelude.{◌≡◌, IfOk};
 
 use crate::memory::Memory;
@@ -6,7 +6,7 @@ use std::alloc::Global;
 use std::fmt::{self, Debug, Formatter, Write};
 use std::marker::Model;
 
-/// A `Box` that contracts see as what it holds.
+/// A `Box` whose contracts see only the value in it.
 #[derive(Drop)]
 pub struct Boxed<T> {
     held: Box<T>,
@@ -37,7 +37,7 @@ impl<T> Boxed<T> {
 }
 
 impl<T: Drop> Boxed<T> {
-    /// Puts a value into a box.
+    /// Puts a value into a new box; fails only when out of memory.
     pub fn new(alloc: Global, value: T) -> Result<Boxed<T>, Memory>
         ensures { IfOk result (λ boxed. boxed ≡ value) }
     {

@@ -1,4 +1,4 @@
-//! Texts of cells, the short ones of which lie in the value itself.
+//! The texts of cells. Short texts are stored inline in the value.
 ghost use Rattle.std.specs.Prelude.{◌≡◌, ◌≤◌, length, nat_eq, refl, Some, IsOk, IfOk};
 ghost use Rattle.std.specs.Ordering.{nat_cmp};
 ghost use Rattle.std.specs.Cmp.{partial_equiv_from_equiv};
@@ -17,10 +17,10 @@ use std::hash::{Hash, Hasher};
 use std::marker::Model;
 use std::rc::RcStr;
 
-// So many bytes of a text lie in the value itself.
+// Texts of up to this many bytes are stored inline.
 const ROOM: usize = 22;
 
-// A text whose bytes lie in the value itself.
+// A text stored inline.
 #[derive(Drop)]
 struct ShortText {
     len: u8,
@@ -53,7 +53,7 @@ impl ShortText {
     fn as_str(&self) -> &str
         ensures { result.now ≡ self.now }
     {
-        // SAFETY: The bytes are those of a text.
+        // SAFETY: The bytes come from a `str`.
         unsafe { str::from_utf8_unchecked(&self.bytes[..usize::from(self.len)]) }
     }
 
@@ -67,15 +67,15 @@ impl ShortText {
     }
 }
 
-// Where the bytes of a text are: in the value, or in memory that its copies share.
+// Where a text's bytes are stored: inline, or in memory that all copies share.
 #[derive(Drop)]
 enum Held {
     Short(ShortText),
     Long(RcStr<Global>),
 }
 
-/// The text of a cell, which contracts see as the list of its bytes. Up to 22 bytes lie in the
-/// value itself; a longer text stands in memory that all copies of it share.
+/// The text of a cell; contracts see it as the list of its bytes. Up to 22 bytes are stored inline;
+/// a longer text is stored in memory that all its copies share.
 #[derive(Drop)]
 pub struct CellText {
     held: Held,
@@ -111,7 +111,8 @@ fn copy_held(held: &Held) -> Result<Held, Memory>
 }
 
 impl CellText {
-    /// A text with the same bytes. One of up to 22 bytes takes no memory.
+    /// A text with the same bytes. A text of up to 22 bytes allocates nothing. Fails only when out
+    /// of memory.
     pub fn from_str(alloc: Global, text: &str) -> Result<CellText, Memory>
         ensures made { IfOk result (λ made. made ≡ text.now) }
         ensures short { length text.now ≤ short_text_limit → IsOk result }

@@ -1,4 +1,4 @@
-//! The reserved words: those that stand in the grammar, and those of SQL that are refused.
+//! The reserved words: the keywords of the grammar, and the words of SQL that hippo refuses.
 
 ghost use Rattle.std.specs.Prelude.{◌≡◌, true, ◌==◌, bit_or, ◌-◌, ◌<◌, ◌≤◌, length, map, take, drop, IfSome, bytes_eq};
 ghost use Rattle.std.specs.Map.{lookup};
@@ -6,7 +6,7 @@ ghost use Rattle.std.specs.Char.{is_ascii_alphabetic, is_ascii_lowercase, to_asc
 ghost use Rattle.std.specs.List.{list_all, zip};
 ghost use Rattle.hippo_values.specs.Names.{lower_case, letter_of, reserved_of};
 
-/// A word that stands in the grammar, written in whatever case.
+/// A keyword of the grammar; case does not matter.
 #[derive(Clone, Copy, Debug, PartialEq, Eq)]
 pub enum Keyword {
     KAnd,
@@ -64,15 +64,15 @@ pub enum Keyword {
     KOr,
 }
 
-/// Why a word is no name: it stands in the grammar, or it is one of SQL's that are refused wherever
-/// they stand.
+/// Why a word cannot be a name: it is a keyword of the grammar, or a word of SQL that hippo refuses
+/// everywhere.
 #[derive(Clone, Copy, Debug, PartialEq, Eq)]
 pub enum Reserved {
     Keyword(Keyword),
     Unsupported,
 }
 
-// The reserved words, by their first letters.
+// The reserved words, sorted by first letter.
 const WORDS: [(&str, Reserved); 80] = [
     ("and", Reserved::Keyword(Keyword::KAnd)),
     ("allow", Reserved::Keyword(Keyword::KAllow)),
@@ -156,16 +156,17 @@ const WORDS: [(&str, Reserved); 80] = [
     ("yes", Reserved::Keyword(Keyword::KYes)),
 ];
 
-// Where the words of each letter begin among them, and where those of the last letter end.
+// For each letter, the index in `WORDS` of its first word; the last number is the end of the last
+// letter's words.
 const STARTS: [usize; 27] = [
     0, 9, 11, 17, 23, 26, 29, 30, 31, 39, 40, 41, 44, 46, 50, 59, 61, 61, 64, 69, 72, 75, 76, 79,
     79, 80, 80,
 ];
 
-// The bit by which a letter in lower case differs from the one in upper case.
+// The bit that is set in a lower-case letter and clear in the upper-case one.
 const LOWER_CASE: u8 = 32;
 
-// Whether each letter is the byte beside it with the bit of lower case set.
+// Whether each letter equals the byte of the word at the same place with the lower-case bit set.
 fn all_written(letters: &[u8], word: &[u8]) -> bool
     ensures { result ≡ list_all (λ p. p.0 == bit_or p.1 32) (zip letters.now word.now) }
 {
@@ -175,8 +176,7 @@ fn all_written(letters: &[u8], word: &[u8]) -> bool
         .all(|(letter, byte)| *letter == (*byte | LOWER_CASE))
 }
 
-// Whether a word is the known one, which is of letters in lower case, in whatever case it is
-// written.
+// Whether a word equals the known one, ignoring case. The known word is all lower-case letters.
 fn is_written_by(known: &[u8], word: &[u8]) -> bool
     requires { list_all is_ascii_lowercase known.now ≡ true }
     ensures { result ≡ bytes_eq (lower_case known.now) (lower_case word.now) }
@@ -184,8 +184,8 @@ fn is_written_by(known: &[u8], word: &[u8]) -> bool
     known.len() == word.len() && all_written(known, word)
 }
 
-// What a table of words says of the word, in whatever case it is written. The table's words are of
-// letters in lower case, which need no folding.
+// Looks a word up in the table, ignoring case. The table's words are all lower-case letters, so
+// only the given word is folded.
 fn find_written(table: &[(&str, Reserved)], word: &str) -> Option<Reserved>
     requires { list_all (λ e. list_all is_ascii_lowercase e.0.now) table.now ≡ true }
     ensures { result ≡ lookup (λ known. bytes_eq (lower_case known.now) (lower_case word.now))
@@ -214,7 +214,7 @@ fn find_between(
     find_written(&table[start..end], word)
 }
 
-// The place of a word's first letter in the alphabet.
+// The index of a word's first letter in the alphabet, from 0.
 fn letter_of(word: &str) -> Option<usize>
     ensures letter { result ≡ letter_of word.now }
     ensures within { IfSome result (λ place. place < 26) }
@@ -227,7 +227,7 @@ fn letter_of(word: &str) -> Option<usize>
     }
 }
 
-/// Why a word is no name, in whatever case; none where it is not reserved.
+/// Why a word, in any case, cannot be a name; none if it is not reserved.
 pub fn reserved_of(word: &str) -> Option<Reserved>
     ensures { result ≡ reserved_of word.now }
 {

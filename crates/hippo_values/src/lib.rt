@@ -34,5 +34,5 @@ pub use words::{Word, read_word};
 /// Bytes of any kind.
 pub type Bytes = Sequence<u8>;
 
-/// Numbers of calls, counted from 1.
+/// A list of call numbers; calls are counted from 1.
 pub type Calls = Sequence<u64>;

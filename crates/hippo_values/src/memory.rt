@@ -1,9 +1,9 @@
-//! Want of memory, and copies that may meet it.
+//! The out-of-memory error, and copies that can fail with it.
 ghost use Rattle.std.specs.Prelude.{◌≡◌, IfOk};
 
 use std::alloc::{AllocError, AllocFailed, Global};
 
-/// Want of memory: the allocator refused.
+/// Out of memory: an allocation failed.
 #[derive(Clone, Copy, Debug, PartialEq, Eq)]
 pub struct Memory;
 
@@ -19,9 +19,9 @@ impl<T: Drop> From<AllocFailed<T>> for Memory {
     }
 }
 
-/// A value that can be copied where memory allows.
+/// A value that can be copied; the copy fails only when out of memory.
 pub trait Duplicate {
-    /// An equal value with memory of its own.
+    /// An equal value with its own memory.
     fn copy(&self, alloc: Global) -> Result<Self, Memory>
     where
         Self: Sized,

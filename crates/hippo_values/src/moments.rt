@@ -1,11 +1,11 @@
-//! Days and moments of the years 0001 to 9999, by their numbers.
+//! Days and moments of the years 0001 to 9999, as numbers.
 ghost use Rattle.std.specs.Prelude.{◌≡◌, SomeIff};
 ghost use Rattle.hippo_values.specs.Moments.{IsDayNumber, IsMoment};
 
 use std::hash::Hash;
 use std::marker::Model;
 
-/// A day of the years 0001 to 9999, as the number of days from 1970-01-01.
+/// A day of the years 0001 to 9999, as the number of days since 1970-01-01.
 #[derive(Clone, Copy, Debug, PartialEq, Eq, PartialOrd, Ord, Hash)]
 pub struct DayNumber {
     day: i32,
@@ -31,7 +31,7 @@ impl DayNumber {
     /// The last day, 9999-12-31.
     pub const LAST: i32 = 2932896;
 
-    /// The day with this number; none where it lies outside the years 0001 to 9999.
+    /// The day with this number; none if it is outside the years 0001 to 9999.
     pub fn new(day: i32) -> Option<DayNumber>
         ensures { SomeIff result (IsDayNumber day) day }
     {
@@ -42,7 +42,7 @@ impl DayNumber {
         }
     }
 
-    /// The number of days from 1970-01-01.
+    /// The number of days since 1970-01-01.
     pub fn day(&self) -> i32
         ensures number { result ≡ self.now }
         ensures range { IsDayNumber self.now }
@@ -51,7 +51,7 @@ impl DayNumber {
     }
 }
 
-/// A second of the years 0001 to 9999, as the number of seconds from 1970-01-01T00:00:00Z.
+/// A second of the years 0001 to 9999, as the number of seconds since 1970-01-01T00:00:00Z.
 #[derive(Clone, Copy, Debug, PartialEq, Eq, PartialOrd, Ord)]
 pub struct Moment {
     second: i64,
@@ -77,7 +77,7 @@ impl Moment {
     /// The last moment, 9999-12-31T23:59:59Z.
     pub const LAST: i64 = 253402300799;
 
-    /// The moment of this second; none where it lies outside the years 0001 to 9999.
+    /// The moment with this number of seconds; none if it is outside the years 0001 to 9999.
     pub fn new(seconds: i64) -> Option<Moment>
         ensures { SomeIff result (IsMoment seconds) seconds }
     {
@@ -88,7 +88,7 @@ impl Moment {
         }
     }
 
-    /// The number of seconds from 1970-01-01T00:00:00Z.
+    /// The number of seconds since 1970-01-01T00:00:00Z.
     pub fn seconds(&self) -> i64
         ensures number { result ≡ self.now }
         ensures range { IsMoment self.now }

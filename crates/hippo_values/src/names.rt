@@ -46,15 +46,15 @@ fn is_word(word: &str) -> bool
     begins_with_letter(bytes) && has_word_bytes(bytes)
 }
 
-/// Whether a word has a name's form: a letter, then letters, digits and `_`, at most 63 bytes in
-/// all, in whatever case, and none of the reserved words.
+/// Whether a word is a valid name, in any case: a letter, then letters, digits and `_`, at most 63
+/// bytes in all, and not reserved.
 pub fn is_name(word: &str) -> bool
     ensures { result ≡ is_name word.now }
 {
     is_word(word) && word.len() <= NAME_LIMIT && reserved_of(word).is_none()
 }
 
-// A length that is rounded up to a multiple of 8, but for the last one.
+// A length rounded up to a multiple of 8, but at most `NAME_LIMIT`.
 fn eights_above(len: usize) -> usize
     requires { len ≤ NAME_LIMIT }
     ensures { (len ≤ result) × (result ≤ NAME_LIMIT) }
@@ -62,7 +62,7 @@ fn eights_above(len: usize) -> usize
     ((len + 7) & !7).min(NAME_LIMIT)
 }
 
-// The bytes of a short word in lower case, in front of zeros. They are folded eight at a time.
+// The bytes of a short word in lower case, followed by zeros. Eight bytes are folded at a time.
 fn folded_bytes(word: &str) -> [u8; NAME_LIMIT]
     requires { length word.now ≤ NAME_LIMIT }
     ensures front { take (length word.now) result ≡ lower_case word.now }
@@ -75,7 +75,7 @@ fn folded_bytes(word: &str) -> [u8; NAME_LIMIT]
 }
 
 /// The name of a table, column, purpose, recipient, item or user: 1 to 63 bytes in lower case,
-/// which lie in the value itself.
+/// stored inline.
 #[derive(Drop)]
 pub struct Name {
     bytes: [u8; NAME_LIMIT],
@@ -97,7 +97,7 @@ impl Model for Name {
 }
 
 impl Name {
-    /// The name that a word writes that is not reserved; none where it is too long.
+    /// The name that an unreserved word spells; none if the word is too long.
     pub(crate) fn unreserved(word: &str) -> Option<Name>
         requires form { is_word word.now ≡ true }
         requires free { reserved_of word.now ≡ None }
@@ -111,8 +111,8 @@ impl Name {
         Some(Name { bytes, len })
     }
 
-    /// The name that a word writes, in lower case; none where the word has no name's form or is
-    /// reserved.
+    /// The name that a word spells, in lower case; none if the word does not have the form of a
+    /// name or is reserved.
     pub fn from_word(_alloc: Global, word: &str) -> Result<Option<Name>, Memory>
         ensures { IfOk result (λ made. made ≡ name_of word.now) }
     {

@@ -11,7 +11,7 @@ use std::fmt::{self, Debug, Formatter, Write};
 use std::hash::{Hash, Hasher};
 use std::marker::Model;
 
-/// A `Vec` that contracts see as the list of its members; of its room they say nothing.
+/// A `Vec` that contracts see as the list of its members. Contracts say nothing about its capacity.
 #[derive(Drop)]
 pub struct Sequence<T> {
     members: Vec<T>,
@@ -29,7 +29,7 @@ impl<T> Model for Sequence<T> {
 }
 
 impl<T> Sequence<T> {
-    /// The empty list, which takes no memory.
+    /// The empty list; allocates nothing.
     pub fn new(alloc: Global) -> Sequence<T>
         ensures { result ≡ [] }
     {
@@ -38,14 +38,14 @@ impl<T> Sequence<T> {
         }
     }
 
-    /// The members of a `Vec`, in its own memory.
+    /// The members of a `Vec`; keeps the `Vec`'s memory.
     pub fn from_vec(members: Vec<T>) -> Sequence<T>
         ensures { result ≡ members.items }
     {
         Sequence { members }
     }
 
-    /// The members as a `Vec`, in the list's own memory.
+    /// The members as a `Vec`; keeps the list's memory.
     pub fn into_vec(self) -> Vec<T>
         ensures { result.items ≡ self }
     {
@@ -71,7 +71,7 @@ impl<T> Sequence<T> {
         self.members.is_empty()
     }
 
-    /// The member at a place, counted from 0.
+    /// The member at an index, from 0.
     pub fn get(&self, place: usize) -> &T
         requires { place < length self.now }
         ensures { slice_get self.now place ≡ Some result.now }
@@ -81,7 +81,7 @@ impl<T> Sequence<T> {
 }
 
 impl<T: Copy> Sequence<T> {
-    /// A list with the same members.
+    /// A list with the same members. Fails only when out of memory.
     pub fn from_slice(alloc: Global, members: &[T]) -> Result<Sequence<T>, Memory>
         ensures { IfOk result (λ made. made ≡ members.now) }
     {
@@ -92,7 +92,7 @@ impl<T: Copy> Sequence<T> {
 }
 
 impl<T: Drop> Sequence<T> {
-    /// The empty list, with room for so many members at once.
+    /// The empty list, with capacity for this many members. Fails only when out of memory.
     pub fn with_capacity(alloc: Global, capacity: usize) -> Result<Sequence<T>, Memory>
         ensures { IfOk result (λ made. made ≡ []) }
     {
@@ -101,7 +101,7 @@ impl<T: Drop> Sequence<T> {
         })
     }
 
-    /// Adds a member at the end.
+    /// Adds a member at the end. Fails only when out of memory.
     pub fn push(&mut self, member: T) -> Result<(), Memory>
         ensures ok { OnOk result (self.new ≡ self.old ++ member ∷ []) }
         ensures err { OnErr result (self.new ≡ self.old) }
@@ -110,14 +110,14 @@ impl<T: Drop> Sequence<T> {
         Ok(())
     }
 
-    /// Keeps the first so many members.
+    /// Keeps the first `len` members and drops the rest.
     pub fn truncate(&mut self, len: usize)
         ensures { self.new ≡ take len self.old }
     {
         self.members.truncate(len);
     }
 
-    /// Takes all members out.
+    /// Removes all members.
     pub fn clear(&mut self)
         ensures { self.new ≡ [] }
     {

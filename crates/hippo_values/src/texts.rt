@@ -15,8 +15,8 @@ use std::cmp::Ordering;
 use std::fmt::{self, Debug, Formatter, Write};
 use std::marker::Model;
 
-/// A text that contracts see as the list of its bytes. Its memory has room for at least `ROOM`
-/// bytes, for ever: while a text stays within its room, nothing that is added to it takes memory.
+/// A text that contracts see as the list of its bytes. Its capacity is always at least `ROOM`
+/// bytes: appends within that capacity allocate nothing.
 #[derive(Drop)]
 pub struct RoomyTxt<const ROOM: usize> {
     text: String,
@@ -32,11 +32,11 @@ impl<const ROOM: usize> Model for RoomyTxt<ROOM> {
     ghost invariant = { λ txt. ROOM ≤ string_capacity txt.text };
 }
 
-/// A text of which no room is known.
+/// A text with no guaranteed capacity.
 pub type Txt = RoomyTxt<0>;
 
 impl RoomyTxt<0> {
-    /// The empty text, which takes no memory.
+    /// The empty text; allocates nothing.
     pub fn new(alloc: Global) -> Txt
         ensures { result ≡ [] }
     {
@@ -45,7 +45,7 @@ impl RoomyTxt<0> {
         }
     }
 
-    /// A text with the same bytes.
+    /// A text with the same bytes. Fails only when out of memory.
     pub fn from_str(alloc: Global, text: &str) -> Result<Txt, Memory>
         ensures { IfOk result (λ txt. txt ≡ text.now) }
     {
@@ -54,7 +54,7 @@ impl RoomyTxt<0> {
         })
     }
 
-    /// The text of a `String`, in its own memory.
+    /// The text of a `String`; keeps the `String`'s memory.
     pub fn from_string(text: String) -> Txt
         ensures { result ≡ string_bytes text }
     {
@@ -63,7 +63,7 @@ impl RoomyTxt<0> {
 }
 
 impl<const ROOM: usize> RoomyTxt<ROOM> {
-    /// The empty text, with its room.
+    /// The empty text, with its `ROOM` bytes allocated. Fails only when out of memory.
     pub fn with_room(alloc: Global) -> Result<RoomyTxt<ROOM>, Memory>
         ensures { IfOk result (λ txt. txt ≡ []) }
     {
@@ -84,7 +84,7 @@ impl<const ROOM: usize> RoomyTxt<ROOM> {
         self.text.len()
     }
 
-    /// Adds the bytes of `text` at the end; within the room it takes no memory.
+    /// Appends the bytes of `text`. Within the guaranteed capacity it allocates nothing.
     pub fn append(&mut self, text: &str) -> Result<(), Memory>
         ensures ok { OnOk result (self.new ≡ self.old ++ text.now) }
         ensures err { OnErr result (self.new ≡ self.old) }
@@ -94,7 +94,7 @@ impl<const ROOM: usize> RoomyTxt<ROOM> {
         Ok(())
     }
 
-    /// Adds a character at the end; within the room it takes no memory.
+    /// Appends a character. Within the guaranteed capacity it allocates nothing.
     pub fn push(&mut self, character: char) -> Result<(), Memory>
         ensures ok { OnOk result (self.new ≡ self.old ++ encode_utf8 character) }
         ensures err { OnErr result (self.new ≡ self.old) }
@@ -104,7 +104,7 @@ impl<const ROOM: usize> RoomyTxt<ROOM> {
         Ok(())
     }
 
-    /// Takes away what follows the first `length` bytes.
+    /// Drops everything after the first `length` bytes.
     pub fn truncate(&mut self, length: usize)
         requires { IsUtf8 (take length self.old) }
         ensures { self.new ≡ take length self.old }
@@ -112,7 +112,7 @@ impl<const ROOM: usize> RoomyTxt<ROOM> {
         self.text.truncate(length);
     }
 
-    /// Takes all bytes out.
+    /// Removes all bytes.
     pub fn clear(&mut self)
         ensures { self.new ≡ [] }
     {
@@ -176,7 +176,7 @@ fn is_plain(byte: u8) -> bool
     byte >= 32 && byte != 127
 }
 
-// No byte ends the loop, so that many are looked at at once.
+// The loop has no early exit, so the compiler can test many bytes at once.
 fn are_plain(bytes: &[u8]) -> bool
     ensures { result ≡ list_all is_plain bytes.now }
 {
@@ -187,7 +187,7 @@ fn are_plain(bytes: &[u8]) -> bool
     are_plain
 }
 
-/// Whether a text may stand in a cell: at most 4096 bytes, and no character U+0000 to U+001F or
+/// Whether a text is allowed in a cell: at most 4096 bytes, and no character U+0000 to U+001F or
 /// U+007F.
 pub fn keeps_text_rule(text: &str) -> bool
     ensures { result ≡ keeps_text_rule text.now }

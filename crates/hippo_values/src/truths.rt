@@ -5,7 +5,7 @@ ghost use Rattle.hippo_values.specs.Truths.{truth_and, truth_or, truth_not, is_a
 use crate::values::Value;
 use std::cmp::Ordering;
 
-/// SQL's three truth values, in their order.
+/// SQL's three truth values, in ascending order.
 #[derive(Clone, Copy, Debug, PartialEq, Eq, PartialOrd, Ord)]
 pub enum Truth {
     False,
@@ -23,14 +23,14 @@ pub enum CompareOp {
     Ge,
 }
 
-/// The least of two truth values (SQL's AND).
+/// The lesser of two truth values (SQL's AND).
 pub fn truth_and(a: Truth, b: Truth) -> Truth
     ensures { result ≡ truth_and a b }
 {
     a.min(b)
 }
 
-/// The greatest of two truth values (SQL's OR).
+/// The greater of two truth values (SQL's OR).
 pub fn truth_or(a: Truth, b: Truth) -> Truth
     ensures { result ≡ truth_or a b }
 {
@@ -48,7 +48,7 @@ pub fn truth_not(a: Truth) -> Truth
     }
 }
 
-/// Whether a comparison holds of two values that stand in this order.
+/// Whether a comparison is true of two values in this order.
 #[inline]
 pub fn is_allowed(op: CompareOp, order: Ordering) -> bool
     ensures { result ≡ is_allowed op order }
@@ -73,7 +73,7 @@ fn decided(op: CompareOp, order: Ordering) -> Truth
     }
 }
 
-/// What a comparison of two values says: unknown where one is null or their kinds differ.
+/// The result of a comparison of two values; unknown if either is null or their kinds differ.
 pub fn compare(op: CompareOp, a: &Value, b: &Value) -> Truth
     ensures { result ≡ comparison op a.now b.now }
 {

@@ -11,8 +11,8 @@ use std::alloc::Global;
 use std::cmp::Ordering;
 use std::hash::Hash;
 
-/// What a cell of a table holds. Values are ordered by kind, in the order of the variants, and then
-/// within it: numbers and days by size, texts by their bytes.
+/// The value of a cell. Values are ordered by kind, in the order of the variants, and within a
+/// kind: numbers and days by size, texts by their bytes.
 #[derive(Debug, Drop, PartialEq, Eq, Hash)]
 pub enum Value {
     Null,

@@ -1,4 +1,4 @@
-//! What a word of a text says.
+//! Classifies a word: keyword, unsupported word, or name.
 
 ghost use Rattle.std.specs.Prelude.{◌≡◌, true, IfOk};
 ghost use Rattle.hippo_values.specs.Names.{is_word};
@@ -10,17 +10,17 @@ use crate::names::Name;
 use crate::texts::Txt;
 use std::alloc::Global;
 
-/// What a word of a text says.
+/// A classified word.
 #[derive(Debug, Drop)]
 pub enum Word {
     Name(Name),
     Keyword(Keyword),
-    /// A word of SQL that is refused wherever it stands, in lower case.
+    /// A word of SQL that hippo refuses everywhere, in lower case.
     Unsupported(Txt),
 }
 
-/// What a word says, in whatever case, that is a letter and then letters, digits and `_`; none
-/// where it is too long.
+/// Classifies a word of any case; none if it would be a name but is too long. The word must be a
+/// letter followed by letters, digits and `_`.
 #[tactic(auto, unfolding(crate::specs::Words::word_of))]
 pub fn read_word(alloc: Global, word: &str) -> Result<Option<Word>, Memory>
     requires { is_word word.now ≡ true }

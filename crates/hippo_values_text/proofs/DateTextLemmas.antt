@@ -1,4 +1,4 @@
--- A text that has the bytes of a date is that date as it is written.
+-- A text with the bytes of a date is the written form of that date.
 use Rattle.std.proofs.Common.{◌≡◌, ◌≢◌, ℤ, pos, sym, ◌∙◌, ℕ, ◌+◌, ◌*◌, ◌/◌, ◌%◌, ◌<◌, List, [], ◌∷◌, length, get_or, refl, arith}
 use Rattle.std.specs.Str.{IsAscii}
 use Rattle.hippo_values.proofs.AsciiLemmas.{IsAscii-of_bytes, IsAscii-same}
@@ -14,7 +14,7 @@ date_text-read s year century y m d e small len h₁ h₂ ec ey em ed =
     let back : year % 100 ≡ y = omega arith in
     text_from_reads s (date_text year m d) len (cc, (cc, (cc, (cc, (cc, (cc, (cc, (cc, (cc, (cc, tt))))))))))
 
--- a day is written with its date
+-- the text of a day is that of its date
 pub IsDayText-of_date : (text : List ℕ) (day : ℤ) (y m d : ℕ) → HasDate day y m d → text ≡ date_text y m d → IsDayText text day
 unfolding day_text
 IsDayText-of_date text day y m d has e =
@@ -28,7 +28,7 @@ two_digits_injective m n hm hn e =
     let ones : 48 + m % 10 ≡ 48 + n % 10 = cc in
     omega arith
 
--- a date is written in one way
+-- a date has only one written form
 date_text_injective : (y m d y₂ m₂ d₂ : ℕ) → y < 10000 → m < 100 → d < 100 → y₂ < 10000 → m₂ < 100 → d₂ < 100 → date_text y m d ≡ date_text y₂ m₂ d₂ → (y ≡ y₂) × (m ≡ m₂) × (d ≡ d₂)
 date_text_injective y m d y₂ m₂ d₂ hy hm hd hy₂ hm₂ hd₂ e =
     let century : two_digits (y / 100) ≡ two_digits (y₂ / 100) = cc in
@@ -39,7 +39,7 @@ date_text_injective y m d y₂ m₂ d₂ hy hm hd hy₂ hm₂ hd₂ e =
     let r = two_digits_injective (y % 100) (y₂ % 100) (omega arith) (omega arith) year in
     (omega arith, two_digits_injective m m₂ hm hm₂ month, two_digits_injective d d₂ hd hd₂ day)
 
--- how large the parts of a date are
+-- the range of the parts of a date
 pub record AreShort (y m d : ℕ) : Type 0 where
   pub year : y < 10000
   pub month : m < 100
@@ -67,13 +67,13 @@ HasDate-of_text text day y m d short e h =
     let same = date_text_injective _ _ _ y m d own.0.year own.0.month own.0.day short.year short.month short.day (sym own.1 ∙ e) in
     rw (← same.0, ← same.1, ← same.2) has
 
--- a text that is no date is no day
+-- a text that is not a date is not a day
 pub no_day-without_date : (text : List ℕ) → ((y m d : ℕ) → y < 10000 → m < 100 → d < 100 → text ≢ date_text y m d) → (day : ℤ) → ¬ (IsDayText text day)
 no_day-without_date text none day h =
     let own = date_text-of_day text day h in
     none _ _ _ own.0.year own.0.month own.0.day own.1
 
--- nor is the text of a date that no day has
+-- nor is the text of a date that does not exist
 pub no_day-of_date : (text : List ℕ) (y m d : ℕ) → AreShort y m d → text ≡ date_text y m d → ((day : ℤ) → ¬ (HasDate day y m d)) → (day : ℤ) → ¬ (IsDayText text day)
 no_day-of_date text y m d short e none day h = none day (HasDate-of_text text day y m d short e h)
 
@@ -85,7 +85,7 @@ pub IsAscii-date_text : (text : List ℕ) (y m d : ℕ) → AreShort y m d → t
 IsAscii-date_text text y m d h e =
     IsAscii-same text (date_text y m d) e (IsAscii-of_bytes (date_text y m d) (omega (arith, h.year), (omega arith, (omega arith, (omega arith, (omega arith, (omega (arith, h.month), (omega arith, (omega arith, (omega (arith, h.day), (omega arith, tt)))))))))))
 
--- a text is one day at most
+-- a text is at most one day
 pub IsDayText-unique : (text : List ℕ) (day other : ℤ) → IsDayText text day → IsDayText text other → day ≡ other
 IsDayText-unique text day other h k =
     let own = date_text-of_day text other k in

@@ -1,4 +1,4 @@
--- A day number stands for one date of the calendar, and a date for one day number.
+-- Each day number has one date of the calendar, and each date one day number.
 use Rattle.std.proofs.Common.{◌≡◌, ℕ, zero, suc, ◌+◌, ◌<◌, ◌≤◌, Bool, true, false, inl, inr, refl, sym, ap, ◌∙◌, arith, rules, ℤ, pos, negsuc, ◌+ℤ◌, ◌-ℤ◌, ◌≤ℤ◌, ◌<ℤ◌, unsigned_abs, int_le, add-one}
 use Rattle.std.proofs.lemmas.Bool.{cases_Bool, cases_order}
 use Rattle.std.proofs.lemmas.Int.{ints}
@@ -12,7 +12,7 @@ use Rattle.jiff_core.proofs.DateLemmas.{days_from_civil-day, days_from_civil-nex
 use Rattle.hippo_values.specs.Moments.{IsDayNumber}
 use Rattle.hippo_values_text.specs.Dates.{HasDate, last_passing, has_begun, year_of, month_of, day_of_month}
 
--- k is the last of the numbers from 1 to n that passes
+-- k is the last number from 1 to n that passes
 pub record IsLastPassing (test : ℕ → Bool) (n k : ℕ) : Type 0 where
   pub low : 1 ≤ k
   pub high : k ≤ n
@@ -61,7 +61,7 @@ month_begun : (day : ℤ) → IsDayNumber day → IsLastPassing (λ month. has_b
 unfolding month_of
 month_begun day h = IsLastPassing-last_passing (λ month. has_begun day (year_of day) month) 11 (year_begun day h).passes
 
--- the last day of the year is this day or a later one
+-- the last day of the year is on or after this day
 last_of_year : (day : ℤ) (y : ℕ) → IsDayNumber day → IsLastPassing (λ year. has_begun day year 1) 9999 y → day ≤ℤ days_from_civil (pos y) 12 31
 last_of_year day y h hy = elim (cases_order y 9999) [
   | inl same ↦ rw (same, days_from_civil-max) h.1
@@ -73,7 +73,7 @@ last_of_year day y h hy = elim (cases_order y 9999) [
   | inr (inr gt) ↦ absurd (omega (arith, hy.high))
 ]
 
--- the last day of the month is this day or a later one
+-- the last day of the month is on or after this day
 last_of_month : (day : ℤ) (y m last : ℕ) → IsDayNumber day → IsLastPassing (λ year. has_begun day year 1) 9999 y → IsLastPassing (λ month. has_begun day y month) 12 m → last ≡ days_in_month (pos y) m → day ≤ℤ days_from_civil (pos y) m last
 last_of_month day y m last h hy hm e = elim (cases_order m 12) [
   | inl same ↦
@@ -104,7 +104,7 @@ has_date day y m d h hy hm e =
       number = omega (arith, signed_arith);
     }
 
--- each day number has the date that it is written with
+-- each day number has the date in its text
 pub HasDate-of_day : (day : ℤ) → IsDayNumber day → HasDate day (year_of day) (month_of day) (day_of_month day)
 unfolding day_of_month
 HasDate-of_day day h = has_date day _ _ _ h (year_begun day h) (month_begun day h) refl
@@ -120,7 +120,7 @@ as_date day y m d h = record {
   day_in = h.civil.2;
 }
 
--- a day has no other date than the one that it is written with
+-- a day has only the date in its text
 pub HasDate-unique : (day : ℤ) (y m d : ℕ) → IsDayNumber day → HasDate day y m d → (year_of day ≡ y) × (month_of day ≡ m) × (day_of_month day ≡ d)
 unfolding as_date
 HasDate-unique day y m d h has =
@@ -129,7 +129,7 @@ HasDate-unique day y m d h has =
     let year : year_of day ≡ y = omega (arith, signed_arith, same.0) in
     (year, same.1, same.2)
 
--- 0000-12-31 is followed by the first day
+-- the first day follows 0000-12-31
 day_count-before : day_count (pos 0) 12 31 ≡ 3652790
 day_count-before =
     omega (arith, day_count-last_of_year (pos 0), day_count-early (pos 0) 9999 1 1 refl (omega arith) (omega arith) (omega arith))
@@ -142,7 +142,7 @@ IsDayNumber-of_date day y m d h =
     let is = days_from_civil-day_count (pos y) m d in
     (omega (arith, signed_arith, day_count-before, h.number), omega (arith, signed_arith, h.number))
 
--- the same of a date of the calendar with signed parts
+-- the same for a date of the calendar with signed parts
 pub HasDate-of_civil : (date : Date) (y m d : ℕ) → 1 ≤ y → date.year ≡ pos y → date.month ≡ m → date.day ≡ d → HasDate (days_from_civil date.year date.month date.day) y m d
 HasDate-of_civil date y m d low year month day =
     let length : days_in_month date.year date.month ≡ days_in_month (pos y) m = cc in
@@ -152,7 +152,7 @@ HasDate-of_civil date y m d low year month day =
       number = rw (year, month, day) refl;
     }
 
--- a date of the calendar with the number of a day has its parts
+-- a date of the calendar with a day's number has that day's parts
 pub HasDate-of_number : (date : Date) (day : ℤ) (y : ℕ) → IsDayNumber day → epoch_day date ≡ day → y ≡ unsigned_abs date.year → HasDate day y date.month date.day × (date.year ≡ pos y)
 unfolding as_date
 HasDate-of_number date day y h e same =

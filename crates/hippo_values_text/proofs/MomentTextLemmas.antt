@@ -1,4 +1,4 @@
--- A moment is written as its day and its second of the day.
+-- The text of a moment is the text of its day and then of its second of the day.
 use borrow.Rule.Slice.PartMut.{put_mid}
 use Rattle.std.proofs.Common.{sym, ◌≤◌, ◌≡◌, ◌≢◌, [], ◌∷◌, ℕ, ◌<◌, List, ◌++◌, length, take, drop, refl, ap, ◌∙◌, arith, ℤ, pos, ◌+ℤ◌, ◌*ℤ◌, unsigned_abs}
 use Rattle.std.specs.Int.{int_div_euclid, int_rem_euclid}
@@ -14,7 +14,7 @@ use Rattle.jiff_core.proofs.SignedLemmas.{signed_arith}
 use Rattle.hippo_values.specs.Moments.{IsDayNumber, IsMoment}
 use Rattle.hippo_values_text.specs.Dates.{day_text, time_text, moment_text, IsDayText, IsMomentText}
 
--- the day in which a moment lies, and how many of its seconds have passed
+-- the day that contains a moment, and how many of its seconds have passed
 abbrev pub day_of : ℤ → ℤ
 day_of moment = int_div_euclid moment (pos 86400)
 
@@ -40,7 +40,7 @@ IsAt-sum day second h below = record {
   second_is = omega (arith, signed_arith);
 }
 
--- the texts of a day and of a second of it make the text of the moment
+-- the text of a day and the text of a second make the text of the moment
 pub IsMomentText-of_parts : (text date time : List ℕ) (day : ℤ) (second : ℕ) → IsSplitAt text 10 date time → IsDayText date day → (second < 86400) × (time ≡ time_text second) → IsMomentText text (day *ℤ pos 86400 +ℤ pos second)
 unfolding moment_text
 IsMomentText-of_parts text date time day second split h t =
@@ -52,7 +52,7 @@ length-day_text : (day : ℤ) → length (day_text day) ≡ 10
 unfolding day_text
 length-day_text day = refl
 
--- a text of a moment has at least the bytes of its day
+-- a text of a moment has at least the length of its day
 pub length-moment_text : (text : List ℕ) → length text < 10 → (moment : ℤ) → ¬ (IsMomentText text moment)
 unfolding moment_text
 length-moment_text text short moment h =
@@ -71,16 +71,16 @@ time_text-of_moment text date time split moment h =
     let back : drop 10 (day_text (day_of moment) ++ time_text (second_of moment)) ≡ time_text (second_of moment) = rw (← length-day_text (day_of moment)) (drop-append_seam (day_text (day_of moment)) _) in
     split.2 ∙ ap (drop 10) h.1 ∙ back
 
--- a text that begins with no day is no moment
+-- a text that does not begin with a day is not a moment
 pub no_moment-without_day : (text date time : List ℕ) → IsSplitAt text 10 date time → ((day : ℤ) → ¬ (IsDayText date day)) → (moment : ℤ) → ¬ (IsMomentText text moment)
 no_moment-without_day text date time split none moment h = none _ (IsDayText-of_moment text date time split moment h)
 
--- nor one that ends with no time
+-- nor is one that does not end with a time
 pub no_moment-without_time : (text date time : List ℕ) → IsSplitAt text 10 date time → ((second : ℕ) → second < 86400 → time ≢ time_text second) → (moment : ℤ) → ¬ (IsMomentText text moment)
 no_moment-without_time text date time split none moment h =
     none _ (second_of-lt moment) (time_text-of_moment text date time split moment h)
 
--- the bytes of a day and of a second of it, put into 20 bytes, are the moment
+-- the bytes of a day and of a second, put into 20 bytes, are the moment's text
 pub moment_text-joined : (front back : List ℕ) (moment day : ℤ) (second : ℕ) → day ≡ day_of moment → second ≡ second_of moment → front ≡ day_text day → back ≡ time_text second → put_mid 10 10 (front ++ 0 ∷ 0 ∷ 0 ∷ 0 ∷ 0 ∷ 0 ∷ 0 ∷ 0 ∷ 0 ∷ 0 ∷ []) back ≡ moment_text moment
 unfolding day_text time_text moment_text
 moment_text-joined front back moment day second ed es ef eb = rw (ef, eb, ed, es) refl
@@ -94,14 +94,14 @@ IsAscii-moment_text text moment day second ed es front back e =
 same_moment : (moment other : ℤ) → day_of moment ≡ day_of other → second_of moment ≡ second_of other → moment ≡ other
 same_moment moment other ed es = omega (arith, signed_arith)
 
--- a text of a moment can be split behind its day
+-- a text of a moment can be split after its day
 split_moment : (text : List ℕ) (moment : ℤ) → IsMomentText text moment → IsSplitAt text 10 (take 10 text) (drop 10 text)
 unfolding moment_text
 split_moment text moment h =
     let within : 10 ≤ length text = omega (arith, ap length h.1, length-append (day_text (day_of moment)) (time_text (second_of moment)), length-day_text (day_of moment)) in
     (within, refl, refl, omega (arith, length-take 10 text), omega (arith, length-drop 10 text))
 
--- a text is one moment at most
+-- a text is at most one moment
 pub IsMomentText-unique : (text : List ℕ) (moment other : ℤ) → IsMomentText text moment → IsMomentText text other → moment ≡ other
 IsMomentText-unique text moment other h k =
     let split = split_moment text moment h in

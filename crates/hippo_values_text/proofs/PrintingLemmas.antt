@@ -1,4 +1,4 @@
--- A text is printed in pieces, from one quote to the next.
+-- A text is printed in pieces, each up to the next quote.
 use Rattle.std.proofs.Common.{◌≡◌, ◌≢◌, ℕ, suc, Bool, true, false, ◌||◌, inl, inr, ◌+◌, ◌<◌, ◌≤◌, List, [], ◌∷◌, ◌++◌, length, get_or, take, refl, ap, ◌∙◌, arith, append_assoc}
 use Rattle.std.specs.List.{list_any}
 use Rattle.std.proofs.lemmas.List.{length-append, length-take, take-append-le, take_all}
@@ -41,7 +41,7 @@ pub doubled_quotes-split : (text before after : List ℕ) → text ≡ before ++
 doubled_quotes-split text before after e none =
     rw (e, doubled_quotes-append, doubled_quotes-without before none) refl
 
--- what is added at the end keeps the front
+-- appending keeps the prefix
 pub KeepsFront-append : (old new more : List ℕ) → KeepsFront old new → KeepsFront old (new ++ more)
 KeepsFront-append old new more h =
     let within : length old ≤ length new = omega (arith, length-take (length old) new, ap length h) in
@@ -56,7 +56,7 @@ doubled_quotes-step initial text out rest before after first second whole split 
     let e = doubled_quotes-split rest before after split.0 split.1 in
     rw (es, ef, ← whole, e) (simp append_assoc)
 
--- and the rest, which has none
+-- and the rest, which has no quote
 pub doubled_quotes-last : (initial text out rest new : List ℕ) → out ++ doubled_quotes rest ≡ initial ++ doubled_quotes text → HasNoQuote rest → new ≡ out ++ rest → new ≡ initial ++ doubled_quotes text
 doubled_quotes-last initial text out rest new whole none e = e ∙ rw (← whole, doubled_quotes-without rest none) refl
 
@@ -64,12 +64,12 @@ pub KeepsFront-step : (old out before first second : List ℕ) → KeepsFront ol
 KeepsFront-step old out before first second h ef es =
     rw (es, ef) (KeepsFront-append old (out ++ before) (39 ∷ 39 ∷ []) (KeepsFront-append old out before h))
 
--- What is printed so far and what is left are as long as the whole.
+-- The length of what is printed so far and of the rest is the length of the whole.
 pub doubled_quotes-room : (initial text out rest : List ℕ) (room : ℕ) → out ++ doubled_quotes rest ≡ initial ++ doubled_quotes text → length initial + length (doubled_quotes text) ≤ room → length out + length (doubled_quotes rest) ≤ room
 doubled_quotes-room initial text out rest room whole fits =
     omega (arith, ap length whole, length-append out (doubled_quotes rest), length-append initial (doubled_quotes text))
 
--- the text before a quote takes less room than the rest
+-- the text before a quote is shorter than the rest
 pub doubled_quotes-longer : (rest before after : List ℕ) → (rest ≡ before ++ (39 ∷ after)) × HasNoQuote before → length before + 2 ≤ length (doubled_quotes rest)
 doubled_quotes-longer rest before after split =
     omega (arith, ap length (doubled_quotes-split rest before after split.0 split.1), length-append before (39 ∷ 39 ∷ doubled_quotes after))

@@ -1,4 +1,4 @@
--- Which number a text writes, found among all from a first to a last one.
+-- The number whose text this is, searched between a first and a last number.
 use Rattle.std.proofs.Common.{◌≡◌, ℕ, zero, suc, ◌<◌, List, Option, Some, None, IfSome, sym, ap, ◌∙◌, inl, inr, arith, ℤ, pos, ◌+ℤ◌, ◌-ℤ◌, ◌≤ℤ◌, unsigned_abs, bytes_eq}
 use Rattle.std.proofs.lemmas.Bool.{cases_Bool, cases_order, both_ways}
 use Rattle.std.proofs.lemmas.Int.{ints}
@@ -6,7 +6,7 @@ use Rattle.std.proofs.lemmas.Slice.Eq.{bytes_eq-Decides}
 use Rattle.hippo_values_text.specs.Dates.{written_among}
 
 module _ (text_of : ℤ → List ℕ) (first last : ℤ) where
-  -- the number is one of those from the first to the last, and the text is how it is written
+  -- the number is between the first and the last, and the text is its written form
   abbrev IsWritten : List ℕ → ℤ → Type 0
   IsWritten text number = ((first ≤ℤ number) × (number ≤ℤ last)) × (text ≡ text_of number)
 
@@ -18,7 +18,7 @@ module _ (text_of : ℤ → List ℕ) (first last : ℤ) where
     | inr other ↦ rw other (found_among n text (omega (arith, ints)))
   ]
 
-  -- where none is found, none of them is written
+  -- if none is found, none has this text
   none_among : (n : ℕ) (text : List ℕ) (k : ℕ) → k < n → written_among text_of first n text ≡ None → text ≡ text_of (first +ℤ pos k) → ⊥
   unfolding written_among
   none_among zero text k small none same = absurd (omega arith)
@@ -31,11 +31,11 @@ module _ (text_of : ℤ → List ℕ) (first last : ℤ) where
     ]
   ]
 
-  -- what is found among all is what the text writes
+  -- the number found among all is the one with this text
   pub written-found : (total : ℕ) → (first +ℤ pos total) ≡ (last +ℤ pos 1) → (text : List ℕ) → IfSome (written_among text_of first total text) (IsWritten text)
   written-found total all text = found_among total text (omega (arith, ints, all))
 
-  -- where none is found among all, the text writes none
+  -- if none is found among all, no number has this text
   pub written-none : (total : ℕ) → (first +ℤ pos total) ≡ (last +ℤ pos 1) → (text : List ℕ) → written_among text_of first total text ≡ None → (number : ℤ) → ¬ (IsWritten text number)
   written-none total all text none number h =
       let place : ℕ = unsigned_abs (number -ℤ first) in

@@ -1,4 +1,4 @@
-//! Days and moments as texts, and back.
+//! Converts days and moments to text and back.
 ghost use Rattle.std.specs.Prelude.{◌≡◌, ◌≢◌, ◌<◌, ℕ, ℤ, pos, unsigned_abs, ◌+ℤ◌, ◌*ℤ◌, [], ◌∷◌, Some, IfSome, IfNone};
 ghost use Rattle.hippo_values_text.specs.Dates.{two_digits, date_text, clock_text, day_text, time_text, moment_text, HasDate, IsDayText, IsMomentText};
 ghost use Rattle.std.specs.Int.{int_div_euclid, int_rem_euclid};
@@ -7,20 +7,20 @@ ghost use Rattle.std.specs.Str.{IsAscii};
 use hippo_values::{DayNumber, Moment};
 use jiff_core::civil::Date;
 
-// The bytes of a day as it is written.
+// The length in bytes of a day as text.
 const DAY_LENGTH: usize = 10;
 
-// The bytes of a time as it is written after a day.
+// The length in bytes of the time of day that follows the day in a moment's text.
 const TIME_LENGTH: usize = 10;
 
 const LAST_HOUR: u8 = 23;
 
 const SECONDS_OF_DAY: i64 = 86_400;
 
-// Days before 1970-01-01 that the calendar of `jiff_core` has.
+// The number of days before 1970-01-01 in the calendar of `jiff_core`.
 const DAYS_BEFORE: i32 = 4_371_587;
 
-// The number that two digits write.
+// The number that two digits spell.
 fn two_digits(tens: u8, ones: u8) -> Option<u8>
     ensures some { IfSome result (λ n. (n < 100) × (two_digits n ≡ tens ∷ ones ∷ [])) }
     ensures none { IfNone result ((n : ℕ) → n < 100 → two_digits n ≢ tens ∷ ones ∷ []) }
@@ -32,8 +32,7 @@ fn two_digits(tens: u8, ones: u8) -> Option<u8>
     }
 }
 
-// The year, the month and the day that a text writes as YYYY-MM-DD, whether or not there is such a
-// date.
+// The year, month and day in a text of the form YYYY-MM-DD. They need not be a real date.
 fn date_parts(bytes: &[u8]) -> Option<(u16, u8, u8)>
     ensures some { IfSome result
         (λ p. (p.0 < 10000) × (p.1 < 100) × (p.2 < 100) × (bytes.now ≡ date_text p.0 p.1 p.2)) }
@@ -50,7 +49,7 @@ fn date_parts(bytes: &[u8]) -> Option<(u16, u8, u8)>
     Some((u16::from(century) * 100 + u16::from(year), month, day))
 }
 
-// The day with this date, where the years 0001 to 9999 have it.
+// The day with this date, if it is a date of the years 0001 to 9999.
 fn day_of_date(year: u16, month: u8, day: u8) -> Option<DayNumber>
     requires year_in { year < 10000 }
     requires month_in { month < 100 }
@@ -75,8 +74,8 @@ fn day_of_bytes(bytes: &[u8]) -> Option<DayNumber>
     day_of_date(year, month, day)
 }
 
-/// The day that a text writes as `YYYY-MM-DD`; none where it is no day of the years 0001 to 9999
-/// written so.
+/// Reads a day as `YYYY-MM-DD`; none if the text is not a day of the years 0001 to 9999 in this
+/// form.
 pub fn read_day(text: &str) -> Option<DayNumber>
     ensures some { IfSome result (IsDayText text.now) }
     ensures none { IfNone result ((day : ℤ) → ¬ (IsDayText text.now day)) }
@@ -85,8 +84,7 @@ pub fn read_day(text: &str) -> Option<DayNumber>
     day_of_bytes(text.as_bytes())
 }
 
-// The hour, the minute and the second that a text writes as Thh:mm:ssZ, whether or not there is
-// such a time.
+// The hour, minute and second in a text of the form Thh:mm:ssZ. They need not be a real time.
 fn clock_parts(bytes: &[u8]) -> Option<(u8, u8, u8)>
     ensures some { IfSome result
         (λ p. (p.0 < 100) × (p.1 < 100) × (p.2 < 100) × (bytes.now ≡ clock_text p.0 p.1 p.2)) }
@@ -107,7 +105,7 @@ fn clock_parts(bytes: &[u8]) -> Option<(u8, u8, u8)>
     Some((hour, minute, second))
 }
 
-// The second of the day that a text writes as Thh:mm:ssZ.
+// The second of the day in a text of the form Thh:mm:ssZ.
 fn second_of_bytes(bytes: &[u8]) -> Option<u32>
     ensures some { IfSome result (λ second. (second < 86400) × (bytes.now ≡ time_text second)) }
     ensures none { IfNone result ((second : ℕ) → second < 86400 → bytes.now ≢ time_text second) }
@@ -136,8 +134,8 @@ fn moment_of_bytes(bytes: &[u8]) -> Option<Moment>
     moment_at(day, second)
 }
 
-/// The moment that a text writes as `YYYY-MM-DDThh:mm:ssZ`; none where it is no moment of the years
-/// 0001 to 9999 written so.
+/// Reads a moment as `YYYY-MM-DDThh:mm:ssZ`; none if the text is not a moment of the years 0001 to
+/// 9999 in this form.
 pub fn read_moment(text: &str) -> Option<Moment>
     ensures some { IfSome result (IsMomentText text.now) }
     ensures none { IfNone result ((second : ℤ) → ¬ (IsMomentText text.now second)) }
@@ -146,7 +144,7 @@ pub fn read_moment(text: &str) -> Option<Moment>
     moment_of_bytes(text.as_bytes())
 }
 
-// The date of a day.
+// The year, month and day of month of a day.
 fn date_of_day(day: DayNumber) -> (u16, u8, u8)
     ensures { HasDate day result.0 result.1 result.2 }
 {
@@ -174,14 +172,14 @@ pub fn day_text(day: DayNumber) -> [u8; 10]
     [y1, y2, y3, y4, b'-', m1, m2, b'-', d1, d2]
 }
 
-// The day in which a moment lies.
+// The day that contains a moment.
 fn day_of_moment(moment: Moment) -> DayNumber
     ensures { result ≡ int_div_euclid moment (pos 86400) }
 {
     DayNumber::new(moment.seconds().div_euclid(SECONDS_OF_DAY) as i32).unwrap()
 }
 
-// How many seconds of its day have passed at a moment.
+// The seconds from the start of its day to a moment.
 fn second_of_moment(moment: Moment) -> u32
     ensures value { result ≡ unsigned_abs (int_rem_euclid moment (pos 86400)) }
     ensures bound { result < 86400 }

@@ -1,4 +1,4 @@
-//! Values, days and moments as text, and back.
+//! Converts values, days and moments to text and back.
 #![tactic(auto)]
 
 mod dates;

@@ -1,4 +1,4 @@
-//! How a value is printed.
+//! Prints values.
 ghost use Rattle.std.specs.Prelude.{◌≡◌, ◌+◌, ◌≤◌, ◌++◌, length, IsOk, OnOk, OnErr};
 ghost use Rattle.std.specs.Fmt.{signed_decimal};
 ghost use Rattle.std.specs.List.{list_any};
@@ -17,14 +17,14 @@ fn append_integer<const ROOM: usize>(number: i64, out: &mut RoomyTxt<ROOM>) -> R
     out.append(Buffer::new().format(number))
 }
 
-// Whether a text has a quote, by one pass over its bytes.
+// Whether a text contains a quote. One pass over its bytes.
 fn has_quote(text: &str) -> bool
     ensures { result ≡ list_any is_quote text.now }
 {
     text.as_bytes().contains(&b'\'')
 }
 
-// Adds a text with each quote in it doubled, from one quote to the next.
+// Appends a text with each quote doubled, one piece up to each quote at a time.
 fn append_by_quotes<const ROOM: usize>(text: &str, out: &mut RoomyTxt<ROOM>) -> Result<(), Memory>
     ensures adds { AddsText (doubled_quotes text.now) result out.old out.new }
     ensures room { length out.old + length (doubled_quotes text.now) ≤ ROOM → IsOk result }
@@ -38,7 +38,7 @@ fn append_by_quotes<const ROOM: usize>(text: &str, out: &mut RoomyTxt<ROOM>) -> 
     out.append(rest)
 }
 
-// Adds a text with each quote in it doubled; one without any is added whole, for speed.
+// Appends a text with each quote doubled. A text without quotes is appended whole, which is faster.
 fn append_doubled<const ROOM: usize>(text: &str, out: &mut RoomyTxt<ROOM>) -> Result<(), Memory>
     ensures adds { AddsText (doubled_quotes text.now) result out.old out.new }
     ensures room { length out.old + length (doubled_quotes text.now) ≤ ROOM → IsOk result }
@@ -69,9 +69,9 @@ fn append_day<const ROOM: usize>(day: DayNumber, out: &mut RoomyTxt<ROOM>) -> Re
     }
 }
 
-/// Adds the printed form of a value at the end: `NULL`, a decimal number, a text between quotes
-/// with each quote in it doubled, or a day as `YYYY-MM-DD`. Within the text's room it takes no
-/// memory; where memory is short, a part of it may have been added.
+/// Appends the printed form of a value: `NULL`, a decimal number, a text between quotes with each
+/// quote in it doubled, or a day as `YYYY-MM-DD`. It allocates nothing while the result fits in the
+/// text's guaranteed capacity. When out of memory, part of the printed form may have been appended.
 #[inline(always)]
 pub fn append_value<const ROOM: usize>(
     value: &Value,
@@ -88,7 +88,7 @@ pub fn append_value<const ROOM: usize>(
     }
 }
 
-/// As `append_value`; where memory is short, the text is unchanged.
+/// Like `append_value`, but leaves the text unchanged when out of memory.
 pub fn print_value<const ROOM: usize>(value: &Value, out: &mut RoomyTxt<ROOM>) -> Result<(), Memory>
     ensures ok { OnOk result (out.new ≡ out.old ++ value_text value.now) }
     ensures err { OnErr result (out.new ≡ out.old) }

@@ -1,4 +1,4 @@
--- The fields so far and those of the cells that are left are all.
+-- The fields so far and those of the remaining cells are all.
 use Rattle.std.proofs.Common.{◌≡◌, ◌++◌, map, drop}
 use Rattle.csv.specs.Records.{fields_of}
 use Rattle.hippo_csv.specs.Records.{cell_field}

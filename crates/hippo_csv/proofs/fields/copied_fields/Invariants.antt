@@ -1,4 +1,4 @@
--- The fields so far are those up to the iterator's place.
+-- The fields so far are those before the iterator's place.
 use Rattle.std.proofs.Common.{◌≡◌, take}
 use Rattle.csv.specs.Records.{fields_of}
 use Rattle.hippo_csv.proofs.fields.copied_fields.Given as goal

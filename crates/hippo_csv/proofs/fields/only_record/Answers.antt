@@ -1,4 +1,4 @@
--- What one read or two say of the text.
+-- What one or two reads show about the text.
 use Rattle.std.proofs.Common.{◌∙◌, inl, Bor, List, ℕ, Option, Some, true, false}
 use Rattle.csv.specs.Reading.{ReadRecord}
 use Rattle.csv.specs.Records.{fields_of}

@@ -1,4 +1,4 @@
--- A builder that was set up so makes such a reader.
+-- A builder with this setup makes such a reader.
 use Rattle.std.proofs.Common.{◌∙◌, inr}
 use Rattle.hippo_csv.proofs.fields.reader_of.Goals as goal
 

@@ -1,4 +1,4 @@
--- The field at a place gives its value, or the fault of all.
+-- The field at an index gives its value, or the fault of all.
 use Rattle.std.proofs.Common.{◌∙◌, ap, Some}
 use Rattle.std.proofs.lemmas.Result.{err_from_is_err_and}
 use Rattle.hippo_csv.specs.Records.{field_value}

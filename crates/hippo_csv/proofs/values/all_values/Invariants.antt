@@ -1,4 +1,4 @@
--- The values up to the field at hand are there.
+-- The values before the current field are present.
 use Rattle.std.proofs.Common.{◌≡◌, map, take, Some}
 use Rattle.hippo_csv.specs.Records.{field_values}
 use Rattle.hippo_csv.proofs.values.all_values.Given as goal

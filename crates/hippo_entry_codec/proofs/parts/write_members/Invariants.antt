@@ -1,4 +1,4 @@
--- The bytes so far and those of the members that are left are all of them.
+-- The bytes so far and those of the remaining members are all.
 use Rattle.std.proofs.Common.{◌≡◌, ◌++◌, take}
 use Rattle.std.specs.List.{flat_map}
 use Rattle.hippo_entry_codec.proofs.parts.write_members.Given as goal

@@ -1,4 +1,4 @@
--- The parts so far and those that are still read are all of them.
+-- The parts so far and those still to be read are all.
 use Rattle.std.proofs.Common.{◌≡◌, ◌-◌}
 use Rattle.hippo_entry_codec.specs.Readings.{leading_parts}
 use Rattle.hippo_entry_codec.proofs.PartLoops.{with_front}

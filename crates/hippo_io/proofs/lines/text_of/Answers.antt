@@ -1,4 +1,4 @@
--- The bytes are UTF-8, or not.
+-- The bytes are UTF-8, or they are not.
 use Rattle.std.proofs.Common.{Some, sym, ap, ◌∙◌}
 use Rattle.hippo_io.proofs.LineLemmas.{line_of-text, line_of-not_utf8}
 use Rattle.hippo_io.specs.Lines.{text_line}

@@ -1,4 +1,4 @@
--- What was written, and then the bytes of one more write.
+-- The bytes written so far, and then those of one more write.
 use Rattle.std.proofs.Common.{◌∙◌, arith}
 use Rattle.hippo_io.proofs.ToldLemmas.{Appends-more}
 use Rattle.hippo_io.proofs.sink.write_whole.Goals as goal

@@ -1,4 +1,4 @@
--- The bytes up to the place are written.
+-- The bytes before the index are written.
 use Rattle.std.proofs.Common.{◌≡◌, ◌-◌, ◌≤◌, length, take}
 use Rattle.hippo_io.specs.Told.{Appends}
 use Rattle.hippo_io.proofs.sink.write_whole.Given as goal

@@ -5,7 +5,7 @@ use Rattle.hippo_lexer.specs.Spelling.{is_blank, begins_with}
 use Rattle.hippo_lexer.specs.Cutting.{with_front_tokens, tokens_from, outcome_of}
 use Rattle.hippo_lexer.proofs.lexer.cut_tokens.Given as goal
 
--- the tokens found, and what comes of the rest, are what comes of the text
+-- the tokens found so far, and the outcome of the rest, make the outcome of the text
 abbrev pub invariant-loop-rest : goal.invariant-loop-rest
 invariant-loop-rest l = record {
   utf8 : shadow (Utf8 l.rest);

@@ -4,7 +4,7 @@ use denote.Shadow.{shadow}
 use Rattle.hippo_lexer.specs.Cutting.{closing, onto}
 use Rattle.hippo_lexer.proofs.parts.closing.Given as goal
 
--- what is left, behind the text so far, closes as the whole does
+-- the rest, after the text so far, closes where the whole does
 abbrev pub invariant-loop-run : goal.invariant-loop-run
 invariant-loop-run l = record {
   utf8 : shadow (Utf8 l.rest);

@@ -1,4 +1,4 @@
--- What nests too deep, or negates too often, has more tokens than the limit.
+-- Tokens that nest too deep, or negate too often, are more than the limit.
 use Rattle.std.proofs.Common.{arith}
 use Rattle.hippo_lexer.proofs.FewLemmas.{few_pass}
 use Rattle.hippo_lexer.proofs.words.is_too_deep.Goals as goal

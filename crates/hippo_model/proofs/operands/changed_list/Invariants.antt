@@ -1,4 +1,4 @@
--- What stands for the operands so far.
+-- The replacements of the operands so far.
 use Rattle.std.proofs.Common.{◌≡◌, take, map}
 use Rattle.hippo_model.proofs.operands.changed_list.Given as goal
 

@@ -1,4 +1,4 @@
--- The text so far and then the pieces that are left are all, and the old text stands in front.
+-- The text so far followed by the remaining pieces is the whole, and begins with the old text.
 use Rattle.std.proofs.Common.{◌≡◌, ◌++◌, map, drop}
 use Rattle.std.specs.List.{concat}
 use Rattle.hippo_values_text.specs.Printing.{KeepsFront}

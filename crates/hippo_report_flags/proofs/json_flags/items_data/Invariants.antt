@@ -1,4 +1,4 @@
--- The values made so far and those that are left are all.
+-- The values made so far and those that remain are all.
 use Rattle.std.proofs.Common.{◌≡◌, ◌++◌, map, drop}
 use Rattle.serde_json.specs.View.{view}
 use Rattle.hippo_report_flags.proofs.json_flags.items_data.Given as goal

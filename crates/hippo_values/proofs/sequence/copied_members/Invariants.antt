@@ -1,4 +1,4 @@
--- The copies so far are the members up to the index.
+-- The copies so far are the members before the index.
 use Rattle.std.proofs.Common.{◌≡◌, take}
 use Rattle.hippo_values.proofs.sequence.copied_members.Given as goal
 

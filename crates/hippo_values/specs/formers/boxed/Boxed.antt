@@ -1,4 +1,4 @@
--- A `Boxed` as a type that may hold the type that holds it: what it holds.
+-- `Boxed` as a type former for recursive types: the value in it.
 use mathlib.Core.Path.{refl}
 use mathlib.Core.Former.{Former, this, const, pair, via}
 use base.Stored.{gnil}

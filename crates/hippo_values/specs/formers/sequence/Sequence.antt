@@ -1,4 +1,4 @@
--- A `Sequence` as a type that may hold the type that holds it: its members, in their order.
+-- `Sequence` as a type former for recursive types: its members, in order.
 use mathlib.Core.Path.{◌≡◌, refl, sym}
 use mathlib.Core.List.{List, []}
 use mathlib.Core.Former.{Former, this, list, via, children}

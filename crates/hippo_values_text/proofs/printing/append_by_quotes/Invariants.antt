@@ -1,4 +1,4 @@
--- What is printed so far and what is left make the whole.
+-- What is printed so far and the rest make the whole.
 use Rattle.std.proofs.Common.{◌≡◌, ◌++◌, length}
 use denote.Text.{Utf8}
 use denote.Shadow.{shadow}

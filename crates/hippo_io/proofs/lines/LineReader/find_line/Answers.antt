@@ -1,4 +1,4 @@
--- From one read to the next, until a line's end waits.
+-- One read after the other, until a line's end waits.
 use Rattle.std.proofs.Common.{length, take, ap, sym, ◌∙◌, arith}
 use Rattle.hippo_io.specs.Lines.{feeds}
 use Rattle.hippo_io.proofs.HandedLemmas.{HasHandedOut-refilled, HasGivenUp-failed, nothing_left, on_err}

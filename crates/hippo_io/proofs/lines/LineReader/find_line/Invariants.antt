@@ -1,4 +1,4 @@
--- Whatever was handed out is so still, and no line feed is among the bytes that were searched.
+-- The returned lines stay the same, and the searched bytes have no line feed.
 use Rattle.std.proofs.Common.{◌≡◌, ℕ, ◌+◌, ◌-◌, ◌≤◌, List, length, take}
 use Rattle.std.specs.Prelude.{Option}
 use Rattle.hippo_values.specs.Limits.{line_limit}

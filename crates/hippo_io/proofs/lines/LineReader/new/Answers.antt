@@ -1,4 +1,4 @@
--- Nothing was taken, and nothing failed.
+-- Nothing was read, and nothing failed.
 use Rattle.std.proofs.Common.{arith}
 use Rattle.hippo_io.proofs.lines.LineReader.new.Goals as goal
 

@@ -1,4 +1,4 @@
--- The reader is inside of the line, and no line feed waits.
+-- The reader is inside the line, and no line feed waits.
 use Rattle.std.proofs.Common.{◌≡◌, ℕ, ◌-◌, ◌<◌, List}
 use Rattle.std.specs.Prelude.{Option}
 use Rattle.hippo_io.specs.Lines.{LineText, feeds}

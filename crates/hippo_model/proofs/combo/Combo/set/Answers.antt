@@ -1,4 +1,4 @@
--- The list has the row at the place, and so has what it stands for.
+-- The list has the new row at the index, and so does the combination.
 use Rattle.std.proofs.Common.{ap, ◌∙◌, slice_set}
 use Rattle.std.proofs.lemmas.List.{map-set}
 use Rattle.hippo_model.specs.Terms.{Combination}

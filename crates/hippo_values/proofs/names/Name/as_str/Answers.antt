@@ -1,4 +1,4 @@
--- A name's bytes are text.
+-- A name's bytes are valid text.
 use Rattle.std.proofs.lemmas.Str.{IsUtf8-from_ascii}
 use Rattle.hippo_values.proofs.NamesLemmas.{name-ascii}
 use Rattle.hippo_values.proofs.names.Name.as_str.Goals as goal

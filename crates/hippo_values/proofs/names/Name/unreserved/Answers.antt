@@ -1,4 +1,4 @@
--- A name in lower case is a name still.
+-- A name in lower case is still a name.
 use Rattle.std.proofs.Common.{◌≡◌, ◌≤◌, ◌∙◌, ◌&&◌, true, length, nat_le, rules, arith}
 use Rattle.std.proofs.lemmas.Bool.{and_from, le-leb}
 use Rattle.hippo_values.specs.Names.{is_word, is_name}
