@@ -56,7 +56,7 @@ pub insert_is : command_of (understood history_schema insert_sql) ≡ Insert 0 (
 unfolding understood everything
 insert_is = refl
 
--- what a read filters by, and which parameter says how many rows it may show
+-- the terms by which a read filters, and the parameter that limits its rows
 abbrev pub terms_of : Selection → List Term
 terms_of All = compared (Compare Gt Binary) 0 0 ∷ []
 terms_of (VersionsOf table) =
@@ -71,7 +71,7 @@ limit_of All = col 0 1
 limit_of (VersionsOf table) = col 0 2
 limit_of (AskedIn from to) = col 0 3
 
--- each read is this query, is plain, and reads no listing
+-- each read is this query, is plain, and reads no catalogue
 pub read_is : (selection : Selection) → command_of (understood history_schema (read_sql selection)) ≡ select (query (terms_of selection) (limit_of selection))
 unfolding understood everything
 read_is All = refl
