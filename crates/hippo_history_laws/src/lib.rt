@@ -1,6 +1,5 @@
-//! Laws that make a shown history executable again: each entry is shown as a statement that makes
-//! the entry again, and the script of a history makes the whole history again. Each law is the
-//! contract of a function that does nothing.
+//! Laws on the statements that show a history's entries, and on the scripts of whole histories: run
+//! again, they make what they show. Each law is the contract of a function that does nothing.
 #![tactic(auto)]
 
 pub mod reading;

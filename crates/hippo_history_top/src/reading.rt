@@ -210,7 +210,8 @@ fn asked_in(alloc: Global, words: &[&str]) -> Result<Option<Call>, Memory>
 /// Returns `None` if the command does not take the words:
 ///
 /// - a word is unknown, or an option occurs twice;
-/// - a number is out of its bounds, a table's name is not a name, or a format is not one of the three;
+/// - a number is out of its bounds, a table's name is not a name, or a format is not one of the
+///   three;
 /// - `--entry` is given with `--from` or `--to`;
 /// - `--rules` is given with `--from`, `--to`, `--tables` or `--script`;
 /// - `--script` is given with another format than text.

@@ -106,24 +106,24 @@ fn show<K: Sink, P: Keeper, L: Ledger>(
     }
 }
 
-/// Runs the program and returns its exit status. `words` are the words after the program's name, and
-/// `sink` is its output. `keeper` stores a history, in the store that the words name; it must be
-/// neither started nor spent nor closed.
+/// Runs the program and returns its exit status. `words` are the words after the program's name,
+/// and `sink` is its output. `keeper` stores a history, in the store that the words name; it must
+/// be neither started nor spent nor closed.
 ///
 /// - 0: exactly what is asked for of the stored history is written (`shown`).
 /// - 2: the words ask for nothing (see [`asked_of`]). The usage line is written. If it cannot be
 ///   written, the status is 5 or 7 instead.
 /// - 3: the keeper failed. What is written is a prefix of what is asked for.
 /// - 5: the sink failed. What was written is a prefix of what was to be written.
-/// - 6: the stored entries are those of no valid history. The line `damaged PLACE` is written. PLACE,
-///   counted from 1, is that of the first entry for which the entries up to and including it are those
-///   of no valid history.
+/// - 6: the stored entries are those of no valid history. The line `damaged PLACE` is written.
+///   PLACE, counted from 1, is that of the first entry for which the entries up to and including it
+///   are those of no valid history.
 /// - 7: memory ran out. What is written is a prefix of what is asked for.
 ///
-/// Once the keeper has started, the stored entries stay as they were found. They are read in pieces.
-/// The first read loads the history, so that damage is reported before anything else is written. If
-/// entries are asked for, a second read shows them. The rules in force are computed in memory from what
-/// was loaded, and then written.
+/// Once the keeper has started, the stored entries stay as they were found. They are read in
+/// pieces. The first read loads the history, so that damage is reported before anything else is
+/// written. If entries are asked for, a second read shows them. The rules in force are computed in
+/// memory from what was loaded, and then written.
 pub fn history_top<K: Sink, P: Keeper, L: Ledger>(
     alloc: Global,
     words: &[Txt],

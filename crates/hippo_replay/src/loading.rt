@@ -72,15 +72,16 @@ fn read_all<P: Keeper, L: Ledger>(
 /// Starts a keeper and loads the history that it stores under this name. The keeper must be neither
 /// started nor spent nor closed.
 ///
-/// - `Ok` gives the state of a valid history, and the keeper is then started. If the store's contents
-///   are known, the history is the stored one. The load takes as many steps as there are versions in
-///   the history.
-/// - `Damaged` gives the place, counted from 1, of the first entry for which the stored entries up to
-///   and including it are those of no valid history.
+/// - `Ok` gives the state of a valid history, and the keeper is then started. If the store's
+///   contents are known, the history is the stored one. The load takes as many steps as there are
+///   versions in the history.
+/// - `Damaged` gives the place, counted from 1, of the first entry for which the stored entries up
+///   to and including it are those of no valid history.
 /// - `Keeper` is returned only if the keeper's count of faults rose. The keeper is then spent.
 /// - `Memory` means that the load ran out of memory.
 ///
-/// Once the keeper has started, the stored entries stay as they were found, whatever the load returns.
+/// Once the keeper has started, the stored entries stay as they were found, whatever the load
+/// returns.
 ///
 /// ```text
 /// nothing is stored                                        Ok: the state of the empty history

@@ -29,21 +29,22 @@ use std::sync::ledger::Ledger;
 /// `source` is its input, and `sink` its output. `keeper` stores the history, in the store that the
 /// words name or in memory; it must be neither started nor spent nor closed.
 ///
-/// - 0: the job is done. For `run`, the input was read to its end, and every line has its reply. For
-///   `load`, the line that sets the clock has its reply, and so has, for each line of the input, the
-///   line that loads its text as a record. For `check`, the line `entries N` is written; N is the
-///   number of stored entries. For `drill`, five lines report the results of the script.
-/// - 2: the words are not those of a call (see [`call_of`]). The usage line is written, and nothing is
-///   read. If the usage line cannot be written, the status is 5 or 7 instead.
-/// - 3: the keeper failed. The lines before have their replies; the next line's entry may or may not be
-///   stored.
-/// - 4: the source failed. Exactly the lines that were read whole have their replies, and in a load the
-///   line that sets the clock.
+/// - 0: the job is done. For `run`, the input was read to its end, and every line has its reply.
+///   For `load`, the line that sets the clock has its reply, and so has, for each line of the
+///   input, the line that loads its text as a record. For `check`, the line `entries N` is written;
+///   N is the number of stored entries. For `drill`, five lines report the results of the script.
+/// - 2: the words are not those of a call (see [`call_of`]). The usage line is written, and nothing
+///   is read. If the usage line cannot be written, the status is 5 or 7 instead.
+/// - 3: the keeper failed. The lines before have their replies; the next line's entry may or may
+///   not be stored.
+/// - 4: the source failed. Exactly the lines that were read whole have their replies, and in a load
+///   the line that sets the clock.
 /// - 5: the sink failed. What was written is a prefix of what was to be written.
-/// - 6: the stored entries are those of no valid history. The line `damaged PLACE` is written. PLACE,
-///   counted from 1, is that of the first entry for which the entries up to and including it are those
-///   of no valid history. Nothing is read. In a store whose contents are not known, a line may also
-///   come upon such an entry; `damaged NUMBER` is then written after the replies to the lines before.
+/// - 6: the stored entries are those of no valid history. The line `damaged PLACE` is written.
+///   PLACE, counted from 1, is that of the first entry for which the entries up to and including it
+///   are those of no valid history. Nothing is read. In a store whose contents are not known, a
+///   line may also come upon such an entry; `damaged NUMBER` is then written after the replies to
+///   the lines before.
 /// - 7: memory ran out before the first byte was read, or in a drill. Nothing was read or written.
 /// - 8: more than 2^40 bytes were read. Exactly the lines that end within the first 2^40 bytes have
 ///   their replies, and in a load the line that sets the clock.

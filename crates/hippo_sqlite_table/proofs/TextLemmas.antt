@@ -71,7 +71,7 @@ limit_of All = col 0 1
 limit_of (VersionsOf table) = col 0 2
 limit_of (AskedIn from to) = col 0 3
 
--- each read is this query, is plain, and reads no catalogue
+-- each read is this query, is plain, and reads no listing
 pub read_is : (selection : Selection) → command_of (understood history_schema (read_sql selection)) ≡ select (query (terms_of selection) (limit_of selection))
 unfolding understood everything
 read_is All = refl

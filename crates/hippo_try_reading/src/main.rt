@@ -1,9 +1,9 @@
 //! Shows how texts are read, what sources and sinks over std's readers and writers answer
 //! (`streams.rt`), and that ample memory suffices for calls at their largest use (`copies.rt`,
 //! `products.rt`, `rooms.rt`). Each line of standard input has the word of a rule, a space and a
-//! text. For each line, one line is written: what the text is by that rule, why it is nothing, or what
-//! comes of it. After the word `long`, the text is given in parts (`long.rt`); the output is then also
-//! given in parts, after the number of the text's bytes.
+//! text. For each line, one line is written: what the text is by that rule, why it is nothing, or
+//! what comes of it. After the word `long`, the text is given in parts (`long.rt`); the output is
+//! then also given in parts, after the number of the text's bytes.
 #![tactic(auto)]
 
 mod copies;

@@ -1,18 +1,19 @@
 //! Runs worked examples through the top function. Standard input holds cases, one order a line:
 //!
 //! - `word W` adds a word to the command.
-//! - `line TEXT` adds a line to the input, `part TEXT` the text alone, and `times N TEXT` the text N
-//!   times. `numbered N TEXT` adds the line N times, with the numbers from 0 in place of its `#`.
+//! - `line TEXT` adds a line to the input, `part TEXT` the text alone, and `times N TEXT` the text
+//!   N times. `numbered N TEXT` adds the line N times, with the numbers from 0 in place of its `#`.
 //!   `bytes N ..` adds bytes by their numbers, and `clinic` the lines of a small clinic.
-//! - `reads N` and `writes N` make that call of the source or the sink fail. `fails N` and `keeps N`
-//!   make that call of the keeper fail; with `keeps`, it stores its entry nevertheless. `room N` is how
-//!   many bytes the sink takes.
-//! - `call` calls the program over an empty store, `again` over what the last call left. The output is
-//!   written, and then `status N`. With `brief`, consecutive lines that begin with the same two words
-//!   are shortened to their number and the last one (`brief.rt`).
-//! - Between calls, `remove N` removes the entry at place N from what is stored, `put N ENTRY` inserts
-//!   one there (`store.rt`), and `kept` writes all entries.
-//! - A line that begins with `# ` says what a case shows. Any other line ends the program with a fault.
+//! - `reads N` and `writes N` make that call of the source or the sink fail. `fails N` and `keeps
+//!   N` make that call of the keeper fail; with `keeps`, it stores its entry nevertheless. `room N`
+//!   is how many bytes the sink takes.
+//! - `call` calls the program over an empty store, `again` over what the last call left. The output
+//!   is written, and then `status N`. With `brief`, consecutive lines that begin with the same two
+//!   words are shortened to their number and the last one (`brief.rt`).
+//! - Between calls, `remove N` removes the entry at place N from what is stored, `put N ENTRY`
+//!   inserts one there (`store.rt`), and `kept` writes all entries.
+//! - A line that begins with `# ` says what a case shows. Any other line ends the program with a
+//!   fault.
 #![tactic(auto)]
 
 ghost use Rattle.std.specs.Prelude.{◌≡◌, ◌<◌, false};
