@@ -1,5 +1,5 @@
-//! The program: `hippo run` reads lines from standard input and writes their replies to standard
-//! output; the history is in a SQLite file, or in memory.
+//! The program. `hippo run` reads lines from standard input and writes the replies to standard
+//! output. The history is in a SQLite file, or in memory.
 #![tactic(auto)]
 
 ghost use Rattle.hippo_serve_jobs.specs.Endings.{statuses};
@@ -13,8 +13,8 @@ use hippo_sqlite_files::FileKeeper;
 use hippo_values::Txt;
 use std::sync::ledger::Ledger;
 
-// The program over stores in files. The status is that of `hippo_top`: 2 for words that ask for
-// nothing, and for no others; 3, 4 and 5 just where keeper, source or sink failed.
+// The program over stores in files. Its exit status is that of `hippo_top`: 2 for words that ask
+// for nothing, and for no others; 3, 4 or 5 exactly when the keeper, the source or the sink failed.
 struct Hippo;
 
 impl Program for Hippo {

@@ -1,4 +1,4 @@
--- Replies, counted by computing. Each example is named by what it shows.
+-- Replies counted by evaluation. Each example's name says what it shows.
 use Rattle.std.proofs.Common.{◌≡◌, [], ◌∷◌, refl, codes}
 use Rattle.std.specs.Fmt.{digits}
 use Rattle.hippo_drill.specs.Counting.{second_word, lines_with, summary_of}

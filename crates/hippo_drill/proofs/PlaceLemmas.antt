@@ -1,9 +1,9 @@
--- What stands at a place of lists that are made of numbers and joined.
+-- The member at a place of joined lists that are made from numbers.
 use Rattle.std.proofs.Common.{◌≡◌, ℕ, zero, suc, ◌+◌, ◌*◌, ◌<◌, List, [], ◌∷◌, ◌++◌, map, drop, Option, Some, None, refl, sym, ap, arith}
 use Rattle.std.specs.Prelude.{slice_get, unwrap_or}
 use Rattle.std.specs.List.{flat_map, range_with_len}
 
--- in the first list, and behind it
+-- in the first list, and after it
 each_from : {A : Type 0} (f : ℕ → A) (rest : List A) (a n place j : ℕ) → place < n → a + place ≡ j
     → Some (f j) ≡ slice_get (map f (range_with_len a n) ++ rest) place
 each_from f rest a zero place j within at = absurd (omega arith)
@@ -24,7 +24,7 @@ pub remaining : {A : Type 0} (f : ℕ → A) (rest : List A) (n place k : ℕ) �
     → slice_get rest k ≡ slice_get (map f (range_with_len 1 n) ++ rest) place
 remaining f rest n place k at = after_from f rest 1 n place k at
 
--- of members by turns
+-- members that alternate
 abbrev turns : {A : Type 0} → (ℕ → A) → (ℕ → A) → List ℕ → List A
 turns f g numbers = flat_map (λ j. f j ∷ g j ∷ []) numbers
 
@@ -68,12 +68,12 @@ pub after_turns : {A : Type 0} (f g : ℕ → A) (rest : List A) (n place k : �
     → slice_get rest k ≡ slice_get (turns f g (range_with_len 1 n) ++ rest) place
 after_turns f g rest n place k at = turns_after_from f g rest 1 n place k at
 
--- none stands behind the last
+-- there is no member after the last
 pub after_one : {A : Type 0} (x : A) (place : ℕ) → 0 < place → slice_get (x ∷ []) place ≡ None
 after_one x zero some = absurd (omega arith)
 after_one x (suc place) some = refl
 
--- what is left from a place on: that member and the others, or nothing
+-- what remains from a place on: that member and those after it, or nothing
 pub left_more : {A : Type 0} (xs : List A) (place : ℕ) (x : A) → slice_get xs place ≡ Some x → drop place xs ≡ x ∷ drop (place + 1) xs
 left_more [] place x found = absurd cc
 left_more (y ∷ ys) zero x found = ap (λ (first : Option _). unwrap_or first x ∷ ys) found

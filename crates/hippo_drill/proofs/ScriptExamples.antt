@@ -1,4 +1,4 @@
--- Scripts, computed. Each example is named by what it shows.
+-- Scripts computed by evaluation. Each example's name says what it shows.
 use Rattle.std.proofs.Common.{◌≡◌, [], ◌∷◌, ◌++◌, length, refl, codes}
 use Rattle.std.specs.Fmt.{digits}
 use Rattle.hippo_drill.specs.Script.{opening_lines, patient_line, visit_line, choice_line, question_line, audit_line, script}
@@ -17,7 +17,7 @@ one_patient_is_asked_for :
 unfolding digits
 one_patient_is_asked_for = refl
 
--- a size below 2 has no patient, and the last line asks all the same
+-- a size below 2 has no patient, and the last line still asks
 nobody_is_asked_for : script 1 205 ≡ opening_lines ++ codes "1 login ann treatment nurse" ∷ audit_line 5 ∷ []
 nobody_is_asked_for = refl
 

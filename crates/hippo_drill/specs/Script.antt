@@ -1,18 +1,18 @@
--- The lines of the drill: a clinic is set up and filled; then each patient's phone changes and a
--- nurse asks, again and again; and at last there is an audit.
+-- The lines of the drill. They set up a clinic and fill it; then, for each patient, they change the
+-- phone and a nurse asks a question; at the end there is an audit.
 use Rattle.std.specs.Prelude.{ℕ, ◌+◌, ◌*◌, ◌/◌, ◌%◌, List, [], ◌∷◌, ◌++◌, map, codes, decimal}
 use Rattle.std.specs.List.{flat_map, range_with_len}
 use Rattle.hippo_values.specs.Texts.{Txt}
 
--- the numbers from 1 up to this one
+-- the numbers from 1 up to and including this one
 abbrev pub up_to : ℕ → List ℕ
 up_to count = range_with_len 1 count
 
--- the last two digits, as a zip has them
+-- the last two digits, used as a zip
 abbrev pub zip_of : ℕ → ℕ
 zip_of number = number % 100
 
--- the clock is set, and there are tables, names and rules
+-- sets the clock, and creates tables, names and rules
 abbrev pub opening_lines : List Txt
 opening_lines =
     codes "at 2024-01-01T00:00:00Z"
@@ -60,13 +60,13 @@ question_line number j =
     ++
     decimal (zip_of (13 * j + number))
 
--- who saw the phones of a zip?
+-- the audit asks who saw the phones of a zip
 abbrev pub audit_line : ℕ → Txt
 audit_line number =
     codes "0 DURING '2024-01-01T00:00:00Z' TO '2024-01-01T00:00:00Z' AUDIT phone FROM patient WHERE zip = " ++
     decimal (zip_of number)
 
--- the lines for so many patients
+-- the lines for this many patients
 abbrev pub lines_for : ℕ → ℕ → List Txt
 lines_for patients number =
     opening_lines ++
@@ -77,6 +77,6 @@ lines_for patients number =
     (flat_map (λ j. phone_line j ∷ question_line number j ∷ []) (up_to patients) ++
     audit_line number ∷ [])))))
 
--- the script of a size: half as many patients
+-- the script of a size, which has half as many patients
 abbrev pub script : ℕ → ℕ → List Txt
 script size number = lines_for (size / 2) number

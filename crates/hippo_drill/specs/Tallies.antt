@@ -1,4 +1,4 @@
--- What the code's counts are of some replies.
+-- The code's counts for some replies.
 use Rattle.std.specs.Prelude.{List, length, codes}
 use Rattle.hippo_values.specs.Texts.{Txt}
 use Rattle.hippo_drill.specs.Counting.{reply_count}

@@ -1,4 +1,4 @@
-//! The lines of replies, counted by their second words.
+//! Counts the lines of replies by their second words.
 ghost use Rattle.std.specs.Prelude.{◌≡◌, ◌+◌, List, [], ◌∷◌, ◌++◌, bytes_eq, string_bytes, IfOk};
 ghost use Rattle.std.specs.List.{before_first, after_first};
 ghost use Rattle.hippo_values.specs.Texts.{Txt as Text, is_space};
@@ -8,8 +8,8 @@ ghost use Rattle.hippo_drill.specs.Tallies.{counts_of};
 use hippo_values::Memory;
 use std::alloc::{AllocError, Global};
 
-/// How many replies there were so far, and how many of their lines have the second words `row`,
-/// `flag` and `no`.
+/// The number of replies so far, and how many of their lines have `row`, `flag` or `no` as their
+/// second word.
 #[derive(Clone, Copy, PartialEq, Eq)]
 pub struct Counts {
     pub replies: u64,
@@ -51,7 +51,7 @@ fn lines_with(reply: &str, word: &str) -> usize
         .count()
 }
 
-// A count and some more, where it has room for them.
+// The sum of a count and a number of lines. `Memory` if the sum does not fit 64 bits.
 fn more(count: u64, lines: usize) -> Result<u64, Memory>
     ensures { IfOk result (λ sum. sum ≡ count + lines) }
 {
@@ -74,7 +74,7 @@ impl Counts {
         }
     }
 
-    /// The counts with one more reply; want of memory where a count would pass 64 bits.
+    /// Returns the counts with one more reply. Answers `Memory` if a count would not fit 64 bits.
     pub fn with(&self, reply: &str) -> Result<Counts, Memory>
         ensures { IfOk result (λ counts. (replies : List Text) → self.now ≡ counts_of replies
             → counts ≡ counts_of (replies ++ reply.now ∷ [])) }
@@ -87,7 +87,8 @@ impl Counts {
         })
     }
 
-    /// The five lines that say how many replies, entries, rows, flags and refusals there were.
+    /// Returns the five lines that report how many replies, entries, rows, flags and refusals there
+    /// were.
     pub fn summary(&self, alloc: Global, entries: u64) -> Result<String, AllocError>
         ensures { IfOk result (λ text. (replies : List Text) → self.now ≡ counts_of replies
             → string_bytes text ≡ summary_of replies entries) }

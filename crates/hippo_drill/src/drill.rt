@@ -1,4 +1,4 @@
-//! The drill: the script's lines, one after the other.
+//! The drill: the lines of a script, one after another.
 ghost use Rattle.std.specs.Prelude.{◌≡◌};
 ghost use Rattle.hippo_drill.specs.Script.{script};
 ghost use Rattle.hippo_drill.specs.Scripting.{HandsOutLine};
@@ -8,12 +8,12 @@ use hippo_values::{Memory, Txt};
 use std::alloc::Global;
 use std::marker::Model;
 
-/// The lines of a script that were not handed out yet.
+/// The lines of a script that remain.
 ///
-/// A script of a size has half as many patients. A clinic is set up; the patients and their visits
-/// are inserted, and each tenth patient opts out of showing the phone; a nurse logs in. Then each
-/// patient's phone changes, and after each change the nurse asks for the patients of a zip. At last
-/// an audit asks who saw the phones of a zip. The number moves the zips.
+/// A script of a given size has half as many patients. It sets up a clinic, inserts the patients
+/// and their visits, has every tenth patient opt out of showing the phone, and logs a nurse in.
+/// Then it changes each patient's phone, and after each change the nurse asks for the patients of a
+/// zip. At the end, an audit asks who saw the phones of a zip. The script's number shifts the zips.
 #[derive(Drop)]
 pub struct Drill {
     size: u64,
@@ -32,7 +32,7 @@ impl Model for Drill {
 }
 
 impl Drill {
-    /// All lines of the script of a size and a number.
+    /// All lines of the script with this size and this number.
     pub fn new(size: u64, number: u64) -> Drill
         ensures { result ≡ script size number }
     {
@@ -43,8 +43,8 @@ impl Drill {
         }
     }
 
-    /// Adds the next line to `out`, without a line feed, and answers true; false exactly after the
-    /// last line. Where memory is short, nothing changes.
+    /// Appends the next line to `out`, without a line feed, and returns true. Returns false exactly
+    /// when no line remains. When out of memory, nothing changes.
     pub fn next_line(&mut self, alloc: Global, out: &mut Txt) -> Result<bool, Memory>
         ensures hands_out { HandsOutLine result self.old self.new out.old out.new }
     {

@@ -1,4 +1,4 @@
-//! Which line stands at a place of the script.
+//! Which line is at a place of the script.
 ghost use Rattle.std.specs.Prelude.{◌≡◌, ℕ, ◌+◌, ◌*◌, ◌≤◌, option_map, slice_get, IfSome};
 ghost use Rattle.hippo_drill.specs.Script.{lines_for};
 ghost use Rattle.hippo_drill.specs.Kinds.{script_text, after_login, after_visits, after_opening};
@@ -21,8 +21,8 @@ const OPENING: [&str; 10] = [
 
 const LOGIN: &str = "1 login ann treatment nurse";
 
-// The line at a place among those behind the login: by turns a phone changes and a question is
-// asked, and at last there is an audit.
+// The line at a place after the login. Lines that change a phone alternate with questions, and the
+// last line is an audit.
 fn line_after_login(patients: u64, place: u128) -> Option<ScriptLine>
     ensures text { (number : ℕ) → option_map (script_text number) result
         ≡ slice_get (after_login patients number) place }
@@ -44,8 +44,7 @@ fn line_after_login(patients: u64, place: u128) -> Option<ScriptLine>
     }
 }
 
-// The line at a place among those behind the visits: one patient in ten opts out, and a nurse logs
-// in.
+// The line at a place after the visits. One patient in ten opts out, and then a nurse logs in.
 fn line_after_visits(patients: u64, place: u128) -> Option<ScriptLine>
     ensures text { (number : ℕ) → option_map (script_text number) result
         ≡ slice_get (after_visits patients number) place }
@@ -61,7 +60,7 @@ fn line_after_visits(patients: u64, place: u128) -> Option<ScriptLine>
     line_after_login(patients, place - choices - 1)
 }
 
-// The line at a place among those behind the opening: the patients and their visits are inserted.
+// The line at a place after the opening. The patients are inserted, and then their visits.
 fn line_after_opening(patients: u64, place: u128) -> Option<ScriptLine>
     ensures text { (number : ℕ) → option_map (script_text number) result
         ≡ slice_get (after_opening patients number) place }
@@ -78,7 +77,8 @@ fn line_after_opening(patients: u64, place: u128) -> Option<ScriptLine>
     line_after_visits(patients, place - each)
 }
 
-/// The line at a place, counted from 0, of the script for so many patients; none behind the last.
+/// The line at a place, counted from 0, of the script for this many patients. `None` after the last
+/// line.
 pub(crate) fn line_at(patients: u64, place: u128) -> Option<ScriptLine>
     ensures text { (number : ℕ) → option_map (script_text number) result
         ≡ slice_get (lines_for patients number) place }

@@ -5,10 +5,10 @@ ghost use Rattle.hippo_drill.specs.Kinds.{script_text};
 
 use std::alloc::{AllocError, Global};
 
-/// A line of the script, by what tells it from others of its kind: the number of its patient.
+/// A line of the script. Within a kind, a line is given by the number of its patient.
 #[derive(Clone, Copy, PartialEq, Eq)]
 pub(crate) enum ScriptLine {
-    /// A line that is the same in each script.
+    /// A line that is the same in every script.
     Same(&'static str),
     Patient(u64),
     Visit(u64),
@@ -70,7 +70,7 @@ fn audit_line(alloc: Global, number: u64) -> Result<String, AllocError>
 }
 
 impl ScriptLine {
-    /// The line's text in the script of this number.
+    /// The line's text in the script with this number.
     pub(crate) fn text(self, alloc: Global, number: u64) -> Result<String, AllocError>
         ensures { IfOk result (λ text. string_bytes text ≡ script_text number self) }
     {

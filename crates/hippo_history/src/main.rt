@@ -1,5 +1,5 @@
-//! The program: `hippo_history` shows on standard output what a SQLite store keeps, as the words
-//! ask for: its entries, one by one, or the rules in force.
+//! The program. `hippo_history` shows on standard output what a SQLite store holds, as its words
+//! ask: the entries, one by one, or the rules in force.
 #![tactic(auto)]
 
 ghost use Rattle.hippo_history_top.specs.CommandLine.{asked_of};
@@ -13,8 +13,8 @@ use hippo_sqlite_files::FileKeeper;
 use hippo_values::Txt;
 use std::sync::ledger::Ledger;
 
-// The program over stores in files. The status is that of `history_top`: 2 for words that ask for
-// nothing, and for no others; 3 and 5 just where keeper or sink failed.
+// The program over stores in files. Its exit status is that of `history_top`: 2 for words that ask
+// for nothing, and for no others; 3 or 5 exactly when the keeper or the sink failed.
 struct History;
 
 impl Program for History {

@@ -1,4 +1,4 @@
--- Entries and rules in each format, computed. Each example is named by what it shows.
+-- Entries and rules in each format, computed by evaluation. Each example's name says what it shows.
 use Rattle.std.proofs.Common.{◌≡◌, true, false, [], ◌∷◌, Some, None, refl, codes}
 use Rattle.std.specs.Fmt.{digits}
 use Rattle.csv.specs.Writing.{escaped, fields_text, is_blank}

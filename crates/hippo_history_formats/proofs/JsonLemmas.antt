@@ -1,4 +1,4 @@
--- What is shown has no float.
+-- The shown objects have no floating-point numbers.
 use Rattle.std.proofs.Common.{◌≡◌, refl, Bool, false, ℕ, Option, Some, None, option_map}
 use Rattle.serde_json.specs.Written.{has_float}
 use Rattle.hippo_values.specs.Texts.{Txt}

@@ -1,4 +1,4 @@
--- What is shown of an act: a question with its asker, or the statement that another act came of.
+-- What is shown of an act: a question with its asker, or the statement that made another act.
 use Rattle.std.proofs.Common.{◌≡◌, false, ℕ, [], ◌∷◌, Option, sym, ap, decimal}
 use Rattle.hippo_values.specs.Texts.{Txt}
 use Rattle.hippo_model.specs.declared.entry.Act.{Act}

@@ -18,14 +18,14 @@ use Rattle.hippo_report.specs.declared.format.Format.{Format}
 use Rattle.hippo_report.specs.declared.format.Format.TheVariants as formats
 use Rattle.hippo_history_statements.specs.Telling.{told_act, entry_line, allow_text, rule_text, name_at}
 
--- an object without spaces as a line, and a record as one
+-- an object without spaces as a line, and then a record as a line
 abbrev pub json_line : Data → Txt
 json_line value = compact_text value ++ codes "\n"
 
 abbrev pub csv_line : List Txt → Txt
 csv_line fields = row_text default_writer fields
 
--- an object has its members in the order of their keys; that of a question has its asker as well
+-- an object with its members sorted by key; the object of a question has its asker too
 abbrev pub statement_data : ℕ → Txt → Txt → Data
 statement_data entry moment statement =
     object (member (codes "entry") (number (unsigned entry))
@@ -41,13 +41,13 @@ question_data entry moment user purpose recipient text =
     (member (codes "statement") (string text)
     (member (codes "user") (string user) no_members))))))
 
--- an entry by its number and moment, where this is the schema of the table that its act names
+-- an entry from its number and moment, with the schema of the table that its act names
 abbrev pub entry_data : Option Schema → ℕ → Txt → Act → Data
 entry_data schema entry moment (Asked user purpose recipient text) =
     question_data entry moment user purpose recipient text
 entry_data schema entry moment act = statement_data entry moment (told_act schema act)
 
--- six fields, of which the third to the fifth are empty where nobody asks
+-- six fields; the third to the fifth are empty if nobody asks
 abbrev pub entry_fields : Option Schema → ℕ → Txt → Act → List Txt
 entry_fields schema entry moment (Asked user purpose recipient text) =
     decimal entry ∷ moment ∷ user ∷ purpose ∷ recipient ∷ text ∷ []
@@ -61,8 +61,8 @@ entry_by formats.Json schema entry =
 entry_by formats.Csv schema entry =
     csv_line (entry_fields schema entry.seq (moment_text entry.moment) entry.act)
 
--- what a rule says: its entry's number, 0 where there is none; a word for it; its item; and its
--- days
+-- the parts of a rule: its entry's number, 0 if there is no rule; the word for its kind; its item;
+-- and its days
 abbrev pub rule_number : Option Rule → ℕ
 rule_number None = 0
 rule_number (Some (revoked entry)) = entry
@@ -86,7 +86,7 @@ abbrev pub opt_word : Bool → Txt
 opt_word true = codes "in"
 opt_word false = codes "out"
 
--- a number, or a text, or null where there is none
+-- a number, and then a text, or null if there is none
 abbrev pub number_data : Option ℕ → Data
 number_data days = option_map_or (λ days. number (unsigned days)) days null
 
@@ -106,15 +106,14 @@ rule_data purpose recipient table column rule opt_in =
     (member (codes "ruling") (string (ruling_word rule))
     (member (codes "table") (string table) no_members)))))))))
 
--- nine fields, empty where there is nothing
+-- nine fields, each empty if there is nothing to show
 abbrev pub rule_fields : Name → Name → Name → Txt → Option Rule → Option Bool → List Txt
 rule_fields purpose recipient table column rule opt_in =
     decimal (rule_number rule) ∷ ruling_word rule ∷ purpose ∷ recipient ∷ table ∷ column
     ∷ unwrap_or (rule_item rule) [] ∷ unwrap_or (option_map opt_word opt_in) []
     ∷ option_map_or decimal (rule_days rule) [] ∷ []
 
--- a rule by the number of its entry, as the statement that says it of these columns; 0 where there
--- is none
+-- a rule: the number of its entry, and its statement for these columns; 0 if there is no rule
 abbrev pub ruling_text : List Column → Name → Name → Name → List Place → Option Rule → Txt
 ruling_text columns purpose recipient table places None =
     codes "0 nothing allows " ++ rule_text columns purpose recipient table places
@@ -123,7 +122,7 @@ ruling_text columns purpose recipient table places (Some (revoked entry)) =
 ruling_text columns purpose recipient table places (Some (allowed entry item days)) =
     decimal entry ++ (codes " " ++ allow_text columns purpose recipient table places item days)
 
--- how a patient's silence on a rule's item is read, where it has one
+-- how the item of a rule reads a patient's silence, if the rule has an item
 abbrev pub silence_text : Option Bool → Txt
 silence_text None = []
 silence_text (Some true) = codes " (OPT IN)"

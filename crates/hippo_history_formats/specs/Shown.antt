@@ -12,7 +12,7 @@ use Rattle.hippo_history_formats.specs.declared.told.Told.{Told}
 use Rattle.hippo_history_formats.specs.declared.told.Told.TheVariants.{Asked, Made}
 use Rattle.hippo_history_formats.specs.Formats.{statement_data, question_data, entry_data, entry_fields, rule_data, rule_fields}
 
--- as an object: a question with its asker, or a statement
+-- the object: a question with its asker, or a statement
 abbrev pub told_data : ℕ → Txt → Told → Data
 told_data entry moment (Asked question) =
     question_data entry moment question.user.now question.purpose.now question.recipient.now
@@ -22,7 +22,7 @@ told_data entry moment (Made statement) = statement_data entry moment statement
 abbrev pub shown_data : Shown → Data
 shown_data shown = told_data shown.entry shown.moment shown.told
 
--- as fields, of which the asker's are empty where nobody asks
+-- the fields; those of the asker are empty if nobody asks
 abbrev pub told_fields : Told → List Txt
 told_fields (Asked question) =
     question.user.now ∷ question.purpose.now ∷ question.recipient.now ∷ question.text.now ∷ []

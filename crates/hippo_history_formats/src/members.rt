@@ -1,4 +1,4 @@
-//! Members of an object of JSON (RFC 8259), one after the other.
+//! Members of a JSON object (RFC 8259), one after another.
 ghost use Rattle.std.specs.Prelude.{◌≡◌, option_copied, OnOk};
 ghost use Rattle.serde_json.specs.Data.{put, string, number, unsigned};
 ghost use Rattle.serde_json.specs.View.{members_view};
@@ -7,7 +7,7 @@ ghost use Rattle.hippo_history_formats.specs.Formats.{number_data, text_data};
 use serde_json::{Map, Value, put};
 use std::alloc::{AllocError, Global};
 
-/// Adds a text.
+/// Adds a text to the object.
 pub(crate) fn put_text(
     alloc: Global,
     members: &mut Map<String, Value>,
@@ -21,7 +21,7 @@ pub(crate) fn put_text(
     put(members, alloc, key, member)
 }
 
-/// Adds a number.
+/// Adds a number to the object.
 pub(crate) fn put_number(
     alloc: Global,
     members: &mut Map<String, Value>,
@@ -34,7 +34,7 @@ pub(crate) fn put_number(
     put(members, alloc, key, Value::from(value))
 }
 
-/// Adds a number of days, or null where there is none.
+/// Adds a number of days to the object, or null if there is none.
 pub(crate) fn put_days(
     alloc: Global,
     members: &mut Map<String, Value>,
@@ -50,7 +50,7 @@ pub(crate) fn put_days(
     }
 }
 
-/// Adds a text, or null where there is none.
+/// Adds a text to the object, or null if there is none.
 pub(crate) fn put_text_or_null(
     alloc: Global,
     members: &mut Map<String, Value>,

@@ -1,4 +1,4 @@
-//! Objects of JSON (RFC 8259).
+//! JSON objects (RFC 8259).
 ghost use Rattle.std.specs.Prelude.{◌≡◌, option_map, IfOk, OnOk, string_bytes, codes};
 ghost use Rattle.serde_json.specs.Data.{put, string, number, unsigned};
 ghost use Rattle.serde_json.specs.View.{view, members_view};
@@ -34,7 +34,7 @@ fn put_statement(
     put_text(alloc, members, "statement", statement)
 }
 
-// Adds who asks a question.
+// Adds the user, the purpose and the recipient of a question.
 fn put_asker(
     alloc: Global,
     members: &mut Map<String, Value>,
@@ -89,7 +89,7 @@ fn told_data(alloc: Global, shown: &Shown<'_>) -> Result<Value, AllocError>
     }
 }
 
-/// An entry as an object, without spaces.
+/// Returns an entry as an object, without spaces.
 #[tactic(auto, using(crate::proofs::JsonLemmas::told_has_no_float))]
 pub(crate) fn entry_json(alloc: Global, shown: &Shown<'_>) -> Result<String, AllocError>
     ensures { IfOk result (λ text. string_bytes text ≡ compact_text (shown_data shown.now)) }
@@ -98,7 +98,7 @@ pub(crate) fn entry_json(alloc: Global, shown: &Shown<'_>) -> Result<String, All
     object.to_string(alloc)
 }
 
-// Adds the words of a column's rule.
+// Adds the names in a column's rule.
 fn put_names(
     alloc: Global,
     members: &mut Map<String, Value>,
@@ -117,7 +117,7 @@ fn put_names(
     put_text(alloc, members, "table", rule.schema.name.as_str())
 }
 
-// Adds the number of a rule's entry, and the word for what it says.
+// Adds the number of a rule's entry, and the word for its kind.
 fn put_number_and_word(
     alloc: Global,
     members: &mut Map<String, Value>,
@@ -132,7 +132,7 @@ fn put_number_and_word(
     put_text(alloc, members, "ruling", ruling_word(ruling))
 }
 
-// Adds for how long a rule allows, with which item, and how that reads silence.
+// Adds for how many days a rule allows, its item, and how that item reads silence.
 fn put_conditions(
     alloc: Global,
     members: &mut Map<String, Value>,
@@ -159,7 +159,7 @@ fn rule_data(alloc: Global, rule: &ColumnRule<'_>) -> Result<Value, AllocError>
     Ok(Value::Object(members))
 }
 
-/// The rule of a column as an object, without spaces.
+/// Returns the rule of a column as an object, without spaces.
 #[tactic(auto, using(crate::proofs::JsonLemmas::rule_has_no_float))]
 pub(crate) fn rule_json(alloc: Global, rule: &ColumnRule<'_>) -> Result<String, AllocError>
     ensures { IfOk result (λ text. string_bytes text ≡ compact_text (column_data rule.now)) }

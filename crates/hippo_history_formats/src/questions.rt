@@ -15,7 +15,7 @@ pub struct Question<'a> {
     pub text: &'a Txt,
 }
 
-/// The question that an act is, if it is one.
+/// Returns the question in an act, if the act is one.
 pub fn question_of<'a>(act: &'a Act) -> Option<Question<'a>>
     ensures { MatchOption result (is_question act.now ≡ false) (λ question. act.now
         ≡ Asked question.user.now question.purpose.now question.recipient.now question.text.now) }

@@ -1,4 +1,4 @@
-//! Records of CSV (RFC 4180).
+//! CSV records (RFC 4180).
 ghost use Rattle.std.specs.Prelude.{◌≡◌, ◌∷◌, ◌++◌, [], unwrap_or, decimal, option_copied, option_map, IfOk, OnOk};
 ghost use Rattle.std.specs.Option.{option_map_or};
 ghost use Rattle.csv.specs.Records.{fields_of};
@@ -27,8 +27,8 @@ fn record_bytes(alloc: Global, fields: &StringRecord) -> Result<Vec<u8>, Error>
     }
 }
 
-/// Adds a record as a line. Every fault of the writer is want of memory, since it writes into
-/// memory; a record that is no text cannot come.
+/// Appends a record as a line. The writer writes into memory, so its only error is running out of
+/// memory. A record that is not text cannot occur.
 pub(crate) fn append_record(
     alloc: Global,
     fields: &StringRecord,
@@ -67,7 +67,7 @@ fn push_entry(fields: &mut StringRecord, entry: u64, moment: &str) -> Result<(),
     fields.push_field(moment)
 }
 
-// Adds a question behind who asks it.
+// Adds the user, the purpose and the recipient of a question, and then its text.
 fn push_asker(fields: &mut StringRecord, question: &Question<'_>) -> Result<(), AllocError>
     ensures { OnOk result (fields_of fields.new ≡ fields_of fields.old ++ (question.now.user.now
         ∷ question.now.purpose.now ∷ question.now.recipient.now ∷ question.now.text.now ∷ [])) }
@@ -78,7 +78,7 @@ fn push_asker(fields: &mut StringRecord, question: &Question<'_>) -> Result<(), 
     fields.push_field(question.text.as_str())
 }
 
-// Adds a statement, behind empty fields since nobody asks it.
+// Adds a statement after three empty fields, since nobody asks it.
 fn push_statement(fields: &mut StringRecord, statement: &str) -> Result<(), AllocError>
     ensures { OnOk result (fields_of fields.new
         ≡ fields_of fields.old ++ ([] ∷ [] ∷ [] ∷ statement.now ∷ [])) }
@@ -96,7 +96,7 @@ fn push_told(fields: &mut StringRecord, told: &Told<'_>) -> Result<(), AllocErro
     }
 }
 
-/// An entry; who asks is empty where nobody does.
+/// Returns an entry as a record. The fields of the asker are empty if nobody asks.
 pub(crate) fn entry_record(alloc: Global, shown: &Shown<'_>) -> Result<StringRecord, AllocError>
     ensures { IfOk result (λ made. fields_of made ≡ shown_fields shown.now) }
 {
@@ -116,7 +116,7 @@ fn push_days(fields: &mut StringRecord, days: Option<u32>) -> Result<(), AllocEr
     }
 }
 
-// A text, or nothing.
+// The text, or an empty text if there is none.
 fn text_field<'a>(text: Option<&'a str>) -> &'a str
     ensures { result.now ≡ unwrap_or (option_copied text.entry) [] }
 {
@@ -126,7 +126,7 @@ fn text_field<'a>(text: Option<&'a str>) -> &'a str
     }
 }
 
-// Adds the number of a rule's entry, and the word for what it says.
+// Adds the number of a rule's entry, and the word for its kind.
 fn push_ruling(fields: &mut StringRecord, ruling: &RuleAt<'_>) -> Result<(), AllocError>
     ensures { OnOk result (fields_of fields.new ≡ fields_of fields.old
         ++ (decimal (rule_number (ruling_of ruling.now)) ∷ ruling_word (ruling_of ruling.now)
@@ -136,7 +136,7 @@ fn push_ruling(fields: &mut StringRecord, ruling: &RuleAt<'_>) -> Result<(), All
     fields.push_field(ruling_word(ruling))
 }
 
-// Adds the words of a column's rule.
+// Adds the names in a column's rule.
 fn push_names(fields: &mut StringRecord, rule: &ColumnRule<'_>) -> Result<(), AllocError>
     ensures { OnOk result (fields_of fields.new ≡ fields_of fields.old ++ (rule.now.purpose.now
         ∷ rule.now.recipient.now ∷ rule.now.schema.now.name
@@ -152,7 +152,7 @@ fn push_names(fields: &mut StringRecord, rule: &ColumnRule<'_>) -> Result<(), Al
     fields.push_field(column_name(rule))
 }
 
-// Adds with which item a rule allows, how that reads silence, and for how long.
+// Adds the item of a rule, how that item reads silence, and for how many days the rule allows.
 fn push_conditions(fields: &mut StringRecord, ruling: &RuleAt<'_>) -> Result<(), AllocError>
     ensures { OnOk result (fields_of fields.new ≡ fields_of fields.old
         ++ (unwrap_or (rule_item (ruling_of ruling.now)) []
@@ -164,7 +164,7 @@ fn push_conditions(fields: &mut StringRecord, ruling: &RuleAt<'_>) -> Result<(),
     push_days(fields, days_of(ruling))
 }
 
-/// The rule of a column.
+/// Returns the rule of a column as a record.
 pub(crate) fn rule_record(alloc: Global, rule: &ColumnRule<'_>) -> Result<StringRecord, AllocError>
     ensures { IfOk result (λ made. fields_of made ≡ column_fields rule.now) }
 {

@@ -46,7 +46,7 @@ fn append_allowed(
     append_allow(columns, rule, item, days, out)
 }
 
-// A rule by the number of its entry, as the statement that says it.
+// Appends a rule: the number of its entry, and then its statement.
 fn append_ruling(
     columns: &[Column],
     rule: &Rule<'_>,
@@ -77,7 +77,7 @@ fn silence_text(opt_in: bool) -> &'static str
     if opt_in { " (OPT IN)" } else { " (OPT OUT)" }
 }
 
-// How a patient's silence on a rule's item is read, where it has one.
+// Appends how the item of a rule reads a patient's silence, if the rule has an item.
 fn append_silence(ruling: &RuleAt<'_>, out: &mut Txt) -> Result<(), Memory>
     ensures { OnOk result (out.new ≡ out.old ++ silence_text (opt_in_of ruling.now)) }
 {
@@ -99,7 +99,7 @@ fn append_statement(rule: &ColumnRule<'_>, out: &mut Txt) -> Result<(), Memory>
     out.append("\n")
 }
 
-/// Adds the rule of a column as a line in a format.
+/// Appends the rule of a column as a line in a format.
 pub fn append_rule_line(
     alloc: Global,
     format: Format,

@@ -1,4 +1,4 @@
-//! What a rule says, by its parts.
+//! The parts of a rule.
 ghost use Rattle.std.specs.Prelude.{◌≡◌, option_copied, option_map};
 ghost use Rattle.hippo_policy.specs.Rulings.{ruling_of, opt_in_of};
 ghost use Rattle.hippo_history_statements.specs.Telling.{name_at};

@@ -15,7 +15,7 @@ use hippo_values::{Memory, Moment, Txt};
 use hippo_values_text::moment_text;
 use std::alloc::Global;
 
-/// What is told of an act: a question, or the statement that another act came of.
+/// What is shown of an act: a question, or the statement that made another act.
 #[derive(Drop)]
 pub(crate) enum Told<'a> {
     Asked(Question<'a>),
@@ -30,7 +30,7 @@ pub(crate) struct Shown<'a> {
     pub told: Told<'a>,
 }
 
-/// Adds a moment.
+/// Appends a moment.
 pub fn append_moment(moment: &Moment, out: &mut Txt) -> Result<(), Memory>
     ensures { OnOk result (out.new ≡ out.old ++ moment_text moment.now) }
 {
@@ -40,7 +40,7 @@ pub fn append_moment(moment: &Moment, out: &mut Txt) -> Result<(), Memory>
     }
 }
 
-// A moment, as every line shows it.
+// A moment as every line shows it.
 fn moment_of(alloc: Global, moment: &Moment) -> Result<Txt, Memory>
     ensures { IfOk result (λ text. text ≡ moment_text moment.now) }
 {
@@ -49,7 +49,7 @@ fn moment_of(alloc: Global, moment: &Moment) -> Result<Txt, Memory>
     Ok(text)
 }
 
-// The statement that an act came of.
+// The statement that made an act.
 fn told_text(alloc: Global, schema: Option<&Schema>, act: &Act) -> Result<Txt, Memory>
     ensures { IfOk result (λ text. text ≡ told_act (option_copied schema.entry) act.now) }
 {
@@ -58,7 +58,7 @@ fn told_text(alloc: Global, schema: Option<&Schema>, act: &Act) -> Result<Txt, M
     Ok(text)
 }
 
-/// Adds a text as a line.
+/// Appends a text as a line.
 pub(crate) fn append_text_line(text: &str, out: &mut Txt) -> Result<(), Memory>
     ensures { OnOk result (out.new ≡ out.old ++ (text.now ++ codes "\n")) }
 {
@@ -120,7 +120,7 @@ fn append_csv(alloc: Global, shown: &Shown<'_>, out: &mut Txt) -> Result<(), Mem
     append_record(alloc, &fields, out)
 }
 
-/// Adds an entry as a line in a format.
+/// Appends an entry as a line in a format.
 pub fn append_entry(
     alloc: Global,
     format: Format,

@@ -1,4 +1,4 @@
--- The lines of a question make it again.
+-- The lines of a question make its entry again.
 use Rattle.std.proofs.Common.{◌≡◌, ◌∙◌, ℕ, ◌<◌, true, false, not, ◌&&◌, List, [], ◌∷◌, ◌++◌, length, map, Option, Some, None, refl, ap, codes}
 use Rattle.std.specs.Prelude.{◌==◌, is_some}
 use Rattle.std.specs.List.{last_or, list_all}
@@ -40,7 +40,7 @@ use Rattle.hippo_history_laws.proofs.LineLemmas.{makes_request-it, logs-in-it, l
 use Rattle.hippo_history_laws.proofs.JudgingLemmas.{ended-again, logged, login-judged, logout-judged, question-judged}
 use Rattle.hippo_history_laws.proofs.QuestionLemmas.{asks-itself}
 
--- what is around a bare text
+-- the bytes at the ends of a bare text
 pub record IsBare (text : Txt) : Type 0 where
   pub front : begins_with is_blank text ≡ false
   pub end : ends_with is_lost text ≡ false
@@ -63,7 +63,7 @@ last-fewer : (last : Option ℕ) → option_map_or is_lost last false ≡ false
 last-fewer None none = refl
 last-fewer (Some byte) none = (or_parts (is_blank byte) (byte == 13) none).0
 
--- what a valid history says of a question
+-- the answer of a valid history about a question
 authorized-so : (said : Authorization) → is_authorized said ≡ true → said ≡ Yes
 authorized-so Yes is = refl
 authorized-so (No number) is = absurd cc

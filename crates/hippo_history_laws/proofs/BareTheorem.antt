@@ -1,4 +1,4 @@
--- The text of a question that a run keeps is bare.
+-- The text of a question that a run stores is bare.
 use Rattle.std.proofs.Common.{◌≡◌, ◌∙◌, ℕ, suc, ◌+◌, ◌-◌, ◌≤◌, Bool, true, false, not, List, [], ◌∷◌, ◌++◌, drop, length, Option, Some, None, Ok, refl, sym, ap, subst, inl, inr, arith, ℤ, bytes_eq}
 use Rattle.std.specs.Prelude.{◌==◌, slice_get, slice_range}
 use Rattle.std.specs.Char.{is_ascii_digit}
@@ -30,7 +30,7 @@ use Rattle.hippo_typing_laws.proofs.TextParts.{end_from, end_of, front_of}
 use Rattle.hippo_history_laws.specs.ScriptLaws.{QuestionsAreBare, ends_with, is_bare, is_lost, is_unfed}
 use Rattle.hippo_history_laws.proofs.QuestionLemmas.{Outcome, first_is, last-at, last-ends, last_or-append, last_token, later_tokens, looked-up}
 
--- a text of bytes that are not lost ends with none that is
+-- a text whose bytes are not dropped does not end with one that is
 ends_so : (test : ℕ → Bool) → ((byte : ℕ) → test byte ≡ true → is_lost byte ≡ false)
     → (before : Option ℕ) (text : Txt) → option_map_or is_lost before false ≡ false
     → list_all test text ≡ true → option_map_or is_lost (last_or before text) false ≡ false
@@ -39,7 +39,7 @@ ends_so test stays before (byte ∷ text) front all =
     let parts = and_parts (test byte) (list_all test text) all in
     ends_so test stays (Some byte) text (stays byte parts.0) parts.1
 
--- a byte that is one of these passes no test that they do not
+-- a byte that is one of these passes no test that they all fail
 stays_by : (test : ℕ → Bool) → test 32 ≡ false → test 9 ≡ false → test 13 ≡ false → (byte : ℕ)
     → test byte ≡ true → is_lost byte ≡ false
 stays_by test space tab return byte passes =
@@ -169,7 +169,7 @@ front-stays bytes outcome first tokens (at_token _ _ text rest kind later _ h is
     (cut ∙ ap (λ (b : Txt). b ++ rest) begins.parts) begins.blank
 front-stays bytes outcome first tokens (at_fault _ _ fault h) ok = absurd cc
 
--- what stands between the bytes before and those behind
+-- the text between the bytes before it and the bytes after it
 between : (text before part remaining : Txt) (start end : ℕ) → text ≡ before ++ (part ++ remaining)
     → 0 + length before ≡ start → start + length part ≡ end → slice_range text start end ≡ part
 between text before part remaining start end parts from to =

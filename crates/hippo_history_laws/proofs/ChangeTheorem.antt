@@ -1,4 +1,4 @@
--- What is told of an updated row reads back.
+-- The text of an updated row reads back.
 use Rattle.std.proofs.Common.{◌≡◌, ◌∙◌, zero, suc, ◌+◌, ◌<◌, ◌≤◌, Bool, true, false, not, List, [], ◌∷◌, ◌++◌, filter, length, map, Some, Ok, refl, sym, ap, subst, inl, inr, arith, zero-add, codes}
 use Rattle.std.specs.Prelude.{nat_eq, nat_lt, slice_set}
 use Rattle.std.specs.List.{list_any, list_all, range_with_len}
@@ -36,7 +36,7 @@ use Rattle.hippo_history_laws.proofs.NamePlaces.{all_within, places_again, names
 use Rattle.hippo_history_laws.proofs.ReadingTheorem.{console-reads}
 use Rattle.hippo_history_laws.proofs.KeyTheorem.{conjunction, pair_said, pair_meant, pair_fits, pair-says, pair-is, pair-calm, same_place, key-again}
 
--- columns with the values that a row has there
+-- columns with the values of a row
 module _ (columns : List Column) (row : Row) where
   abbrev cell_text : Place → Txt
   cell_text place = assigned_text columns place (cell_at row place)
@@ -168,7 +168,7 @@ pub sets_within : (columns : List Column) (key : List Place)
 sets_within columns key =
     kept_below (is_set key) 0 (length columns) (length columns) (omega arith)
 
--- a column that is not set is the key's
+-- a column that is not set belongs to the key
 not_kept : (kept : Place → Bool) (places : List Place) (place : Place)
     → list_any (nat_eq place) places ≡ true → list_any (nat_eq place) (filter kept places) ≡ false
     → kept place ≡ false
@@ -215,7 +215,7 @@ same_cells_at (first ∷ key) old row place same there = elim (cases_Bool (nat_e
   | inr is ↦ same_cells_at key old row place (ap cells_after_first same) (rw is at there)
 ]
 
--- a row is again what it was made of by setting values
+-- setting the values makes the row again
 pub written_row-again : (places : List Place) (row old : Row) → length old ≡ length row
     → ((place : Place) → place < length row → list_any (nat_eq place) places ≡ false
     → cell_at old place ≡ cell_at row place) → written_row places (map (cell_at row) places) old ≡ row

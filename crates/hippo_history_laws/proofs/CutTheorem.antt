@@ -43,7 +43,7 @@ use Rattle.hippo_history_laws.proofs.LinesTheorem.{fed, scripts_are_lines}
 use Rattle.hippo_history_laws.proofs.ScriptTheorem.{follows, may, scripts_make_histories, stated-lines}
 use Rattle.hippo_history_laws.proofs.ToldTheorem.{told-inner}
 
--- in a moment no line ends
+-- no line ends within the text of a moment
 simple-digit : (n : ℕ) → n < 80 → is_simple (48 + n) ≡ true
 simple-digit n small =
     and_from _ _ (inner-digit n) (lt-ltb (48 + n) 128 (omega (arith, small)))
@@ -71,7 +71,7 @@ inner-moment moment fits =
     (inner-day (day_of moment) (IsDayNumber-of_moment moment (moment-fits moment fits)))
     (inner-time (second_of moment) (omega (arith, signed_arith)))
 
--- a text that is a line as it stands: it has no line feed, and ends with no carriage return
+-- a text that is a line as it is: it has no line feed, and does not end with a carriage return
 abbrev is_line : Txt → Bool
 is_line line = list_all is_unfed line && not (ends_with_byte 13 line) && is_utf8 line
 
@@ -96,7 +96,7 @@ line-from : (line : Txt) → list_all is_unfed line ≡ true → ends_with_byte 
 line-from line unfed no_return utf8 =
     and_from _ _ (and_from _ _ unfed (not_from_false _ no_return)) (is_utf8-from_IsUtf8 line utf8)
 
--- such a text, and a line feed, is a piece
+-- such a text, with a line feed, is a piece
 cut-line : (line rest : Txt) → list_all is_unfed line ≡ true → pieces (line ++ 10 ∷ rest)
     ≡ line ∷ pieces rest
 cut-line [] rest unfed = refl
@@ -134,7 +134,7 @@ no-return (byte ∷ text) ends =
     (slice_index (byte ∷ text) (length (byte ∷ text) - 1) == 13)
     (ap (λ (place : ℕ). slice_index (byte ∷ text) place == 13) size ∙ last)
 
--- a text of such bytes alone
+-- a text of such bytes only
 inner-unfed : (text : Txt) → list_all is_inner text ≡ true → list_all is_unfed text ≡ true
 inner-unfed [] inner = refl
 inner-unfed (byte ∷ text) inner =
@@ -155,7 +155,7 @@ inner-line line inner =
     line-from line (inner-unfed line inner.all)
     (no-return line (inner-ends None line refl inner.all)) inner.utf8
 
--- a bare text behind the number of a session
+-- a bare text after the number of a session
 lost-return : (last : Option ℕ) → option_map_or is_lost last false ≡ false
     → option_map_or (λ b. b == 13) last false ≡ false
 lost-return None none = refl
@@ -199,7 +199,7 @@ whole-lines (line ∷ written) are fit =
     whole-lines written first.1 second.1 in
     λ i. here i ∷ later i
 
--- those of a question, and those of any act that a script makes again
+-- the lines of a question, and those of any act that a script makes again
 question-are : (user purpose recipient : Name) (text : Txt)
     → act_is_keepable (Asked user purpose recipient text) ≡ true → is_bare text ≡ true
     → list_all is_line (question_lines user purpose recipient text) ≡ true
@@ -244,7 +244,7 @@ clock-are false moment fits =
     both (codes "at ") (moment_text moment) (said refl) (inner-moment moment fits) in
     and_from _ _ (inner-line _ clock) refl
 
--- a script's lines are lines as they stand
+-- a script's lines are lines as they are
 module _ (whole : History) (valid : is_valid meaning whole ≡ true) where
   scripts-are : (later before : History) (clock : Option Moment) → whole ≡ before ++ later
       → are_scripted whole later ≡ true → list_all is_line (script_lines whole clock later) ≡ true
@@ -272,7 +272,7 @@ module _ (whole : History) (valid : is_valid meaning whole ≡ true) where
       (both-are (entry_lines whole entry) (script_lines whole (Some entry.moment) later) written
       rest)
 
--- where all are asked for, none is left out
+-- if all entries are asked for, none is left out
 all-told : (test : Entry → Bool) (entries : History) → list_all test entries ≡ true
     → filter test entries ≡ entries
 all-told test [] all = refl

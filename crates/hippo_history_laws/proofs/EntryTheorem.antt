@@ -1,4 +1,4 @@
--- Each entry of a valid history is made again by what is told of it.
+-- The text of each entry of a valid history makes the entry again.
 use Rattle.std.proofs.Common.{◌≡◌, ◌∙◌, ℕ, zero, suc, ◌<◌, ◌≤◌, Bool, true, false, not, ◌&&◌, List, [], ◌∷◌, ◌++◌, length, filter_map, Option, Some, None, refl, sym, ap, subst, arith}
 use Rattle.std.specs.Prelude.{bytes_eq, count_by, is_none, is_some, nat_eq, nat_le, nat_lt, option_and_then, option_map, option_to_list, slice_get, unwrap_or}
 use Rattle.std.specs.Bool.{then_some}
@@ -45,7 +45,7 @@ use Rattle.hippo_history_laws.proofs.RuleTheorem.{allows_read_back, revokes_read
 use Rattle.hippo_history_laws.proofs.TableTheorem.{HasNames, IsTable, all_there, creates_read_back, draft, has-names, is_table, key_names, subject_name, there}
 use Rattle.hippo_history_laws.proofs.UnrefusedLemmas.{all_kept, are_assigned, assignments_none, both_assigned, cells_fit, column_there, differ_kept, in_column_none, kinds_passed, names_at, none-repeated, none_and, none_of_key, none_unknown, none_unknown_in, not_repeated, nulls_passed, range_differs, refused_not, row_none, texts_passed, the_key}
 
--- lists that fit, place by place, are as long
+-- lists that fit place by place have the same length
 pointwise_size : (columns : List Column) (row : Row) → pointwise fits columns row ≡ true
     → length row ≡ length columns
 pointwise_size [] [] fit = refl
@@ -55,7 +55,7 @@ pointwise_size (column ∷ columns) (value ∷ row) fit =
     ap suc (pointwise_size columns row
     (and_parts (fits column value) (pointwise fits columns row) fit).1)
 
--- the columns at places of columns are as many
+-- there are as many columns at these places as places
 found_there : (columns : List Column) (place : Place) → nat_lt place (length columns) ≡ true
     → is_some (slice_get columns place) ≡ true
 found_there [] place small =
@@ -79,7 +79,7 @@ columns_found columns (place ∷ places) within =
     one_more (slice_get columns place) (filter_map (slice_get columns) places)
     (found_there columns place parts.0) ∙ ap suc (columns_found columns places parts.1)
 
--- a row that is there has the key
+-- a row that exists has the key
 named_key : (test : Bool) (named key : Key) → option_map_or (λ named. same_cells named key)
     (then_some test named) false ≡ true → same_cells named key ≡ true
 named_key true named key e = e
@@ -117,7 +117,7 @@ key_had schema history key row live =
     left_parts (names_key schema key said.entry.act) (row_left said.entry.act) row said.says in
     key_left schema key row said.entry.act parts.1 parts.0
 
--- what is there, and what is not
+-- what exists, and what does not
 record IsThere (found : Option Row) : Type 0 where
   row : Row
   is : found ≡ Some row
@@ -324,7 +324,7 @@ module _ (meaning : Meaning) (before : History) (valid : is_valid meaning before
         let first = and_parts (nat_lt 0 (length places)) (all_differ nat_eq places) outer.0 in
         columns-named places (ltb-true 0 (length places) first.0) outer.1
 
-    -- nothing is refused of a rule's columns
+    -- nothing in a rule's columns is refused
     rule-passes : (places : List Place) → has_columns places schema ≡ true
         → rule_refused (names_at schema sound.differ places) schema ≡ []
     rule-passes places are =

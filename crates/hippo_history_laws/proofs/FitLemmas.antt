@@ -1,4 +1,4 @@
--- Words that are fit to be read.
+-- Words that the parser accepts.
 use Rattle.std.proofs.Common.{◌≡◌, ◌∙◌, ℕ, ◌+◌, ◌≤◌, Bool, true, false, not, cond, ◌&&◌, [], ◌∷◌, ◌++◌, take, drop, refl, sym, ap, arith, zero-add}
 use Rattle.std.specs.Prelude.{count_by}
 use Rattle.std.specs.List.{list_any, list_all}
@@ -11,7 +11,7 @@ use Rattle.hippo_lexer.specs.declared.kinds.TokenKind.{TokenKind}
 use Rattle.hippo_spj_reader.specs.Front.{Kinds}
 use Rattle.hippo_typing_laws.proofs.FitWords.{AreFit}
 
--- words with few parentheses and few NOT are fit to be read
+-- words with few parentheses and few NOT are accepted
 pub few-fit : (said : Kinds) → count_by is_left_paren said ≤ 64 → count_by negates said ≤ 64
     → list_any is_unsupported said ≡ false → AreFit said
 few-fit said opened negated supported = record {
@@ -60,7 +60,7 @@ calm-fits (kind ∷ said) calm =
       rw (fails (is_unsupported kind) two.1) later.2,
     )
 
--- a front with few of them, and then none
+-- a first part with few of them, and then none
 pub front-fit : (front said : Kinds) (opened : ℕ) → count_by is_left_paren front ≡ opened → opened ≤ 64
     → count_by negates front ≡ 0 → list_any is_unsupported front ≡ false → list_all is_calm said
     ≡ true → AreFit (front ++ said)

@@ -1,4 +1,4 @@
--- Texts in which no line ends.
+-- Texts within which no line ends.
 use Rattle.std.proofs.Common.{◌≡◌, ◌∙◌, ℕ, zero, suc, ◌+◌, ◌/◌, ◌%◌, ◌<◌, ◌^◌, Bool, true, false, not, ◌&&◌, List, [], ◌∷◌, ◌++◌, flat_map, get_or, length, refl, sym, subst, inl, inr, arith, ℤ, pos, negsuc, codes, decimal}
 use Rattle.std.specs.Prelude.{◌==◌, IsUtf8, int_le, nat_le, nat_lt}
 use Rattle.std.specs.Fmt.{signed_decimal}
@@ -31,12 +31,12 @@ use Rattle.hippo_history_laws.proofs.SpellingLemmas.{decimal_digits}
 abbrev pub is_inner : ℕ → Bool
 is_inner byte = not (byte == 10) && not (byte == 13)
 
--- a text of such bytes, which is UTF-8
+-- a text of such bytes that is UTF-8
 pub record AreInner (text : Txt) : Type 0 where
   pub all : list_all is_inner text ≡ true
   pub utf8 : IsUtf8 text
 
--- a byte of ASCII, too
+-- also an ASCII byte
 abbrev pub is_simple : ℕ → Bool
 is_simple byte = is_inner byte && nat_lt byte 128
 
@@ -71,7 +71,7 @@ inner_from : (byte : ℕ) → (byte ≡ 10 → ⊥) → (byte ≡ 13 → ⊥) �
 inner_from byte feed back =
     and_from _ _ (not_from_false _ (ne_eqb byte 10 feed)) (not_from_false _ (ne_eqb byte 13 back))
 
--- bytes that pass a test which neither passes
+-- bytes that pass a test that a line feed and a carriage return fail
 module _ (test : ℕ → Bool) (feed : test 10 ≡ false) (back : test 13 ≡ false) where
   inner_by : (byte : ℕ) → test byte ≡ true → is_inner byte ≡ true
   inner_by byte is = inner_from byte
@@ -183,7 +183,7 @@ day-fits : (day : ℤ) → is_day day ≡ true → IsDayNumber day
 day-fits day fits =
     let parts = and_parts (int_le first_day day) (int_le day last_day) fits in grind (arith, ints)
 
--- a value whose text, if it is one, has no control character
+-- a value that is not a text with a control character
 abbrev pub is_plain_value : Value → Bool
 is_plain_value (values.Text text) = list_all is_plain text
 is_plain_value value = true
@@ -203,7 +203,7 @@ inner-literal (values.Day day) kept plain =
     both (codes "DATE '") _ (said refl)
     (both (day_text day) (codes "'") (inner-day day (day-fits day kept)) (said refl))
 
--- members that are joined
+-- joined members
 module _ {A : Type 0} (text : A → Txt) (separator : Txt) (between : AreInner separator) where
   later-inner : (fits : A → Bool) → ((member : A) → fits member ≡ true → AreInner (text member))
       → (members : List A) → list_all fits members ≡ true

@@ -1,4 +1,4 @@
--- What is judged of the lines of a script.
+-- The checks of the lines of a script.
 use Rattle.std.proofs.Common.{◌≡◌, ◌∙◌, ◌<◌, Bool, true, false, List, [], ◌∷◌, length, Option, Some, None, Result, Ok, refl, ap, arith, ℤ}
 use Rattle.std.specs.Prelude.{int_le, int_lt, is_none, is_some, nat_le, ok_or, slice_get, slice_set}
 use Rattle.std.specs.Option.{option_flatten, option_map_or}
@@ -38,7 +38,7 @@ use Rattle.hippo_engine_checks.specs.Deeds.{Question}
 use Rattle.hippo_engine_checks.specs.Judging.{deed_for, delivery_for, judged_change, judged_clock, judged_login, judged_logout, judged_question, judged_statement, judged_wanted, question_in}
 use Rattle.hippo_history_laws.specs.ScriptLaws.{is_free}
 
--- a statement that asks for something is judged as a change
+-- a statement that asks for an act is checked as a change
 changes-judged : (history : History) (world : World) (statement : Stmt) (text : Txt)
     (wanted : Wanted) → wanted_by (known_at history) statement ≡ Some wanted
     → judged_statement history world Console statement text ≡ judged_change history world Console statement
@@ -51,8 +51,7 @@ changes-judged history world (stmt.BeginAudit audit) text wanted wants = absurd 
 changes-judged history world (stmt.Watch audit) text wanted wants = absurd cc
 changes-judged history world statement text wanted wants = refl
 
--- a statement of which nothing is refused makes the act that it comes to, where the history has
--- room
+-- a statement in which nothing is refused makes the act that it asks for, if the history has room
 pub change-judged : (history : History) (world : World) (statement : Stmt) (text : Txt)
     (wanted : Wanted) (act : Act) → change_refused (known_at history) statement ≡ []
     → wanted_by (known_at history) statement ≡ Some wanted → finished_act history wanted ≡ Ok act
@@ -73,14 +72,14 @@ change-judged history world statement text wanted act unrefused wants comes room
 not_back : (clock moment : ℤ) → int_le clock moment ≡ true → int_lt moment clock ≡ false
 not_back clock moment no_earlier = grind (arith, ints)
 
--- the clock may be set to a moment that is no earlier
+-- the clock may be set to a moment that is not earlier
 pub clock-judged : (world : World) (moment : Moment) → int_le world.clock moment ≡ true
     → judged_clock world moment ≡ Ok (deeds.set_clock moment)
 clock-judged world moment no_earlier =
     ap (λ (test : Bool). refused_if test (MomentBack world.clock) >>= λ set. Ok
     (deeds.set_clock moment)) (not_back world.clock moment no_earlier)
 
--- session 1 may be opened where it is free
+-- session 1 may be opened if it is free
 abbrev pub logged : World → Name → Pair → World
 logged world user pair = with_session world 1 (Some (new_session user pair))
 
@@ -96,7 +95,7 @@ opened_at : (sessions : List (Option Session)) (session : Session)
 opened_at [] session free = absurd cc
 opened_at (held ∷ sessions) session free = refl
 
--- once it is ended, it is as if it had not been
+-- after it ends, the sessions are as before it
 closed_at : (sessions : List (Option Session)) (session : Session)
     → option_map_or is_none (slice_get sessions 0) false ≡ true
     → slice_set (slice_set sessions 0 (Some session)) 0 None ≡ sessions
@@ -131,7 +130,7 @@ module _ (history : History) (world : World) (user : Name) (pair : Pair)
   logout-judged =
       ap (λ (opened : Checked Session). opened >>= λ session. Ok (deeds.log_out 1)) stands_open
 
--- and then asks a question of which nothing is refused, where the history has room
+-- then the user may ask a question in which nothing is refused, if the history has room
 abbrev pub question_so : Name → Pair → Txt → Query → Question
 question_so user pair text query =
     record { session = 1; user = user; pair = pair; text = text; query = query }

@@ -1,4 +1,4 @@
--- What is told of a deleted row reads back.
+-- The text of a deleted row reads back.
 use Rattle.std.proofs.Common.{◌≡◌, ◌∙◌, ◌<◌, Bool, true, false, not, ◌&&◌, List, [], ◌∷◌, ◌++◌, length, map, filter_map, Some, refl, sym, ap, subst, arith, codes}
 use Rattle.std.specs.Prelude.{nat_eq}
 use Rattle.std.specs.List.{list_any, list_all, cons_option, zip}
@@ -128,7 +128,7 @@ module _ (columns : List Column) where
       let each = and_parts (value_is_keepable value) (list_all value_is_keepable key) kept in
       and_from _ _ (and_from _ _ names.0 each.0) (pairs-fit places key names.1 each.1)
 
--- values that are looked up by places that differ
+-- looking values up by places that differ
 passed-over : (place : Place) (value : Value) (pairs : List Assigned) (others : List Place)
     → list_any (nat_eq place) others ≡ false →
     filter_map (λ (other : Place). lookup (nat_eq other) ((place, value) ∷ pairs)) others

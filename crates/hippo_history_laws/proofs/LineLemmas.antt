@@ -1,4 +1,4 @@
--- What the lines of a script command.
+-- The command of each line of a script.
 use Rattle.std.proofs.Common.{◌≡◌, ◌∙◌, ℕ, suc, ◌+◌, ◌/◌, ◌%◌, ◌<◌, Bool, true, false, not, List, [], ◌∷◌, ◌++◌, length, Option, Some, None, Ok, refl, subst, ap, arith, ℤ, pos, codes, bytes_eq}
 use Rattle.std.specs.Prelude.{if◌then◌else◌, int_le, nat_lt, ok_or, option_and_then, option_map, unsigned_abs}
 use Rattle.std.specs.Int.{int_div_euclid, int_rem_euclid}
@@ -25,14 +25,14 @@ use Rattle.hippo_stmt_lines.proofs.MomentLemmas.{moments_are_read}
 use Rattle.hippo_history_laws.specs.TellingLaws.{ReadsAs}
 use Rattle.hippo_history_laws.specs.ScriptLaws.{login_line_of}
 
--- a text that is read as a statement is that statement
+-- a text that parses as a statement is that statement
 pub statement-is : (text : Txt) (statement : Stmt) → ReadsAs text statement → statement_in text
     ≡ Ok statement
 statement-is text statement reads =
     ap statement_among reads.cut ∙ ap (statement_by reads.tokens) reads.words
     ∙ ap (λ (found : Option Stmt). ok_or found BadSyntax) reads.found
 
--- the form of a console's line that begins with a word which is no short one
+-- the form of a console's line that begins with a word other than the short words
 pub console_form : (text word : Txt) (words : List Txt) → words_of text ≡ word ∷ words
     → short_word_of word ≡ None → line_form (codes "0 " ++ text) ≡ Some (makes_statement 0 text)
 console_form text word words are plain =
@@ -41,7 +41,7 @@ console_form text word words are plain =
     lt-ltb 1 (suc (suc (length text))) more in
     rw within (ap (form_with 0 text) are ∙ rw plain refl)
 
--- the line of the console with a text that is read as a statement
+-- the console's line with a text that parses as a statement
 pub makes_statement-it : (text word : Txt) (words : List Txt) (statement : Stmt) → words_of text
     ≡ word ∷ words → short_word_of word ≡ None → ReadsAs text statement
     → command_of (text_line (codes "0 " ++ text)) ≡ make_statement Console statement text
@@ -107,18 +107,18 @@ sets-it moment fits =
     ∙ ap clock_command
     ((moments_are_read (moment_text moment) moment).1 (moment-fits moment fits, refl))
 
--- a text begins with a word that is no short one
+-- a text begins with a word other than the short words
 pub record Begins (text : Txt) : Type 0 where
   pub word : Txt
   pub words : List Txt
   pub are : words_of text ≡ word ∷ words
   pub plain : short_word_of word ≡ None
 
--- no space stands in a word
+-- a word contains no space
 abbrev pub is_whole : Txt → Bool
 is_whole word = list_all (λ byte. not (is_space byte)) word
 
--- a word with a space behind it is the first, and one with nothing behind it is the last
+-- a word followed by a space is the first, and a word followed by nothing is the last
 pub split-word : (word rest : Txt) → is_whole word ≡ true
     → slice_split is_space (word ++ 32 ∷ rest) ≡ word ∷ slice_split is_space rest
 split-word [] rest one = refl
@@ -174,7 +174,7 @@ session-form text =
     lt-ltb 1 (suc (suc (length text))) more in
     rw within refl
 
--- what it commands where its text is read as a statement
+-- its command, if its text parses as a statement
 pub makes_request-it : (text : Txt) (statement : Stmt) → Begins text → statement_in text ≡ Ok statement
     → command_of (text_line (codes "1 " ++ text)) ≡ make_statement (Session 1) statement text
 makes_request-it text statement begins is =

@@ -1,4 +1,4 @@
--- What is shown as a script is its lines.
+-- The text that is shown as a script consists of its lines.
 use Rattle.std.proofs.Common.{◌≡◌, ◌∙◌, Bool, true, false, List, [], ◌∷◌, ◌++◌, filter, flat_map, Option, Some, refl, sym, ap, codes}
 use Rattle.std.specs.Prelude.{if◌then◌else◌}
 use Rattle.std.proofs.lemmas.List.{append-nil, append_assoc}
@@ -21,7 +21,7 @@ use Rattle.hippo_history_laws.specs.ScriptLaws.{ScriptsAreLines, act_script, clo
 abbrev pub fed : Txt → Txt
 fed line = line ++ codes "\n"
 
--- a question's lines are a session, and any other act's line stands at the console
+-- a question's lines are a session, and any other act's line is one of the console
 three_words : (one second third rest : Txt)
     → ((one ++ 32 ∷ (second ++ 32 ∷ third)) ++ 10 ∷ []) ++ rest
     ≡ one ++ 32 ∷ (second ++ 32 ∷ (third ++ 10 ∷ rest))
@@ -59,7 +59,7 @@ module _ (history : History) (excerpt : Excerpt) (is_script : excerpt.form ≡ S
       entries_told history excerpt clock entries
       ≡ flat_map fed (script_lines history clock (filter (is_told history excerpt) entries))
 
-  -- an entry that is told, and the lines of those behind it
+  -- an entry that is shown, and the lines of the entries after it
   entry-lines : (clock : Option Moment) (entry : Entry) (later : History)
       → Spells (Some entry.moment) later
       → told_as history excerpt.form clock entry

@@ -1,4 +1,4 @@
--- What lists say whose members are joined.
+-- The tokens of lists whose members are joined.
 use Rattle.std.proofs.Common.{◌≡◌, ◌∙◌, Bool, true, List, [], ◌∷◌, ◌++◌, map, flat_map, sym, subst}
 use Rattle.std.specs.List.{list_all}
 use Rattle.std.proofs.lemmas.Bool.{and_parts}
@@ -10,7 +10,7 @@ use Rattle.hippo_spj_reader.specs.Front.{Kinds}
 use Rattle.hippo_spj_reader.specs.ListGrammar.{IsListOf, last_part, more_parts}
 use Rattle.hippo_history_laws.proofs.SayingLemmas.{Says}
 
--- How members are spelled, what they say and mean, and what stands between them.
+-- How members are spelled, their tokens and meaning, and the separator between them.
 module _ {A X : Type 0} (text : A → Txt) (said_by : A → Kinds) (meant : A → X) (fits : A → Bool)
     (Ends : Txt → Type 0) (separator : Txt) (kind : TokenKind) where
   abbrev pub SaysPart : Type 0
@@ -21,7 +21,7 @@ module _ {A X : Type 0} (text : A → Txt) (said_by : A → Kinds) (meant : A �
   SaysSeparator =
       (rest : Txt) (said : Kinds) → Says rest said → Says (separator ++ rest) (kind ∷ said)
 
-  -- what members say that stand behind others
+  -- the tokens of members that follow others
   abbrev pub later_said : List A → Kinds → Kinds
   later_said [] said = said
   later_said (part ∷ parts) said = kind ∷ (said_by part ++ later_said parts said)
@@ -35,7 +35,7 @@ module _ {A X : Type 0} (text : A → Txt) (said_by : A → Kinds) (meant : A �
       append_assoc (separator ++ text part) (later_text parts) rest
       ∙ append_assoc separator (text part) (later_text parts ++ rest)
 
-  -- what members say one after the other
+  -- the tokens of members, one after another
   abbrev pub SaysList : Type 0
   SaysList = (part : A) (parts : List A) (rest : Txt) (said : Kinds)
       → list_all fits (part ∷ parts) ≡ true → Ends rest → Says rest said
@@ -73,7 +73,7 @@ module _ {A X : Type 0} (text : A → Txt) (said_by : A → Kinds) (meant : A �
         (says-part part (later_text parts ++ rest) (later_said parts said) each.0
         (ends-later parts rest ends) later)
 
-  -- and the list that the grammar finds
+  -- the list that the grammar finds
   pub list-read : (IsPart : Kinds → X → Kinds → Type 0)
       → ((part : A) (rest : Kinds) → IsPart (said_by part ++ rest) (meant part) rest)
       → (part : A) (parts : List A) (rest : Kinds) →

@@ -1,4 +1,4 @@
--- Columns whose names differ, by their names.
+-- Columns with distinct names, by their names.
 use Rattle.std.proofs.Common.{◌≡◌, ◌∙◌, zero, suc, ◌<◌, Bool, true, false, not, List, [], ◌∷◌, map, length, Option, Some, refl, ap, arith}
 use Rattle.std.specs.Prelude.{nat_lt, bytes_eq}
 use Rattle.std.specs.Cmp.Lexicographic.{nat_list_eq_equiv}
@@ -17,7 +17,7 @@ use Rattle.hippo_history_statements.specs.Telling.{name_at}
 abbrev pub column_names : List Column → List Name
 column_names columns = map (λ (column : Column). column.name) columns
 
--- no column has a name that is none of theirs
+-- a name that is none of the columns' names finds no column
 other_name : (name : Name) (columns : List Column) (place : Place)
     → list_any (bytes_eq name) (column_names columns) ≡ false → place < length columns
     → bytes_eq (name_at columns place) name ≡ false

@@ -1,4 +1,5 @@
--- A text that means something, and around which nothing is lost, is by itself the question that its line asks.
+-- A text with a meaning, and with nothing to drop at its ends, is itself the question that its line
+-- asks.
 use Rattle.std.proofs.Common.{◌≡◌, ◌∙◌, ℕ, suc, ◌+◌, ◌-◌, Bool, true, false, not, List, [], ◌∷◌, ◌++◌, length, Option, Some, None, Result, Ok, Err, refl, sym, ap, subst, inl, inr, arith, codes, bytes_eq}
 use Rattle.std.specs.Prelude.{◌||◌, slice_get}
 use Rattle.std.specs.Char.{to_ascii_lowercase}
@@ -54,7 +55,7 @@ pub last-ends : (place : ℕ) (first : Token) (tokens : List Token) → end_from
 last-ends place first [] = refl
 last-ends place first (next ∷ tokens) = last-ends first.end next tokens
 
--- how the end of a text ends
+-- how the last part of a text ends
 pub last_or-append : (before : Option ℕ) (front rest : Txt) → last_or before (front ++ rest)
     ≡ last_or (last_or before front) rest
 last_or-append before [] rest = refl
@@ -67,7 +68,7 @@ rest-ends test front (byte ∷ rest) ends =
     sym (ap (λ (last : Option ℕ). option_map_or test last false)
     (last_or-append None front (byte ∷ rest))) ∙ ends
 
--- a first token, and what comes of the rest
+-- a first token, and the result of the rest
 abbrev pub Later : Token → Outcome → List Token → Type 0
 Later token later tokens = (others : List Token) × (later ≡ Ok others) × (tokens ≡ token ∷ others)
 
@@ -80,7 +81,7 @@ pub first_is : (token first : Token) (tokens others : List Token)
     → ◌≡◌ {A = List Token} (first ∷ tokens) (token ∷ others) → first ≡ token
 first_is token first tokens others e = cc
 
--- where no blank stands at the end, the last token ends there
+-- if no blank is at the end, the last token ends there
 past_blank : (place size : ℕ) (tokens : List Token)
     → end_from (place + 1) tokens ≡ place + 1 + suc size
     → end_from place tokens ≡ place + suc (suc size)
@@ -107,7 +108,7 @@ ends-there place bytes outcome tokens (at_token _ _ text rest kind later _ h is_
     ap (end_from place) remaining.2 ∙ there ∙ omega (arith, size)
 ends-there place bytes outcome tokens (at_fault _ _ fault h) ok ends = absurd cc
 
--- where none stands at the front, the first token begins there
+-- if no blank is at the beginning, the first token begins there
 record Opens (text : Txt) (first : Token) : Type 0 where
   word : Txt
   rest : Txt
@@ -135,7 +136,7 @@ opens text outcome first tokens (at_token _ _ word rest kind later _ h is_cut cu
     }
 opens text outcome first tokens (at_fault _ _ fault h) ok plain = absurd cc
 
--- it is SELECT
+-- the first token is SELECT
 select_first : (tokens : Kinds) (select : RawSelect) (rest : Kinds) → IsSelect tokens select rest
     → (remaining : Kinds) × (tokens ≡ Keyword KSelect ∷ remaining)
 select_first _ select rest (selects.plain_select a b) = (_, refl)
@@ -190,7 +191,7 @@ select-spelled word found =
     sym ((bytes_eq-Decides there.entry.0 (lower_case word)).0 there.passes)
     ∙ (bytes_eq-Decides there.entry.0 (codes "select")).0 is_select
 
--- so the first word of the line's text begins with `se`, as no short word does
+-- the first word of the line's text begins with `se`, and no short word does
 record Letters (word : Txt) : Type 0 where
   first : ℕ
   second : ℕ
@@ -262,7 +263,7 @@ begins-select text letters =
           (lower_case rest.first) letters.is_s letters.is_e;
     }
 
--- a text that is, in a line, a question with just this text
+-- in a line, the text is a question with exactly this text
 pub record AsksItself (text : Txt) (select : RawSelect) : Type 0 where
   pub begins : Begins text
   pub is : statement_in text ≡ Ok (stmt.Select select 0 (length text))

@@ -1,4 +1,4 @@
--- What is told of acts that name no table reads back.
+-- The text of acts that name no table reads back.
 use Rattle.std.proofs.Common.{◌≡◌, ℤ, true, false, ◌&&◌, [], ◌∷◌, ◌++◌, Option, Some, Ok, refl, sym, subst, codes}
 use Rattle.std.specs.Fmt.{signed_decimal}
 use Rattle.std.proofs.lemmas.Bool.{and_parts, false≢true}
@@ -32,7 +32,7 @@ use Rattle.hippo_history_laws.specs.TellingLaws.{ReadsAs, ReadsBack, NamesReadBa
 use Rattle.hippo_history_laws.proofs.SayingLemmas.{Says, Spells, says-blank, says-word, says-last_word, says-name, says-name_first, says-last_name}
 use Rattle.hippo_history_laws.proofs.SpellingLemmas.{says-number_first, says-comma, authorize-word, choice-word, create-word, deauthorize-word, for-word, in-word, is-word, item-word, no-word, on-word, opt-word, out-word, purpose-word, recipient-word, yes-word}
 
--- a text that says a statement of the console is read as it
+-- a text with the tokens of a console statement parses as it
 pub console-reads : (text : Txt) (said : Kinds) (s : Stmt) → Says text said → AreFit said
     → IsConsole said s [] → ReadsAs text s
 unfolding outcome_of
@@ -46,7 +46,7 @@ console-reads text said s says fit is =
           (console (subst (λ (k : Kinds). IsConsole k s []) (sym cut.2) is) no_semicolon);
     }
 
--- CREATE, what is created and its name
+-- the tokens of CREATE: what is created, and its name
 abbrev created_said : words.Keyword → Name → Kinds
 created_said keyword name = Keyword KCreate ∷ Keyword keyword ∷ Word name ∷ []
 

@@ -1,4 +1,4 @@
--- What is told of an inserted row reads back.
+-- The text of an inserted row reads back.
 use Rattle.std.proofs.Common.{◌≡◌, ◌<◌, true, [], ◌∷◌, ◌++◌, length, map, refl, ap, subst, arith, codes}
 use Rattle.std.specs.List.{list_all}
 use Rattle.hippo_values.specs.Texts.{Txt}
@@ -33,7 +33,7 @@ map-same : (row : Row) → map same row ≡ row
 map-same [] = refl
 map-same (value ∷ row) = ap (λ (rest : Row). value ∷ rest) (map-same row)
 
--- what the literals behind the first say, and then `)`
+-- the tokens of the literals after the first, and then `)`
 abbrev others : Row → Kinds
 others row =
     later_said literal_text literal_said same value_is_keepable EndsLiteral comma (Symbol Comma) row

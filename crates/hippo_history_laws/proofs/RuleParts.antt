@@ -1,4 +1,4 @@
--- The parts of what lets a rule follow a history, and of what lets it be kept.
+-- The conditions under which a rule may follow a history, and those under which it can be stored.
 use Rattle.std.proofs.Common.{◌≡◌, ℕ, true, ◌&&◌, List, Option}
 use Rattle.std.proofs.lemmas.Bool.{and_parts}
 use Rattle.hippo_values.specs.declared.names.Name.{Name}

@@ -1,4 +1,4 @@
--- What is told of rules reads back.
+-- The text of a rule reads back.
 use Rattle.std.proofs.Common.{◌≡◌, ◌∙◌, ℕ, ◌<◌, pos, Bool, true, ◌&&◌, List, [], ◌∷◌, ◌++◌, length, map, Option, Some, None, refl, sym, ap, subst, arith, codes, decimal}
 use Rattle.std.specs.Prelude.{nat_le}
 use Rattle.std.specs.List.{list_all}
@@ -35,7 +35,7 @@ use Rattle.hippo_history_laws.proofs.FitLemmas.{is_calm, front-fit}
 use Rattle.hippo_history_laws.proofs.NamePlaces.{places_again, names_folded}
 use Rattle.hippo_history_laws.proofs.ReadingTheorem.{console-reads, three-names}
 
--- names of columns, one after the other
+-- names of columns, one after another
 module _ (columns : List Column) where
   abbrev pub name_said : Place → Kinds
   name_said place = Word (name_at columns place) ∷ []
@@ -70,7 +70,7 @@ module _ (columns : List Column) where
   names-calm [] said calm = calm
   names-calm (place ∷ places) said calm = names-calm places said calm
 
-  -- a rule, and what stands behind it
+  -- a rule, and what follows it
   rule-remaining : (purpose recipient table : Name) (places : List Place) (rest : Txt)
       → rule_text columns purpose recipient table places ++ rest
       ≡ purpose ++ (codes
@@ -134,7 +134,7 @@ revoke-reads columns purpose recipient table (place ∷ places) some are fit =
     (front-fit front tail 1 refl (omega arith) refl refl calm)
     (revoke (names-read columns place places (Symbol RightParen ∷ [])))
 
--- what stands behind a rule that allows
+-- the text after a rule that allows
 abbrev retention_said : Option ℕ → Kinds
 retention_said None = []
 retention_said (Some days) = Word (codes "retain") ∷ Number (pos days) ∷ Word (codes "days") ∷ []

@@ -1,4 +1,4 @@
--- What a text says, piece by piece from its end on.
+-- The tokens of a text, piece by piece from its end.
 use Rattle.std.proofs.Common.{◌≡◌, ℕ, ◌+◌, true, false, List, [], ◌∷◌, ◌++◌, length, Some, Ok, refl, ap, subst}
 use Rattle.std.proofs.lemmas.Bool.{and_parts, both_ways}
 use Rattle.std.proofs.lemmas.List.{append-nil}
@@ -19,7 +19,7 @@ use Rattle.hippo_lexer.specs.declared.kinds.TokenKind.TheVariants.{Word, Keyword
 use Rattle.hippo_model.specs.Keepable.{is_folded_name}
 use Rattle.hippo_spj_reader.specs.Front.{Kinds, kinds}
 
--- the text has tokens that say this, wherever it stands
+-- the text has tokens of these kinds, wherever it begins
 abbrev pub Says : Txt → Kinds → Type 0
 Says text said =
     (place : ℕ) → (tokens : List Token) × IsCut place text (Ok tokens) × (kinds tokens ≡ said)
@@ -100,7 +100,7 @@ says-last_name name is =
     subst (λ (text : Txt). Says text (Word name ∷ [])) (append-nil name)
     (says-name name [] [] is refl says-nothing)
 
--- a sign that no byte behind it makes longer
+-- a symbol that no following byte makes longer
 pub says-sign : (text rest : Txt) (sign : signs.Symbol) (said : Kinds) → sign_of text ≡ Some sign
     → IsLongestSign text rest → Says rest said → Says (text ++ rest) (Symbol sign ∷ said)
 says-sign text rest sign said is longest more =
@@ -113,7 +113,7 @@ says-quoted_text text rest said ends more =
     says-token (quoted_text text) rest (Quoted text) said
     (a_quoted_text (quoted_text text) text rest refl ends) more
 
--- a word in whatever case that is no word of the language
+-- a word in any case that is not a word of the language
 pub says-plain_word : (word rest : Txt) (said : Kinds) → is_name word ≡ true → EndsWord rest
     → Says rest said → Says (word ++ rest) (Word (lower_case word) ∷ said)
 says-plain_word word rest said is ends more =

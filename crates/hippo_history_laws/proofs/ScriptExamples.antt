@@ -1,4 +1,4 @@
--- Worked rows of scripts. Each is named by what it shows.
+-- Worked examples of scripts. Each example's name says what it shows.
 use Rattle.std.proofs.Common.{◌≡◌, true, false, [], ◌∷◌, ◌++◌, map, None, refl, codes}
 use Rattle.hippo_model.specs.declared.entry.Act.TheVariants.{Asked, Purpose}
 use Rattle.hippo_history_laws.specs.ScriptLaws.{act_script, is_bare}

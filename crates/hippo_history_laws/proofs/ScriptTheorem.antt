@@ -43,7 +43,7 @@ use Rattle.hippo_history_laws.proofs.LineLemmas.{Begins, is_whole, sets-it, spli
 use Rattle.hippo_history_laws.proofs.JudgingLemmas.{change-judged, clock-judged}
 use Rattle.hippo_history_laws.proofs.AskingTheorem.{question-makes}
 
--- a statement begins with a word that is no short one
+-- a statement begins with a word other than the short words
 begins : (word rest : Txt) → is_filled word ≡ true
     → is_whole word ≡ true → short_word_of word ≡ None → Begins (word ++ 32 ∷ rest)
 unfolding words_of
@@ -81,7 +81,7 @@ pub stated-lines : (schema : Option Schema) (act : Act) → is_stated schema act
 stated-lines schema (Asked user purpose recipient text) stated = absurd cc
 stated-lines schema act stated = refl
 
--- the parts of what lets an entry follow
+-- the conditions under which an entry may follow
 pub record Follows (before : History) (entry : Entry) : Type 0 where
   pub moment_fits : is_moment entry.moment ≡ true
   pub order : keeps_order before entry.moment ≡ true
@@ -150,7 +150,7 @@ module _ (before later : History) (entry : Entry)
       ap (made_effect world) next in
       ap (effect_of before world) commands ∙ ap (judgement_effect before world Console) judges ∙ last
 
-  -- its lines make it, whatever lines come behind them
+  -- its lines make it, whatever lines follow them
   entry-makes : (world : World) → world.clock ≡ entry.moment → length before < world.limit
       → is_scripted (schema_before whole entry) entry.act ≡ true
       → (not (is_question entry.act) || is_free world) ≡ true → (more : List LineText)
@@ -190,7 +190,7 @@ module _ (before later : History) (entry : Entry)
       ap (effect_of before world) (sets-it entry.moment (follows before entry may).moment_fits)
       ∙ ap (judgement_effect before world Nobody) (clock-judged world entry.moment no_earlier)
 
--- the clock stands as the script says, and no later than the next entry
+-- the clock is set as the script says, and is no later than the next entry
 record Stands (clock : Option Moment) (world : World) (later : History) : Type 0 where
   set : (moment : Moment) → clock ≡ Some moment → world.clock ≡ moment
   no_later : starts_before world later ≡ true

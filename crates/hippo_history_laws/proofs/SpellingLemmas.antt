@@ -1,4 +1,4 @@
--- What numbers, days and literals say, and the words of statements.
+-- The tokens of numbers, days and literals, and of the words of statements.
 use Rattle.std.proofs.Common.{◌≡◌, ◌∙◌, ℕ, suc, ◌+◌, ◌/◌, ◌%◌, ◌<◌, ◌^◌, int_le, true, false, List, [], ◌∷◌, ◌++◌, refl, sym, ap, arith, ℤ, pos, negsuc, neg_ℤ, codes, decimal}
 use Rattle.std.specs.Fmt.{signed_decimal}
 use Rattle.std.specs.Char.{is_ascii_digit}
@@ -62,7 +62,7 @@ pub says-number_first : (number : ℤ) (rest : Txt) (said : Kinds) → is_signed
 says-number_first number rest said is more =
     says-number number (32 ∷ rest) said is refl (says-blank rest said more)
 
--- the signs
+-- the symbols
 pub says-comma : (rest : Txt) (said : Kinds) → Says rest said
     → Says (44 ∷ rest) (Symbol Comma ∷ said)
 unfolding sign_table sign_of
@@ -85,7 +85,7 @@ unfolding sign_table sign_of
 says-closing rest said more =
     says-sign (41 ∷ []) rest RightParen said refl (λ byte remaining is. refl) more
 
--- digits are no quotes
+-- digits are not quotes
 unquoted : (n : ℕ) → is_quote (48 + n) ≡ false
 unquoted n = ne_eqb (48 + n) 39 (λ same. absurd (omega arith))
 
@@ -276,7 +276,7 @@ pub yes-word : Spells (codes "YES") KYes
 unfolding keywords
 yes-word = record { form = refl; written = refl; other = refl }
 
--- what a literal says, and what may follow it
+-- the tokens of a literal, and what may follow it
 abbrev pub literal_said : Value → Kinds
 literal_said values.Null = Keyword KNull ∷ []
 literal_said (values.Int number) = Number number ∷ []

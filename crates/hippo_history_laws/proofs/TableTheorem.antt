@@ -1,4 +1,4 @@
--- What is told of a table that is created reads back.
+-- The text of a table that is created reads back.
 use Rattle.std.proofs.Common.{◌≡◌, ◌∙◌, ℕ, zero, suc, ◌+◌, ◌<◌, ◌≤◌, Bool, true, false, ◌&&◌, ◌||◌, List, [], ◌∷◌, ◌++◌, length, map, Option, Some, None, refl, sym, ap, subst, inl, inr, arith, codes}
 use Rattle.std.specs.Prelude.{nat_le, nat_eq, bytes_eq, slice_get, unwrap_or, option_map, option_and_then}
 use Rattle.std.specs.List.{list_any, list_all}
@@ -46,8 +46,8 @@ use Rattle.hippo_history_laws.proofs.NamePlaces.{column_names, all_within, place
 use Rattle.hippo_history_laws.proofs.ReadingTheorem.{console-reads}
 use Rattle.hippo_history_laws.proofs.RuleTheorem.{name_said, names_later, names-say, names-read, names-calm}
 
--- behind DATE stands no quoted text, where a byte that is neither blank nor quote comes first, or
--- behind one blank
+-- DATE is not followed by a quoted text if the next byte, or the byte after one blank, is neither a
+-- blank nor a quote
 abbrev Unquoted : Txt → Type 0
 Unquoted remaining = (blanks text more : Txt) → IsQuotedAfter remaining blanks text more → ⊥
 
@@ -89,7 +89,7 @@ says-date rest said ends unquoted more =
     says-token (codes "DATE") rest (Keyword KDate) said
     (a_keyword (codes "DATE") rest KDate whole refl (λ same. unquoted)) more
 
--- what a column says, and what may follow it
+-- the tokens of a column, and what may follow them
 abbrev kind_word : ColumnKind → words.Keyword
 kind_word kinds.Integer = KInteger
 kind_word kinds.Text = KText
@@ -180,7 +180,7 @@ column-is : (column : Column) (rest : Kinds)
     → IsColumnDef (column_said column ++ rest) (same_column column) rest
 column-is column rest = form-is column.name column.kind column.not_null rest
 
--- columns, one after the other
+-- columns, one after another
 abbrev columns_later : List Column → Kinds → Kinds
 columns_later columns said =
     later_said column_definition column_said same_column column_named EndsColumn comma
@@ -240,7 +240,7 @@ columns-weigh (column ∷ columns) said opened negated light =
     (column-weighs column (columns_later columns said) opened (negated + length columns)
     (columns-weigh columns said opened negated light)))
 
--- the SUBJECT, and what stands behind it
+-- the SUBJECT, and what follows it
 module _ (columns : List Column) where
   abbrev subject_said : Option Place → Kinds
   subject_said None = Symbol RightParen ∷ []
@@ -270,7 +270,7 @@ module _ (columns : List Column) where
   subject-calm None = refl
   subject-calm (Some place) = refl
 
--- what a table's statement is made of
+-- the parts of a table's statement
 pub record HasNames (name : Name) (columns : List Column) (key : List Place)
     (place : Option Place) : Type 0 where
   pub name_fits : is_folded_name name ≡ true
@@ -356,7 +356,7 @@ all_there test schema (place ∷ places) pass =
     and_from _ _ (lt-ltb _ _ (there test schema.columns place parts.0))
     (all_there test schema places parts.1)
 
--- a column that passes a test which another does not has another name
+-- if one column passes a test and another does not, their names differ
 apart : (test : Column → Bool) (schema : Schema) (place other : Place) (column : Column)
     → all_differ bytes_eq (column_names schema.columns) ≡ true →
     column_passes test schema place ≡ true → slice_get schema.columns other ≡ Some column
@@ -412,7 +412,7 @@ each-same (column ∷ columns) change same =
     each-same columns change (λ place one at. same (suc place) one at) in
     λ i. here i ∷ later i
 
--- the parts of what makes a schema well formed
+-- the conditions under which a schema is well formed
 pub record IsTable (schema : Schema) : Type 0 where
   pub differ : all_differ bytes_eq (column_names schema.columns) ≡ true
   pub key_differ : all_differ nat_eq schema.key ≡ true

@@ -1,4 +1,4 @@
--- In what is told of an entry of a valid history no line ends.
+-- No line ends within the text of an entry of a valid history.
 use Rattle.std.proofs.Common.{◌≡◌, ℕ, zero, suc, Bool, true, false, ◌&&◌, List, [], ◌∷◌, ◌++◌, filter_map, Option, Some, None, refl, sym, subst, arith, ℤ, codes, decimal}
 use Rattle.std.specs.Prelude.{nat_le, length, option_and_then, slice_get}
 use Rattle.std.specs.Fmt.{signed_decimal}

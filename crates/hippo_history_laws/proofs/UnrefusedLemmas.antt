@@ -1,4 +1,4 @@
--- Names, places and values of which nothing is refused.
+-- Names, places and values in which nothing is refused.
 use Rattle.std.proofs.Common.{◌≡◌, ◌∙◌, zero, suc, ◌+◌, ◌<◌, Bool, true, false, not, ◌&&◌, List, [], ◌∷◌, ◌++◌, filter, filter_map, length, map, Option, Some, refl, sym, ap, subst, inl, inr, arith}
 use Rattle.std.specs.Prelude.{bytes_eq, nat_eq, nat_lt, slice_get, unwrap_or, is_none}
 use Rattle.std.specs.Cmp.Lexicographic.{nat_list_eq_equiv, pointwise}
@@ -39,7 +39,7 @@ pub refused_not : (test : Bool) (fault : NameFault) → test ≡ false → fault
 refused_not true fault fails = absurd cc
 refused_not false fault fails = refl
 
--- names that differ are not repeated
+-- distinct names are not repeated
 abbrev are_new : List Name → List Name → Bool
 are_new before names = list_all (λ (other : Name). not (list_any (bytes_eq other) before)) names
 
@@ -239,7 +239,7 @@ module _ (schema : Schema) (differ : all_differ bytes_eq (column_names schema.co
       (λ (name : Name). fault_if (is_none (place_of schema name)) (UnknownColumn name)) first second
       ∙ both_none (unknown_columns schema first) (unknown_columns schema second) none nothing
 
-  -- what is refused of a column that is found
+  -- what is refused in a column that is found
   pub in_column_none : (place : Place) (column : Column) (refusals : Column → List NameFault)
       → place < length schema.columns → slice_get schema.columns place ≡ Some column
       → refusals column ≡ [] → in_column schema (name_at schema.columns place) refusals ≡ []
@@ -247,7 +247,7 @@ module _ (schema : Schema) (differ : all_differ bytes_eq (column_names schema.co
       rw (place_at schema place differ small)
       (ap (λ (found : Option Column). option_map_or refusals found []) at ∙ none)
 
-  -- of values that fit the columns at some places
+  -- what is refused in values that fit the columns at some places
   assigned_none : (refusals : Column → Value → List NameFault) → IsPassed refusals
       → (places : List Place) (key : Key) → all_within schema.columns places ≡ true
       → pointwise fits (filter_map (slice_get schema.columns) places) key ≡ true
@@ -374,7 +374,7 @@ differ_kept kept (place ∷ places) differ =
       | inr is ↦ rw is (differ_kept kept places parts.1)
     ]
 
--- places in a row differ
+-- consecutive places differ
 none_lower : (place low n : Place) → place < low → list_any (nat_eq place) (range_with_len low n)
     ≡ false
 none_lower place low zero small = refl

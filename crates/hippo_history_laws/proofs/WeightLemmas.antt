@@ -1,4 +1,4 @@
--- How many parentheses and NOT words have, piece by piece from their end on.
+-- How many parentheses and NOT some words have, piece by piece from their end.
 use Rattle.std.proofs.Common.{◌≡◌, ℕ, ◌+◌, ◌≤◌, true, false, cond, ◌∷◌, refl, arith}
 use Rattle.std.specs.Prelude.{count_by, not, ◌&&◌}
 use Rattle.std.specs.List.{list_any, list_all}
@@ -13,7 +13,7 @@ use Rattle.hippo_spj_reader.specs.Front.{Kinds}
 use Rattle.hippo_typing_laws.proofs.FitWords.{AreFit}
 use Rattle.hippo_history_laws.proofs.FitLemmas.{is_calm, few-fit, passed, fails, calm-fits}
 
--- words with at most so many `(` and NOT, and none that is refused
+-- words with at most this many `(` and NOT, and no word that is refused
 pub record Weighs (said : Kinds) (opened negated : ℕ) : Type 0 where
   pub open_few : count_by is_left_paren said ≤ opened
   pub not_few : count_by negates said ≤ negated

@@ -1,4 +1,4 @@
--- What is told of an act reads back.
+-- The text that shows an act reads back: it parses as a statement that asks for this act.
 use Rattle.std.specs.Prelude.{◌≡◌, ℕ, ◌<◌, Bool, true, false, ◌&&◌, List, [], ◌∷◌, ◌++◌, map, length, nat_eq, nat_lt, bytes_eq, Option, Some, None, Ok}
 use Rattle.std.specs.List.{list_all}
 use Rattle.hippo_values.specs.Texts.{Txt}
@@ -24,15 +24,15 @@ use Rattle.hippo_typing_catalog.specs.ChangesWanted.{wanted_by}
 use Rattle.hippo_tables.specs.Finished.{finished_act, live_row, live_number}
 use Rattle.hippo_history_statements.specs.Telling.{told_act, set_places, columns_of, key_places, schema_before}
 
--- a text is read as this statement: it has tokens, whose words pass, and they are found to be the
--- statement
+-- a text parses as this statement: it is cut into tokens, its words are accepted, and the tokens
+-- are the statement
 pub record ReadsAs (text : Txt) (statement : Stmt) : Type 0 where
   pub tokens : List Token
   pub cut : outcome_of text ≡ Ok tokens
   pub words : words_check tokens ≡ Ok tt
   pub found : statement_of tokens ≡ Some statement
 
--- what is told of an act reads as a statement which after the history comes to just this act
+-- the text of an act parses as a statement that, after the history, asks for exactly this act
 pub record ReadsBack (history : History) (schema : Option Schema) (act : Act) : Type 0 where
   pub statement : Stmt
   pub reads : ReadsAs (told_act schema act) statement
@@ -50,22 +50,22 @@ names_no_table (Deauthorize user purpose recipient) = true
 names_no_table (Choice subject item agreed) = true
 names_no_table act = false
 
--- such an act, where it can be kept, reads back after any history
+-- the text of such an act, if it can be stored, reads back after any history
 abbrev pub NamesReadBack : Type 0
 NamesReadBack =
     (history : History) (schema : Option Schema) (act : Act) → names_no_table act ≡ true
     → act_is_keepable act ≡ true
     → ReadsBack history schema act
 
--- a table whose schema can be kept and is well formed: what is told of its CREATE TABLE reads back
--- after any history
+-- the text of a CREATE TABLE reads back after any history, if the table's schema can be stored and
+-- is well formed
 abbrev pub CreatesReadBack : Type 0
 CreatesReadBack =
     (history : History) (known : Option Schema) (schema : Schema) → schema_is_keepable schema ≡ true
     → is_well_formed schema ≡ true → ReadsBack history known (Create schema)
 
--- a row of at least one value, for a table that is there, whose key is not: what is told of its
--- INSERT reads back
+-- the text of an INSERT reads back, for a row of at least one value in a table that exists and has
+-- no row with its key
 abbrev pub InsertsReadBack : Type 0
 InsertsReadBack =
     (history : History) (schema : Schema) (table : Name) (row : Row)
@@ -74,8 +74,8 @@ InsertsReadBack =
     → 0 < length row
     → list_all value_is_keepable row ≡ true → ReadsBack history (Some schema) (Insert table row)
 
--- a table is there after the history, with columns whose names differ and are names in lower case,
--- and these places are those of at least one of them
+-- a table exists after the history, its columns have distinct names in lower case, and these are
+-- places of its columns, at least one
 pub record NamesColumns (history : History) (schema : Schema) (table : Name) (places : List Place)
     : Type 0 where
   pub known : table_of (known_at history) table ≡ Some schema
@@ -85,7 +85,7 @@ pub record NamesColumns (history : History) (schema : Schema) (table : Name) (pl
   pub some : 0 < length places
   pub within : list_all (λ (place : Place). nat_lt place (length schema.columns)) places ≡ true
 
--- what is told of a REVOKE reads back
+-- the text of a REVOKE reads back
 abbrev pub RevokesReadBack : Type 0
 RevokesReadBack =
     (history : History) (schema : Schema) (purpose recipient table : Name) (places : List Place)
@@ -93,7 +93,7 @@ RevokesReadBack =
     → (is_folded_name purpose && is_folded_name recipient && is_folded_name table) ≡ true
     → ReadsBack history (Some schema) (Revoke purpose recipient table places)
 
--- and so does what is told of an ALLOW
+-- the text of an ALLOW reads back
 abbrev pub AllowsReadBack : Type 0
 AllowsReadBack =
     (history : History) (schema : Schema) (purpose recipient table : Name) (places : List Place)
@@ -103,7 +103,7 @@ AllowsReadBack =
     → item_is_keepable item ≡ true → days_fit days ≡ true
     → ReadsBack history (Some schema) (Allow purpose recipient table places item days)
 
--- a row is there with the key of a row, and both have a value for each column
+-- the table has a row with the same key as this row, and both have a value for each column
 pub record Replaces (history : History) (schema : Schema) (table : Name) (row old : Row)
     : Type 0 where
   pub live : live_row history table (key_of schema.key row) ≡ Some old
@@ -111,8 +111,8 @@ pub record Replaces (history : History) (schema : Schema) (table : Name) (row ol
   pub size : length row ≡ length schema.columns
   pub old_size : length old ≡ length schema.columns
 
--- a row that takes the place of the one with its key, for a table with a column that is none of its
--- key's: what is told of its UPDATE reads back
+-- the text of an UPDATE reads back, for a row that replaces the one with its key, in a table with a
+-- column outside its key
 abbrev pub UpdatesReadBack : Type 0
 UpdatesReadBack =
     (history : History) (schema : Schema) (table : Name) (row old : Row)
@@ -121,8 +121,8 @@ UpdatesReadBack =
     → list_all value_is_keepable row ≡ true → Replaces history schema table row old
     → ReadsBack history (Some schema) (Update table row)
 
--- a key of a row that is there, for a table whose key's columns differ: what is told of its DELETE
--- reads back
+-- the text of a DELETE reads back, for the key of a row that exists, in a table whose key columns
+-- differ
 abbrev pub DeletesReadBack : Type 0
 DeletesReadBack =
     (history : History) (schema : Schema) (table : Name) (key : Key) (row : Row)
@@ -132,21 +132,21 @@ DeletesReadBack =
     → live_row history table key ≡ Some row
     → ReadsBack history (Some schema) (Delete table key)
 
--- whether what is told of an act is a statement: a question is told with who asked it, and no
--- UPDATE sets no column
+-- whether the text of an act is a statement: that of a question also has who asked it, and an
+-- UPDATE must set a column
 abbrev pub is_stated : Option Schema → Act → Bool
 is_stated schema (Asked user purpose recipient text) = false
 is_stated schema (Update table row) =
     nat_lt 0 (length (set_places (columns_of schema) (key_places schema)))
 is_stated schema act = true
 
--- what is told reads back, and nothing is refused of the statement: after the history it makes just
--- this act
+-- the text reads back, and nothing in the statement is refused, so that after the history it makes
+-- exactly this act
 pub record MakesAgain (history : History) (schema : Option Schema) (act : Act) : Type 0 where
   pub back : ReadsBack history schema act
   pub unrefused : change_refused (known_at history) back.statement ≡ []
 
--- each entry of a valid history that is told as a statement is made again by it, after the entries
+-- each entry of a valid history that is shown as a statement is made again by it, after the entries
 -- before it
 abbrev pub EntriesAreMadeAgain : Type 0
 EntriesAreMadeAgain =

@@ -1,4 +1,4 @@
--- Places and values side by side.
+-- Pairs of places and values.
 use Rattle.std.proofs.Common.{◌≡◌, ℕ, List, [], length, drop, min, arith}
 use Rattle.std.specs.List.{zip}
 use Rattle.std.proofs.lemmas.List.{nil_from_length, length-drop}

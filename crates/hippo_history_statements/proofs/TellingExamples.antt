@@ -32,7 +32,7 @@ patients = record {
   subject = Some 0;
 }
 
--- its key is room, and then site; it has no SUBJECT
+-- its key is room and then site; it has no SUBJECT
 abbrev wards : Schema
 wards = record {
   name = codes "ward";
@@ -59,7 +59,7 @@ every_value_is_inserted : of_wards (Insert (codes "ward") (Text (codes "south") 
     ≡ codes "INSERT INTO ward VALUES ('south', 'r12', NULL, 'Pat O''Hara')"
 every_value_is_inserted = refl
 
--- a number as a literal; the text of a list goes on behind it
+-- a number as a literal; in a list, more text follows it
 a_number : literal_text (Int (negsuc 6)) ≡ codes "-" ++ decimal 7
 a_number = refl
 
@@ -109,7 +109,7 @@ yes = refl
 no_longer : told_act None (Choice (negsuc 0) (codes "mail") false) ≡ codes "CHOICE -" ++ (decimal 1 ++ codes " ON mail IS NO")
 no_longer = refl
 
--- a history in which the table stands before the rule
+-- a history in which the table comes before the rule
 abbrev clinic : History
 clinic = record { seq = 1; moment = pos 1709535600; act = Create patients }
     ∷ record { seq = 2; moment = pos 1709535600; act = Allow (codes "treatment") (codes "nurse") patient (2 ∷ []) (Some (codes "contact")) None }

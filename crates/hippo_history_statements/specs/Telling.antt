@@ -1,4 +1,4 @@
--- The statement that made an entry, spelled as one types it.
+-- The statement that made an entry, spelled as a user would type it.
 use Rattle.std.specs.Prelude.{ℕ, ℤ, ◌++◌, Bool, true, false, not, List, [], filter, length, nat_eq, slice_get, Option, Some, None, option_and_then, codes, decimal}
 use Rattle.std.specs.Fmt.{signed_decimal}
 use Rattle.std.specs.List.{list_any, range_with_len, zip}
@@ -33,7 +33,7 @@ literal_text (values.Day day) = codes "DATE '" ++ (day_text day ++ codes "'")
 abbrev pub literals_text : List Value → Txt
 literals_text literals = separated_text literal_text comma literals
 
--- a column as CREATE TABLE has it
+-- the type of a column in CREATE TABLE
 abbrev pub kind_text : ColumnKind → Txt
 kind_text kinds.Integer = codes " INTEGER"
 kind_text kinds.Text = codes " TEXT"
@@ -46,18 +46,18 @@ not_null_text false = []
 abbrev pub column_definition : Column → Txt
 column_definition column = column.name ++ (kind_text column.kind ++ not_null_text column.not_null)
 
--- the name of the column at a place, and the names of those at some places
+-- the name of the column at a place, and then the names of the columns at some places
 abbrev pub name_at : List Column → Place → Txt
 name_at columns place = option_map_or (λ column. column.name) (slice_get columns place) []
 
 abbrev pub names_text : List Column → List Place → Txt
 names_text columns places = separated_text (name_at columns) comma places
 
--- a column with a value: one that is set, or one of a key
+-- a column with a value, in SET or as part of a key
 abbrev pub assigned_text : List Column → Place → Value → Txt
 assigned_text columns place value = name_at columns place ++ (codes " = " ++ literal_text value)
 
--- columns with the values that a row has there
+-- columns with the values of a row
 abbrev pub row_text : List Column → Row → Txt → List Place → Txt
 row_text columns row separator places =
     separated_text (λ place. assigned_text columns place (cell_at row place)) separator places
@@ -68,7 +68,7 @@ key_text columns places key =
     separated_text (λ (place, value). assigned_text columns place value) (codes " AND ")
     (zip places key)
 
--- the places of the columns that are none of the key's
+-- the places of the columns outside the key
 abbrev pub is_set : List Place → Place → Bool
 is_set key place = not (list_any (nat_eq place) key)
 
@@ -91,8 +91,8 @@ abbrev pub insert_text : Name → Row → Txt
 insert_text table row =
     codes "INSERT INTO " ++ (table ++ (codes " VALUES (" ++ (literals_text row ++ codes ")")))
 
--- Every column is set that is none of the key's. Where there is none, the text is no statement:
--- none makes such an act.
+-- Every column outside the key is set. If there is none, the text is not a statement; no statement
+-- makes such an act.
 abbrev pub update_text : List Column → List Place → Name → Row → Txt
 update_text columns key table row =
     codes "UPDATE " ++ (table ++ (codes " SET "
@@ -110,12 +110,12 @@ item_kind_text OptOut = codes " OPT OUT"
 abbrev pub item_text : Name → ItemKind → Txt
 item_text item kind = codes "CREATE ITEM " ++ (item ++ item_kind_text kind)
 
--- behind AUTHORIZE or DEAUTHORIZE
+-- the text after AUTHORIZE or DEAUTHORIZE
 abbrev pub grant_text : Name → Name → Name → Txt
 grant_text user purpose recipient =
     user ++ (codes " FOR " ++ (purpose ++ (codes ", " ++ recipient)))
 
--- behind ALLOW or REVOKE
+-- the text after ALLOW or REVOKE
 abbrev pub rule_text : List Column → Name → Name → Name → List Place → Txt
 rule_text columns purpose recipient table places =
     purpose ++ (codes " TO " ++ (recipient ++ (codes " ON " ++ (table
@@ -142,20 +142,20 @@ abbrev pub choice_text : ℤ → Name → Bool → Txt
 choice_text subject item agreed =
     codes "CHOICE " ++ (signed_decimal subject ++ (codes " ON " ++ (item ++ agreed_text agreed)))
 
--- who asked, and what
+-- who asked, and the question
 abbrev pub asked_text : Name → Name → Name → Txt → Txt
 asked_text user purpose recipient text =
     user ++ (codes " " ++ (purpose ++ (codes " " ++ (recipient ++ (codes " " ++ text)))))
 
--- the columns and the key of a table that is there
+-- the columns, and then the key, of a table; none if there is no such table
 abbrev pub columns_of : Option Schema → List Column
 columns_of schema = option_map_or (λ known. known.columns) schema []
 
 abbrev pub key_places : Option Schema → List Place
 key_places schema = option_map_or (λ known. known.key) schema []
 
--- the statement that an act came of, where this is the schema of the table that it names; a
--- question by its user, purpose, recipient and text
+-- the statement that made an act, with the schema of the table that it names; a question is written
+-- as its user, purpose, recipient and text
 abbrev pub told_act : Option Schema → Act → Txt
 told_act schema (Create made) = create_text made
 told_act schema (Insert table row) = insert_text table row
@@ -184,12 +184,12 @@ table_named (Allow purpose recipient table places item days) = Some table
 table_named (Revoke purpose recipient table places) = Some table
 table_named act = None
 
--- its schema, as the entry found it
+-- the schema of that table, as it was before the entry
 abbrev pub schema_before : History → Entry → Option Schema
 schema_before history entry =
     option_and_then (schema_at (before_entry entry history)) (table_named entry.act)
 
--- an entry by its number and moment, and the statement
+-- an entry as its number, its moment and its statement
 abbrev pub entry_line : Option Schema → Entry → Txt
 entry_line schema entry =
     decimal entry.seq ++ (codes " " ++ (moment_text entry.moment

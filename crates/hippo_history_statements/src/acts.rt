@@ -1,4 +1,4 @@
-//! The statement that an act came of.
+//! The statement that made an act.
 ghost use Rattle.std.specs.Prelude.{◌≡◌, ◌++◌, option_copied, OnOk, OnErr};
 ghost use Rattle.hippo_values_text.specs.Printing.{AddsText};
 ghost use Rattle.hippo_history_statements.specs.Telling.{told_act, table_named};
@@ -13,8 +13,8 @@ use hippo_model::{Act, Schema};
 use hippo_values::{Memory, Name, RoomyTxt};
 use std::alloc::Global;
 
-/// The table whose columns an act names by their places, or whose rows it changes: `tell_act` needs
-/// its schema.
+/// Returns the table whose columns an act names by their places, or whose rows it changes.
+/// `tell_act` needs the schema of this table.
 pub fn table_named(act: &Act) -> Option<&Name>
     ensures { option_copied result ≡ table_named act.now }
 {
@@ -85,11 +85,11 @@ fn append_act<const ROOM: usize>(
     }
 }
 
-/// Adds the statement that an act came of, in the language's own spelling: the schema is that of
-/// the table that the act names (`table_named`), as the act found it. An UPDATE sets every column
-/// that is none of the key's, so its text may be longer than the line that made it, and than a line
-/// may be. A question is told by its user, purpose, recipient and text. The text is unchanged where
-/// memory is short.
+/// Appends the statement that made an act, in the spelling of the language. `schema` is that of the
+/// table that the act names (`table_named`), as it was before the act. An UPDATE sets every column
+/// outside the key, so its text may be longer than the line that made it, and longer than a line
+/// may be. A question is written as its user, purpose, recipient and text. When out of memory, the
+/// text is unchanged.
 pub fn tell_act<const ROOM: usize>(
     alloc: Global,
     schema: Option<&Schema>,

@@ -8,7 +8,7 @@ use crate::literals::append_literal;
 use hippo_model::{Column, Schema};
 use hippo_values::{Memory, Name, RoomyTxt, Value};
 
-/// The columns of a table that is there.
+/// Returns the columns of a table, or none if there is no such table.
 pub fn columns_of(schema: Option<&Schema>) -> &[Column]
     ensures { result.now ≡ columns_of (option_copied schema.entry) }
 {
@@ -18,7 +18,7 @@ pub fn columns_of(schema: Option<&Schema>) -> &[Column]
     }
 }
 
-/// Adds a word or some, and a name.
+/// Appends one or more words, and a name.
 pub fn append_named<const ROOM: usize>(
     words: &str,
     name: &Name,
@@ -30,7 +30,7 @@ pub fn append_named<const ROOM: usize>(
     out.append(name.as_str())
 }
 
-/// Adds the name of the column at a place.
+/// Appends the name of the column at a place.
 pub fn append_name<const ROOM: usize>(
     columns: &[Column],
     place: usize,
@@ -60,7 +60,7 @@ impl<'a, const ROOM: usize> Spelling<usize, ROOM> for ColumnNames<'a> {
     }
 }
 
-// With commas between them.
+// Appends the names, separated by commas.
 fn append_names<const ROOM: usize>(
     columns: &[Column],
     places: &[usize],
@@ -71,8 +71,8 @@ fn append_names<const ROOM: usize>(
     append_joined(&ColumnNames { columns }, ", ", places, out)
 }
 
-/// Adds the names of the columns at some places, with commas between them, and what stands before
-/// and behind them.
+/// Appends the names of the columns at some places, separated by commas, between a text before them
+/// and a text after them.
 pub fn append_listed<const ROOM: usize>(
     before: &str,
     columns: &[Column],
@@ -88,7 +88,7 @@ pub fn append_listed<const ROOM: usize>(
     out.append(remaining)
 }
 
-/// Adds a column with a value: `NAME = VALUE`.
+/// Appends a column with a value: `NAME = VALUE`.
 pub fn append_assigned<const ROOM: usize>(
     columns: &[Column],
     place: usize,

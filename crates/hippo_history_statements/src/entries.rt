@@ -37,10 +37,10 @@ fn append_entry<const ROOM: usize>(
     out.append("\n")
 }
 
-/// Adds an entry as a line: its number, its moment, and the statement that it came of as `tell_act`
-/// tells it. For an entry of a history this is `told_entry`, where the schema is that of the table
-/// that the act names, as the entries before it have it. The text is unchanged where memory is
-/// short.
+/// Appends an entry as a line: its number, its moment, and the statement that made it, as
+/// `tell_act` writes it. For an entry of a history this is `told_entry`, if `schema` is that of the
+/// table that the act names, as the entries before it define it. When out of memory, the text is
+/// unchanged.
 pub fn entry_line<const ROOM: usize>(
     alloc: Global,
     schema: Option<&Schema>,

@@ -9,10 +9,10 @@ use hippo_values::{Memory, RoomyTxt};
 pub trait Spelling<T, const ROOM: usize> {
     ghost use Rattle.std.specs.Prelude.{ℕ, List};
 
-    /// Its text.
+    /// The text of a member.
     ghost text: { Self → T → List ℕ };
 
-    /// Adds it at the end.
+    /// Appends the text of a member.
     fn spell(&self, member: &T, out: &mut RoomyTxt<ROOM>) -> Result<(), Memory>
         ensures adds { AddsText (text self.now member.now) result out.old out.new };
 }
@@ -33,7 +33,7 @@ fn append_later<const ROOM: usize, T, S: Spelling<T, ROOM>>(
     Ok(())
 }
 
-/// Adds the members of a list, with a separator between them.
+/// Appends the members of a list, with a separator between them.
 pub fn append_joined<const ROOM: usize, T, S: Spelling<T, ROOM>>(
     spelling: &S,
     separator: &str,

@@ -1,4 +1,4 @@
-//! The statement that made an entry of a history, spelled as one types it.
+//! The statement that made an entry of a history, spelled as a user would type it.
 #![tactic(auto)]
 
 mod acts;

@@ -21,8 +21,8 @@ fn append_day<const ROOM: usize>(day: DayNumber, out: &mut RoomyTxt<ROOM>) -> Re
     }
 }
 
-/// Adds a value as a literal: `NULL`, a decimal number, a text between quotes with each quote in it
-/// doubled, or a day as `DATE 'YYYY-MM-DD'`.
+/// Appends a value as a literal: `NULL`, a decimal number, a text between quotes with each of its
+/// quotes doubled, or a day as `DATE 'YYYY-MM-DD'`.
 pub fn append_literal<const ROOM: usize>(
     value: &Value,
     out: &mut RoomyTxt<ROOM>,
@@ -35,7 +35,7 @@ pub fn append_literal<const ROOM: usize>(
     }
 }
 
-/// Each value of a list as a literal.
+/// Spells each value of a list as a literal.
 #[derive(Clone, Copy)]
 struct Literals;
 
@@ -49,7 +49,7 @@ impl<const ROOM: usize> Spelling<Value, ROOM> for Literals {
     }
 }
 
-/// Adds values as literals, with commas between them.
+/// Appends values as literals, separated by commas.
 pub fn append_literals<const ROOM: usize>(
     values: &[Value],
     out: &mut RoomyTxt<ROOM>,

@@ -1,4 +1,4 @@
-//! Rows that are updated or deleted.
+//! Rows that are inserted, updated or deleted.
 ghost use Rattle.std.specs.Prelude.{◌≡◌, ◌++◌, filter, flat_map, nat_eq, option_copied, IfOk, OnOk, OnErr};
 ghost use Rattle.std.specs.List.{list_any, range_with_len, zip};
 ghost use Rattle.hippo_values_text.specs.Printing.{AddsText, KeepsFront};
@@ -20,7 +20,7 @@ fn key_places(schema: Option<&Schema>) -> &[usize]
     }
 }
 
-/// A row, or the key of one that is deleted, with its table's name, columns and places of the key.
+/// A row, or the key of a row that is deleted, with its table's name, columns and key places.
 #[derive(Clone, Copy)]
 pub struct Version<'a> {
     table: &'a Name,
@@ -29,7 +29,7 @@ pub struct Version<'a> {
     cells: &'a [Value],
 }
 
-// A row's columns with their values, by their places.
+// Spells the columns of a row with their values, by their places.
 impl<'a, const ROOM: usize> Spelling<usize, ROOM> for Version<'a> {
     ghost use Rattle.hippo_model.specs.Rows.{cell_at};
     ghost use Rattle.hippo_history_statements.specs.Telling.{assigned_text};
@@ -76,7 +76,7 @@ fn append_key_later<const ROOM: usize>(
     Ok(())
 }
 
-// Adds the columns of a key with their values.
+// Appends the columns of a key with their values.
 fn append_key<const ROOM: usize>(
     columns: &[Column],
     places: &[usize],
@@ -107,7 +107,7 @@ fn is_set(key: &[usize], place: usize) -> bool
     !is_of_key(key, place)
 }
 
-// The places of the columns that are none of the key's.
+// The places of the columns outside the key.
 #[tactic(auto, using(crate::proofs::SetPlaces::set_taken, crate::proofs::SetPlaces::set_passed))]
 fn set_places(alloc: Global, count: usize, key: &[usize]) -> Result<Places, Memory>
     ensures { IfOk result (λ places. places ≡ filter (is_set key.now) (range_with_len 0 count)) }
@@ -136,7 +136,7 @@ fn append_values<const ROOM: usize>(
 }
 
 impl<'a> Version<'a> {
-    /// The cells of a row or a key, where this is the schema of their table.
+    /// The cells of a row or of a key, with the schema of their table.
     pub fn new(schema: Option<&'a Schema>, table: &'a Name, cells: &'a Cells) -> Version<'a>
         ensures names { result.table.now ≡ table.now
             × result.columns.now ≡ columns_of (option_copied schema.entry)
@@ -151,7 +151,7 @@ impl<'a> Version<'a> {
         }
     }
 
-    /// Adds an INSERT of the row.
+    /// Appends an INSERT of the row.
     pub fn insert<const ROOM: usize>(&self, out: &mut RoomyTxt<ROOM>) -> Result<(), Memory>
         ensures adds { AddsText (insert_text self.now.table.now self.now.cells.now)
             result out.old out.new }
@@ -160,7 +160,7 @@ impl<'a> Version<'a> {
         append_values(" VALUES (", self.cells, ")", out)
     }
 
-    // Adds words, and the columns at some places with their values.
+    // Appends words, and the columns at some places with their values.
     fn append_cells<const ROOM: usize>(
         &self,
         words: &str,
@@ -176,7 +176,7 @@ impl<'a> Version<'a> {
         append_joined(self, separator, places, out)
     }
 
-    // Adds words, and the columns of the key with its values.
+    // Appends words, and the columns of the key with their values.
     fn append_key<const ROOM: usize>(
         &self,
         words: &str,
@@ -190,7 +190,7 @@ impl<'a> Version<'a> {
         append_key(self.columns, self.key, self.cells, out)
     }
 
-    /// Adds an UPDATE to the row, which sets each column that is none of the key's.
+    /// Appends an UPDATE to the row, which sets every column outside the key.
     pub fn update<const ROOM: usize>(
         &self,
         alloc: Global,
@@ -205,7 +205,7 @@ impl<'a> Version<'a> {
         self.append_cells(" WHERE ", self.key, " AND ", out)
     }
 
-    /// Adds a DELETE of the row with the key.
+    /// Appends a DELETE of the row with the key.
     pub fn delete<const ROOM: usize>(&self, out: &mut RoomyTxt<ROOM>) -> Result<(), Memory>
         ensures adds { AddsText (delete_text self.now.columns.now self.now.key.now
             self.now.table.now self.now.cells.now) result out.old out.new }

@@ -29,7 +29,7 @@ fn append_ended<const ROOM: usize>(
     out.append(remaining)
 }
 
-/// Adds a CREATE ITEM.
+/// Appends a CREATE ITEM.
 pub fn append_item<const ROOM: usize>(
     item: &Name,
     kind: ItemKind,
@@ -40,7 +40,7 @@ pub fn append_item<const ROOM: usize>(
     append_ended("CREATE ITEM ", item, item_kind_text(kind), out)
 }
 
-/// Adds a word, and whom it authorizes or no longer does.
+/// Appends a word, and the user, purpose and recipient of a grant that is made or taken back.
 pub fn append_grant<const ROOM: usize>(
     word: &str,
     user: &Name,
@@ -56,7 +56,7 @@ pub fn append_grant<const ROOM: usize>(
     append_named(", ", recipient, out)
 }
 
-/// What a rule names.
+/// The names in a rule.
 #[derive(Clone, Copy)]
 pub struct Rule<'a> {
     pub purpose: &'a Name,
@@ -66,7 +66,7 @@ pub struct Rule<'a> {
 }
 
 impl<'a> Rule<'a> {
-    /// A rule by what it names.
+    /// A rule with these names.
     pub fn new(
         purpose: &'a Name,
         recipient: &'a Name,
@@ -85,7 +85,7 @@ impl<'a> Rule<'a> {
     }
 }
 
-/// Adds a word, and what a rule names. What it adds where memory is short is a front of it.
+/// Appends a word and the names in a rule. When out of memory, a prefix of these is appended.
 pub fn append_rule<const ROOM: usize>(
     word: &str,
     columns: &[Column],
@@ -102,7 +102,7 @@ pub fn append_rule<const ROOM: usize>(
     append_listed(" (", columns, rule.places, ")", out)
 }
 
-// Adds the item of a rule, where it has one.
+// Appends the item of a rule, if it has one.
 fn append_with<const ROOM: usize>(
     item: Option<&Name>,
     out: &mut RoomyTxt<ROOM>,
@@ -115,7 +115,7 @@ fn append_with<const ROOM: usize>(
     }
 }
 
-// Adds for how many days a rule shows a row's cells, where it has an end.
+// Appends for how many days a rule shows a row's cells, if it has an end.
 fn append_retention<const ROOM: usize>(
     days: Option<u32>,
     out: &mut RoomyTxt<ROOM>,
@@ -132,7 +132,7 @@ fn append_retention<const ROOM: usize>(
     }
 }
 
-/// Adds an ALLOW. What it adds where memory is short is a front of it.
+/// Appends an ALLOW. When out of memory, a prefix of it is appended.
 pub fn append_allow<const ROOM: usize>(
     columns: &[Column],
     rule: &Rule<'_>,
@@ -155,7 +155,7 @@ fn agreed_text(agreed: bool) -> &'static str
     if agreed { " IS YES" } else { " IS NO" }
 }
 
-/// Adds the CHOICE of a patient.
+/// Appends the CHOICE of a patient.
 pub fn append_choice<const ROOM: usize>(
     subject: &i64,
     item: &Name,
@@ -170,7 +170,7 @@ pub fn append_choice<const ROOM: usize>(
     out.append(agreed_text(agreed))
 }
 
-/// Adds a question: who asked, for which purpose and recipient, and what.
+/// Appends a question: its user, its purpose and recipient, and its text.
 pub fn append_asked<const ROOM: usize>(
     user: &Name,
     purpose: &Name,

@@ -33,7 +33,7 @@ fn append_column<const ROOM: usize>(column: &Column, out: &mut RoomyTxt<ROOM>) -
     out.append(not_null_text(column.not_null))
 }
 
-// Each column of a table.
+// Spells each column of a table.
 #[derive(Clone, Copy)]
 struct ColumnDefinitions;
 
@@ -121,7 +121,7 @@ fn append_created<const ROOM: usize>(
     append_end(columns, schema.subject, end, out)
 }
 
-/// Adds the CREATE TABLE of a table.
+/// Appends the CREATE TABLE of a table.
 pub fn append_create<const ROOM: usize>(
     schema: &Schema,
     out: &mut RoomyTxt<ROOM>,

@@ -1,4 +1,4 @@
--- The formats of the command line, computed. The example is named by what it shows.
+-- The formats of the command line, computed by evaluation. The example's name says what it shows.
 use Rattle.std.proofs.Common.{◌≡◌, None, refl, codes}
 use Rattle.hippo_program_args.specs.Arguments.{format_named}
 

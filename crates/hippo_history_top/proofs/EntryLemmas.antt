@@ -43,7 +43,7 @@ module _ (known : KnownNames) (excerpt : Excerpt) (entry : Entry) (clock : Optio
       nothing : [] ≡ entry_shown known excerpt clock entry
       nothing = ap (λ (b : Bool). cond b (shown_as known excerpt.form clock entry) []) is
 
-  -- memory was short before anything was written
+  -- memory ran out before anything was written
   pub unwritten : (written : Option Txt) (faults : ℕ) → ShowsEntry known excerpt entry (Some NoMemory) clock clock written written faults faults
   unwritten written faults = record {
     ends = refl;
@@ -131,7 +131,7 @@ module _ (known : KnownNames) (excerpt : Excerpt) (kept : StoredEntry) (clock cl
       first_of : stored other ∷ map stored more ≡ kept ∷ [] → stored other ≡ kept
       first_of e = cc
 
-  -- no entry has this form, and that is said
+  -- no entry has this form, and that is reported
   pub of_none : (ending : Ending) (line : Txt) → IsEntryOf kept None → Says Damaged line WriteFault ending written written' faults faults'
       → ShowsKept known excerpt (kept ∷ []) (Some ending) clock clock' written written' faults faults'
   of_none ending line found says = record {

@@ -1,4 +1,4 @@
--- Stored entries, shown one after the other.
+-- Stored entries, shown one after another.
 use Rattle.std.proofs.Common.{◌≡◌, ◌≢◌, ◌∙◌, ℕ, ◌+◌, ◌<◌, ◌≤◌, [], ◌∷◌, ◌++◌, map, length, take, drop, get_or, Option, Some, None, refl, sym, ap, subst, append_assoc, arith}
 use Rattle.std.specs.List.{list_all}
 use Rattle.std.proofs.lemmas.Bool.{and_parts, and_from}
@@ -23,7 +23,7 @@ use Rattle.hippo_history_top.specs.Progress.{HasForms, ShowsKept}
 use Rattle.hippo_program_args.proofs.WriteLemmas.{front_of_more, whole_and_front, both_whole}
 use Rattle.hippo_history_top.proofs.WriteLemmas.{none_written, none_of, CountsWrites-same}
 
--- entries with these stored forms, before and behind a place
+-- entries with these stored forms, before a place and after it
 record Splits (first second : Store) (entries : History) : Type 0 where
   front : History
   later : History
@@ -52,7 +52,7 @@ split (kept ∷ first) second (entry ∷ entries) has =
     others e = cc
 
 module _ (known : KnownNames) (excerpt : Excerpt) where
-  -- entries, and others behind them
+  -- entries, and others after them
   pub shown-append : (clock : Option Moment) (front later : History) → entries_shown known excerpt clock (front ++ later) ≡ entries_shown known excerpt clock front ++ entries_shown known excerpt (clock_at_end known excerpt clock front) later
   shown-append clock [] later = refl
   shown-append clock (entry ∷ front) later =
@@ -79,7 +79,7 @@ module _ (known : KnownNames) (excerpt : Excerpt) where
       no_entries [] forms = refl
       no_entries (entry ∷ entries) forms = absurd (let no : stored entry ∷ map stored entries ≡ [] = forms.forms in cc)
 
-  -- memory was short
+  -- memory ran out
   pub ShowsKept-unread : (store : Store) (clock : Option Moment) (written : Option Txt) (faults : ℕ) → ShowsKept known excerpt store (Some NoMemory) clock clock written written faults faults
   ShowsKept-unread store clock written faults = record {
     ends = refl;
@@ -128,7 +128,7 @@ module _ (known : KnownNames) (excerpt : Excerpt) where
         text : (entries : History) (parts : Splits first second entries) → entries_shown known excerpt start entries ≡ entries_shown known excerpt start parts.front ++ entries_shown known excerpt (clock_at_end known excerpt start parts.front) parts.later
         text entries parts = ap (entries_shown known excerpt start) parts.parts ∙ shown-append start parts.front parts.later
 
-  -- a front of what is shown of some entries is one of what is shown of more
+  -- a prefix of what is shown of some entries is a prefix of what is shown of more
   pub front_so : (first second : Store) (result : Option Ending) (start end : Option Moment) (old new : Option Txt) (faults faults' : ℕ)
       → ShowsKept known excerpt first result start end old new faults faults'
       → (entries : History) → HasForms (first ++ second) entries → AppendsFront old new (entries_shown known excerpt start entries)
@@ -138,7 +138,7 @@ module _ (known : KnownNames) (excerpt : Excerpt) where
       (front_of_more old new (entries_shown known excerpt start parts.front) (entries_shown known excerpt (clock_at_end known excerpt start parts.front) parts.later)
       (one.front parts.front parts.first_forms))
 
-  -- what ends the program at some entries, whatever comes behind them
+  -- what ends the program at some entries ends it whatever follows them
   pub ShowsKept-more : (first second : Store) (result : Option Ending) (start end : Option Moment) (old new : Option Txt) (faults faults' : ℕ) → result ≢ None
       → ShowsKept known excerpt first result start end old new faults faults'
       → ShowsKept known excerpt (first ++ second) result start end old new faults faults'
@@ -153,11 +153,11 @@ module _ (known : KnownNames) (excerpt : Excerpt) where
         one.damaged is parts.front parts.first_forms;
   }
 
-  -- none of more entries have the forms where none of some have
+  -- if no entries have some forms, none have those forms and more
   pub damaged_so : (first second : Store) → ((entries : History) → ¬ (HasForms first entries)) → (entries : History) → ¬ (HasForms (first ++ second) entries)
   damaged_so first second none entries forms = let parts = split first second entries forms in none parts.front parts.first_forms
 
-  -- one entry of a piece more
+  -- one more entry of a piece
   pub piece_on : (piece : Store) (i : ℕ) (kept : StoredEntry) (start mid end : Option Moment) (old between new : Option Txt) (faults between_faults faults' : ℕ) → i < length piece → kept ≡ get_or piece i kept
       → ShowsKept known excerpt (take i piece) None start mid old between faults between_faults → ShowsKept known excerpt (kept ∷ []) None mid end between new between_faults faults'
       → ShowsKept known excerpt (take (i + 1) piece) None start end old new faults faults'
@@ -175,7 +175,7 @@ module _ (known : KnownNames) (excerpt : Excerpt) where
       (ShowsKept-more (take i piece ++ kept ∷ []) (drop (i + 1) piece) (Some ending) start end old new faults faults' (λ e. cc)
       (ShowsKept-then (take i piece) (kept ∷ []) (Some ending) start mid end old between new faults between_faults faults' one other))
 
--- the number of the last of some entries and one more
+-- the last number of some entries and one more
 last-append : (number : ℕ) (first : Store) (kept : StoredEntry) → last_number number (first ++ kept ∷ []) ≡ kept.seq
 last-append number [] kept = refl
 last-append number (one ∷ first) kept = last-append one.seq first kept
@@ -187,7 +187,7 @@ pub last-both : (number : ℕ) (first second : Store) → last_number number (fi
 last-both number [] second = refl
 last-both number (one ∷ first) second = last-both one.seq first second
 
--- entries whose numbers rise have a higher one at the end
+-- the last of entries whose numbers rise has a higher number
 pub last_above : (number : ℕ) (entries : Store) → RisesAbove number entries → ¬ (entries ≡ []) → number < last_number number entries
 last_above number [] rises some = absurd (some refl)
 last_above number (entry ∷ rest) rises some =

@@ -1,4 +1,4 @@
--- Texts of lists, one member more: the text so far, and what is left.
+-- The text of a list, with one more member: the text so far, and what remains.
 use Rattle.std.proofs.Common.{◌≡◌, ◌∙◌, ℕ, zero, suc, ◌+◌, ◌-◌, ◌<◌, ◌≤◌, Bool, true, false, List, [], ◌∷◌, ◌++◌, flat_map, length, get_or, drop, sym, ap, subst, append_assoc, add-one}
 use Rattle.std.specs.Prelude.{◌||◌, slice_get}
 use Rattle.std.specs.List.{list_any, range_with_len}
@@ -13,11 +13,11 @@ module _ {A : Type 0} (f : A → Txt) (start now : Txt) where
   one_more next item left remaining parts added so_far =
       ap (λ (t : Txt). t ++ flat_map f remaining) added ∙ append_assoc now (f item) (flat_map f remaining) ∙ ap (λ (l : List A). now ++ flat_map f l) (sym parts) ∙ so_far
 
-  -- none is left
+  -- no member remains
   pub none_more : (left : List A) → left ≡ [] → now ++ flat_map f left ≡ start → now ≡ start
   none_more left none so_far = sym (append-nil now) ∙ ap (λ (l : List A). now ++ flat_map f l) (sym none) ∙ so_far
 
-  -- the same of a list that was lent, at a place
+  -- the same for a list that is lent, at an index
   pub one_lent : (next : Txt) (item : A) (items lent : List A) (place : ℕ) → lent ≡ items → place < length lent → item ≡ get_or lent place item
       → next ≡ now ++ f item → now ++ flat_map f (drop place items) ≡ start → next ++ flat_map f (drop (place + 1) items) ≡ start
   one_lent next item items lent place same within read added so_far =
@@ -34,7 +34,7 @@ module _ {A : Type 0} (f : A → Txt) (start now : Txt) where
   after next (item ∷ items) zero added so_far = ap (λ (t : Txt). t ++ flat_map f items) added ∙ append_assoc now (f item) (flat_map f items) ∙ so_far
   after next (item ∷ items) (suc place) added so_far = after next items place added so_far
 
-  -- the text of the member at a place is added, where there is one
+  -- the text of the member at an index is added, if there is one
   pub one_at : (next : Txt) (items : List A) (place : ℕ) → next ≡ now ++ option_map_or f (slice_get items place) [] → now ++ flat_map f (drop place items) ≡ start → next ++ flat_map f (drop (place + 1) items) ≡ start
   one_at next items place added so_far = rw (add-one) (after next items place added so_far)
 
@@ -42,10 +42,10 @@ module _ (test : ℕ → Bool) (all : Bool) (place count : ℕ) (within : place 
   split : test place || list_any test (range_with_len (place + 1) (count - (place + 1))) ≡ all
   split = sym (ap (list_any test) (range_at place count within)) ∙ so_far
 
-  -- a place passes
+  -- an index passes
   pub place_passes : true ≡ test place → true ≡ all
   place_passes is = ap (λ (b : Bool). b || list_any test (range_with_len (place + 1) (count - (place + 1)))) is ∙ split
 
-  -- or does not, and those behind it count
+  -- an index does not pass, and the later ones decide
   pub place_fails : false ≡ test place → list_any test (range_with_len (place + 1) (count - (place + 1))) ≡ all
   place_fails is = ap (λ (b : Bool). b || list_any test (range_with_len (place + 1) (count - (place + 1)))) is ∙ split

@@ -1,4 +1,5 @@
--- What an entry found, the whole history has: tables are never renamed or dropped, and texts keep their meanings.
+-- The names that an entry found are also those of the whole history: tables are never renamed or
+-- dropped, and texts keep their meanings.
 use Rattle.std.proofs.Common.{◌≡◌, ◌∙◌, ◌+◌, ◌&&◌, ℕ, Bool, true, false, cond, [], ◌∷◌, ◌++◌, length, take, Option, Some, None, refl, sym, ap, subst, append_assoc, arith}
 use Rattle.std.specs.Prelude.{◌==◌, is_some, nat_le, option_and_then, bytes_eq}
 use Rattle.std.specs.List.{list_any}
@@ -40,7 +41,7 @@ found_there : {A : Type 0} (test : A → Bool) (found : Option A) → option_map
 found_there test None passes = absurd (false≢true passes)
 found_there test (Some x) passes = (x, refl)
 
--- an entry finds what the whole history has
+-- an entry finds the same names as the whole history has
 record FindsSame (history : History) (excerpt : Excerpt) (entry : Entry) : Type 0 where
   schema : schema_named (known_at history) entry.act ≡ schema_before history entry
   asked : is_in_excerpt (known_at history) excerpt entry ≡ is_told history excerpt entry
@@ -115,7 +116,8 @@ told_after front (entry ∷ later) history parts valid excerpt clock =
     (λ i. entry_same history excerpt entry finds clock i ++ entries_shown (known_at history) excerpt (clock_same history excerpt entry finds clock i) later)
     ∙ ap (λ (rest : Txt). entry_where (is_told history excerpt) (told_as history excerpt.form) clock entry ++ rest) (told_after (front ++ entry ∷ []) later history (append_assoc front (entry ∷ []) later ∙ parts) valid excerpt next)
 
--- the entries of a valid history are shown by the names of the whole history as by those that each entry found
+-- the names of the whole history show a valid history's entries as the names that each entry found
+-- do
 pub told_by_names : (history : History) → is_valid meaning history ≡ true → (excerpt : Excerpt) (clock : Option Moment)
     → entries_shown (known_at history) excerpt clock history ≡ entries_told history excerpt clock history
 told_by_names history valid excerpt clock = told_after [] history history refl valid excerpt clock

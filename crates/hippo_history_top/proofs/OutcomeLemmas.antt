@@ -1,4 +1,4 @@
--- What a load, and showing what was loaded, come to.
+-- The results of a load, and of showing what was loaded.
 use Rattle.std.proofs.Common.{◌≡◌, ◌≢◌, ◌∙◌, inl, inr, ℕ, ◌+◌, ◌≤◌, Bool, true, false, Option, Some, Result, Ok, refl, sym, ap, subst, arith}
 use Rattle.std.specs.Prelude.{◌*◌}
 use mathlib.Core.Logic.{∥∥₁_map}
@@ -32,7 +32,7 @@ use Rattle.hippo_history_top.specs.Showing.{shown_text}
 use Rattle.hippo_history_top.specs.Progress.{HasForms, ShowsLoaded}
 use Rattle.hippo_history_top.specs.Outcomes.{FromKept, Ends}
 
--- what was found and is kept still
+-- what was found is still stored
 found_still : (finds : Survivors) (before after : KeeperState) → KeepsFound finds before → KeepsSame before after → KeepsFound finds after
 found_still finds before after found keeps =
     let alone : (store : Store) → after.survives store → store ≡ after.kept = λ store survives. found.alone store (keeps.stop store survives) ∙ sym keeps.same in
@@ -43,7 +43,7 @@ found_still finds before after found keeps =
       survives_stop = ∥∥₁_map (keeps.some (∥∥₁_map found.survives_stop (λ survives. (before.kept, survives)))) (λ (store, survives). subst after.survives (alone store survives) survives);
     }
 
--- a call says what it says of the keeper as it is then
+-- the promises of a call hold of the keeper as it is afterwards
 as_it_is : {A : Type 0} (started closed : Bool) (result : Result A Fault) (before after : KeeperState) → IsAfterCall started closed result before after → IsAfterCall after.started after.closed result before after
 as_it_is started closed result before after call = record {
   is_sound = call.is_sound;
@@ -133,7 +133,7 @@ module _ (name : Txt) (view : View) (state : State) (before loaded after : Keepe
     show_ends unwritten = by_ending result unwritten refl
 
 module _ (name : Txt) (view : View) (before after : KeeperState) (written written' : Option Txt) (faults faults' start end : ℕ) where
-  -- what was not loaded
+  -- the history was not loaded
   pub stop_ends : (fault : LoadFault) (result : Ending) (unwritten : Type 0) → Stops stop_ending WriteFault fault result unwritten written written' faults faults'
       → Loads name (err_of State fault) before after start end → after.tells → Ends result unwritten view name before after written written'
   stop_ends fault result unwritten =

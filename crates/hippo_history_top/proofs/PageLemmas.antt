@@ -1,4 +1,4 @@
--- What showing what is asked for comes to, by what was written.
+-- The results of showing what is asked for, by what was written.
 use Rattle.std.proofs.Common.{◌≡◌, ◌≢◌, ◌∙◌, ℕ, true, false, Option, Some, None, take, unwrap_or, arith, refl, sym, ap, subst}
 use Rattle.std.proofs.lemmas.Bool.{false≢true}
 use Rattle.hippo_values.specs.Texts.{Txt}
@@ -27,7 +27,7 @@ use Rattle.hippo_history_top.proofs.PolicyLemmas.{rules_of_first}
 use Rattle.hippo_history_top.proofs.WriteLemmas.{none_of, whole_front, CountsWrites-same}
 
 module _ (IsSo : History → Type 0) (page : History → Txt) (written : Option Txt) (faults : ℕ) where
-  -- memory was short before anything was written
+  -- memory ran out before anything was written
   pub page_unwritten : WritesPage IsSo page (Some NoMemory) written written faults faults
   page_unwritten = record {
     ends = refl;
@@ -37,7 +37,7 @@ module _ (IsSo : History → Type 0) (page : History → Txt) (written : Option 
     front = λ history so. none_of written (page history);
   }
 
-  -- the text that is the page of each such history was written
+  -- the text that is the page of every such history was written
   pub page_written : (written' : Option Txt) (faults' : ℕ) (lines : Txt) → ((history : History) → IsSo history → lines ≡ page history)
       → (result : Option Ending) → Writes lines result written written' faults faults' → WritesPage IsSo page result written written' faults faults'
   page_written written' faults' lines is None writes = record {
@@ -64,7 +64,7 @@ module _ (IsSo : History → Type 0) (page : History → Txt) (written : Option 
   page_written written' faults' lines is (Some ending) writes = absurd writes
 
 module _ (state : State) (written written' : Option Txt) (faults faults' : ℕ) where
-  -- entries are shown by the names that a state holds, as by those that each entry found
+  -- the names that a state holds show the entries as the names that each entry found do
   pub loaded_entries : (excerpt : Excerpt) (result : Ending) (before after : KeeperState) (ticks ticks' : ℕ)
       → ShowsAll state.catalog.names excerpt result before after written written' faults faults' ticks ticks'
       → ShowsLoaded state (Entries excerpt) result before after written written' faults faults' ticks ticks'
@@ -82,7 +82,7 @@ module _ (state : State) (written written' : Option Txt) (faults faults' : ℕ) 
       named : (history : History) → StandsFor state history → entries_shown state.catalog.names excerpt None history ≡ shown_text (Entries excerpt) history
       named history stands = ap (λ known. entries_shown known excerpt None history) stands.names ∙ told_by_names history stands.valid excerpt None
 
-  -- and so are the rules, by those that it holds; nothing is read for them
+  -- the same holds of the rules, and nothing is read for them
   module _ (page : Page) (keeper : KeeperState) (ready : IsReady true keeper) (ticks : ℕ) where
     abbrev text : History → Txt
     text history = rules_by_names state.catalog.names page.format page.scope (take page.last history)

@@ -1,4 +1,4 @@
--- The rules after the first entries speak of what these entries created alone.
+-- The rules after the first entries only concern what these entries created.
 use Rattle.std.proofs.Common.{◌≡◌, ◌∙◌, ℕ, ◌+◌, ◌-◌, ◌<◌, Bool, true, false, cond, not, ◌&&◌, List, [], ◌∷◌, ◌++◌, flat_map, length, take, drop, Option, Some, None, refl, sym, ap, subst, append_assoc}
 use Rattle.std.specs.Prelude.{◌||◌, is_some, is_none, nat_eq, nat_lt, bytes_eq, count_by}
 use Rattle.std.specs.Bool.{then_some}
@@ -65,7 +65,7 @@ any_front test (x ∷ front) later is = by_first (test x) refl is (any_front tes
     by_first true passes is below = ap (λ (b : Bool). b || list_any test (front ++ later)) passes
     by_first false fails is below = ap (λ (b : Bool). b || list_any test (front ++ later)) fails ∙ below is
 
--- the words of a rule exist where it stands
+-- the names in a rule exist at its entry
 record Exists (history : History) (purpose recipient table : Name) : Type 0 where
   purpose_is : is_purpose history purpose ≡ true
   recipient_is : is_recipient history recipient ≡ true
@@ -104,7 +104,7 @@ module _ (cell : RuledCell) (history : History) where
   said_exist number rule (Revoke purpose recipient table columns) says fits = named_exist purpose recipient table columns (then_some_is _ _ _ says) fits
   said_exist number rule act says fits = absurd cc
 
--- what exists goes on to exist
+-- what exists continues to exist
 lasts : (front later : History) (purpose recipient table : Name) → is_valid meaning (front ++ later) ≡ true → Exists front purpose recipient table → Exists (front ++ later) purpose recipient table
 lasts front later purpose recipient table valid exist =
     let here = valid_names meaning front (front_is_valid meaning front later valid) in
@@ -131,7 +131,7 @@ flat_none : {A : Type 0} (f : A → Txt) (list : List A) → ((x : A) → f x �
 flat_none f [] none = refl
 flat_none f (x ∷ list) none = λ i. none x i ++ flat_none f list none i
 
--- one more member whose text is empty
+-- one more member, with an empty text
 flat_same : {A : Type 0} (f : A → Txt) (list : List A) (x : A) → f x ≡ [] → flat_map f (list ++ x ∷ []) ≡ flat_map f list
 flat_same f list x none = flat_map-append f list (x ∷ []) ∙ ap (λ (t : Txt). flat_map f list ++ (t ++ [])) none ∙ append-nil (flat_map f list)
 
@@ -146,7 +146,7 @@ module _ (front : History) (valid : is_valid meaning front ≡ true) (format : F
       by_scope true false e = refl
       by_scope false ruled e = refl
 
-  -- a longer history, with one entry more
+  -- a longer history, with one more entry
   module _ (later : History) (entry : Entry) (longer : is_valid meaning ((front ++ later) ++ entry ∷ []) ≡ true) where
     abbrev history : History
     history = front ++ later
@@ -204,7 +204,8 @@ module _ (front : History) (valid : is_valid meaning front ≡ true) (format : F
       ap (λ (h : History). rules_by_names (known_at h) format scope front) (sym regrouped) ∙ same_after (middle ++ entry ∷ []) later whole
       ∙ ap (λ (h : History). rules_by_names (known_at h) format scope front) (sym (append_assoc front middle (entry ∷ []))) ∙ one_more_entry middle entry one
 
--- by the names of a valid history the rules after its first entries are shown as by the names that these created
+-- the names of a valid history show the rules after its first entries as the names that these
+-- entries created do
 pub rules_of_first : (history : History) → is_valid meaning history ≡ true → (n : ℕ) (format : Format) (scope : Scope) → rules_by_names (known_at history) format scope (take n history) ≡ rules_shown format scope (take n history)
 rules_of_first history valid n format scope =
     let parts : take n history ++ drop n history ≡ history = take-append-drop n history in

@@ -1,4 +1,4 @@
--- What makes an act again that is no question is its statement.
+-- An act that is not a question is repeated by its statement.
 use Rattle.std.proofs.Common.{◌≡◌, refl, false, Option}
 use Rattle.hippo_model.specs.declared.entry.Act.{Act}
 use Rattle.hippo_model.specs.declared.entry.Act.TheVariants.{Asked}

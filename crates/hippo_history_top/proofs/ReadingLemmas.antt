@@ -1,4 +1,4 @@
--- The kept entries, read piece by piece and shown.
+-- Reading the stored entries piece by piece and showing them.
 use Rattle.std.proofs.Common.{◌≡◌, ◌≢◌, ◌∙◌, ℕ, ◌+◌, ◌^◌, ◌<◌, ◌≤◌, true, false, [], ◌++◌, take, drop, Option, Some, None, Ok, Err, refl, sym, ap, subst, append_assoc, arith}
 use Rattle.std.proofs.lemmas.Bool.{false≢true}
 use Rattle.std.proofs.lemmas.List.{take-append-drop}
@@ -27,7 +27,7 @@ use Rattle.hippo_history_top.specs.ByNames.{entries_shown}
 use Rattle.hippo_history_top.specs.Progress.{HasForms, ShowsKept, IsReadUpTo, ShowsNext, IsShowing, ShowsAll}
 use Rattle.hippo_history_top.proofs.KeptLemmas.{ShowsKept-none, ShowsKept-unread, ShowsKept-then, front_so, damaged_so, last-both, last_above}
 
--- what entries may end the program with
+-- the endings that entries may cause
 record Cuts (result : Option Ending) : Type 0 where
   same : cut_of result ≡ result
   listed : ends_showing result ≡ true
@@ -55,7 +55,7 @@ module _ (known : KnownNames) (excerpt : Excerpt) (max number : ℕ) (before aft
   remaining : after.tells → (read rest : Store) → IsReadUpTo number before read rest → rest ≡ piece ++ drop max rest
   remaining tells read rest upto = sym (take-append-drop max rest) ∙ ap (λ (front : Store). front ++ drop max rest) (sym (handed tells read rest upto))
 
-  -- nothing was left
+  -- nothing remained
   pub ShowsNext-end : (clock : Option Moment) (written : Option Txt) (faults : ℕ) → 0 < max → piece ≡ []
       → ShowsNext known excerpt (Some Served) before after number number clock clock written written faults faults steps steps'
   ShowsNext-end clock written faults some none = record {
@@ -93,7 +93,7 @@ module _ (known : KnownNames) (excerpt : Excerpt) (max number : ℕ) (before aft
         ended = λ e. absurd (may.unended e);
       }
 
--- the keeper did not answer
+-- a call on the keeper failed
 module _ (known : KnownNames) (excerpt : Excerpt) (max number : ℕ) (before after : KeeperState) (steps steps' : ℕ) where
   -- nothing was read, and the program ends
   ends_unread : (ending : Ending) (fault : Fault) (clock : Option Moment) (written : Option Txt) (faults : ℕ) → ends_showing (Some ending) ≡ true → ending ≢ Served
@@ -146,7 +146,7 @@ module _ (known : KnownNames) (excerpt : Excerpt) (before now after : KeeperStat
     }
 
     module _ (result : Option Ending) (next : ShowsNext known excerpt result now after number number' clock clock' written written' faults' faults'' steps' steps'') where
-      -- what was read up to now, the piece, and what is behind it
+      -- what was read so far, the piece, and what follows it
       longer : after.tells → ((remaining : Store) × (before.kept ≡ (so_far.read ++ next.piece) ++ remaining))
       longer tells =
           let front = so_far.told (next.call.told tells) in
@@ -163,7 +163,7 @@ module _ (known : KnownNames) (excerpt : Excerpt) (before now after : KeeperStat
       shown : ShowsKept known excerpt (so_far.read ++ next.piece) (cut_of result) None clock' start written' faults faults''
       shown = ShowsKept-then known excerpt so_far.read next.piece (cut_of result) None clock clock' start written written' faults faults' faults'' so_far.shows next.shows
 
-      -- one piece more
+      -- one more piece
       pub IsShowing-on : result ≡ None → IsShowing known excerpt before after number' clock' start written' faults faults'' steps steps''
       IsShowing-on on = record {
         call = IsAfterCall-as true false (part_as_call None) (Ok tt) before after refl
@@ -234,7 +234,7 @@ module _ (known : KnownNames) (excerpt : Excerpt) (before now after : KeeperStat
           writes_of ReadFault writes = writes
           writes_of TooMuch writes = writes
 
--- a keeper is ready where showing goes on
+-- a keeper is ready while showing goes on
 pub showing_ready : (known : KnownNames) (excerpt : Excerpt) (before now : KeeperState) (number : ℕ) (clock : Option Moment) (start written : Option Txt) (faults faults' steps steps' : ℕ)
     → IsShowing known excerpt before now number clock start written faults faults' steps steps' → IsReady true now
 showing_ready known excerpt before now number clock start written faults faults' steps steps' so_far =

@@ -1,4 +1,4 @@
--- Each status is that of one ending.
+-- Each status belongs to one ending.
 use Rattle.std.proofs.Common.{◌≡◌, ◌≢◌, ◌⊎◌, ◌∙◌, ℕ, Bool, true, false, Any, Option, Some, arith, refl, sym, ap, subst}
 use Rattle.std.proofs.lemmas.Bool.{false≢true}
 use Rattle.std.proofs.lemmas.Option.{same_Some}
@@ -24,7 +24,7 @@ status-listed Damaged status listed e = (4, 6, omega arith, refl, e)
 status-listed NoMemory status listed e = (5, 7, omega arith, refl, e)
 status-listed ending status listed e = absurd (false≢true listed)
 
--- what showing comes to, by its status
+-- the result of showing, by its status
 module _ (view : View) (name : Txt) (before after : KeeperState) (written written' : Option Txt) (unwritten : Type 0) where
   abbrev pub ByStatus : ℕ → Type 0
   ByStatus status = (status ≡ 0 → ShowsView view name before after written written')

@@ -1,5 +1,5 @@
--- What is shown of entries by some names, whatever entry found them: a valid history's entries are
--- shown so by the names of the whole history.
+-- What is shown of entries when one set of names is used for all of them. A valid history's entries
+-- are shown this way, by the names of the whole history.
 use Rattle.std.specs.Prelude.{[], ◌∷◌, ◌++◌, Option, option_and_then}
 use Rattle.hippo_values.specs.Texts.{Txt}
 use Rattle.hippo_values.specs.declared.moments.Moment.{Moment}
@@ -32,7 +32,7 @@ entry_shown known excerpt clock entry =
 abbrev pub clock_after : KnownNames → Excerpt → Option Moment → Entry → Option Moment
 clock_after known excerpt clock entry = clock_where (is_in_excerpt known excerpt) clock entry
 
--- entries one after the other
+-- entries, one after another
 abbrev pub entries_shown : KnownNames → Excerpt → Option Moment → History → Txt
 entries_shown known excerpt clock entries =
     entries_where (is_in_excerpt known excerpt) (shown_as known excerpt.form) clock entries

@@ -19,7 +19,7 @@ use Rattle.hippo_history_top.specs.declared.asking.Scope.TheVariants.{Whole, Tab
 use Rattle.hippo_history_top.specs.declared.asking.View.{View}
 use Rattle.hippo_history_top.specs.declared.asking.View.TheVariants.{Entries, Rules}
 
--- the command, as clap is told of it
+-- the command, as clap is given it
 abbrev pub showing_command_line : App
 showing_command_line = command_with (codes "hippo_history")
     (needed_option (codes "store") ∷ entry_option (codes "entry") ∷ entry_option (codes "from")
@@ -27,11 +27,11 @@ showing_command_line = command_with (codes "hippo_history")
     ∷ flag (codes "script")
     ∷ flag (codes "rules") ∷ text_option (codes "format") ∷ [])
 
--- whether a name that stands alone was written
+-- whether a flag, a name without a value, is given
 abbrev pub is_on : Txt → List Row → Bool
 is_on name rows = option_map_or (λ text. bytes_eq text (codes "true")) (first_of name rows) false
 
--- one entry alone, or those from one number to another
+-- one entry alone, or the entries from one number to another
 abbrev pub first_in : List Row → ℕ
 first_in rows =
     number_or (number_or 1 (first_of (codes "from") rows)) (first_of (codes "entry") rows)
@@ -40,15 +40,15 @@ abbrev pub last_in : List Row → ℕ
 last_in rows =
     number_or (number_or 4000000 (first_of (codes "to") rows)) (first_of (codes "entry") rows)
 
--- one entry goes with no end of a stretch
+-- one entry cannot be combined with an end of a range
 abbrev pub has_end : List Row → Bool
 has_end rows = is_some (first_of (codes "from") rows) || is_some (first_of (codes "to") rows)
 
 abbrev pub entry_fits : List Row → Bool
 entry_fits rows = not (is_some (first_of (codes "entry") rows) && has_end rows)
 
--- the rules are those after one entry, or after all: they go with no end of a stretch, and no form
--- of entries
+-- the rules are those after one entry, or after all; they cannot be combined with an end of a
+-- range, nor with a form of entries
 abbrev pub has_form : List Row → Bool
 has_form rows = is_on (codes "tables") rows || is_on (codes "script") rows
 
@@ -58,12 +58,12 @@ rules_fit rows = not (is_on (codes "rules") rows && (has_end rows || has_form ro
 abbrev pub options_fit : List Row → Bool
 options_fit rows = entry_fits rows && rules_fit rows
 
--- the table of which something is shown; a word that is no name is none
+-- the table whose entries or rules are shown; `None` if the word is not a name
 abbrev pub scope_of : Option Txt → Option Scope
 scope_of None = Some Whole
 scope_of (Some word) = option_map Table (name_of word)
 
--- a script is lines of text
+-- a script is written as lines of text
 abbrev pub is_text_format : Format → Bool
 is_text_format formats.Text = true
 is_text_format formats.Json = false
@@ -104,7 +104,7 @@ call_with rows format scope =
           scope;
     }
 
--- what is asked for in a format
+-- what is asked for, in this format
 abbrev pub call_in_format : List Row → Format → Option Call
 call_in_format rows format =
     if format_fits rows format

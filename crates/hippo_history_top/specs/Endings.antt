@@ -1,27 +1,27 @@
--- How showing what a store keeps may end.
+-- How showing a store's contents may end.
 use Rattle.std.specs.Prelude.{ℕ, Bool, true, false, List, [], ◌∷◌, Option, Some, None}
 use Rattle.hippo_keeper.specs.declared.faults.KeeperFault.{KeeperFault as Fault}
 use Rattle.hippo_keeper.specs.declared.faults.KeeperFault.TheVariants as faults
 use Rattle.hippo_program_args.specs.declared.endings.Ending.{Ending}
 use Rattle.hippo_program_args.specs.declared.endings.Ending.TheVariants.{Served, Refused, KeeperFault, ReadFault, WriteFault, Damaged, NoMemory, TooMuch}
 
--- which statuses there are: nothing is read from a source
+-- all exit statuses; nothing is read from a source
 abbrev pub showing_statuses : List ℕ
 showing_statuses = 0 ∷ 2 ∷ 3 ∷ 5 ∷ 6 ∷ 7 ∷ []
 
--- whether the program may end so, or go on, where its words ask for something
+-- whether the program may end this way, or go on, if its words ask for something
 abbrev pub ends_showing : Option Ending → Bool
 ends_showing (Some Refused) = false
 ends_showing (Some ReadFault) = false
 ends_showing (Some TooMuch) = false
 ends_showing ending = true
 
--- how it ends where its keeper did not answer
+-- how the program ends when a call on its keeper failed
 abbrev pub ending_of : Fault → Ending
 ending_of faults.Failed = KeeperFault
 ending_of faults.Memory = NoMemory
 
--- whether entries that are shown may end the program so
+-- whether showing entries may end the program this way
 abbrev pub cuts : Option Ending → Bool
 cuts None = true
 cuts (Some WriteFault) = true
@@ -29,7 +29,7 @@ cuts (Some Damaged) = true
 cuts (Some NoMemory) = true
 cuts (Some ending) = false
 
--- where the entries that were read did not end it, as the others do
+-- the ending, except that reading all entries, or a failed keeper, counts as none
 abbrev pub cut_of : Option Ending → Option Ending
 cut_of (Some Served) = None
 cut_of (Some KeeperFault) = None

@@ -1,4 +1,4 @@
--- What showing comes to, over what a start may find.
+-- The results of showing, over what a start may find.
 use Rattle.std.specs.Prelude.{◌⊎◌, Option}
 use Rattle.hippo_values.specs.Texts.{Txt}
 use Rattle.hippo_io.specs.Told.{Appends, AppendsFront}
@@ -11,24 +11,24 @@ use Rattle.hippo_program_args.specs.declared.endings.Ending.{Ending}
 use Rattle.hippo_program_args.specs.declared.endings.Ending.TheVariants.{Served, KeeperFault, WriteFault, Damaged, NoMemory}
 use Rattle.hippo_history_top.specs.Showing.{shown_text}
 
--- the stored forms of a valid history were found and are kept, and this holds of each history of
--- which they are
+-- the stored forms of a valid history were found and are stored, and this holds of each history
+-- with these stored forms
 pub record FromKept (name : Txt) (holds : History → Type 0) (before after : KeeperState)
     : Type 0 where
   pub kept : KeepsFound (before.finds name) after
   pub held : HoldsOfStored after.kept holds
 
--- just what is asked for of the history is written
+-- exactly what is asked for of the history is written
 abbrev pub ShowsView : View → Txt → KeeperState → KeeperState → Option Txt → Option Txt → Type 0
 ShowsView view name before after written written' =
     FromKept name (λ history. Appends written written' (shown_text view history)) before after
 
--- a front of it is
+-- a prefix of what is asked for is written
 abbrev pub BeginsView : View → Txt → KeeperState → KeeperState → Option Txt → Option Txt → Type 0
 BeginsView view name before after written written' =
     FromKept name (λ history. AppendsFront written written' (shown_text view history)) before after
 
--- how showing ends; unwritten says that the sink is as before
+-- how showing ends; `unwritten` says that the sink is unchanged
 abbrev pub Ends : Ending → Type 0 → View → Txt → KeeperState → KeeperState → Option Txt → Option Txt
     → Type 0
 Ends Served unwritten view name before after written written' =

@@ -1,4 +1,4 @@
--- What showing kept entries one after the other comes to.
+-- The results of showing the stored entries one after another.
 use Rattle.std.specs.Prelude.{◌≡◌, ◌≢◌, ℕ, ◌+◌, ◌^◌, ◌<◌, ◌≤◌, true, false, [], ◌++◌, map, Option, Some, None, Ok}
 use Rattle.std.specs.List.{list_all}
 use Rattle.hippo_values.specs.Texts.{Txt}
@@ -23,17 +23,17 @@ use Rattle.hippo_history_top.specs.Saying.{CountsWrites}
 use Rattle.hippo_history_top.specs.ByNames.{entry_shown, clock_after, entries_shown, clock_at_end}
 use Rattle.hippo_history_top.specs.Showing.{shown_text}
 
--- the keeper was started, and the numbers that it keeps rise
+-- the keeper was started, and the numbers of the stored entries rise
 pub record IsReadable (keeper : KeeperState) : Type 0 where
   pub ready : IsReady true keeper
   pub order : keeper.tells → RisesAbove 0 keeper.kept
 
--- these entries can be kept, and these are their stored forms
+-- these entries can be stored, and these are their stored forms
 pub record HasForms (store : Store) (entries : History) : Type 0 where
   pub forms : map stored entries ≡ store
   pub keepable : list_all is_keepable entries ≡ true
 
--- an entry was shown, where it is asked for; or a front of it was
+-- an entry was shown, if it is asked for; or a prefix of its lines was
 pub record ShowsEntry (known : KnownNames) (excerpt : Excerpt) (entry : Entry)
     (result : Option Ending)
     (clock clock' : Option Moment) (written written' : Option Txt) (faults faults' : ℕ)
@@ -45,8 +45,8 @@ pub record ShowsEntry (known : KnownNames) (excerpt : Excerpt) (entry : Entry)
   pub moment : result ≡ None → clock' ≡ clock_after known excerpt clock entry
   pub front : AppendsFront written written' (entry_shown known excerpt clock entry)
 
--- whatever entries have these stored forms, they were shown, or a front of what is shown of them;
--- where they are called damaged, none have
+-- the entries with these stored forms were shown, or a prefix of what is shown of them; if the
+-- forms are called damaged, no entries have them
 pub record ShowsKept (known : KnownNames) (excerpt : Excerpt) (store : Store)
     (result : Option Ending)
     (clock clock' : Option Moment) (written written' : Option Txt) (faults faults' : ℕ)
@@ -61,13 +61,13 @@ pub record ShowsKept (known : KnownNames) (excerpt : Excerpt) (store : Store)
       → AppendsFront written written' (entries_shown known excerpt clock entries)
   pub damaged : result ≡ Some Damaged → (entries : History) → ¬ (HasForms store entries)
 
--- what is kept is what was read, up to this number, and the rest
+-- the stored list is what was read, up to this number, followed by the rest
 pub record IsReadUpTo (number : ℕ) (keeper : KeeperState) (read rest : Store) : Type 0 where
   pub last : last_number 0 read ≡ number
   pub order : RisesAbove 0 keeper.kept
   pub whole : keeper.kept ≡ read ++ rest
 
--- a piece is read, which is the front of the rest, and shown
+-- a piece, the first entries of the rest, is read and shown
 pub record ShowsNext (known : KnownNames) (excerpt : Excerpt) (result : Option Ending)
     (before after : KeeperState)
     (number number' : ℕ) (clock clock' : Option Moment) (written written' : Option Txt)
@@ -88,7 +88,7 @@ pub record ShowsNext (known : KnownNames) (excerpt : Excerpt) (result : Option E
   pub ended : result ≡ Some Served → after.tells → (read rest : Store)
       → IsReadUpTo number before read rest → rest ≡ []
 
--- a front of what is kept is read and shown
+-- the first part of the stored list is read and shown
 pub record IsShowing (known : KnownNames) (excerpt : Excerpt) (before now : KeeperState)
     (number : ℕ)
     (clock : Option Moment) (written written' : Option Txt) (faults faults' ticks ticks' : ℕ)
@@ -101,7 +101,7 @@ pub record IsShowing (known : KnownNames) (excerpt : Excerpt) (before now : Keep
   pub steps : ticks' ≡ ticks + stored_versions read
   pub told : now.tells → ((remaining : Store) × (before.kept ≡ read ++ remaining))
 
--- all that is kept is read and shown, or a front of it
+-- the whole stored list is read and shown, or its first part
 pub record ShowsAll (known : KnownNames) (excerpt : Excerpt) (result : Ending)
     (before after : KeeperState)
     (written written' : Option Txt) (faults faults' ticks ticks' : ℕ) : Type 0 where
@@ -117,8 +117,7 @@ pub record ShowsAll (known : KnownNames) (excerpt : Excerpt) (result : Ending)
       → ¬ (HasForms before.kept entries)
   pub steps : after.tells → ticks' ≤ ticks + stored_versions before.kept
 
--- a text that depends on what a history is, of which this is known, is written, or a front of it,
--- or nothing
+-- a text is written, or a prefix of it, or nothing; it depends on a history of which this is known
 pub record WritesPage (IsSo : History → Type 0) (page : History → Txt) (result : Option Ending)
     (written written' : Option Txt) (faults faults' : ℕ) : Type 0 where
   pub ends : cuts result ≡ true
@@ -128,8 +127,7 @@ pub record WritesPage (IsSo : History → Type 0) (page : History → Txt) (resu
       → Appends written written' (page history)
   pub front : (history : History) → IsSo history → AppendsFront written written' (page history)
 
--- what is asked for is shown of the history that a state stands for and that is kept, or a front of
--- it
+-- what is asked for is shown, or a prefix of it, of the stored history that a state stands for
 pub record ShowsLoaded (state : State) (view : View) (result : Ending) (before after : KeeperState)
     (written written' : Option Txt) (faults faults' ticks ticks' : ℕ) : Type 0 where
   pub call : IsAfterCall true false (ending_as_call result) before after

@@ -1,5 +1,5 @@
--- What is in force after a history: for each purpose and recipient, and each table of which a rule
--- names some column for them, every column with its rule.
+-- What is in force after a history. For each purpose and recipient, and each table that has a rule
+-- for them on some column, every column is shown with its rule.
 use Rattle.std.specs.Prelude.{Bool, true, ◌&&◌, [], flat_map, length, Option, is_some, if◌then◌else◌, bytes_eq}
 use Rattle.std.specs.List.{list_any, range_with_len}
 use Rattle.hippo_values.specs.Texts.{Txt}
@@ -14,7 +14,7 @@ use Rattle.hippo_history_top.specs.declared.asking.Scope.{Scope}
 use Rattle.hippo_history_top.specs.declared.asking.Scope.TheVariants.{Whole, Table}
 use Rattle.hippo_history_formats.specs.Formats.{rule_line}
 
--- the rule of a column, and its line
+-- the rule of a column, and then its line
 abbrev pub column_rule : History → Name → Name → Schema → Place → Option Rule
 column_rule history purpose recipient schema place =
     rule_at history purpose recipient schema.name place
@@ -31,7 +31,7 @@ is_ruled history purpose recipient schema =
     list_any (λ place. is_some (column_rule history purpose recipient schema place))
     (range_with_len 0 (length schema.columns))
 
--- then every column is shown
+-- all columns of a table that has a rule
 abbrev pub columns_shown : Format → History → Name → Name → Schema → Txt
 columns_shown format history purpose recipient schema =
     flat_map (column_line format history purpose recipient schema)
@@ -61,6 +61,6 @@ abbrev pub rules_by_names : KnownNames → Format → Scope → History → Txt
 rules_by_names known format scope history =
     flat_map (recipients_shown known format scope history) known.purposes
 
--- by all that a history creates, in the order of their creation
+-- the rules in force, by everything that a history creates, in the order of creation
 abbrev pub rules_shown : Format → Scope → History → Txt
 rules_shown format scope history = rules_by_names (known_at history) format scope history

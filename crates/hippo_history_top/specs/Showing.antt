@@ -34,7 +34,8 @@ abbrev pub is_question_of : KnownNames → Name → Txt → Bool
 is_question_of known table text =
     option_map_or (λ query. list_any (bytes_eq table) query.tables) (meaning_in known text) false
 
--- whether an act speaks of a table: it creates it, changes a row of it, rules over it or asks it
+-- whether an act is about a table: it creates the table, changes a row of it, sets or revokes a
+-- rule on it, or asks a question that reads it
 abbrev pub speaks_of : KnownNames → Name → Act → Bool
 speaks_of known table (Create schema) = bytes_eq table schema.name
 speaks_of known table (Insert name row) = bytes_eq table name
@@ -59,7 +60,7 @@ is_in_excerpt known excerpt entry =
     nat_le excerpt.first entry.seq && nat_le entry.seq excerpt.last && is_of excerpt.acts entry.act
     && is_in_scope known excerpt.scope entry.act
 
--- a line of the console, and those of a session that asks one question
+-- a line of the console, and then the lines of a session that asks one question
 abbrev pub console_lines : Txt → Txt
 console_lines statement = codes "0 " ++ (statement ++ codes "\n")
 
@@ -68,41 +69,41 @@ session_lines user purpose recipient text =
     codes "1 login " ++ (user ++ (codes " " ++ (purpose ++ (codes " " ++ (recipient
     ++ (codes "\n1 " ++ (text ++ codes "\n1 logout\n")))))))
 
--- the lines that make an act again, where this is the schema of the table that it names
+-- the lines that repeat an act, with the schema of the table that it names
 abbrev pub act_lines : Option Schema → Act → Txt
 act_lines schema (Asked user purpose recipient text) = session_lines user purpose recipient text
 act_lines schema act = console_lines (told_act schema act)
 
--- whether the clock stands at a moment
+-- whether the clock is set to this moment
 abbrev pub stands_at : Option Moment → Moment → Bool
 stands_at clock moment = option_map_or (λ set. int_eq set moment) clock false
 
--- the clock is set where it does not stand so
+-- a line that sets the clock, unless it is already set to this moment
 abbrev pub clock_line : Option Moment → Moment → Txt
 clock_line clock moment =
     if stands_at clock moment then [] else codes "at " ++ (moment_text moment ++ codes "\n")
 
--- an entry of a history as it is shown, where the entry that was shown last had this moment
+-- an entry of a history as it is shown; `clock` is the moment of the entry that was shown last
 abbrev pub told_as : History → Form → Option Moment → Entry → Txt
 told_as history (Listing format) clock entry = entry_by format (schema_before history entry) entry
 told_as history Script clock entry =
     clock_line clock entry.moment ++ act_lines (schema_before history entry) entry.act
 
--- the entry, where it passes, and the clock behind it
+-- the entry, if it passes, and then the clock after it
 abbrev pub entry_where : (Entry → Bool) → (Option Moment → Entry → Txt) → Option Moment → Entry → Txt
 entry_where passes lines clock entry = if passes entry then lines clock entry else []
 
 abbrev pub clock_where : (Entry → Bool) → Option Moment → Entry → Option Moment
 clock_where passes clock entry = if passes entry then Some entry.moment else clock
 
--- entries of a history, one after the other
+-- entries of a history, one after another
 abbrev pub entries_where : (Entry → Bool) → (Option Moment → Entry → Txt) → Option Moment → History → Txt
 entries_where passes lines clock [] = []
 entries_where passes lines clock (entry ∷ later) =
     entry_where passes lines clock entry
     ++ entries_where passes lines (clock_where passes clock entry) later
 
--- whether an entry is asked for, by the names that it found; and all that are
+-- whether an entry is asked for, by the names that existed before it; and then all entries that are
 abbrev pub is_told : History → Excerpt → Entry → Bool
 is_told history excerpt entry = is_in_excerpt (known_at (before_entry entry history)) excerpt entry
 

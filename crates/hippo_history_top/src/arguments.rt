@@ -1,4 +1,4 @@
-//! The command's arguments, and what is found behind them.
+//! The command's arguments, and the values given for them.
 ghost use Rattle.std.specs.Prelude.{◌≡◌};
 ghost use Rattle.clap.specs.Words.{rows_of, found_of};
 ghost use Rattle.hippo_history_top.specs.CommandLine.{is_on};
@@ -6,7 +6,7 @@ ghost use Rattle.hippo_history_top.specs.CommandLine.{is_on};
 use clap::ArgMatches;
 use hippo_program_args::{Argument, text_of};
 
-/// The arguments that the command has.
+/// The arguments that the command takes.
 pub(crate) const ARGUMENTS: [Argument<'static>; 9] = [
     Argument::Needed("store"),
     Argument::Entry("entry"),
@@ -19,7 +19,7 @@ pub(crate) const ARGUMENTS: [Argument<'static>; 9] = [
     Argument::Text("format"),
 ];
 
-/// Whether a name that stands alone was written.
+/// Whether a flag, a name without a value, is given.
 pub(crate) fn is_on(matches: &ArgMatches<'_>, name: &str) -> bool
     ensures { result ≡ is_on name.now (rows_of (found_of matches.now)) }
 {

@@ -5,17 +5,17 @@ use hippo_values::{Name, Txt};
 /// How entries are shown.
 #[derive(Clone, Copy, PartialEq, Eq)]
 pub enum Form {
-    /// A line each, in a format: the number, the moment and the statement.
+    /// One line for each entry, in a format: the number, the moment and the statement.
     Listing(Format),
-    /// Lines that `hippo run` takes.
+    /// Lines that `hippo run` reads.
     Script,
 }
 
-/// What is shown, by the table that it speaks of.
+/// Which entries or rules are shown, by their table.
 #[derive(Drop)]
 pub enum Scope {
     Whole,
-    /// What speaks of one table.
+    /// Only those that are about this table.
     Table(Name),
 }
 
@@ -23,14 +23,14 @@ pub enum Scope {
 #[derive(Clone, Copy, PartialEq, Eq)]
 pub enum Acts {
     All,
-    /// Those that create a table.
+    /// Only those that create a table.
     Tables,
 }
 
 /// Some entries of a history, and how they are shown.
 #[derive(Drop)]
 pub struct Excerpt {
-    /// The numbers of the first and of the last entry.
+    /// The number of the first entry; `last` is the number of the last.
     pub first: u64,
     pub last: u64,
     pub acts: Acts,
@@ -38,10 +38,11 @@ pub struct Excerpt {
     pub form: Form,
 }
 
-/// As of which entry something is shown of a history, of which tables, and how.
+/// A page about a history as of one entry: which entry that is, which tables the page covers, and
+/// how it is shown.
 #[derive(Drop)]
 pub struct Page {
-    /// The number of the last entry that counts.
+    /// The number of the last entry that is taken into account.
     pub last: u64,
     pub scope: Scope,
     pub format: Format,

@@ -1,5 +1,5 @@
-//! What a store keeps, as a person reads it: its entries, or the rules in force. The command line,
-//! and the top call.
+//! What a store holds, in a form that people can read: its entries, or the rules in force. This
+//! crate has the command line and the top function.
 #![tactic(auto)]
 
 mod arguments;

@@ -1,4 +1,4 @@
-//! The lines of one entry.
+//! The lines that show one entry.
 ghost use Rattle.std.specs.Prelude.{◌≡◌, ◌++◌, option_copied, OnOk, codes};
 ghost use Rattle.hippo_values_text.specs.Dates.{moment_text};
 ghost use Rattle.hippo_history_statements.specs.Telling.{told_act};
@@ -23,7 +23,7 @@ fn schema_named<'a>(catalog: &'a Catalog, act: &Act) -> Option<&'a Schema>
     }
 }
 
-// Whether the clock stands at a moment.
+// Whether the clock is set to this moment.
 fn stands_at(clock: &Option<Moment>, moment: &Moment) -> bool
     ensures { result ≡ stands_at clock.now moment.now }
 {
@@ -33,7 +33,7 @@ fn stands_at(clock: &Option<Moment>, moment: &Moment) -> bool
     }
 }
 
-// A line that sets the clock.
+// Appends a line that sets the clock.
 fn append_at(moment: &Moment, out: &mut Txt) -> Result<(), Memory>
     ensures { OnOk result (out.new ≡ out.old
         ++ (codes "at " ++ (moment_text moment.now ++ codes "\n"))) }
@@ -43,7 +43,7 @@ fn append_at(moment: &Moment, out: &mut Txt) -> Result<(), Memory>
     out.append("\n")
 }
 
-// A line that sets the clock where it does not stand so.
+// Appends a line that sets the clock, unless it is already set to this moment.
 fn append_clock(clock: &Option<Moment>, moment: &Moment, out: &mut Txt) -> Result<(), Memory>
     ensures { OnOk result (out.new ≡ out.old ++ clock_line clock.now moment.now) }
 {
@@ -76,7 +76,7 @@ fn append_login(question: &Question<'_>, out: &mut Txt) -> Result<(), Memory>
     out.append(question.recipient.as_str())
 }
 
-// The lines of a session that asks one question.
+// Appends the lines of a session that asks one question.
 fn append_session(question: &Question<'_>, out: &mut Txt) -> Result<(), Memory>
     ensures { OnOk result (out.new ≡ out.old
         ++ session_lines question.now.user.now question.now.purpose.now
@@ -88,7 +88,7 @@ fn append_session(question: &Question<'_>, out: &mut Txt) -> Result<(), Memory>
     out.append("\n1 logout\n")
 }
 
-// The lines that make an act again.
+// Appends the lines that repeat an act.
 #[tactic(auto, using(crate::proofs::QuestionLemmas::statement_as_lines))]
 fn append_act(alloc: Global, catalog: &Catalog, act: &Act, out: &mut Txt) -> Result<(), Memory>
     ensures { OnOk result (out.new
@@ -115,7 +115,7 @@ fn append_script(
     append_act(alloc, catalog, &entry.act, out)
 }
 
-/// Adds an entry as it is shown, where the entry that was shown last had this moment.
+/// Appends an entry as it is shown. `clock` is the moment of the entry that was shown last.
 pub(crate) fn append_shown(
     alloc: Global,
     catalog: &Catalog,

@@ -1,4 +1,4 @@
-//! What the program writes of its own, and the write of a text.
+//! The lines that the program writes besides what it shows, and the write of a text.
 ghost use Rattle.hippo_program_args.specs.Saying.{Says};
 ghost use Rattle.hippo_program_args.specs.declared.endings.Ending.TheVariants.{Refused, WriteFault};
 ghost use Rattle.hippo_history_top.specs.Saying.{showing_usage as usage, Writes};

@@ -12,7 +12,7 @@ use hippo_report::Format;
 use hippo_values::{Memory, Name, Txt};
 use std::alloc::Global;
 
-// What the command finds in words: nothing exactly where it does not take them.
+// What the command finds in the words. `None` exactly when the command does not take them.
 fn found_in<'w>(alloc: Global, words: &'w [&'w str]) -> Result<Option<ArgMatches<'w>>, Memory>
     ensures { IfOk result (FindsMatches showing_command_line (map (λ word. word.now) words.now)) }
 {
@@ -204,12 +204,17 @@ fn asked_in(alloc: Global, words: &[&str]) -> Result<Option<Call>, Memory>
     }
 }
 
-/// What the words of a call ask for: options in any order, `--NAME VALUE` or `--NAME=VALUE`, and
-/// the store must be among them. Nothing where the command does not take them, as where a word is
-/// unknown or an option stands twice, where a number is out of its bounds, a table's name is none
-/// or a format is none of the three, where an entry is named beside an end of a stretch, where the
-/// rules are asked for beside such an end, the tables or a script, or where a script is asked for
-/// in another format than text. Or want of memory.
+/// Returns what the words of a call ask for. The words are options in any order, `--NAME VALUE` or
+/// `--NAME=VALUE`, and the store must be among them. The only error is running out of memory.
+///
+/// Returns `None` if the command does not take the words:
+///
+/// - a word is unknown, or an option occurs twice;
+/// - a number is out of its bounds, a table's name is not a name, or a format is not one of the
+///   three;
+/// - `--entry` is given with `--from` or `--to`;
+/// - `--rules` is given with `--from`, `--to`, `--tables` or `--script`;
+/// - `--script` is given with another format than text.
 ///
 /// ```text
 /// --store clinic.db --entry 18

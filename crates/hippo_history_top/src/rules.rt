@@ -1,4 +1,4 @@
-//! The rules in force, a line a column.
+//! The rules in force, one line for each column.
 ghost use Rattle.std.specs.Prelude.{◌≡◌, ◌++◌, ◌&&◌, [], take, slice_get, is_some, OnOk};
 ghost use Rattle.std.specs.Option.{option_map_or};
 ghost use Rattle.hippo_model.specs.Terms.{History};
@@ -15,8 +15,8 @@ use hippo_typing_catalog::Catalog;
 use hippo_values::{Memory, Name, Txt};
 use std::alloc::Global;
 
-// The names and the rules of a history, as of its first so many entries, which of them are asked
-// for, and how.
+// The names and the rules of a history after its first entries, up to a number; which of them are
+// asked for; and how they are shown.
 #[derive(Clone, Copy)]
 struct Policy<'a> {
     alloc: Global,
@@ -117,7 +117,7 @@ fn has_table(scope: &Scope, table: &Name) -> bool
     }
 }
 
-// Whether a table's columns are shown.
+// Whether the columns of a table are shown.
 fn is_shown(policy: &Policy<'_>, group: &Group<'_>) -> bool
     ensures { (history : History) → BookStandsFor policy.now.book.now history → result
         ≡ (has_table policy.now.scope.now group.now.schema.now.name
@@ -139,7 +139,7 @@ fn append_table(policy: &Policy<'_>, group: &Group<'_>, out: &mut Txt) -> Result
     }
 }
 
-// The table that was created as the one with this place.
+// Appends the columns of the table with this index, in the order in which tables were created.
 fn append_table_at(
     policy: &Policy<'_>,
     purpose: &Name,
@@ -206,7 +206,7 @@ fn append_purposes(policy: &Policy<'_>, out: &mut Txt) -> Result<(), Memory>
     Ok(())
 }
 
-/// Adds the rules that are in force after so many entries, for the tables that are asked for.
+/// Appends the rules that are in force after this many entries, for the tables that are asked for.
 pub(crate) fn append_rules(
     alloc: Global,
     catalog: &Catalog,

@@ -17,7 +17,7 @@ fn is_among(table: &Name, tables: &[Name]) -> bool
     tables.iter().any(|name| table == name)
 }
 
-// Whether a query has a table; the query falls here.
+// Whether a query reads the table. Drops the query.
 fn reads(query: Query, table: &Name) -> bool
     ensures { result ≡ list_any (bytes_eq table.now) query.tables }
 {
@@ -84,7 +84,7 @@ fn is_of(acts: Acts, act: &Act) -> bool
     }
 }
 
-// Whether an entry is asked for, whatever table it speaks of.
+// Whether an entry is asked for, regardless of its table.
 fn is_counted(excerpt: &Excerpt, entry: &Entry) -> bool
     ensures { result ≡ (nat_le excerpt.now.first entry.now.seq
         && nat_le entry.now.seq excerpt.now.last

@@ -1,4 +1,4 @@
-//! The entries that a keeper keeps, read piece by piece and shown one after the other.
+//! Reads the stored entries piece by piece, and shows them one after another.
 ghost use Rattle.std.specs.Prelude.{◌≡◌, None, true, [], ◌∷◌};
 ghost use Rattle.hippo_keeper.specs.Keeping.{last_number, IsReady};
 ghost use Rattle.hippo_history_top.specs.Saying.{Writes};
@@ -20,10 +20,10 @@ use hippo_values::{Memory, Moment, Txt};
 use std::alloc::Global;
 use std::sync::ledger::Ledger;
 
-// How many entries are read at once.
+// How many entries are read at a time.
 const PIECE: u64 = 1000;
 
-// What is shown, and by which names.
+// What is shown, and the names that are used for it.
 #[derive(Clone, Copy)]
 pub(crate) struct Guide<'a> {
     pub alloc: Global,
@@ -31,8 +31,8 @@ pub(crate) struct Guide<'a> {
     pub excerpt: &'a Excerpt,
 }
 
-// How far showing is: the number of the last entry that was read, and the moment of the last that
-// was shown.
+// How far the output has come: the number of the last entry that was read, and the moment of the
+// last one that was shown.
 #[derive(Clone, Copy)]
 struct Progress {
     number: u64,
@@ -80,7 +80,7 @@ fn show_entry<K: Sink>(
     }
 }
 
-// Shows the entry that has a stored form, if there is one.
+// Shows the entry that has this stored form, if there is one.
 fn show_kept<K: Sink>(
     guide: &Guide<'_>,
     kept: &StoredEntry,
@@ -123,7 +123,7 @@ fn show_piece<K: Sink>(
     None
 }
 
-// Reads the next piece and shows its entries; all are shown where there is none.
+// Reads the next piece and shows its entries. If there is no next piece, all are shown.
 fn show_next<K: Sink, P: Keeper, L: Ledger>(
     guide: &Guide<'_>,
     progress: &mut Progress,
@@ -150,7 +150,7 @@ fn show_next<K: Sink, P: Keeper, L: Ledger>(
     }
 }
 
-/// Shows what is asked for of the entries that a started keeper keeps.
+/// Shows what is asked for of the entries that a started keeper stores.
 pub(crate) fn show_all<K: Sink, P: Keeper, L: Ledger>(
     guide: &Guide<'_>,
     sink: &mut K,

@@ -1,4 +1,4 @@
-//! The top call: what the words ask for is shown of what a keeper keeps, and the call has its exit
+//! The top function: it shows what the words ask for of what a keeper stores, and returns the exit
 //! status.
 ghost use Rattle.std.specs.Prelude.{◌≡◌, ◌≢◌, ◌⊎◌, ◌+◌, ◌*◌, ◌≤◌, take, None, Some, true, false, Any};
 ghost use Rattle.hippo_io.specs.Faults.{HasRisen};
@@ -44,7 +44,7 @@ fn write_rules<K: Sink>(alloc: Global, page: &Page, state: &State, sink: &mut K)
     }
 }
 
-// Shows what is asked for of the history that a state stands for, and lets the state fall.
+// Shows what is asked for of the history that a state stands for, and drops the state.
 fn show_view<K: Sink, P: Keeper, L: Ledger>(
     alloc: Global,
     view: &View,
@@ -78,7 +78,7 @@ fn show_view<K: Sink, P: Keeper, L: Ledger>(
     }
 }
 
-// Loads what a store keeps, and shows what is asked for.
+// Loads the stored history, and shows what is asked for.
 fn show<K: Sink, P: Keeper, L: Ledger>(
     alloc: Global,
     store: &str,
@@ -106,23 +106,24 @@ fn show<K: Sink, P: Keeper, L: Ledger>(
     }
 }
 
-/// Runs the program: `words` are those behind its name, `sink` is its output, and `keeper`, which
-/// must be neither started nor spent nor closed, keeps a history in the store that the words name.
-/// Answers the exit status.
+/// Runs the program and returns its exit status. `words` are the words after the program's name,
+/// and `sink` is its output. `keeper` stores a history, in the store that the words name; it must
+/// be neither started nor spent nor closed.
 ///
-/// - 0: just what is asked for of the history that is kept is written (`shown`).
-/// - 2: the words ask for nothing (see [`asked_of`]); the usage line is written. Such words end
-///   with 2, or with 5 or 7 where that line could not be written.
-/// - 3: the keeper failed; what is written is a front of what is asked for.
-/// - 5: the sink failed; what was written is a front of what was to be written.
-/// - 6: the kept entries are those of no valid history; the line `damaged PLACE` is written, with
-///   the place, counted from 1, of the first entry up to which they are not.
-/// - 7: memory was short; what is written is a front of what is asked for.
+/// - 0: exactly what is asked for of the stored history is written (`shown`).
+/// - 2: the words ask for nothing (see [`asked_of`]). The usage line is written. If it cannot be
+///   written, the status is 5 or 7 instead.
+/// - 3: the keeper failed. What is written is a prefix of what is asked for.
+/// - 5: the sink failed. What was written is a prefix of what was to be written.
+/// - 6: the stored entries are those of no valid history. The line `damaged PLACE` is written.
+///   PLACE, counted from 1, is that of the first entry for which the entries up to and including it
+///   are those of no valid history.
+/// - 7: memory ran out. What is written is a prefix of what is asked for.
 ///
-/// Once the keeper has started, the kept entries stay as they were found. They are read in pieces:
-/// first to load the history, so that damage is told before anything else is written, and once more
-/// where entries are asked for, to show them. The rules in force are made in memory from what was
-/// loaded, and then written.
+/// Once the keeper has started, the stored entries stay as they were found. They are read in
+/// pieces. The first read loads the history, so that damage is reported before anything else is
+/// written. If entries are asked for, a second read shows them. The rules in force are computed in
+/// memory from what was loaded, and then written.
 pub fn history_top<K: Sink, P: Keeper, L: Ledger>(
     alloc: Global,
     words: &[Txt],
@@ -141,7 +142,7 @@ pub fn history_top<K: Sink, P: Keeper, L: Ledger>(
     ensures usage_cut { asked_of words.now ≡ None → result ≡ 5 →
         AppendsFront (K.written sink.old) (K.written sink.new) showing_usage }
 
-    // What is shown, where the keeper tells, of a history that a start may find.
+    // What is shown, if the store's contents are known, of a history that a start may find.
     ensures shown { (call : AskedCall) → asked_of words.now ≡ Some call → result ≡ 0
         → (P.state keeper.new).tells →
         ShowsView call.view call.store
@@ -167,14 +168,14 @@ pub fn history_top<K: Sink, P: Keeper, L: Ledger>(
         ⊎ BeginsView call.view call.store
         (P.state keeper.old) (P.state keeper.new) (K.written sink.old) (K.written sink.new) }
 
-    // What is kept stays as it was found, and each version in it is read twice at most.
+    // What is stored stays as it was found, and each version in it is read at most twice.
     ensures same { (call : AskedCall) → asked_of words.now ≡ Some call
         → (P.state keeper.new).tells →
         IsIdle call.store (P.state keeper.old) (P.state keeper.new) }
     ensures steps { (P.state keeper.new).tells →
         steps.new ≤ steps.old + 2 * stored_versions (P.state keeper.new).kept }
 
-    // A fault comes where its object's count rose, and only there.
+    // A status for a fault is returned only when the count of the object that failed rose.
     ensures keeper_fault { result ≡ 3 → HasRisen (P.state keeper.old).faults
         (P.state keeper.new).faults
         × ((P.state keeper.new).spent ≡ true) }

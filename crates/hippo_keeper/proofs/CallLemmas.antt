@@ -1,4 +1,4 @@
--- Calls of a keeper, one after the other.
+-- Sequences of calls on a keeper.
 use Rattle.std.proofs.Common.{◌≡◌, ◌∙◌, sym, refl, arith, subst, ℕ, Bool, true, false, Result}
 use Rattle.std.proofs.lemmas.Bool.{false≢true}
 use Rattle.hippo_io.specs.Faults.{HasRisen}
@@ -6,7 +6,7 @@ use Rattle.hippo_keeper.specs.declared.faults.KeeperFault.{KeeperFault}
 use Rattle.hippo_keeper.specs.Answering.{has_failed}
 use Rattle.hippo_keeper.specs.Keeping.{KeeperState, IsReady, IsAfterCall, Stays, KeepsSame}
 
--- a keeper keeps the same as long as nothing happens
+-- a keeper keeps the same if nothing happens
 pub KeepsSame-here : (keeper : KeeperState) → KeepsSame keeper keeper
 KeepsSame-here keeper = record { same = refl; stop = λ store survives. survives; some = λ some. some }
 
@@ -20,7 +20,7 @@ KeepsSame-then first second third one other = record {
 pub KeepsSame-Stays : (before after : KeeperState) → Stays before after → KeepsSame before after
 KeepsSame-Stays before after stays = record { same = stays.same; stop = stays.stop; some = λ some. stays.some }
 
--- a call that did not fail, and then another
+-- a call that did not fail, followed by another call
 pub IsAfterCall-then : {A B : Type 0} (closed : Bool) (first : Result A KeeperFault) (second : Result B KeeperFault) (before mid after : KeeperState) → has_failed first ≡ false → IsAfterCall true false first before mid → IsAfterCall true closed second mid after → IsAfterCall true closed second before after
 IsAfterCall-then closed first second before mid after good one other =
     let same : mid.faults ≡ before.faults = one.faults.unfailed good in
@@ -37,7 +37,7 @@ IsAfterCall-then closed first second before mid after good one other =
       };
     }
 
--- a call's answer counts as another, where both failed or neither
+-- the answer may be replaced by another one, if both failed or neither did
 pub IsAfterCall-as : {A B : Type 0} (started closed : Bool) (one : Result A KeeperFault) (other : Result B KeeperFault) (before after : KeeperState) → has_failed other ≡ has_failed one → IsAfterCall started closed one before after → IsAfterCall started closed other before after
 IsAfterCall-as started closed one other before after same call = record {
   is_sound = call.is_sound;
@@ -52,7 +52,7 @@ IsAfterCall-as started closed one other before after same call = record {
   };
 }
 
--- a ready keeper is as after a call that did nothing
+-- a ready keeper is in the state after a call that did nothing
 pub IsAfterCall-none : {A : Type 0} (answer : Result A KeeperFault) (keeper : KeeperState) → has_failed answer ≡ false → IsReady true keeper → IsAfterCall true false answer keeper keeper
 IsAfterCall-none answer keeper good ready = record {
   is_sound = ready.is_sound;
@@ -63,7 +63,7 @@ IsAfterCall-none answer keeper good ready = record {
   faults = record { cause = λ failed. absurd (false≢true (sym good ∙ failed)); unfailed = λ fine. refl; rises = omega arith };
 }
 
--- and ready again after one that did not fail
+-- a keeper is ready again after a call that did not fail
 pub IsReady-after : {A : Type 0} (result : Result A KeeperFault) (before after : KeeperState) → has_failed result ≡ false → IsAfterCall true false result before after → IsReady true after
 IsReady-after result before after good call = record {
   is_sound = call.is_sound;

@@ -1,4 +1,4 @@
--- The entries of a page: how many there are, the last, and one more behind them.
+-- The entries of a page: how many there are, which is the last, and adding one more.
 use Rattle.std.proofs.Common.{◌≡◌, ◌∙◌, ℕ, zero, suc, ◌+◌, ◌-◌, ◌<◌, ◌≤◌, List, [], ◌∷◌, ◌++◌, length, get_or, take, drop, position, bytes_eq, Some, slice_get, ap, sym, refl, subst, add-one, length-take, length-append, arith}
 use Rattle.std.proofs.Math.Seq.{drop-cons, drop-append_seam, take-length}
 use Rattle.std.proofs.lemmas.List.{get_or-take, take-append-le, drop-append-le, length-drop}
@@ -9,13 +9,13 @@ use Rattle.hippo_keeper.specs.Keeping.{Store, last_number}
 use Rattle.hippo_keeper.specs.Paging.{entry_with, page_entries, AreWithin}
 use Rattle.hippo_keeper.specs.declared.head.Head.{Head}
 
--- where a name is found, it stands
+-- the name is at the index where it is found
 pub stands_at : (tables : List (List ℕ)) (name : List ℕ) (place : ℕ) → position (λ table. bytes_eq table name) tables ≡ Some place → slice_get tables place ≡ Some name
 stands_at tables name place found =
     let at = position-Some (λ table. bytes_eq table name) tables place [] found in
     slice_get-get_or tables place [] at.0 ∙ ap Some ((bytes_eq-Decides (get_or tables place []) name).0 at.1)
 
--- and behind the others, where it is added
+-- a name that is added is at the end
 pub stands_after : (tables : List (List ℕ)) (name : List ℕ) → slice_get (tables ++ name ∷ []) (length tables) ≡ Some name
 stands_after tables name =
     slice_get-get_or (tables ++ name ∷ []) (length tables) [] (omega (arith, length-append tables (name ∷ []))) ∙ ap Some (get_or-append_seam tables name)
@@ -24,14 +24,14 @@ stands_after tables name =
     get_or-append_seam [] last = refl
     get_or-append_seam (first ∷ rest) last = get_or-append_seam rest last
 
--- a list that keeps another as its front is no shorter, and has the same members there
+-- a list that begins with another list is no shorter, and has the same members there
 pub front_length : {A : Type 0} (front more : List A) → take (length front) more ≡ front → length front ≤ length more
 front_length front more kept = omega (arith, ap length kept, length-take (length front) more)
 
 pub front_at : {A : Type 0} (front more : List A) (d : A) (i : ℕ) → take (length front) more ≡ front → i < length front → get_or more i d ≡ get_or front i d
 front_at front more d i kept inside = sym (get_or-take (length front) more i d inside) ∙ ap (λ list. get_or list i d) kept
 
--- there is an entry for each head, and the last is that of the last
+-- there is one entry for each head, and the last entry belongs to the last head
 pub length-page_entries : (tables : List (List ℕ)) (bodies : List ℕ) (start : ℕ) (heads : List Head) → length (page_entries tables bodies start heads) ≡ length heads
 length-page_entries tables bodies start [] = refl
 length-page_entries tables bodies start (head ∷ rest) = ap suc (length-page_entries tables bodies head.end rest)
@@ -72,7 +72,7 @@ AreWithin-put count size start [] head within inside le = let same : start ≡ s
 AreWithin-put count size start (first ∷ rest) head within inside le =
     (within.0, (within.1.0, AreWithin-put count size first.end rest head within.1.1 inside le))
 
--- a body stays where more stands behind it, and that is the next one
+-- a body stays the same when bodies are added after it, and the added body is the next one
 body_kept : (bodies body : List ℕ) (start end : ℕ) → start ≤ end → end ≤ length bodies → take (end - start) (drop start (bodies ++ body)) ≡ take (end - start) (drop start bodies)
 body_kept bodies body start end first last =
     ap (take (end - start)) (drop-append-le start bodies body (omega arith))
@@ -90,7 +90,7 @@ page_entries-put tables bodies body head start (first ∷ rest) within end =
     let kept = body_kept bodies body start first.end within.1.0 (AreWithin-start (length tables) (length bodies) first.end rest within.1.1) in
     λ i. entry_with first (get_or tables first.table []) (kept i) ∷ page_entries-put tables bodies body head first.end rest within.1.1 end i
 
--- what an entry is that comes behind the others, in a page that knows its table's name
+-- the entry that is added at the end of a page, when the page has its table's name
 pub page_entries-push : (tables more : List (List ℕ)) (bodies body table : List ℕ) (head : Head) (heads : List Head) → take (length tables) more ≡ tables → AreWithin (length tables) (length bodies) 0 heads → head.end ≡ length bodies + length body → slice_get more head.table ≡ Some table → page_entries more (bodies ++ body) 0 (heads ++ head ∷ []) ≡ page_entries tables bodies 0 heads ++ entry_with head table body ∷ []
 page_entries-push tables more bodies body table head heads kept within end named =
     let known = AreWithin-named (length tables) (length more) (length bodies) 0 heads (front_length tables more kept) within in
@@ -103,7 +103,7 @@ AreWithin-push tables more bodies body table head heads kept within end named =
     let size : head.end ≡ length (bodies ++ body) = omega (arith, length-append bodies body) in
     subst (λ (size : ℕ). AreWithin (length more) size 0 (heads ++ head ∷ [])) size (AreWithin-put (length more) (length bodies) 0 heads head known (slice_get_within more head.table table named) (omega arith))
 
--- what the next head says
+-- the fields of the next head
 next_head : (heads : List Head) (i : ℕ) (d : Head) → i < length heads → drop i heads ≡ get_or heads i d ∷ drop (i + 1) heads
 next_head heads i d inside = drop-cons heads i d inside ∙ ap (λ (n : ℕ). get_or heads i d ∷ drop n heads) (sym (add-one i))
 
@@ -119,7 +119,7 @@ table_within count size start heads i d place inside within is = let known : (ge
 pub end_within : (count size start : ℕ) (heads : List Head) (i : ℕ) (d : Head) → i < length heads → AreWithin count size start (drop i heads) → (get_or heads i d).end ≤ size
 end_within count size start heads i d inside within = AreWithin-start count size (get_or heads i d).end (drop (i + 1) heads) (AreWithin-next count size start heads i d inside within)
 
--- the entry of the next head, and those behind it
+-- the entry of the next head, and the entries after it
 pub page_entries-next : (tables : List (List ℕ)) (bodies table body : List ℕ) (start : ℕ) (heads : List Head) (i : ℕ) (d : Head) → i < length heads → table ≡ get_or tables (get_or heads i d).table [] → body ≡ take ((get_or heads i d).end - start) (drop start bodies) → page_entries tables bodies start (drop i heads) ≡ entry_with (get_or heads i d) table body ∷ page_entries tables bodies (get_or heads i d).end (drop (i + 1) heads)
 page_entries-next tables bodies table body start heads i d inside named cut =
     ap (page_entries tables bodies start) (next_head heads i d inside)

@@ -1,4 +1,4 @@
--- Pages whose numbers rise, and where those above a number begin.
+-- Pages whose numbers rise, and where the entries above a number begin.
 use Rattle.std.proofs.Common.{◌≡◌, ◌∙◌, ℕ, zero, suc, ◌+◌, ◌-◌, ◌<◌, ◌≤◌, true, false, List, [], ◌∷◌, ◌++◌, length, get_or, take, drop, filter, nat_lt, leb, length-take, Bool, ap, sym, refl, subst, add-one, arith}
 use Rattle.std.proofs.Math.Seq.{drop-cons}
 use Rattle.std.proofs.lemmas.Bool.Decides.{nat_tests}
@@ -18,12 +18,12 @@ pub AreFilled-append : (pages : List Store) (page : Store) → AreFilled pages �
 AreFilled-append [] page filled some = (some, tt)
 AreFilled-append (first ∷ rest) page filled some = (filled.0, AreFilled-append rest page filled.1 some)
 
--- the next page, and those behind it
+-- the next page, and the pages after it
 pub paged-next : (pages : List Store) (i : ℕ) (page : Store) → i < length pages → page ≡ get_or pages i page → paged (drop i pages) ≡ page ++ paged (drop (i + 1) pages)
 paged-next pages i page inside is =
     rw add-one (ap paged (drop-cons pages i page inside) ∙ ap (λ first. first ++ paged (drop (suc i) pages)) (sym is))
 
--- the first of some entries rise, and those behind them rise from their last
+-- the numbers of the first entries rise, and those of the rest rise from the last of the first
 pub RisesAbove-front : (number : ℕ) (front back : Store) → RisesAbove number (front ++ back) → RisesAbove number front
 RisesAbove-front number [] back rises = tt
 RisesAbove-front number (entry ∷ rest) back rises = (rises.0, RisesAbove-front entry.seq rest back rises.1)
@@ -43,7 +43,7 @@ last_of_some : (number : ℕ) (page : Store) → 0 < length page → last_number
 last_of_some number [] some = absurd (omega arith)
 last_of_some number (entry ∷ rest) some = refl
 
--- the last numbers of pages do not fall
+-- the last numbers of pages do not decrease
 each_last_above : (number : ℕ) (pages : List Store) → AreFilled pages → RisesAbove number (paged pages) → (k : ℕ) (d : Store) → k < length pages → number < last_number 0 (get_or pages k d)
 each_last_above number [] filled rises k d inside = absurd (omega arith)
 each_last_above number (page ∷ rest) filled rises zero d inside = last_above number page filled.0 (RisesAbove-front number page (paged rest) rises)
@@ -62,7 +62,7 @@ lasts_in_order number (page ∷ rest) filled rises (suc i) zero d le inside = ab
 lasts_in_order number (page ∷ rest) filled rises (suc i) (suc j) d le inside =
     lasts_in_order (last_number number page) rest filled.1 (RisesAbove-back number page (paged rest) rises) i j d (omega arith) (omega arith)
 
--- nothing is above a number that the last is not above
+-- if the last number is not above a number, no entry is
 none_above : (after number : ℕ) (page : Store) → RisesAbove number page → last_number number page ≤ after → filter (λ entry. nat_lt after entry.seq) page ≡ []
 none_above after number [] rises low = refl
 none_above after number (entry ∷ rest) rises low =
@@ -80,7 +80,7 @@ pages_from after number (page ∷ rest) (suc place) filled rises split =
     pages_from after (last_number number page) rest place filled.1 (RisesAbove-back number page (paged rest) rises) ((λ k d inside low. split.0 (suc k) d (omega arith) (omega arith)), (λ k d inside low. split.1 (suc k) d (omega arith) (omega arith)))
     ∙ sym (filter-append (λ entry. nat_lt after entry.seq) page (paged rest) ∙ ap (λ front. front ++ filter (λ entry. nat_lt after entry.seq) (paged rest)) none)
 
--- what is picked of pages from one on, and then of the last entries
+-- what is picked from the later pages, and then from the last entries
 pub picked_of_all : (read_query : ReadQuery) (above full last first list : Store) → first ≡ with_picked read_query [] above → list ≡ with_picked read_query first last → filter (λ entry. nat_lt read_query.after entry.seq) above ≡ filter (λ entry. nat_lt read_query.after entry.seq) full → list ≡ handed_over (is_selected read_query.selection) read_query.after read_query.max (full ++ last)
 picked_of_all read_query above full last first list before remaining same =
     let all : read_query.max - 0 ≡ read_query.max = omega arith in
@@ -91,7 +91,7 @@ picked_of_all read_query above full last first list before remaining same =
     ∙ ap (λ entries. take read_query.max (filter (is_selected read_query.selection) entries ++ picked read_query last)) same
     ∙ ap (take read_query.max) (sym (picked-append read_query full last))
 
--- what was picked so is what a read hands over
+-- what is picked this way is what a read returns
 pub IsHandedOver-of : (test : StoredEntry → Bool) (after max : ℕ) (kept list : Store) → list ≡ handed_over test after max kept → RisesAbove 0 kept → IsHandedOver ⊤ test after max kept list
 IsHandedOver-of test after max kept list is rises =
     let above = filter (λ entry. nat_lt after entry.seq) kept in
@@ -101,7 +101,7 @@ IsHandedOver-of test after max kept list is rises =
       order = subst (λ (list : Store). RisesAbove after list) (sym is) (RisesAbove-take max after (filter test above) (RisesAbove-filter test after above (RisesAbove-above after 0 kept rises)));
     }
 
--- where all are picked and there is room, the list is the whole
+-- a list shorter than the limit is the whole list
 take_short : (max : ℕ) (entries : Store) → length (take max entries) < max → take max entries ≡ entries
 take_short zero entries short = absurd (omega arith)
 take_short (suc max) [] short = refl

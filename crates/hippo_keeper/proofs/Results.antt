@@ -1,4 +1,4 @@
--- Results whose other type is said.
+-- Results whose other type is given.
 use Rattle.std.proofs.Common.{Result, Ok, Err, OnOk, OnErr}
 
 abbrev pub err_of : (T : Type 0) → {E : Type 0} → E → Result T E
@@ -10,12 +10,12 @@ ok_of E value = Ok value
 abbrev pub well : (E : Type 0) → Result (Unit {0}) E
 well E = Ok tt
 
--- what holds anyway holds of an error
+-- what always holds also holds on an error
 pub on_err_from : {T E : Type 0} (result : Result T E) (P : Type 0) → P → OnErr result P
 on_err_from (Ok value) P holds = tt
 on_err_from (Err fault) P holds = holds
 
--- or of a value
+-- what always holds also holds on success
 pub on_ok_from : {T E : Type 0} (result : Result T E) (P : Type 0) → P → OnOk result P
 on_ok_from (Ok value) P holds = holds
 on_ok_from (Err fault) P holds = tt

@@ -1,4 +1,4 @@
--- The tests on stored entries say of stored forms what the definitions say of entries.
+-- The tests on stored entries agree with the definitions on entries.
 use Rattle.std.proofs.Common.{◌≡◌, ◌∙◌, ap, ◌==◌, ◌||◌, ◌+◌, List, [], ◌∷◌, map, cond, refl, sym}
 use Rattle.std.proofs.lemmas.List.Sums.{sum_by-cons}
 use Rattle.hippo_model.specs.declared.entry.Act.{Act}
@@ -14,7 +14,7 @@ kind_of_version (Update table row) = refl
 kind_of_version (Delete table key) = refl
 kind_of_version act = refl
 
--- the stored form of a version, and of nothing else, is counted
+-- exactly the stored forms of versions are counted
 pub is_stored_version-stored : (entry : Entry) → is_stored_version (stored entry) ≡ is_version entry.act
 is_stored_version-stored entry = kind_of_version entry.act
 

@@ -1,15 +1,15 @@
--- Why a keeper did not do what it was asked.
+-- Why a call on a keeper failed.
 use Rattle.std.specs.Prelude.{Bool, true, false, Result, Ok, Err}
 use Rattle.hippo_keeper.specs.declared.faults.KeeperFault.{KeeperFault}
 use Rattle.hippo_keeper.specs.declared.faults.KeeperFault.TheVariants.{Failed, Memory}
 
--- the keeper failed
+-- the answer is that the keeper failed
 abbrev pub has_failed : {A : Type 0} → Result A KeeperFault → Bool
 has_failed (Ok value) = false
 has_failed (Err Failed) = true
 has_failed (Err Memory) = false
 
--- memory was short
+-- the answer is that the keeper is out of memory
 abbrev pub wants_memory : {A : Type 0} → Result A KeeperFault → Bool
 wants_memory (Ok value) = false
 wants_memory (Err Failed) = false

@@ -1,24 +1,25 @@
--- What a keeper's calls do to the stored entries that it keeps, and to what survives a stop.
+-- What each call on a keeper does to the entries that it stores, and to the entries that survive a
+-- stop.
 use Rattle.std.specs.Prelude.{◌≡◌, ℕ, ◌+◌, ◌<◌, ◌≤◌, ◌⊎◌, ⊤, Bool, true, false, List, [], ◌∷◌, ◌++◌, Result, IsTrue, OnOk, is_ok}
 use Rattle.hippo_io.specs.Faults.{HasRisen}
 use Rattle.hippo_model.specs.declared.stored.StoredEntry.{StoredEntry}
 use Rattle.hippo_keeper.specs.Answering.{has_failed, wants_memory}
 use Rattle.hippo_keeper.specs.declared.faults.KeeperFault.{KeeperFault}
 
--- stored entries, in the order in which they are kept
+-- stored entries, in the order in which they were stored
 abbrev pub Store : Type 0
 Store = List StoredEntry
 
--- which lists may be found again after a stop
+-- the lists that may be found after a stop
 abbrev pub Survivors : Type 1
 Survivors = Store → Type 0
 
--- each entry's number is above the one before it, and the first above this one
+-- the first number is above this one, and each later number is above the one before it
 abbrev pub RisesAbove : ℕ → Store → Type 0
 RisesAbove number [] = ⊤
 RisesAbove number (entry ∷ rest) = (number < entry.seq) × RisesAbove entry.seq rest
 
--- the number of the last entry, or this one where there is none
+-- the number of the last entry, or this number if there is none
 abbrev pub last_number : ℕ → Store → ℕ
 last_number number [] = number
 last_number number (entry ∷ rest) = last_number entry.seq rest
@@ -27,41 +28,45 @@ last_number number (entry ∷ rest) = last_number entry.seq rest
 abbrev pub next_number : Store → ℕ
 next_number kept = last_number 0 kept + 1
 
--- what clauses see of a keeper
+-- a keeper as contracts see it
 pub record KeeperState : Type 1 where
-  -- it tells what it keeps; a call may end this, and none begins it
+  -- The keeper tells: the contents of its store are known to the proof, and what it keeps is
+  -- exactly the list `kept`. Such a store is called transparent. A call may end this, and no call
+  -- begins it. A contract promises something about the entries only while this holds.
   pub tells : Type 0
   pub kept : Store
   pub started : Bool
-  -- a start found no memory
+  -- a start ran out of memory
   pub closed : Bool
   -- a call failed
   pub spent : Bool
-  -- which lists a later start of the same store may find after a stop now
+  -- the lists that a later start of the same store may find if a stop happens now
   pub survives : Survivors
-  -- which lists a start with a name may find
+  -- the lists that a start with this name may find
   pub finds : List ℕ → Survivors
-  -- how often a call failed; the count stands still at its last value
+  -- how often a call failed; the count stops at its highest value
   pub faults : ℕ
-  -- what holds of the keeper between calls
+  -- the invariant of the keeper between calls
   pub sound : Type 0
 
--- a sound keeper, started or not, on which a call may be made: it is neither closed nor spent
+-- a call may be made on the keeper: its invariant holds, it is neither closed nor spent, and it is
+-- started or not, as given
 pub record IsReady (is_started : Bool) (keeper : KeeperState) : Type 0 where
   pub is_sound : keeper.sound
   pub started_is : keeper.started ≡ is_started
   pub not_closed : keeper.closed ≡ false
   pub not_spent : keeper.spent ≡ false
 
--- the count of faults rises where a call failed, and any other answer leaves it
+-- the count of faults rises if the call failed, and stays the same on any other answer
 pub record CountsFaults {A : Type 0} (result : Result A KeeperFault) (before after : ℕ)
     : Type 0 where
   pub cause : has_failed result ≡ true → HasRisen before after
   pub unfailed : has_failed result ≡ false → after ≡ before
   pub rises : before ≤ after
 
--- after a call, whatever it answers: a sound keeper, started and closed as said, spent where the
--- call failed
+-- after a call, whatever it answers: the keeper's invariant holds; it is started and closed as
+-- given; it is spent exactly when the call failed; and its contents are known only if they were
+-- known before
 pub record IsAfterCall {A : Type 0} (is_started is_closed : Bool) (result : Result A KeeperFault)
     (before after : KeeperState) : Type 0 where
   pub is_sound : after.sound
@@ -71,38 +76,40 @@ pub record IsAfterCall {A : Type 0} (is_started is_closed : Bool) (result : Resu
   pub told : after.tells → before.tells
   pub faults : CountsFaults result before.faults after.faults
 
--- a stop now leaves just what is kept
+-- exactly the stored list survives a stop now
 pub record OnlySurvives (keeper : KeeperState) : Type 0 where
   pub survives_stop : keeper.survives keeper.kept
   pub alone : (store : Store) → keeper.survives store → store ≡ keeper.kept
 
--- what is kept is a list that was found, has numbers that rise from above 0, and survives a stop
+-- the stored list is one that may be found, its numbers rise from above 0, and exactly this list
+-- survives a stop
 pub record HasFound (finds : Survivors) (keeper : KeeperState) : Type 0 where
   pub found : finds keeper.kept
   pub order : RisesAbove 0 keeper.kept
   pub stop : OnlySurvives keeper
 
--- one more entry is kept, and survives a stop with those before it
+-- one more entry is stored, and exactly the longer list survives a stop
 pub record HasOneMore (entry : StoredEntry) (before after : KeeperState) : Type 0 where
   pub longer : after.kept ≡ before.kept ++ entry ∷ []
   pub stop : OnlySurvives after
 
--- the old list is kept or the longer one, and no list survives a stop that did not before, but for
--- the longer one; one of these does
+-- either the old list is stored or the longer one; only the longer list and lists that survived a
+-- stop before may survive one now, and at least one list does
 pub record MayHaveOneMore (entry : StoredEntry) (before after : KeeperState) : Type 0 where
   pub either : (after.kept ≡ before.kept) ⊎ (after.kept ≡ before.kept ++ entry ∷ [])
   pub stop : (store : Store) → after.survives store → before.survives store
       ⊎ (store ≡ before.kept ++ entry ∷ [])
   pub some : ∥ ((store : Store) × after.survives store) ∥₁
 
--- the same list is kept, and no other list survives a stop than before, but one does
+-- the same list is stored; only lists that survived a stop before may survive one now, and at least
+-- one list does
 pub record Stays (before after : KeeperState) : Type 0 where
   pub same : after.kept ≡ before.kept
   pub stop : (store : Store) → after.survives store → before.survives store
   pub some : ∥ ((store : Store) × after.survives store) ∥₁
 
--- what is kept is the same, and no more survives a stop than before, but something still where
--- something did
+-- the same list is stored; only lists that survived a stop before may survive one now, and at least
+-- one list does if one did before
 pub record KeepsSame (before after : KeeperState) : Type 0 where
   pub same : after.kept ≡ before.kept
   pub stop : (store : Store) → after.survives store → before.survives store

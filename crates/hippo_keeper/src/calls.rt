@@ -1,11 +1,11 @@
-//! The calls of a keeper in memory.
+//! The calls made on a keeper in memory.
 ghost use Rattle.std.specs.Prelude.{◌≡◌, []};
 ghost use Rattle.hippo_keeper.specs.MemoryKeeping.{no_calls, next_failure, one_more_call};
 
 use crate::faults::KeeperFails;
 use crate::standing::Standing;
 
-/// A keeper's calls so far, and which are to fail.
+/// The calls made on a keeper so far, and the calls that are to fail.
 #[derive(Drop)]
 pub(crate) struct KeeperCalls {
     failing: KeeperFails,
@@ -14,7 +14,7 @@ pub(crate) struct KeeperCalls {
 }
 
 impl KeeperCalls {
-    /// No call was made.
+    /// No call has been made yet.
     pub(crate) fn new(failing: KeeperFails) -> KeeperCalls
         ensures { result ≡ no_calls failing }
     {
@@ -25,7 +25,8 @@ impl KeeperCalls {
         }
     }
 
-    /// Counts a call, and says whether it is to fail, and whether an append then keeps its entry.
+    /// Counts a call. Returns `Some` when the call is to fail; the flag says whether a failing
+    /// append still keeps its entry.
     pub(crate) fn begin_call(&mut self) -> Option<bool>
         ensures failure { result ≡ next_failure self.old }
         ensures counted { self.new ≡ one_more_call self.old }
@@ -40,7 +41,7 @@ impl KeeperCalls {
         failure.map(|fail| fail.keeps)
     }
 
-    /// An empty list of failing calls, in the place of theirs.
+    /// Empties the list of failing calls and returns it.
     pub(crate) fn cleared(self) -> KeeperFails
         ensures { result ≡ [] }
     {

@@ -1,4 +1,4 @@
-//! What a page holds of each entry beside its body.
+//! The part of an entry that a page holds outside the body.
 ghost use Rattle.std.specs.Prelude.{◌≡◌, ◌<◌, [], ◌∷◌, length, IfOk, OnOk};
 ghost use Rattle.hippo_keeper.specs.Selecting.{is_selected};
 ghost use Rattle.hippo_keeper.specs.Paging.{entry_with, with_picked};
@@ -8,19 +8,19 @@ use hippo_model::{StoredEntry, StoredList};
 use hippo_values::{Bytes, Memory, Txt};
 use std::alloc::Global;
 
-/// What a page holds of an entry beside its body: what a keeper looks it up by, and where in the
-/// page its body ends.
+/// The part of an entry that a page holds outside the body: the fields by which the keeper finds
+/// the entry, and the place in the page where its body ends.
 #[derive(Clone, Copy)]
 pub(crate) struct Head {
     pub(crate) seq: u64,
     pub(crate) moment: i64,
     pub(crate) end: u32,
-    /// The place of its table's name among those of the page.
+    /// The index of the entry's table name in the page's list of names.
     pub(crate) table: u16,
     pub(crate) kind: u8,
 }
 
-// Whether an entry is among those that a read asks for.
+// Whether a read asks for the entry.
 fn is_among(selection: &Selection<'_>, head: &Head, table: &str) -> bool
     ensures { result ≡ is_selected selection.now (entry_with head.now table.now []) }
 {
@@ -34,7 +34,8 @@ fn is_among(selection: &Selection<'_>, head: &Head, table: &str) -> bool
 }
 
 impl Head {
-    /// The head of an entry, with where its body ends and the place of its table's name.
+    /// The head of an entry. `end` is where its body ends, and `table` is the index of its table
+    /// name.
     pub(crate) fn of(entry: &StoredEntry, end: u32, table: u16) -> Head
         ensures entry { entry_with result entry.now.table entry.now.body ≡ entry.now }
         ensures end { result.end ≡ end }
@@ -49,7 +50,7 @@ impl Head {
         }
     }
 
-    /// A copy of the entry, whose table has this name, with this body.
+    /// A copy of the entry, with this table name and this body.
     fn entry(&self, alloc: Global, table: &str, body: &[u8]) -> Result<StoredEntry, Memory>
         ensures { IfOk result (λ entry. entry ≡ entry_with self.now table.now body.now) }
     {
@@ -62,7 +63,7 @@ impl Head {
         })
     }
 
-    /// Adds a copy of the entry to the list, where a read asks for it.
+    /// Adds a copy of the entry to the list if the read asks for the entry.
     pub(crate) fn pick(
         &self,
         alloc: Global,

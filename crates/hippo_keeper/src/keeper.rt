@@ -1,4 +1,4 @@
-//! What keeps the history: the calls of every keeper, and what they promise.
+//! The trait of every keeper, the object that stores the history: its calls, and what they promise.
 ghost use Rattle.std.specs.Prelude.{◌≡◌, ◌+◌, ◌^◌, ◌<◌, ◌≤◌, true, false};
 ghost use Rattle.hippo_keeper.specs.Keeping.{KeeperState, IsReady, next_number, Starts, AppendsEntry};
 ghost use Rattle.hippo_keeper.specs.Selecting.{is_any, is_stored_version_of, was_asked_in, is_selected, versions_read, ReadsEntries};
@@ -11,31 +11,33 @@ use hippo_values::{Moment, Name};
 use std::alloc::Global;
 use std::sync::ledger::Ledger;
 
-/// What keeps the stored entries of a history.
+/// Stores the entries of a history.
 ///
-/// A keeper is started once, and then appended to and read. It answers `Failed` only where its
-/// count of faults rises, and is then spent; any other answer leaves the count. A start that
-/// answers `Memory` closes it. No call is made on a keeper that is spent or closed. What a call
-/// says of the entries holds where the keeper tells what it keeps when the call returns.
+/// A keeper is started once. After that, entries are appended to it and read from it. A call
+/// answers `Failed` only when it also raises the count of faults; the keeper is then spent. Any
+/// other answer leaves the count unchanged. A start that answers `Memory` closes the keeper. No
+/// call may be made on a keeper that is spent or closed. A call's promises about the entries hold
+/// only if the store's contents are still known when the call returns.
 pub trait Keeper {
-    // What the clauses see of a keeper.
+    // The keeper as contracts see it.
     ghost state: { Self → KeeperState };
 
-    /// Opens the store with a name, and keeps the list of entries that it finds there.
+    /// Opens the store with this name, and keeps the list of entries that it finds there.
     fn start(&mut self, alloc: Global, name: &str) -> Result<(), KeeperFault>
         requires ready { IsReady false (state self.old) }
         ensures starts { Starts name.now result (state self.old) (state self.new) };
 
-    /// Keeps one more entry, whose number is the one after the last. Where the call fails, the
-    /// entry is kept or not; where memory is short, it is not.
+    /// Stores one more entry. Its number must be the one after the last. When the call answers
+    /// `Failed`, the entry may or may not be stored; when it answers `Memory`, the entry is not
+    /// stored.
     fn append(&mut self, alloc: Global, entry: StoredEntry) -> Result<(), KeeperFault>
         requires ready { IsReady true (state self.old) }
         requires number { entry.seq < 2 ^ 63 }
         requires next { (state self.old).tells → entry.seq ≡ next_number (state self.old).kept }
         ensures appends { AppendsEntry entry result (state self.old) (state self.new) };
 
-    /// The first so many entries, from 1 to 1,000, that are sought. Each version among them is a
-    /// step.
+    /// Returns the first `max` entries that the read query asks for; `max` is from 1 to 1,000. Each
+    /// version among them counts as one step.
     fn read<L: Ledger>(
         &mut self,
         alloc: Global,
@@ -49,8 +51,8 @@ pub trait Keeper {
             read_query.now.max result (state self.old) (state self.new) }
         ensures steps { steps.new ≡ steps.old + versions_read result };
 
-    /// The first `max` questions, from 1 to 1,000, that were asked from one moment to another, both
-    /// among them, and whose numbers are above `after`.
+    /// Returns the first `max` questions with a number above `after` that were asked between the
+    /// moments `from` and `to`, both included. `max` is from 1 to 1,000.
     fn read_asked(
         &mut self,
         alloc: Global,
@@ -65,8 +67,8 @@ pub trait Keeper {
         ensures reads { ReadsEntries (was_asked_in from to) after max result (state self.old)
             (state self.new) };
 
-    /// The first `max` entries, from 1 to 1,000, whose numbers are above `after`. Each version
-    /// among them is a step.
+    /// Returns the first `max` entries with a number above `after`; `max` is from 1 to 1,000. Each
+    /// version among them counts as one step.
     fn read_all<L: Ledger>(
         &mut self,
         alloc: Global,
@@ -88,8 +90,8 @@ pub trait Keeper {
         self.read(alloc, &read_query, steps)
     }
 
-    /// The first `max` versions of a table's rows, from 1 to 1,000, whose numbers are above
-    /// `after`. Each is a step.
+    /// Returns the first `max` versions of a table's rows with a number above `after`; `max` is
+    /// from 1 to 1,000. Each version counts as one step.
     fn read_backlog<L: Ledger>(
         &mut self,
         alloc: Global,

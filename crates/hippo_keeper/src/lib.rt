@@ -1,4 +1,4 @@
-//! Where the history is kept: what every keeper promises, and a keeper in memory.
+//! Where the history is stored: the trait of every keeper, and a keeper in memory.
 #![tactic(auto)]
 
 mod calls;

@@ -1,4 +1,5 @@
-//! A keeper in memory that tells what it keeps, and fails where it is told to.
+//! A keeper in memory. Its contents are known to the proof, and it fails at the calls that its
+//! caller names.
 ghost use Rattle.std.specs.Prelude.{◌≡◌, ℕ, ◌+◌, ◌≤◌, true, false, List, [], Some, is_some, IfOk, OnOk, OnErr, ⊤};
 ghost use Rattle.hippo_keeper.specs.Answering.{has_failed, wants_memory};
 ghost use Rattle.hippo_keeper.specs.Keeping.{Store, RisesAbove, next_number};
@@ -17,7 +18,7 @@ use std::alloc::Global;
 use std::marker::Model;
 use std::sync::ledger::Ledger;
 
-/// A keeper that holds its entries in memory and fails at the calls that it is told.
+/// A keeper that holds its entries in memory, and fails at the calls that its caller names.
 #[derive(Drop)]
 pub struct MemoryKeeper {
     kept: Pages,
@@ -36,9 +37,9 @@ impl Model for MemoryKeeper {
 }
 
 impl MemoryKeeper {
-    /// A keeper of no entries. Of all calls of the trait `Keeper`, counted from 1, those fail that
-    /// are in `failing`; where an append is to keep its entry and fail, and finds no memory for it,
-    /// it answers `Memory` instead.
+    /// A keeper with no entries. The calls named in `failing` fail; all calls of the trait `Keeper`
+    /// are counted, from 1. A failing append that is to keep its entry answers `Memory` instead
+    /// when there is no memory for the entry.
     pub fn new(alloc: Global, failing: KeeperFails) -> MemoryKeeper
         ensures { result ≡ new_store [] failing }
     {
@@ -48,7 +49,8 @@ impl MemoryKeeper {
         }
     }
 
-    /// The same of copies of these entries, whose numbers begin above 0 and rise.
+    /// A keeper with copies of these entries, as in `new`. Their numbers must be above 0 and rise.
+    /// Returns an error when out of memory.
     pub fn of(
         alloc: Global,
         kept: &StoredList,
@@ -64,7 +66,7 @@ impl MemoryKeeper {
         })
     }
 
-    /// Copies of the entries that are kept, in the order of their numbers.
+    /// Returns copies of the stored entries, ordered by number.
     pub fn kept(&self, alloc: Global) -> Result<StoredList, Memory>
         ensures { IfOk result (λ list. list ≡ self.now.kept) }
     {
@@ -74,13 +76,13 @@ impl MemoryKeeper {
             max: u64::MAX,
         };
         let list = self.kept.select(alloc, &read_query)?;
-        // No list has as many members, so none was left out.
+        // No list has this many members, so the limit cut nothing off.
         let count = list.as_slice().len();
         prove!(count < usize::MAX);
         Ok(list)
     }
 
-    /// A new keeper of what survives a stop, on which no call fails.
+    /// A new keeper with the entries that survive a stop. None of its calls fails.
     pub fn restart(self) -> MemoryKeeper
         ensures new { result ≡ new_store self.kept [] }
         ensures survived { SurvivesInMemory self result.kept }
@@ -94,7 +96,7 @@ impl MemoryKeeper {
         }
     }
 
-    // The kept entries that are sought, where the call is not to fail.
+    // The stored entries that the read query asks for, unless the call is to fail.
     fn find(&mut self, alloc: Global, read_query: &ReadQuery<'_>) -> ReadResult
         ensures call { self.new ≡ memory_after_call self.old }
         ensures fails { has_failed result ≡ is_some (next_failure self.old.calls) }
@@ -119,7 +121,7 @@ impl MemoryKeeper {
         Ok(())
     }
 
-    // Keeps one more entry, where the call is not to fail without it.
+    // Stores one more entry, unless the call is to fail without storing it.
     fn add(&mut self, alloc: Global, entry: StoredEntry) -> Result<(), KeeperFault>
         requires { entry.seq ≡ next_number self.old.kept }
         ensures call { self.new ≡ record (memory_after_call self.old) {

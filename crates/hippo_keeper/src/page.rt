@@ -1,4 +1,4 @@
-//! A page of entries: their heads, their bodies one behind the other, and each table's name once.
+//! A page of entries: their heads, their bodies one after another, and each table name once.
 ghost use Rattle.std.specs.Prelude.{◌≡◌, ◌+◌, ◌-◌, ◌<◌, ◌≤◌, true, [], ◌∷◌, ◌++◌, length, take, drop, position, slice_get, bytes_eq, Some, IfOk, OnOk, OnErr};
 ghost use Rattle.hippo_keeper.specs.Keeping.{last_number};
 ghost use Rattle.hippo_keeper.specs.Paging.{page_entries, AreWithin, with_picked};
@@ -10,12 +10,12 @@ use hippo_values::{Duplicate, Memory, Sequence, Txt};
 use std::alloc::Global;
 use std::marker::Model;
 
-// A page is full that has so many entries, or so many bytes in their bodies.
+// A page is full when it has this many entries, or this many bytes in its bodies.
 const ENTRY_LIMIT: usize = 256;
 
 const BODY_LIMIT: usize = 32 * 1024;
 
-/// Entries one behind the other.
+/// A sequence of entries.
 #[derive(Drop)]
 pub(crate) struct Page {
     tables: Sequence<Txt>,
@@ -37,14 +37,14 @@ impl Model for Page {
         page.heads };
 }
 
-// The place of a name among those of a page, if it is there.
+// The index of a name in a page's list of names, if it is there.
 fn place_of(tables: &[Txt], name: &str) -> Option<usize>
     ensures { result ≡ position (λ table. bytes_eq table name.now) tables.now }
 {
     tables.iter().position(|table| table.as_str() == name)
 }
 
-// The place of a name among those of a page, to which it is added where it is new.
+// The index of a name in a page's list of names. Adds the name if it is new.
 fn place_in(alloc: Global, tables: &mut Sequence<Txt>, name: &str) -> Result<usize, Memory>
     ensures kept { take (length tables.old) tables.new ≡ tables.old }
     ensures place { IfOk result (λ place. slice_get tables.new place ≡ Some name.now) }
@@ -57,7 +57,7 @@ fn place_in(alloc: Global, tables: &mut Sequence<Txt>, name: &str) -> Result<usi
     Ok(place)
 }
 
-// The same in a head's form, which has room for more names than a page has entries.
+// As above, as the `u16` that a head stores. A `u16` can count more names than a page has entries.
 fn table_in(alloc: Global, tables: &mut Sequence<Txt>, name: &str) -> Result<u16, Memory>
     ensures kept { take (length tables.old) tables.new ≡ tables.old }
     ensures place { IfOk result (λ place. slice_get tables.new place ≡ Some name.now) }
@@ -69,8 +69,8 @@ fn table_in(alloc: Global, tables: &mut Sequence<Txt>, name: &str) -> Result<u16
     }
 }
 
-// Where a body ends that is put behind the others; want of memory where a head cannot say it, which
-// takes a body of some four gigabytes.
+// Where a body ends when it is added after the others. Answers `Memory` when the end does not fit a
+// head, which takes about four gigabytes of bodies.
 fn end_after(bodies: &[u8], body: &[u8]) -> Result<u32, Memory>
     ensures { IfOk result (λ end. end ≡ length bodies.now + length body.now) }
 {
@@ -80,7 +80,7 @@ fn end_after(bodies: &[u8], body: &[u8]) -> Result<u32, Memory>
     }
 }
 
-// Adds a head, and a body behind the others: both or neither.
+// Adds a head, and a body after the others. On an error neither is added.
 fn put(
     heads: &mut Sequence<Head>,
     bodies: &mut Vec<u8>,
@@ -101,7 +101,7 @@ fn put(
     Ok(())
 }
 
-// The body that stands between two places.
+// The body between two offsets.
 fn body_between(bodies: &[u8], start: usize, end: usize) -> &[u8]
     requires order { start ≤ end }
     requires range { end ≤ length bodies.now }
@@ -110,7 +110,7 @@ fn body_between(bodies: &[u8], start: usize, end: usize) -> &[u8]
     &bodies[start..end]
 }
 
-// Adds copies of the entries that a read asks for, while there is room.
+// Adds copies of the entries that a read asks for, up to the read's limit.
 fn pick(
     tables: &[Txt],
     bodies: &[u8],
@@ -138,7 +138,7 @@ fn pick(
 }
 
 impl Page {
-    /// A page of no entries; takes no memory.
+    /// A page with no entries. Allocates nothing.
     pub(crate) fn new(alloc: Global) -> Page
         ensures { result ≡ [] }
     {
@@ -149,7 +149,7 @@ impl Page {
         }
     }
 
-    /// Whether the page is to be closed before the next entry.
+    /// Whether the page must be closed before the next entry is added.
     pub(crate) fn is_full(&self) -> bool
         ensures { result ≡ true → 0 < length self.now }
     {
@@ -157,7 +157,7 @@ impl Page {
         entries >= ENTRY_LIMIT || (entries > 0 && self.bodies.len() >= BODY_LIMIT)
     }
 
-    /// The number of the last entry; 0 where there is none.
+    /// The number of the last entry, or 0 if there is none.
     pub(crate) fn last_number(&self) -> u64
         ensures { result ≡ last_number 0 self.now }
     {
@@ -167,7 +167,7 @@ impl Page {
         }
     }
 
-    /// Adds a copy of an entry at the end.
+    /// Adds a copy of an entry at the end. On an error the page is unchanged.
     pub(crate) fn push(&mut self, alloc: Global, entry: &StoredEntry) -> Result<(), Memory>
         ensures ok { OnOk result (self.new ≡ self.old ++ entry.now ∷ []) }
         ensures err { OnErr result (self.new ≡ self.old) }
@@ -180,7 +180,7 @@ impl Page {
         Ok(())
     }
 
-    /// Takes all entries out; their room stays.
+    /// Removes all entries and keeps the allocated memory.
     pub(crate) fn clear(&mut self)
         ensures { self.new ≡ [] }
     {
@@ -189,7 +189,7 @@ impl Page {
         self.bodies.clear();
     }
 
-    /// Adds copies of the entries that a read asks for to the list, while that has room.
+    /// Adds copies of the entries that a read asks for to the list, up to the read's limit.
     pub(crate) fn pick(
         &self,
         alloc: Global,
@@ -209,7 +209,7 @@ impl Page {
     }
 }
 
-/// The copy has just the memory that its entries take.
+/// The copy allocates exactly the memory that its entries take.
 impl Duplicate for Page {
     fn copy(&self, alloc: Global) -> Result<Page, Memory> {
         let tables = self.tables.copy(alloc)?;

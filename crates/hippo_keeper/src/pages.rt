@@ -11,12 +11,12 @@ use hippo_values::{Duplicate, Memory, Sequence};
 use std::alloc::Global;
 use std::marker::Model;
 
-/// Entries one behind the other.
+/// A sequence of entries.
 #[derive(Drop)]
 pub(crate) struct Pages {
-    // Each has just the memory that its entries take.
+    // Each page has exactly the memory that its entries take.
     full: Sequence<Page>,
-    // The last entries. Its memory serves one page after the other.
+    // The last entries. The memory of this page is reused for one page after another.
     last: Page,
 }
 
@@ -33,7 +33,7 @@ impl Model for Pages {
     ghost invariant = { λ pages. AreFilled pages.full };
 }
 
-// Where the last page is full, a copy of just its length joins the full ones, and it is empty then.
+// If the last page is full, adds a copy of exactly its length to the full pages and empties it.
 fn make_room(alloc: Global, full: &mut Sequence<Page>, last: &mut Page) -> Result<(), Memory>
     requires { AreFilled full.old }
     ensures filled { AreFilled full.new }
@@ -46,7 +46,7 @@ fn make_room(alloc: Global, full: &mut Sequence<Page>, last: &mut Page) -> Resul
     Ok(())
 }
 
-// The pages from the first on that has an entry above a number.
+// Drops the leading pages that have no entry above this number.
 fn pages_above(pages: &[Page], after: u64) -> &[Page]
     requires filled { AreFilled pages.now }
     requires order { RisesAbove 0 (paged pages.now) }
@@ -57,7 +57,7 @@ fn pages_above(pages: &[Page], after: u64) -> &[Page]
     &pages[place..]
 }
 
-// Adds copies of the entries of some pages that a read asks for, while there is room.
+// Adds copies of the entries of these pages that a read asks for, up to the read's limit.
 fn pick(
     pages: &[Page],
     alloc: Global,
@@ -76,7 +76,7 @@ fn pick(
 }
 
 impl Pages {
-    /// No entries; takes no memory.
+    /// No entries. Allocates nothing.
     pub(crate) fn new(alloc: Global) -> Pages
         ensures { result ≡ [] }
     {
@@ -97,7 +97,7 @@ impl Pages {
         Ok(pages)
     }
 
-    /// Adds a copy of an entry at the end.
+    /// Adds a copy of an entry at the end. On an error the entries are unchanged.
     pub(crate) fn push(&mut self, alloc: Global, entry: &StoredEntry) -> Result<(), Memory>
         ensures ok { OnOk result (self.new ≡ self.old ++ entry.now ∷ []) }
         ensures err { OnErr result (self.new ≡ self.old) }

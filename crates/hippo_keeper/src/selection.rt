@@ -1,4 +1,4 @@
-//! Which kept entries a read hands over.
+//! Which stored entries a read returns.
 ghost use Rattle.std.specs.Prelude.{◌≡◌, ◌+◌, ◌==◌, ◌||◌};
 ghost use Rattle.hippo_keeper.specs.Selecting.{stored_versions, versions_read};
 
@@ -8,7 +8,7 @@ use hippo_model::{StoredEntry, StoredList};
 use hippo_values::{Moment, Name};
 use std::sync::ledger::Ledger;
 
-// The kinds of the entries that insert, update or delete a row, and of questions.
+// The kinds of entries that insert, update or delete a row, and the kind of a question.
 const INSERT: u8 = 2;
 
 const UPDATE: u8 = 3;
@@ -23,12 +23,11 @@ pub enum Selection<'a> {
     All,
     /// The versions of a table's rows.
     VersionsOf(&'a Name),
-    /// The questions of a period, its ends among it.
+    /// The questions of a period, both ends included.
     AskedIn(Moment, Moment),
 }
 
-/// What a read is to hand over: of the selected entries, the first `max` whose numbers are above
-/// `after`.
+/// What a read is to return: of the selected entries, the first `max` with a number above `after`.
 #[derive(Clone, Copy)]
 pub struct ReadQuery<'a> {
     pub selection: Selection<'a>,
@@ -36,7 +35,7 @@ pub struct ReadQuery<'a> {
     pub max: u64,
 }
 
-/// What a read hands over: a list of entries, or why there is none.
+/// The result of a read: a list of entries, or why there is none.
 pub type ReadResult = Result<StoredList, KeeperFault>;
 
 // Whether an entry of this kind inserts, updates or deletes a row.
@@ -46,7 +45,7 @@ pub(crate) fn is_version(kind: u8) -> bool
     matches!(kind, INSERT | UPDATE | DELETE)
 }
 
-/// One step for each version among the entries.
+/// Counts one step for each version among the entries.
 fn count_versions<L: Ledger>(entries: &[StoredEntry], steps: &mut Steps<L>)
     ensures { steps.new ≡ steps.old + stored_versions entries.now }
 {
@@ -57,7 +56,7 @@ fn count_versions<L: Ledger>(entries: &[StoredEntry], steps: &mut Steps<L>)
     }
 }
 
-/// What a read answers, with one step for each version in it.
+/// Returns the answer of a read unchanged, and counts one step for each version in it.
 pub fn counted<L: Ledger>(answer: ReadResult, steps: &mut Steps<L>) -> ReadResult
     ensures same { result ≡ answer }
     ensures steps { steps.new ≡ steps.old + versions_read result }

@@ -1,23 +1,23 @@
-//! Which calls may be made on a keeper, and how many have failed.
+//! Which calls may be made on a keeper, and how many calls have failed.
 ghost use Rattle.std.specs.Prelude.{◌≡◌, ◌≤◌};
 ghost use Rattle.hippo_keeper.specs.Standings.{new_standing, after_answer, after_start};
 
 use crate::faults::KeeperFault;
 
-/// What is known of a keeper's calls so far.
+/// What is known of the calls made on a keeper so far.
 #[derive(Clone, Copy)]
 pub struct Standing {
     pub started: bool,
-    /// A start found no memory.
+    /// A start ran out of memory.
     pub closed: bool,
     /// A call failed.
     pub spent: bool,
-    /// How many calls failed; it stands still at its last value.
+    /// How many calls failed. The count stops at its highest value.
     pub faults: u64,
 }
 
 impl Standing {
-    /// No call was made.
+    /// No call has been made yet.
     pub fn new() -> Standing
         ensures { result ≡ new_standing }
     {
@@ -29,7 +29,7 @@ impl Standing {
         }
     }
 
-    /// Counts a failure, and hands the answer on.
+    /// Counts a failure, and returns the answer unchanged.
     pub fn settle<T>(&mut self, answer: Result<T, KeeperFault>) -> Result<T, KeeperFault>
         ensures same { result ≡ answer }
         ensures counted { self.new ≡ after_answer answer self.old }
@@ -42,7 +42,7 @@ impl Standing {
         answer
     }
 
-    /// Counts a start's failure, notes what else it answered, and hands the answer on.
+    /// Records what a start answered, counts its failure, and returns the answer unchanged.
     pub fn settle_start(&mut self, answer: Result<(), KeeperFault>) -> Result<(), KeeperFault>
         ensures same { result ≡ answer }
         ensures counted { self.new ≡ after_start answer self.old }

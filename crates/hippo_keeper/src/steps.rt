@@ -1,10 +1,10 @@
-//! A count of steps that clauses see and the program does not hold.
+//! A count of steps that contracts see and that does not exist at run time.
 ghost use Rattle.std.specs.Prelude.{◌≡◌, ◌+◌, ◌<◌};
 
 use std::marker::Model;
 use std::sync::ledger::{Blank, Book, Ledger, Share};
 
-/// How many steps were taken. It takes no bytes at run time, and `tick` alone changes it.
+/// The number of steps taken. It takes no bytes at run time, and only `tick` changes it.
 #[derive(Drop)]
 pub struct Steps<L: Ledger> {
     book: Book<L>,
@@ -22,7 +22,7 @@ impl<L: Ledger> Model for Steps<L> {
 }
 
 impl<L: Ledger> Steps<L> {
-    /// No steps yet, on a ledger that nobody uses.
+    /// No steps yet, on a ledger that nothing else uses.
     pub fn new(blank: Blank) -> Steps<L>
         requires name { blank.name ≡ L.name }
         requires parts { blank.parts ≡ L.parts }
@@ -33,7 +33,7 @@ impl<L: Ledger> Steps<L> {
         Steps { book, share }
     }
 
-    /// One more step.
+    /// Adds one step.
     pub fn tick(&mut self)
         ensures { self.new ≡ self.old + 1 }
     {

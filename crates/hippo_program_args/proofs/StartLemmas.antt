@@ -1,4 +1,4 @@
--- What a program comes to where nothing was loaded.
+-- How a program ends when nothing was loaded.
 use Rattle.std.proofs.Common.{ℕ, inl, inr, Option, refl, sym, subst}
 use Rattle.hippo_values.specs.Texts.{Txt}
 use Rattle.hippo_keeper.specs.Keeping.{KeeperState}
@@ -14,7 +14,9 @@ module _ (name : Txt) (before after : KeeperState) (start end : ℕ) where
   kept_damaged : (place : ℕ) → Loads name (err_of State (Damaged place)) before after start end → after.tells → KeepsDamaged name place before after
   kept_damaged place loads tells = record { kept = loads.found (loads.started refl) tells; damaged = loads.damaged place refl tells }
 
-  -- any property of endings holds of the one with which a program stops, if it holds of each: where nothing is written and the keeper is idle, where the place of damage is said, or a front of it
+  -- a property holds of the ending with which a program stops if it holds in each case: nothing is
+  -- written and the keeper is idle; the place of the damage is written; or a prefix of that line is
+  -- written
   module _ {Ending : Type 0} (ending_of : LoadFault → Ending) (cut : Ending) (ends : Ending → Type 0) (unwritten : Type 0) (written written' : Option Txt) (faults faults' : ℕ)
       (failed : unwritten → IsIdle name before after → ends (ending_of Keeper)) (short : unwritten → IsIdle name before after → ends (ending_of Memory))
       (said : (place : ℕ) → SaysDamaged name before after written written' → ends (ending_of (Damaged place))) (begun : BeginsDamaged name before after written written' → ends cut) where

@@ -1,4 +1,4 @@
--- The arguments of a command line, and what is found in words.
+-- The arguments of a command line, and what is found in the words of a call.
 use Rattle.std.specs.Prelude.{◌≡◌, ◌≢◌, ℕ, Bool, true, List, [], Option, Some, None, MatchOption, unwrap_or, if◌then◌else◌, codes, bytes_eq}
 use Rattle.std.specs.Option.{option_map_or}
 use Rattle.std.specs.Str.Parse.{digits_value, without_leading_plus}
@@ -14,8 +14,8 @@ use Rattle.hippo_report.specs.declared.format.Format.TheVariants as formats
 use Rattle.hippo_program_args.specs.declared.arguments.Argument.{Argument}
 use Rattle.hippo_program_args.specs.declared.arguments.Argument.TheVariants.{Word, Text, Needed, Number, Entry, Flag}
 
--- an argument: a word that must be there, a text behind its name, one that must be there, a number,
--- the number of an entry, a name alone
+-- the kinds of arguments: a required word, a text with a name, a required text with a name, a
+-- number, the number of an entry, a name alone
 abbrev pub word : Txt → Rule
 word name = record (new_rule name) { required = true }
 
@@ -42,29 +42,29 @@ rule_by (Number name least most) = number_option name.now least most
 rule_by (Entry name) = entry_option name.now
 rule_by (Flag name) = flag name.now
 
--- a command of some arguments, as clap is told of it
+-- a command with these arguments, as clap is given it
 abbrev pub command_with : Txt → List Rule → App
 command_with name rules = record {
   top = record (new_shape name) { rules = rules; no_binary_name = true; disable_help_flag = true };
   subs = [];
 }
 
--- whether a command takes words: it finds no fault in them
+-- whether a command takes these words: it finds no fault in them
 abbrev pub is_taken : App → List Txt → Bool
 is_taken command words = is_empty (fault_of command words)
 
--- what it finds in words: nothing exactly where it does not take them
+-- what a command finds in the words; nothing exactly when it does not take them
 abbrev pub FindsMatches : App → List Txt → Option ArgMatches → Type 0
 FindsMatches command words found = MatchOption found (fault_of command words ≢ [])
     (λ matches. (fault_of command words ≡ [])
     × (rows_of (found_of matches) ≡ matches_of command words))
 
--- the number that is written, or another one where nothing is
+-- the number that is written, or `otherwise` if none is
 abbrev pub number_or : ℕ → Option Txt → ℕ
 number_or otherwise written =
     option_map_or (λ text. digits_value 10 (without_leading_plus text)) written otherwise
 
--- the format with a name; text where none is written
+-- the format with this name; text if none is given
 abbrev pub format_named : Txt → Option Format
 format_named name =
     if bytes_eq name (codes "text") then Some formats.Text

@@ -1,4 +1,4 @@
--- How a call of a program ends, as a status and as one call of its keeper.
+-- How a call of a program ends: its exit status, and its result as one call on its keeper.
 use Rattle.std.specs.Prelude.{ℕ, Option, Some, None, Result, Ok, Err}
 use Rattle.hippo_keeper.specs.declared.faults.KeeperFault.{KeeperFault as Fault}
 use Rattle.hippo_keeper.specs.declared.faults.KeeperFault.TheVariants.{Failed}
@@ -17,17 +17,17 @@ status_of Damaged = 6
 status_of NoMemory = 7
 status_of TooMuch = 8
 
--- all that a program did with its keeper, as one call of it
+-- everything that a program did with its keeper, as one call
 abbrev pub ending_as_call : Ending → Result (Unit {0}) Fault
 ending_as_call KeeperFault = Err Failed
 ending_as_call ending = Ok tt
 
--- what a part did with it, where the program may end there
+-- what a part of the program did with its keeper, as one call; the program may end there
 abbrev pub part_as_call : Option Ending → Result (Unit {0}) Fault
 part_as_call None = Ok tt
 part_as_call (Some ending) = ending_as_call ending
 
--- how it ends where what is kept was not loaded
+-- how a program ends when the stored history was not loaded
 abbrev pub stop_ending : LoadFault → Ending
 stop_ending load_faults.Keeper = KeeperFault
 stop_ending (load_faults.Damaged place) = Damaged

@@ -1,4 +1,4 @@
-//! A command as clap is told of it.
+//! A command, as clap is given it.
 ghost use Rattle.std.specs.Prelude.{◌≡◌, [], false, map, IfOk};
 ghost use Rattle.clap.specs.Words.{app_of, rule_of};
 ghost use Rattle.hippo_program_args.specs.Arguments.{text_option, number_option, rule_by, command_with};
@@ -11,17 +11,17 @@ use std::alloc::Global;
 /// An argument of a command line, by its name.
 #[derive(Clone, Copy)]
 pub enum Argument<'a> {
-    /// A word that must be there.
+    /// A word that is required.
     Word(&'a str),
-    /// A text behind its name, `--NAME TEXT` or `--NAME=TEXT`.
+    /// A text with a name, `--NAME TEXT` or `--NAME=TEXT`.
     Text(&'a str),
-    /// Such a text that must be there.
+    /// A text with a name that is required.
     Needed(&'a str),
-    /// A number behind its name, within bounds.
+    /// A number with a name, within bounds.
     Number(&'a str, u64, u64),
-    /// Such a number that an entry may have.
+    /// A number with a name, within the bounds of an entry's number.
     Entry(&'a str),
-    /// A name that stands alone, `--NAME`.
+    /// A name alone, `--NAME`.
     Flag(&'a str),
 }
 
@@ -61,7 +61,8 @@ fn no_arguments<'a>(alloc: Global, name: &'a str) -> Command<'a>
         .disable_help_flag(true)
 }
 
-/// A program's command, of some arguments. Its first word is no program's name, and it has no help.
+/// A program's command, with these arguments. Its first word is not the program's name, and it has
+/// no help.
 pub(crate) fn command_of<'a>(
     alloc: Global,
     name: &'a str,

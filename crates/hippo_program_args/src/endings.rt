@@ -5,8 +5,8 @@ ghost use Rattle.hippo_program_args.specs.Endings.{status_of};
 /// How a call of a program ends, with its exit status.
 #[derive(Clone, Copy, PartialEq, Eq)]
 pub enum Ending {
-    /// All was done: what was asked for is shown; of a run, the input was read to its end, and
-    /// every line has its reply.
+    /// Everything was done. What was asked for is shown; in a run, the input was read to its end,
+    /// and every line has its reply.
     Served = 0,
     /// The words ask for nothing.
     Refused = 2,
@@ -16,9 +16,9 @@ pub enum Ending {
     ReadFault = 4,
     /// The sink failed.
     WriteFault = 5,
-    /// The kept entries are those of no valid history.
+    /// The stored entries are those of no valid history.
     Damaged = 6,
-    /// Memory was short; of a run, before the first byte was read.
+    /// The program ran out of memory; in a run, before the first byte was read.
     NoMemory = 7,
     /// The input has more than 2^40 bytes.
     TooMuch = 8,

@@ -1,4 +1,4 @@
-//! What a command finds in words.
+//! What a command finds in the words of a call.
 ghost use Rattle.std.specs.Prelude.{◌≡◌, ◌≢◌, None, true, map, option_map, IfOk};
 ghost use Rattle.std.specs.Str.Parse.{digits_value, without_leading_plus};
 ghost use Rattle.clap.specs.Words.{app_of, rows_of, found_of, first_of, kind_of, is_simple_and_free};
@@ -12,7 +12,7 @@ use hippo_report::Format;
 use hippo_values::{Memory, Txt};
 use std::alloc::Global;
 
-/// Words as texts.
+/// Returns the words as texts.
 pub fn texts_of<'w>(alloc: Global, words: &'w [Txt]) -> Result<Vec<&'w str>, Memory>
     ensures { IfOk result (λ texts. map (λ text. text.now) texts.items ≡ words.now) }
 {
@@ -23,7 +23,7 @@ pub fn texts_of<'w>(alloc: Global, words: &'w [Txt]) -> Result<Vec<&'w str>, Mem
     Ok(texts)
 }
 
-// What is found where the command answers an error: nothing, or memory was short.
+// The result when the command answers an error: nothing is found, or memory ran out.
 fn none_found<'a>(error: Error) -> Result<Option<ArgMatches<'a>>, Memory>
     ensures { IfOk result (λ found. (found ≡ None) × (kind_of error ≢ OutOfMemory)) }
 {
@@ -33,7 +33,7 @@ fn none_found<'a>(error: Error) -> Result<Option<ArgMatches<'a>>, Memory>
     }
 }
 
-// What a command finds in words.
+// What a command finds in the words.
 fn found_by<'w>(
     command: Command<'w>,
     words: &'w [&'w str],
@@ -47,8 +47,8 @@ fn found_by<'w>(
     }
 }
 
-/// What a program's command, with its name and its arguments, finds in words: nothing exactly where
-/// it does not take them. Or want of memory.
+/// Returns what a program's command, with this name and these arguments, finds in the words. `None`
+/// exactly when the command does not take them. The only error is running out of memory.
 pub fn matches_in<'w>(
     alloc: Global,
     name: &'w str,
@@ -64,7 +64,7 @@ pub fn matches_in<'w>(
     found_by(command_of(alloc, name, arguments)?, words)
 }
 
-/// What is written behind a name.
+/// Returns the text that is given for this name.
 pub fn text_of<'w>(matches: &ArgMatches<'w>, name: &str) -> Option<&'w str>
     ensures { option_map (λ text. text.now) result
         ≡ first_of name.now (rows_of (found_of matches.now)) }
@@ -72,7 +72,7 @@ pub fn text_of<'w>(matches: &ArgMatches<'w>, name: &str) -> Option<&'w str>
     matches.get_str(name)
 }
 
-// The number that a text writes; one that is none has been refused before.
+// The number that a text writes. A text that is not a number has already been refused.
 fn number_in(text: &str) -> Result<u64, Memory>
     ensures { IfOk result (λ number. number ≡ digits_value 10 (without_leading_plus text.now)) }
 {
@@ -82,7 +82,7 @@ fn number_in(text: &str) -> Result<u64, Memory>
     }
 }
 
-/// The number that is written behind a name, or another one where none is.
+/// Returns the number that is given for this name, or `otherwise` if none is given.
 pub fn number_or(matches: &ArgMatches<'_>, name: &str, otherwise: u64) -> Result<u64, Memory>
     ensures { IfOk result (λ number.
         number ≡ number_or otherwise (first_of name.now (rows_of (found_of matches.now)))) }
@@ -104,8 +104,8 @@ fn format_named(name: &str) -> Option<Format>
     }
 }
 
-/// The format that is written behind `format`: text where none is, and nothing where it is none of
-/// the three.
+/// Returns the format that is given for `format`: `Text` if none is given, `None` if it is not one
+/// of the three.
 pub fn format_of(matches: &ArgMatches<'_>) -> Option<Format>
     ensures { result ≡ format_in (rows_of (found_of matches.now)) }
 {

@@ -1,5 +1,5 @@
-//! What programs have in common: the arguments of a command line, the lines that a program writes
-//! of its own, and how it ends.
+//! What the programs have in common: the arguments of a command line, the lines that a program
+//! writes besides its replies, and how it ends.
 #![tactic(auto)]
 
 mod arguments;

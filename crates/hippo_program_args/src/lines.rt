@@ -7,7 +7,7 @@ ghost use Rattle.hippo_program_args.specs.Lines.{numbered_line};
 use hippo_io::{Failed, Sink, write_whole};
 use itoa::Buffer;
 
-/// Writes words, a number and a line feed, or a front of them where the sink fails.
+/// Writes words, a number and a line feed. If the sink fails, a prefix of them is written.
 pub fn write_numbered<K: Sink>(sink: &mut K, words: &str, number: u64) -> Result<(), Failed>
     ensures ok { OnOk result (Appends (K.written sink.old) (K.written sink.new)
         (numbered_line words.now number)) }

@@ -1,4 +1,4 @@
-//! The lines with which a program ends.
+//! The line that a program writes as it ends.
 ghost use Rattle.std.specs.Prelude.{◌≡◌, ◌≢◌};
 ghost use Rattle.hippo_program_args.specs.declared.endings.Ending.TheVariants.{Served, Refused, ReadFault, WriteFault, Damaged, TooMuch};
 ghost use Rattle.hippo_program_args.specs.Endings.{stop_ending};
@@ -11,7 +11,7 @@ use crate::lines::write_numbered;
 use hippo_io::{Failed, Sink, write_whole};
 use hippo_replay::LoadFault;
 
-/// Writes a text with which a program ends so.
+/// Writes a text and returns `ending`, or `WriteFault` if the sink fails.
 pub fn say<K: Sink>(sink: &mut K, text: &str, ending: Ending) -> Ending
     ensures says { Says ending text.now WriteFault result
         (K.written sink.old) (K.written sink.new) (K.faults sink.old) (K.faults sink.new) }
@@ -22,7 +22,7 @@ pub fn say<K: Sink>(sink: &mut K, text: &str, ending: Ending) -> Ending
     }
 }
 
-/// Writes a line of words and a number with which a program ends so.
+/// Writes a line of words and a number. Returns `ending`, or `WriteFault` if the sink fails.
 pub fn say_numbered<K: Sink>(sink: &mut K, words: &str, number: u64, ending: Ending) -> Ending
     ensures says { Says ending (numbered_line words.now number) WriteFault result
         (K.written sink.old) (K.written sink.new) (K.faults sink.old) (K.faults sink.new) }
@@ -33,7 +33,7 @@ pub fn say_numbered<K: Sink>(sink: &mut K, words: &str, number: u64, ending: End
     }
 }
 
-/// Writes at which place the kept entries are damaged.
+/// Writes the place at which the stored entries are damaged.
 pub fn say_damaged<K: Sink>(sink: &mut K, place: u64) -> Ending
     ensures says { Says Damaged (damaged_line place) WriteFault result
         (K.written sink.old) (K.written sink.new) (K.faults sink.old) (K.faults sink.new) }
@@ -41,7 +41,8 @@ pub fn say_damaged<K: Sink>(sink: &mut K, place: u64) -> Ending
     say_numbered(sink, "damaged ", place, Ending::Damaged)
 }
 
-/// How a program ends where what is kept was not loaded.
+/// Ends a program whose stored history was not loaded: returns its ending, and writes the place of
+/// any damage.
 pub fn stop<K: Sink>(fault: LoadFault, sink: &mut K) -> Ending
     ensures status { (result ≢ Served) × (result ≢ Refused) × (result ≢ ReadFault)
         × (result ≢ TooMuch) }

@@ -1,23 +1,24 @@
--- Which statuses a program may end with, and which faults they tell.
+-- The exit statuses of a program, and the faults that they report.
 use Rattle.std.specs.Prelude.{◌≡◌, ◌≢◌, ◌⊎◌, ℕ, List, Option, Some, None, Any}
 use Rattle.hippo_io.specs.Faults.{HasRisen}
 
--- 2 is the status just where words ask for nothing; a failed write there has 5, want of memory 7
+-- words that ask for nothing end with 2, or with 5 if the write fails, or with 7 if memory runs
+-- out; no other words end with 2
 abbrev pub RefusesJust : {A : Type 0} → Option A → ℕ → Type 0
 RefusesJust {A} asked status = (asked ≡ None → (status ≡ 2) ⊎ (status ≡ 5) ⊎ (status ≡ 7))
     × ((call : A) → asked ≡ Some call → status ≢ 2)
 
--- so it is, and the status is one of these
+-- this holds, and the status is one of these
 abbrev pub AnswersAmong : {A : Type 0} → List ℕ → Option A → ℕ → Type 0
 AnswersAmong statuses asked status =
     RefusesJust asked status × Any (λ listed. status ≡ listed) statuses
 
--- this status is that of a fault of something: its count of faults rose just there
+-- this status is that of a fault of something: exactly then its count of faults rose
 abbrev pub TellsFault : ℕ → ℕ → ℕ → ℕ → Type 0
 TellsFault fault status before after =
     (status ≡ fault → HasRisen before after) × (status ≢ fault → after ≡ before)
 
--- how often a source failed so far, and a sink
+-- how often a source failed so far, and how often a sink did
 pub record FaultCounts : Type 0 where
   pub reads : ℕ
   pub writes : ℕ

@@ -1,4 +1,4 @@
-//! How a program of this house begins and ends: the words behind its name, its standard streams, a
+//! How each of the programs begins and ends: the words after its name, its standard streams, a
 //! count of steps, and its exit status.
 #![tactic(auto)]
 
@@ -18,10 +18,11 @@ use std::{env, io};
 
 type Words = Sequence<Txt>;
 
-/// The exit status where memory is short for the words.
+/// The exit status when memory runs out for the words.
 pub const NO_MEMORY: u8 = 7;
 
-/// What a program is run over: the machine, its input and its output, and the steps that it took.
+/// What a program runs on: the machine, its input and its output, and the number of steps that it
+/// took.
 #[derive(Drop)]
 pub struct Host<S: Source, K: Sink, L: Ledger> {
     pub runtime: HostRuntime,
@@ -30,20 +31,20 @@ pub struct Host<S: Source, K: Sink, L: Ledger> {
     pub steps: Steps<L>,
 }
 
-/// What a program does with its words over its host.
+/// A program: what it does with its words on its host.
 pub trait Program {
-    // Whether the program may answer this status where its words are these, and its source and sink
-    // failed so often before and after it.
+    // Whether the program may return this status with these words, given how often its source and
+    // its sink had failed before and after.
     ghost Answers: { List Txt → ℕ → FaultCounts → FaultCounts → Type 0 };
 
-    /// Does what the words ask for, and answers the exit status.
+    /// Does what the words ask for, and returns the exit status.
     fn call<S: Source, K: Sink, L: Ledger>(words: &[Txt], host: &mut Host<S, K, L>) -> u8
         ensures answers { Answers words.now result
             (fault_counts (S.faults host.old.source) (K.faults host.old.sink))
             (fault_counts (S.faults host.new.source) (K.faults host.new.sink)) };
 }
 
-/// How a program ended: its exit status. Only [`start`] makes one, so a `main` that answers one
+/// How a program ended: its exit status. Only [`start`] makes one, so a `main` that returns one
 /// cannot end with a status of its own.
 #[derive(Drop)]
 pub struct Ended {
@@ -64,7 +65,7 @@ impl Termination for Ended {
     }
 }
 
-// The words behind the program's name; none where one of them is no text.
+// The words after the program's name. Empty if one of them is not a text.
 fn words(rt: &HostRuntime) -> Result<Words, Memory> {
     let mut words = Words::new(rt.alloc());
     match env::args(rt) {
@@ -79,8 +80,8 @@ fn words(rt: &HostRuntime) -> Result<Words, Memory> {
     }
 }
 
-// Has a program do what words ask for, over standard input and standard output, and on a ledger
-// that nobody uses.
+// Runs a program on these words, over standard input and standard output, with a ledger that
+// nothing else uses.
 fn run<P: Program, L: Ledger>(rt: HostRuntime, words: &[Txt], blank: Blank) -> u8
     requires name { blank.name ≡ L.name }
     requires parts { blank.parts ≡ L.parts }
@@ -97,9 +98,9 @@ fn run<P: Program, L: Ledger>(rt: HostRuntime, words: &[Txt], blank: Blank) -> u
     P::call(words, &mut host)
 }
 
-/// Has a program do what the words behind its name ask for, over standard input and standard
-/// output. It ends with the status that the program answers, or with [`NO_MEMORY`], and nothing is
-/// read or written, where memory is short for the words.
+/// Runs a program on the words after its name, over standard input and standard output. It ends
+/// with the status that the program returns. If memory runs out for the words, it ends with
+/// [`NO_MEMORY`], and nothing is read or written.
 pub fn start<P: Program>(rt: HostRuntime) -> Ended
     ensures ends { (result ≡ 7) ⊎ ((words : List Txt) × (before : FaultCounts)
         × (after : FaultCounts)

@@ -1,4 +1,4 @@
--- What the look-ups of a state say of its history.
+-- The look-ups in a state agree with the definitions on its history.
 use Rattle.std.proofs.Common.{◌≡◌, ◌∙◌, sym, ap, refl, arith, ℕ, ◌+◌, ◌-◌, Bool, true, false, not, ◌&&◌, length, take, Option, Some, None, is_some, is_none}
 use Rattle.std.specs.Prelude.{option_map, option_and_then, nat_lt, ◌==◌, bytes_eq, unwrap_or, int_le}
 use Rattle.std.specs.Option.{option_map_or}
@@ -50,22 +50,22 @@ module _ (state : State) (history : History) (stands : StandsFor state history) 
       let count = ap (λ (known : KnownNames). length known.tables) stands.names ∙ names_are.count in
       λ i. nat_lt (count i) table_limit && is_none (tables_are schema.name i) && is_well_formed schema
 
--- where there is no such table, nothing about it passes
+-- if there is no such table, no test on it passes
 pub unmade : (history : History) (table : Name) (test : Schema → Bool) → schema_at history table ≡ None → false ≡ table_passes history test table
 unmade history table test none = ap (λ (found : Option Schema). option_map_or test found false) (sym none)
 
--- where there is one, its schema tells
+-- if there is one, its schema decides
 pub made : (history : History) (table : Name) (test : Schema → Bool) (schema : Schema) → schema_at history table ≡ Some schema → test schema ≡ table_passes history test table
 made history table test schema found = ap (λ (found : Option Schema). option_map_or test found false) (sym found)
 
 named_so : (history : History) (table : Name) (schema : Schema) → schema_at history table ≡ Some schema → bytes_eq table schema.name ≡ true
 named_so history table schema found = nat_list_eq_equiv.symm table schema.name ∙ schema_at-named history table schema found
 
--- both tests of a version agree with the definitions'
+-- both tests of a version agree with those of the definitions
 pub both_are : {a b c d : Bool} → a ≡ b → c ≡ d → (a && c) ≡ (b && d)
 both_are first second = λ i. first i && second i
 
--- a version of a table that is there
+-- a version of a table that exists
 module _ (history : History) (table : Name) (schema : Schema) (found : schema_at history table ≡ Some schema) where
   pub insert_is : (row : Row) → (row_fits schema row && not (is_live schema history (key_of schema.key row))) ≡ is_table_version history table (Insert table row)
   insert_is row =
@@ -82,7 +82,7 @@ module _ (history : History) (table : Name) (schema : Schema) (found : schema_at
       ap (λ named. named && key_fits schema key && is_live schema history key) (sym (named_so history table schema found))
       ∙ made history table (λ schema. version_fits schema history (Delete table key)) schema found
 
-  -- a row with the same key is found among the kept ones
+  -- a row with the same key is found among the stored ones
   pub live_like_is : (rows : KeyedRows) (row : Row) → Some rows ≡ option_map (λ schema. kept_at schema history) (schema_at history table) → is_some (find_row rows.key (key_of rows.key row) rows.rows) ≡ is_live schema history (key_of schema.key row)
   live_like_is rows row are =
       let same : rows ≡ kept_at schema history = same_Some rows (kept_at schema history) (are ∙ ap (option_map (λ schema. kept_at schema history)) found) in
@@ -108,6 +108,6 @@ next_is state history number stands = numbers_agree state.count (length history)
 pub order_is : (state : State) (history : History) (moment : Moment) → StandsFor state history → int_le first_moment moment ≡ true → int_le state.last moment ≡ keeps_order history moment
 order_is state history moment stands low = ap (λ (last : Moment). int_le last moment) stands.last ∙ kept_by (last_word (λ e. Some e.moment) history) moment low
 
--- all entries are the first so many
+-- taking as many entries as there are takes all of them
 pub all_taken : (state : State) (history : History) → StandsFor state history → take state.count history ≡ history
 all_taken state history stands = ap (λ n. take n history) stands.count ∙ take-length history

@@ -1,4 +1,4 @@
--- What a keeper keeps, from one call to the next.
+-- What a keeper stores, from one call to the next.
 use Rattle.std.proofs.Common.{◌≡◌, ◌∙◌, sym, ap, refl, arith, subst, ℕ, zero, suc, ◌+◌, ◌<◌, ◌≤◌, true, false, [], ◌∷◌, ◌++◌, map, length, take, filter, nat_lt, length-append}
 use mathlib.Core.Logic.{∥∥₁_map}
 use Rattle.std.proofs.lemmas.Bool.Decides.{nat_tests}
@@ -13,7 +13,7 @@ use Rattle.hippo_keeper.specs.Selecting.{is_any, handed_over}
 use Rattle.hippo_keeper.proofs.RisingLemmas.{next_number-append}
 use Rattle.hippo_replay.specs.Loading.{KeepsFound}
 
--- the number of the next entry behind the stored forms of a valid history
+-- the number of the next entry after the stored forms of a valid history
 pub next_kept-stored : (meaning : Meaning) (history : History) → is_valid meaning history ≡ true → next_kept (map stored history) ≡ length history + 1
 next_kept-stored meaning history valid =
     holds_of_each_valid meaning (λ h. next_kept (map stored h) ≡ length h + 1)
@@ -30,7 +30,7 @@ below_is low number below = grind (arith, nat_tests)
 not_below : (last number : ℕ) → number ≤ last → nat_lt last number ≡ false
 not_below last number within = grind (arith, nat_tests)
 
--- entries whose numbers rise from above one are all above it
+-- entries whose numbers rise from above a number are all above it
 all_above : (number low : ℕ) (entries : Store) → low ≤ number → RisesAbove number entries → filter (λ e. nat_lt low e.seq) entries ≡ entries
 all_above number low [] le rises = refl
 all_above number low (entry ∷ rest) le rises =
@@ -38,7 +38,7 @@ all_above number low (entry ∷ rest) le rises =
     let passes = below_is low entry.seq (omega arith) in
     rw passes (ap (λ later. entry ∷ later) (all_above entry.seq low rest (omega arith) rises.1))
 
--- and none is above the last one
+-- no entry is above the last one
 last_above : (number : ℕ) (entries rest : Store) → RisesAbove number (entries ++ rest) → number ≤ last_number number entries
 last_above number [] rest rises = omega arith
 last_above number (entry ∷ entries) rest rises =
@@ -46,7 +46,7 @@ last_above number (entry ∷ entries) rest rises =
     let later = last_above entry.seq entries rest rises.1 in
     omega arith
 
--- the entries above the last one of a front are those behind it
+-- the entries above the last number of a prefix are the entries after the prefix
 pub entries_after : (number last : ℕ) (front rest : Store) → last_number number front ≡ last → RisesAbove number (front ++ rest) → filter (λ e. nat_lt last e.seq) (front ++ rest) ≡ rest
 entries_after number last [] rest is rises = all_above number last rest (omega (arith, is)) rises
 entries_after number last (entry ∷ front) rest is rises =
@@ -58,17 +58,17 @@ any : (entries : Store) → filter is_any entries ≡ entries
 any [] = refl
 any (entry ∷ rest) = ap (λ later. entry ∷ later) (any rest)
 
--- what is handed over behind a front is the front of the rest
+-- a read after a prefix returns the first entries of the rest
 pub handed_over-remaining : (max last : ℕ) (front rest : Store) → last_number 0 front ≡ last → RisesAbove 0 (front ++ rest) → handed_over is_any last max (front ++ rest) ≡ take max rest
 handed_over-remaining max last front rest is rises = ap (take max) (any _ ∙ entries_after 0 last front rest is rises)
 
--- where nothing is handed over, there is nothing
+-- if nothing is returned, nothing is left
 pub nothing_taken : (max : ℕ) (rest : Store) → 0 < max → take max rest ≡ [] → rest ≡ []
 nothing_taken zero rest some none = absurd (omega arith)
 nothing_taken (suc max) [] some none = refl
 nothing_taken (suc max) (entry ∷ rest) some none = absurd cc
 
--- what a start found is kept and alone survives
+-- what a start found is stored, and only that survives
 pub KeepsFound-after : (finds : Survivors) (started now : KeeperState) → HasFound finds started → KeepsSame started now → KeepsFound finds now
 KeepsFound-after finds started now found keeps =
     let alone : (store : Store) → now.survives store → store ≡ now.kept = λ store survives. found.stop.alone store (keeps.stop store survives) ∙ sym keeps.same in

@@ -25,7 +25,7 @@ use Rattle.hippo_keeper.proofs.CallLemmas.{IsAfterCall-then}
 use Rattle.hippo_replay.proofs.ReadingLemmas.{versions-append, same_Err}
 use Rattle.hippo_keeper.proofs.Results.{err_of, well}
 
--- a keeper that was started, or was not
+-- a keeper that was started or not
 call_by : {A : Type 0} (result : Result A KeeperFault) (started closed : Bool) (before after : KeeperState) → IsAfterCall started closed result before after → closed ≡ (not started && wants_memory result) → IsAfterCall after.started (not after.started && wants_memory result) result before after
 call_by result started closed before after call is =
     subst (λ (s : Bool). IsAfterCall s (not s && wants_memory result) result before after) (sym call.started_is)
@@ -66,7 +66,7 @@ module _ (name : List ℕ) (before mid after : KeeperState) (steps_before steps_
       let taken = reads.hands.steps in
       omega arith
 
-  -- the state of what is kept
+  -- the state of what is stored
   is_loaded : ReadsAllKept (Ok tt) mid after state steps_before steps_after → IsLoaded state after steps_before steps_after
   is_loaded reads =
       let loaded = reads.loaded in
@@ -79,7 +79,7 @@ module _ (name : List ℕ) (before mid after : KeeperState) (steps_before steps_
         steps = reads.hands.steps ∙ ap (λ n. steps_before + n) (ap stored_versions (sym loaded.forms) ∙ stored_versions-stored loaded.history);
       }
 
-  -- what comes of reading all
+  -- the result of reading everything
   pub Loads-started : (all : Result (Unit {0}) LoadFault) → ReadsAllKept all mid after state steps_before steps_after → Loads name (result_and all (Ok state)) before after steps_before steps_after
   Loads-started (Ok done) reads = record {
     call = call_by (Ok tt) true false before after (IsAfterCall-then false (well KeeperFault) (well KeeperFault) before mid after refl starts.call reads.hands.call) refl;
@@ -109,7 +109,7 @@ judged_well (Err Keeper) judged = absurd (false≢true judged)
 judged_well (Err (Damaged place)) judged = (refl, refl)
 judged_well (Err Memory) judged = absurd (false≢true judged)
 
--- a load that says what is kept leaves the keeper ready
+-- a load that finds out what is stored leaves the keeper ready
 pub Loads-ready : (name : List ℕ) (result : Result State LoadFault) (before after : KeeperState) (steps_before steps_after : ℕ) → Loads name result before after steps_before steps_after → judges result ≡ true → IsReady true after
 Loads-ready name result before after steps_before steps_after loads judged =
     let started = loads.started judged in
@@ -121,17 +121,17 @@ Loads-ready name result before after steps_before steps_after loads judged =
     }
 
 module _ (name : List ℕ) (result : Result State LoadFault) (before after : KeeperState) (steps_before steps_after : ℕ) (loads : Loads name result before after steps_before steps_after) (tells : after.tells) where
-  -- the stored forms of a valid history are not called damaged
+  -- the stored forms of a valid history are never called damaged
   pub never_damaged : (history : History) → IsStoreOf meaning after.kept history → (place : ℕ) → ¬ (result ≡ Err (Damaged place))
   never_damaged history store place is = of_none meaning after.kept place (loads.damaged place is tells) history store
 
-  -- a state stands for the history whose stored forms are kept
+  -- the state stands for the history whose forms are stored
   pub stands_for_kept : (history : History) → IsStoreOf meaning after.kept history → IfOk result (λ state. StandsFor state history)
   stands_for_kept history store =
       IfOk-weaker result (λ state. IsLoaded state after steps_before steps_after) (λ state. StandsFor state history)
       (λ state loaded. subst (λ (h : History). StandsFor state h) (sym (loaded.only tells history store)) loaded.stands) loads.ok
 
-  -- and where they are those of no valid history, there is no state
+  -- if they are the forms of no valid history, there is no state
   pub never_loaded : ((history : History) → ¬ (IsStoreOf meaning after.kept history)) → (state : State) → ¬ (result ≡ Ok state)
   never_loaded none state is =
       let loaded : IsLoaded state after steps_before steps_after = IfOk-at_ok (λ state. IsLoaded state after steps_before steps_after) is loads.ok in

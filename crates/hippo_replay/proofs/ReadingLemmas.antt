@@ -1,4 +1,4 @@
--- The kept entries read piece by piece.
+-- Reading the stored entries piece by piece.
 use Rattle.std.proofs.Common.{◌≡◌, ◌≢◌, ◌∙◌, sym, ap, refl, arith, subst, ℕ, ◌+◌, ◌^◌, ◌<◌, ◌↔◌, Bool, true, false, not, [], ◌∷◌, ◌++◌, map, length, take, drop, cond, Result, Ok, Err, IfOk, OnOk, IsTrue, length-append, append_assoc}
 use Rattle.std.specs.Result.{result_and}
 use Rattle.std.proofs.lemmas.Bool.{false≢true}
@@ -27,7 +27,7 @@ use Rattle.hippo_keeper.proofs.Results.{err_of, ok_of, well}
 pub versions-append : (first second : Store) → stored_versions (first ++ second) ≡ stored_versions first + stored_versions second
 versions-append first second = sum_by-append (λ kept. cond (is_stored_version kept) 1 0) first second
 
--- no keeper's fault is none of its calls' failures
+-- a fault that is not the keeper's is not a failed call
 load_as_call-unfailed : {A : Type 0} (result : Result A LoadFault) → result ≢ Err Keeper → has_failed (load_as_call result) ≡ false
 load_as_call-unfailed (Ok value) other = refl
 load_as_call-unfailed (Err Keeper) other = absurd (other refl)
@@ -47,7 +47,7 @@ last_loaded state store loaded =
     let counted = loaded.stands.count in
     omega (arith, next, counted)
 
--- one more than before where something was taken in
+-- the count is higher than before if something was taken in
 more_loaded : (old new : State) (piece : Store) → IsSound old → ((store : Store) → HasLoaded old store → HasLoaded new (store ++ piece)) → new.count ≡ old.count + length piece
 more_loaded old new piece sound taken =
     let before : HasLoaded old (map stored sound.history) = record { history = sound.history; forms = refl; stands = sound.stands } in
@@ -97,7 +97,7 @@ module _ (max : ℕ) (before after : KeeperState) (old new : State) (steps_old s
     damaged = λ place is. absurd cc;
   }
 
-  -- or its damage was found, or memory was short
+  -- its damage was found, or memory ran out
   reads_on-err : (fault : LoadFault) → TakesIn piece (err_of (Unit {0}) fault) old new → ReadsPiece (Err fault) before after old new steps_old steps_new
   reads_on-err fault taken = record {
     piece = piece;
@@ -114,7 +114,7 @@ module _ (max : ℕ) (before after : KeeperState) (old new : State) (steps_old s
     damaged = λ place is. read_damage fault taken place (same_Err fault (Damaged place) is);
   }
 
-  -- what comes of a piece that was read
+  -- the result of a piece that was read
   pub reads_on : (any : Bool) → 0 < max → old.count < 2 ^ 64 → IsSound old → (any ≡ false → piece ≡ []) → (any ≡ true → ¬ (piece ≡ [])) → (all : Result (Unit {0}) LoadFault) → TakesIn piece all old new → ReadsPiece (result_and all (Ok any)) before after old new steps_old steps_new
   reads_on any some room sound none more (Ok done) taken = reads_on-ok any some room sound none more taken
   reads_on any some room sound none more (Err fault) taken = reads_on-err fault taken
@@ -208,7 +208,7 @@ module _ (before now after : KeeperState) (old new : State) (steps_first steps_o
           told = told_then;
         }
 
-    -- all is read
+    -- everything is read
     pub ReadsAllKept-end : result ≡ Ok false → ReadsAllKept (Ok tt) before after new steps_first steps_new
     ReadsAllKept-end is =
         record {
@@ -223,7 +223,7 @@ module _ (before now after : KeeperState) (old new : State) (steps_first steps_o
           damaged = λ place e. absurd cc;
         }
 
-    -- or something is wrong
+    -- something is wrong
     pub ReadsAllKept-fault : (fault : LoadFault) → result ≡ Err fault → ReadsAllKept (Err fault) before after new steps_first steps_new
     ReadsAllKept-fault fault is =
         record {

@@ -1,4 +1,4 @@
--- What keeping an entry comes to, and taking it in.
+-- The result of storing an entry, and of taking it in.
 use Rattle.std.proofs.Common.{◌≡◌, ◌∙◌, sym, ap, refl, subst, ◌+◌, Bool, true, false, ◌&&◌, [], ◌∷◌, ◌++◌, length, Result, Ok, Err, OnOk}
 use Rattle.std.specs.Prelude.{◌==◌}
 use Rattle.std.proofs.lemmas.Bool.{and_parts, false≢true}
@@ -27,17 +27,17 @@ use Rattle.hippo_replay.proofs.KeeperLemmas.{next_kept-stored}
 use Rattle.hippo_keeper.proofs.CallLemmas.{KeepsSame-here, KeepsSame-Stays, IsAfterCall-as, IsAfterCall-none}
 use Rattle.hippo_keeper.proofs.Results.{err_of, well}
 
--- an act that takes memory is no Delete
+-- an act that takes memory is not a Delete
 pub is_delete-room : (act : Act) → takes_no_memory act ≡ false → is_delete act ≡ false
 is_delete-room (Delete table key) is = is
 is_delete-room act is = refl
 
--- the answer where memory was short
+-- the answer when out of memory
 abbrev pub short : Result (Unit {0}) KeeperFault
 short = Err Memory
 
 module _ (entry : Entry) where
-  -- an entry that may follow can be kept
+  -- an entry that may follow can be stored
   pub keepable_next : (state : State) → IsSound state → MayFollow state entry → is_keepable entry ≡ true
   keepable_next state sound follows =
       let numbered : Bool = is_keepable entry && entry.seq == length sound.history + 1 in
@@ -45,7 +45,7 @@ module _ (entry : Entry) where
       let first = and_parts numbered (keeps_order sound.history entry.moment) ordered.0 in
       (and_parts (is_keepable entry) (entry.seq == length sound.history + 1) first.0).0
 
-  -- and has the number that its keeper expects
+  -- it has the number that its keeper expects
   pub number_next : (state : State) (keeper : KeeperState) → MayFollow state entry → (keeper.tells → HasLoaded state keeper.kept) → keeper.tells → entry.seq ≡ next_kept keeper.kept
   number_next state keeper follows told tells =
       let loaded = told tells in
@@ -55,7 +55,7 @@ module _ (entry : Entry) where
   pub IsNext-sound : (state : State) → IsSound state → MayFollow state entry → IsNext state entry
   IsNext-sound state sound follows = record { history = sound.history; stands = sound.stands; follows = follows sound.history sound.stands }
 
-  -- what may be kept may be appended
+  -- what may be stored may be appended
   pub MayAppend-kept : (state : State) (keeper : KeeperState) → MayKeep entry state keeper → MayAppend entry keeper
   MayAppend-kept state keeper may = record {
     keepable = keepable_next state may.backed.sound may.follows;
@@ -64,7 +64,7 @@ module _ (entry : Entry) where
     next = number_next state keeper may.follows may.backed.told;
   }
 
-  -- it was handed to the keeper
+  -- the entry was given to the keeper
   pub KeepsEntry-AppendsEntry : (kept : StoredEntry) (result : Result (Unit {0}) KeeperFault) (state : State) (before after : KeeperState) → kept ≡ stored entry → AppendsEntry kept result before after → MayFollow state entry → KeepsEntry entry result state before after
   KeepsEntry-AppendsEntry kept result state before after form appended follows =
       let appends : AppendsEntry (stored entry) result before after = subst (λ (k : StoredEntry). AppendsEntry k result before after) form appended in
@@ -76,7 +76,7 @@ module _ (entry : Entry) where
         same = λ memory tells. KeepsSame-Stays before after (appends.memory memory tells);
       }
 
-  -- it was not, since memory was short
+  -- the entry was not given to the keeper, because memory ran out
   pub KeepsEntry-short : (state : State) (keeper : KeeperState) → IsReady true keeper → KeepsEntry entry short state keeper keeper
   KeepsEntry-short state keeper ready = record {
     call = IsAfterCall-as true false (well KeeperFault) short keeper keeper refl (IsAfterCall-none (well KeeperFault) keeper refl ready);
@@ -86,7 +86,7 @@ module _ (entry : Entry) where
     same = λ memory tells. KeepsSame-here keeper;
   }
 
-  -- it was kept, and then taken in
+  -- the entry was stored, and then taken in
   pub Records-added : (old new : State) (before after : KeeperState) → KeepsEntry entry (well KeeperFault) old before after → ((history : History) → StandsFor old history → may_follow meaning history entry ≡ true → StandsFor new (history ++ entry ∷ [])) → Records entry (well KeeperFault) old new before after
   Records-added old new before after keeps added = record {
     keeps = keeps;
@@ -94,15 +94,15 @@ module _ (entry : Entry) where
     memory = λ memory. absurd (false≢true memory);
   }
 
-  -- it was not kept, and is not taken in
+  -- the entry was not stored, and is not taken in
   pub Records-unkept : (fault : KeeperFault) (state : State) (before after : KeeperState) → KeepsEntry entry (err_of (Unit {0}) fault) state before after → Records entry (err_of (Unit {0}) fault) state state before after
   Records-unkept fault state before after keeps = record { keeps = keeps; ok = tt; memory = λ memory history stands. stands }
 
-  -- it was not taken in
+  -- the entry was not taken in
   pub Records-short : (old new : State) (keeper : KeeperState) → IsReady true keeper → ((history : History) → StandsFor old history → StandsFor new history) → Records entry short old new keeper keeper
   Records-short old new keeper ready same = record { keeps = KeepsEntry-short old keeper ready; ok = tt; memory = λ memory. same }
 
-  -- it was taken in, and then kept or taken back
+  -- the entry was taken in, and then stored or taken back
   pub Records-kept : (result : Result (Unit {0}) KeeperFault) (old mid new : State) (before after : KeeperState) → KeepsEntry entry result old before after → ((history : History) → StandsFor old history → Remembers mid history entry) → OnOk result (new ≡ mid) → (wants_memory result ≡ true → (history : History) → Remembers mid history entry → StandsFor new history) → Records entry result old new before after
   Records-kept result old mid new before after keeps remembers kept back = record {
     keeps = keeps;
@@ -116,7 +116,7 @@ module _ (entry : Entry) where
   IsSound-after (Err Failed) old new before after sound records good = absurd (false≢true (sym good))
   IsSound-after (Err Memory) old new before after sound records good = record { history = sound.history; stands = records.memory refl sound.history sound.stands }
 
-  -- and where the keeper tells what it keeps, that is what the state has loaded
+  -- if the store's contents are known, the state has loaded them
   pub HasLoaded-after : (result : Result (Unit {0}) KeeperFault) (old new : State) (before after : KeeperState) → Records entry result old new before after → (before.tells → HasLoaded old before.kept) → has_failed result ≡ false → after.tells → HasLoaded new after.kept
   HasLoaded-after (Ok value) old new before after records told good tells =
       let loaded = told (records.keeps.call.told tells) in

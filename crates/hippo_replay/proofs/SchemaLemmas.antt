@@ -1,4 +1,4 @@
--- Columns whose names differ.
+-- Columns with distinct names.
 use Rattle.std.proofs.Common.{◌≡◌, ap, refl, not, ◌||◌, ◌&&◌, List, [], ◌∷◌, map, bytes_eq}
 use Rattle.std.specs.List.{list_any}
 use Rattle.hippo_values.specs.declared.names.Name.{Name}
@@ -9,7 +9,7 @@ any_mapped : (name : Name) (columns : List Column) → list_any (λ column. byte
 any_mapped name [] = refl
 any_mapped name (column ∷ columns) = ap (λ found. bytes_eq name column.name || found) (any_mapped name columns)
 
--- columns differ by their names where their names differ
+-- columns differ by name if their names differ
 pub names_mapped : (columns : List Column) → all_differ (λ one other. bytes_eq one.name other.name) columns ≡ all_differ bytes_eq (map (λ column. column.name) columns)
 names_mapped [] = refl
 names_mapped (column ∷ columns) = λ i. not (any_mapped column.name columns i) && names_mapped columns i

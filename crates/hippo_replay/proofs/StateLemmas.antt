@@ -1,4 +1,4 @@
--- A state with one entry more, and with its last entry taken back.
+-- A state with one more entry, and with its last entry taken back.
 use Rattle.std.proofs.Common.{◌≡◌, ◌∙◌, sym, ap, refl, arith, ◌+◌, ◌-◌, true, false, ◌&&◌, [], ◌∷◌, ◌++◌, length, Some, length-append, Option}
 use Rattle.std.specs.Prelude.{◌==◌, unwrap_or}
 use Rattle.std.proofs.lemmas.Bool.{and_parts, false≢true}
@@ -28,7 +28,7 @@ use Rattle.hippo_replay.specs.Standing.{latest_moment, StandsFor, IsNext, takes_
 pub latest_moment-append : (history : History) (entry : Entry) → latest_moment (history ++ entry ∷ []) ≡ entry.moment
 latest_moment-append history entry = ap (λ (word : Option Moment). unwrap_or word first_moment) (last_word-append (λ e. Some e.moment) history entry)
 
--- an entry that may come next creates anew
+-- an entry that may come next creates only what does not exist yet
 pub creates_anew-next : (state : State) (entry : Entry) → IsNext state entry → creates_anew state.catalog.names entry.act ≡ true
 creates_anew-next state entry next =
     ap (λ (known : KnownNames). creates_anew known entry.act) next.stands.names ∙ entries_create_anew meaning next.history entry next.stands.valid next.follows
@@ -37,7 +37,7 @@ module _ (history : History) (entry : Entry) (may : may_follow meaning history e
   pub acceptable : is_acceptable meaning history entry.act ≡ true
   acceptable = (and_parts (is_keepable entry && entry.seq == length history + 1 && keeps_order history entry.moment) (is_acceptable meaning history entry.act) may).1
 
-  -- with an entry more, the state stands for the history with it behind
+  -- with one more entry, the state stands for the history with that entry at its end
   pub StandsFor-append : (old new : State) → StandsFor old history → PartsAdd old new entry → new.count ≡ entry.seq → new.last ≡ entry.moment → StandsFor new (history ++ entry ∷ [])
   StandsFor-append old new stands adds count last =
       let number : entry.seq ≡ length history + 1 = next_number meaning history entry may in
@@ -50,7 +50,7 @@ module _ (history : History) (entry : Entry) (may : may_follow meaning history e
         last = last ∙ sym (latest_moment-append history entry);
       }
 
-  -- and knows what it was before
+  -- it remembers what it was before
   pub Remembers-append : (old new : State) → is_delete entry.act ≡ false → StandsFor old history → PartsAdd old new entry → new.count ≡ entry.seq → new.last ≡ entry.moment → new.earlier ≡ old.last → Remembers new history entry
   Remembers-append old new kept stands adds count last earlier = record {
     stands = StandsFor-append old new stands adds count last;
@@ -60,7 +60,7 @@ module _ (history : History) (entry : Entry) (may : may_follow meaning history e
     moment = earlier ∙ stands.last;
   }
 
-  -- where memory was short, it stands for what it stood for
+  -- when out of memory, it stands for what it stood for before
   pub StandsFor-same : (old new : State) → StandsFor old history → new.catalog.names ≡ old.catalog.names → (entry.seq ≡ length history + 1 → BookStandsFor old.book history → BookStandsFor new.book history) → TablesAreAsBefore old.tables new.tables → new.count ≡ old.count → new.last ≡ old.last → StandsFor new history
   StandsFor-same old new stands names book tables count last = record {
     valid = stands.valid;
@@ -71,7 +71,8 @@ module _ (history : History) (entry : Entry) (may : may_follow meaning history e
     last = last ∙ stands.last;
   }
 
--- what takes no memory creates nothing, and says nothing that a book keeps; a question changes no row
+-- an act that takes no memory creates nothing and changes nothing that a book holds; a question
+-- changes no row
 pub creates_nothing-room : (act : Act) → takes_no_memory act ≡ true → creates_nothing act ≡ true
 creates_nothing-room (Delete table key) is = refl
 creates_nothing-room (Asked user purpose recipient text) is = refl
@@ -87,7 +88,7 @@ leaves_tables-room (Delete table key) is other = absurd (false≢true (sym other
 leaves_tables-room (Asked user purpose recipient text) is other = refl
 leaves_tables-room act is other = absurd (false≢true is)
 
--- a book that has taken in an entry, and takes it back
+-- a book that has taken in an entry and takes it back
 pub book_again : (old mid new : PolicyBook) (entry : Entry) → BookAdds old mid entry.seq entry.act → ((history : History) (entry : Entry) → RemembersMatter mid entry.act → BookStandsFor mid (history ++ entry ∷ []) → BookStandsFor new history) → (history : History) → entry.seq ≡ length history + 1 → BookStandsFor old history → BookStandsFor new history
 book_again old mid new entry adds taken history number stands = taken history entry adds.remembers (adds.stands history entry refl refl number stands)
 
@@ -108,7 +109,7 @@ StandsFor-before old new history entry knows names book tables count last =
       last = last ∙ knows.moment;
     }
 
--- a state with tables that are what they were
+-- a state with other tables of the same value
 abbrev pub with_tables : State → Tables → State
 with_tables state tables = record { catalog = state.catalog; book = state.book; tables = tables; count = state.count; last = state.last; earlier = state.earlier }
 

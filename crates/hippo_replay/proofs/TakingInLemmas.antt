@@ -1,4 +1,4 @@
--- Stored entries taken in one after the other, up to the first that is damaged.
+-- Taking in stored entries one after another, up to the first damaged one.
 use Rattle.std.proofs.Common.{◌≡◌, ◌≢◌, ◌∙◌, sym, ap, refl, arith, subst, ℕ, zero, suc, ◌+◌, ◌-◌, ◌<◌, true, false, List, [], ◌∷◌, ◌++◌, map, length, get_or, take, drop, Some, None, Result, Err, OnOk, append_assoc, add-one}
 use Rattle.std.proofs.Math.Seq.{take-append_seam, take-append-add}
 use Rattle.std.proofs.lemmas.Bool.{and_parts, false≢true}
@@ -33,7 +33,7 @@ record EndsSo {A B : Type 0} (image : A → B) (members : List A) (front : List 
   before : map image start ≡ front
   at_end : image member ≡ last
 
--- members whose images end so, end so
+-- members end this way if their images do
 ends_so : {A B : Type 0} (image : A → B) (members : List A) (front : List B) (last : B) → map image members ≡ front ++ last ∷ [] → EndsSo image members front last
 ends_so image [] [] last same = absurd cc
 ends_so image [] (first ∷ front) last same = absurd cc
@@ -56,11 +56,11 @@ ends_so image (member ∷ members) (first ∷ front) last same =
 pub its_store : (state : State) (store : Store) (loaded : HasLoaded state store) → IsStoreOf meaning store loaded.history
 its_store state store loaded = record { forms = loaded.forms; valid = loaded.stands.valid }
 
--- as many entries as stored forms
+-- there are as many entries as stored forms
 pub loaded_count : (state : State) (store : Store) → HasLoaded state store → state.count ≡ length store
 loaded_count state store loaded = loaded.stands.count ∙ sym (length-map loaded.history stored) ∙ ap length loaded.forms
 
--- one entry more
+-- one more entry
 pub HasLoaded-append : (old new : State) (kept : StoredEntry) (entry : Entry) → HasForm kept entry
     → ((history : History) → StandsFor old history → (may_follow meaning history entry ≡ true) × StandsFor new (history ++ entry ∷ []))
     → (store : Store) → HasLoaded old store → HasLoaded new (store ++ kept ∷ [])
@@ -71,7 +71,7 @@ HasLoaded-append old new kept entry form follows store loaded = record {
 }
 
 module _ (state : State) (kept : StoredEntry) (never : (entry : Entry) → HasForm kept entry → (history : History) → StandsFor state history → may_follow meaning history entry ≡ false) where
-  -- no valid history goes on so
+  -- no valid history continues this way
   no_longer : (store : Store) → HasLoaded state store → (history : History) → ¬ (IsStoreOf meaning (store ++ kept ∷ []) history)
   no_longer store loaded history longer =
       let end = ends_so stored history store kept longer.forms in
@@ -84,7 +84,7 @@ module _ (state : State) (kept : StoredEntry) (never : (entry : Entry) → HasFo
       keepable : (history : History) (entry : Entry) → may_follow meaning history entry ≡ true → is_keepable entry ≡ true
       keepable history entry may = (and_parts _ _ (and_parts _ _ (and_parts _ _ may).0).0).0
 
-  -- so that is where the damage is, whatever comes behind
+  -- so the damage is here, whatever follows
   pub damaged_here : (store rest : Store) → HasLoaded state store → IsDamagedAt meaning (store ++ kept ∷ rest) (length store + 1)
   damaged_here store rest loaded =
       let place : length store + 1 - 1 ≡ length store = omega arith in
@@ -95,7 +95,7 @@ module _ (state : State) (kept : StoredEntry) (never : (entry : Entry) → HasFo
         beyond = λ history longer. no_longer store loaded history (subst (λ (s : Store). IsStoreOf meaning s history) (take-append-add store (kept ∷ rest) 1) longer);
       }
 
--- the place, by the number of entries
+-- the place, from the number of entries
 pub damaged_next : (state : State) (kept : StoredEntry) → ((entry : Entry) → HasForm kept entry → (history : History) → StandsFor state history → may_follow meaning history entry ≡ false) → (place : ℕ) → ((history : History) → StandsFor state history → place ≡ length history + 1) → (store rest : Store) → HasLoaded state store → IsDamagedAt meaning (store ++ kept ∷ rest) place
 damaged_next state kept never place is store rest loaded =
     let counted : length loaded.history ≡ length store = sym (length-map loaded.history stored) ∙ ap length loaded.forms in
@@ -113,7 +113,7 @@ taken_in kept entry result old new found follows = record {
   unfailed = follows.unfailed;
 }
 
--- a form that no entry has
+-- no entry has this form
 pub none_here : (state : State) (kept : StoredEntry) (place : ℕ) → IsEntryOf kept None → place ≡ state.count + 1 → (store rest : Store) → HasLoaded state store → IsDamagedAt meaning (store ++ kept ∷ rest) place
 none_here state kept place found is =
     damaged_next state kept (λ entry form history stands. absurd (none-some entry (found.only entry form))) place
@@ -124,14 +124,14 @@ pub sound_still : {A : Type 0} (entry : Entry) (result : Result A LoadFault) (ol
 sound_still entry result old new sound follows =
     on_ok_weaker result (λ ok. record { history = sound.history ++ entry ∷ []; stands = (ok sound.history sound.stands).1 }) follows.ok
 
--- the entries before one, that one, and those behind it
+-- the entries before one, that entry, and the entries after it
 pub cut_there : (piece store rest : Store) (i : ℕ) (kept : StoredEntry) → drop i piece ≡ kept ∷ drop (i + 1) piece → (store ++ take i piece) ++ kept ∷ (drop (i + 1) piece ++ rest) ≡ store ++ (piece ++ rest)
 cut_there piece store rest i kept at =
     append_assoc store (take i piece) (kept ∷ (drop (i + 1) piece ++ rest))
     ∙ ap (λ (later : Store). store ++ (take i piece ++ (later ++ rest))) (sym at)
     ∙ ap (λ (all : Store). store ++ all) (sym (append_assoc (take i piece) (drop i piece) rest) ∙ ap (λ (all : Store). all ++ rest) (take-append-drop i piece))
 
--- the entries up to one, and it
+-- the entries up to and including one
 pub take_at_entry : (entries : Store) (i : ℕ) (entry : StoredEntry) → i < length entries → entry ≡ get_or entries i entry → take (i + 1) entries ≡ take i entries ++ entry ∷ []
 take_at_entry entries i entry inside is = rw add-one (upto entries i inside is)
   where
@@ -140,7 +140,7 @@ take_at_entry entries i entry inside is = rw add-one (upto entries i inside is)
     upto (first ∷ rest) zero inside is = ap (λ (e : StoredEntry). e ∷ []) (sym is)
     upto (first ∷ rest) (suc i) inside is = ap (λ (later : Store). first ∷ later) (upto rest i (omega arith) is)
 
--- one more is taken in
+-- one more entry is taken in
 pub taken_more : (piece store : Store) (i : ℕ) (kept : StoredEntry) (state : State) → i < length piece → kept ≡ get_or piece i kept → HasLoaded state ((store ++ take i piece) ++ kept ∷ []) → HasLoaded state (store ++ take (i + 1) piece)
 taken_more piece store i kept state inside is loaded =
     subst (λ (s : Store). HasLoaded state s) (append_assoc store (take i piece) (kept ∷ []) ∙ ap (λ (front : Store). store ++ front) (sym (take_at_entry piece i kept inside is))) loaded
@@ -149,7 +149,7 @@ taken_more piece store i kept state inside is loaded =
 pub rises_there : (number : ℕ) (piece : Store) (i : ℕ) (kept : StoredEntry) → i < length piece → kept ≡ get_or piece i kept → RisesAbove number (drop i piece) → (number < kept.seq) × RisesAbove kept.seq (drop (i + 1) piece)
 rises_there number piece i kept inside is rises = subst (λ (later : Store). RisesAbove number later) (drop_at_member piece i kept inside is) rises
 
--- the place that is told
+-- the place that is reported
 pub damage_place : {A : Type 0} (fault : LoadFault) (count place : ℕ) → fault ≡ Damaged (count + 1) → err_of A fault ≡ Err (Damaged place) → place ≡ count + 1
 damage_place fault count place told is = cc
 
@@ -184,6 +184,6 @@ followed entry old new may adds = record {
 pub IsNext-here : (state : State) (entry : Entry) → IsSound state → ((history : History) → StandsFor state history → true ≡ may_follow meaning history entry) → IsNext state entry
 IsNext-here state entry sound may = record { history = sound.history; stands = sound.stands; follows = sym (may sound.history sound.stands) }
 
--- an entry and its form have one number
+-- an entry and its form have the same number
 pub same_number : {A : Type 0} (kept : StoredEntry) (entry : Entry) (result : Result A LoadFault) (count : ℕ) → HasForm kept entry → OnOk result (count ≡ entry.seq) → OnOk result (count ≡ kept.seq)
 same_number kept entry result count form counted = on_ok_weaker result (λ is. is ∙ ap (λ (k : StoredEntry). k.seq) form.1) counted

@@ -22,22 +22,23 @@ load_as_call (Err Keeper) = Err keeper_faults.Failed
 load_as_call (Err (Damaged place)) = Ok tt
 load_as_call (Err Memory) = Err keeper_faults.Memory
 
--- whether a load says of the kept list what it is: the entries of a history, or damaged
+-- whether the load found out what the stored list is: the entries of a history, or damaged
 abbrev pub judges : {A : Type 0} → Result A LoadFault → Bool
 judges (Ok value) = true
 judges (Err Keeper) = false
 judges (Err (Damaged place)) = true
 judges (Err Memory) = false
 
--- a keeper keeps a list that was found; its numbers rise from above 0, and it alone survives a stop
+-- the stored list is one that may be found, its numbers rise from above 0, and exactly this list
+-- survives a stop
 pub record KeepsFound (finds : Survivors) (keeper : KeeperState) : Type 0 where
   pub found : finds keeper.kept
   pub order : RisesAbove 0 keeper.kept
   pub alone : (store : Store) → keeper.survives store → store ≡ keeper.kept
   pub survives_stop : ∥ keeper.survives keeper.kept ∥₁
 
--- a state stands for a valid history: the only one whose stored forms are kept, where the keeper
--- tells what it keeps. There was one step for each version in it
+-- a state stands for a valid history, and one step was taken for each version in it; if the store's
+-- contents are known, this is the only history with the stored forms
 pub record IsLoaded (state : State) (keeper : KeeperState) (steps_before steps_after : ℕ)
     : Type 0 where
   pub history : History
@@ -47,15 +48,16 @@ pub record IsLoaded (state : State) (keeper : KeeperState) (steps_before steps_a
       → other ≡ history
   pub steps : steps_after ≡ steps_before + versions history
 
--- what a load over a store with a name does
+-- what a load from the store with this name does
 pub record Loads (name : List ℕ) (result : Result State LoadFault) (before after : KeeperState)
     (steps_before steps_after : ℕ) : Type 0 where
-  -- only want of memory at the start closes the keeper, and only a keeper's fault leaves it spent
+  -- only running out of memory at the start closes the keeper, and only a keeper's fault leaves it
+  -- spent
   pub call : IsAfterCall after.started (not after.started && wants_memory (load_as_call result))
       (load_as_call result)
       before after
   pub started : judges result ≡ true → after.started ≡ true
-  -- whatever is answered, a keeper that was started keeps what it found
+  -- whatever the load answers, what a started keeper stores is what it found
   pub found : after.started ≡ true → after.tells → KeepsFound (before.finds name) after
   pub ok : IfOk result (λ state. IsLoaded state after steps_before steps_after)
   pub damaged : (place : ℕ) → result ≡ Err (Damaged place) → after.tells

@@ -5,7 +5,7 @@ use Rattle.hippo_model.specs.declared.entry.Act.TheVariants.{Authorize, Deauthor
 use Rattle.hippo_model.specs.Terms.{History}
 use Rattle.hippo_model.specs.Validity.{pair_exists}
 
--- whether the pair that a grant or a rule names is there
+-- whether the purpose and the recipient that a grant or a rule names exist
 abbrev pub named_pair_exists : History → Act → Bool
 named_pair_exists history (Authorize user purpose recipient) = pair_exists history purpose recipient
 named_pair_exists history (Deauthorize user purpose recipient) =

@@ -1,4 +1,4 @@
--- What reading the kept entries, piece by piece, makes of a state.
+-- What reading the stored entries, piece by piece, does to a state.
 use Rattle.std.specs.Prelude.{◌≡◌, ℕ, ◌^◌, ◌<◌, Bool, true, false, [], ◌++◌, Result, Ok, Err, OnOk}
 use Rattle.hippo_model.specs.Stores.{IsDamagedAt}
 use Rattle.hippo_keeper.specs.Keeping.{Store, RisesAbove, KeeperState}
@@ -13,18 +13,18 @@ use Rattle.hippo_replay.specs.Standing.{IsSound}
 use Rattle.hippo_replay.specs.TakingIn.{HasLoaded}
 use Rattle.hippo_replay.specs.Loading.{load_as_call}
 
--- a keeper's fault, as that of a load
+-- a keeper's fault as the fault of a load
 abbrev pub load_fault : KeeperFault → LoadFault
 load_fault keeper_faults.Failed = Keeper
 load_fault keeper_faults.Memory = Memory
 
--- what is kept is what was loaded, and the rest
+-- the stored list is what was loaded, followed by the rest
 pub record IsUpTo (state : State) (keeper : KeeperState) (store rest : Store) : Type 0 where
   pub loaded : HasLoaded state store
   pub order : RisesAbove 0 keeper.kept
   pub whole : keeper.kept ≡ store ++ rest
 
--- a piece is read, which is the front of the rest, and taken in
+-- a piece, the first entries of the rest, is read and taken in
 pub record ReadsPiece (result : Result Bool LoadFault) (before after : KeeperState)
     (old new : State)
     (steps_old steps_new : ℕ) : Type 0 where
@@ -40,7 +40,7 @@ pub record ReadsPiece (result : Result Bool LoadFault) (before after : KeeperSta
   pub damaged : (place : ℕ) → result ≡ Err (Damaged place) → after.tells → (store rest : Store)
       → IsUpTo old before store rest → IsDamagedAt meaning before.kept place
 
--- a front of what is kept is read and taken in
+-- the first part of the stored list is read and taken in
 pub record IsReading (before now : KeeperState) (state : State) (steps_old steps_now : ℕ)
     : Type 0 where
   pub read : Store
@@ -49,7 +49,7 @@ pub record IsReading (before now : KeeperState) (state : State) (steps_old steps
   pub loaded : HasLoaded state read
   pub told : now.tells → ((remaining : Store) × (before.kept ≡ read ++ remaining))
 
--- all that is kept is read and taken in, or a front of it
+-- the whole stored list is read and taken in, or its first part
 pub record ReadsAllKept (result : Result (Unit {0}) LoadFault) (before after : KeeperState)
     (state : State)
     (steps_old steps_new : ℕ) : Type 0 where

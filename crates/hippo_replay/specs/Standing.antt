@@ -15,12 +15,12 @@ use Rattle.hippo_tables.specs.Standing.{TablesStandFor, RemembersTables as Remem
 use Rattle.hippo_typing.specs.Meanings.{meaning}
 use Rattle.hippo_replay.specs.declared.state.State.{State}
 
--- the moment of the last entry, or the least moment where there is none
+-- the moment of the last entry, or the earliest moment if there is none
 abbrev pub latest_moment : History → Moment
 latest_moment history = unwrap_or (last_word (λ entry. Some entry.moment) history) first_moment
 
--- the history is valid, and the state holds what it says: its names, rules, rows, the number of its
--- entries, and the moment of the last one
+-- the history is valid, and the state holds its contents: its names, its rules, its rows, the
+-- number of its entries, and the moment of the last one
 pub record StandsFor (state : State) (history : History) : Type 0 where
   pub valid : is_valid meaning history ≡ true
   pub names : state.catalog.names ≡ known_at history
@@ -39,30 +39,31 @@ abbrev pub MayFollow : State → Entry → Type 0
 MayFollow state entry =
     (history : History) → StandsFor state history → may_follow meaning history entry ≡ true
 
--- a moment is not before that of the last entry
+-- a moment is not earlier than that of the last entry
 abbrev pub IsTimely : State → Moment → Type 0
 IsTimely state moment = int_le state.last moment ≡ true
 
--- there is a history for which the state stands, and which this entry may follow
+-- there is a history for which the state stands, and this entry may follow it
 pub record IsNext (state : State) (entry : Entry) : Type 0 where
   pub history : History
   pub stands : StandsFor state history
   pub follows : may_follow meaning history entry ≡ true
 
--- whether a state takes in an act without more memory: a Delete, or a question
+-- whether a state takes in an act without allocating memory: a Delete, or a question
 abbrev pub takes_no_memory : Act → Bool
 takes_no_memory (Delete table key) = true
 takes_no_memory (Asked user purpose recipient text) = true
 takes_no_memory act = false
 
--- catalog, book and tables have taken in an entry
+-- the catalog, the book and the tables have taken in an entry
 pub record PartsAdd (old new : State) (entry : Entry) : Type 0 where
   pub names : new.catalog.names ≡ known_after old.catalog.names entry.act
   pub newest : RemembersNames new.catalog.newest entry.act
   pub book : BookAdds old.book new.book entry.seq entry.act
   pub tables : TablesAdd old.tables new.tables entry
 
--- the state stands for a history with an entry behind, and knows what it was before that entry
+-- the state stands for a history with this entry at its end, and remembers what it was before that
+-- entry
 pub record Remembers (state : State) (history : History) (entry : Entry) : Type 0 where
   pub stands : StandsFor state (history ++ entry ∷ [])
   pub names : RemembersNames state.catalog.newest entry.act

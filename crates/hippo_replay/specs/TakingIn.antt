@@ -1,4 +1,4 @@
--- What taking in stored entries makes of a state.
+-- What taking in stored entries does to a state.
 use Rattle.std.specs.Prelude.{◌≡◌, ◌≢◌, ℕ, ◌+◌, true, false, [], ◌∷◌, ◌++◌, length, map, Result, Err, OnOk}
 use Rattle.hippo_model.specs.declared.entry.Entry.{Entry}
 use Rattle.hippo_model.specs.Terms.{History}
@@ -12,14 +12,14 @@ use Rattle.hippo_replay.specs.declared.faults.LoadFault.TheVariants.{Keeper, Dam
 use Rattle.hippo_replay.specs.declared.state.State.{State}
 use Rattle.hippo_replay.specs.Standing.{StandsFor}
 
--- a state stands for a history whose stored forms are these
+-- a state stands for a history with these stored forms
 pub record HasLoaded (state : State) (store : Store) : Type 0 where
   pub history : History
   pub forms : map stored history ≡ store
   pub stands : StandsFor state history
 
--- stored entries are taken in behind those so far; or, whatever comes behind them, all together are
--- damaged at a place
+-- stored entries are taken in after the ones so far; or the whole list is damaged at a place,
+-- whatever follows
 pub record TakesIn {A : Type 0} (piece : Store) (result : Result A LoadFault) (old new : State)
     : Type 0 where
   pub ok : OnOk result ((store : Store) → HasLoaded old store → HasLoaded new (store ++ piece))
@@ -28,7 +28,7 @@ pub record TakesIn {A : Type 0} (piece : Store) (result : Result A LoadFault) (o
       → IsDamagedAt meaning (store ++ (piece ++ rest)) place
   pub unfailed : result ≢ Err Keeper
 
--- an entry is taken in behind those so far; or it may not follow them
+-- an entry is taken in after the ones so far, or may not follow them
 pub record Follows {A : Type 0} (entry : Entry) (result : Result A LoadFault) (old new : State)
     : Type 0 where
   pub ok : OnOk result ((history : History) → StandsFor old history

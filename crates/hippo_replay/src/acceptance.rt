@@ -24,14 +24,14 @@ use hippo_typing_catalog::Catalog;
 use hippo_values::{Memory, Moment, Name, TABLE_LIMIT, Txt};
 use std::alloc::Global;
 
-// Whether something was found, which falls here.
+// Whether something was found. Drops it.
 fn was_found<T: Drop>(found: Option<T>) -> bool
     ensures { result ≡ is_some found }
 {
     found.is_some()
 }
 
-// Whether there may be one more table, and it may have this name.
+// Whether one more table is allowed, and it may have this name.
 fn may_make(catalog: &Catalog, name: &Name) -> bool
     ensures { result ≡ (nat_lt (length catalog.now.names.tables) table_limit
         && is_none (table_of catalog.now.names name.now)) }
@@ -75,7 +75,7 @@ impl State {
         may_make(&self.catalog, &schema.name) && is_well_formed(schema)
     }
 
-    // Whether a table has a row with the same key as this one.
+    // Whether the table has a row with the same key as this one.
     fn is_live_like(&self, table: &Name, row: &Cells) -> bool
         ensures { (history : History) (schema : TableSchema) → StandsFor self.now history
             → schema_at history table.now ≡ Some schema
@@ -87,7 +87,7 @@ impl State {
         }
     }
 
-    // Whether a table has a row with this key.
+    // Whether the table has a row with this key.
     fn is_live_key(&self, table: &Name, key: &Cells) -> bool
         ensures { (history : History) (schema : TableSchema) → StandsFor self.now history
             → schema_at history table.now ≡ Some schema → result ≡ is_live schema history key.now }
@@ -125,7 +125,7 @@ impl State {
         }
     }
 
-    // Whether a table has these columns.
+    // Whether the table has these columns.
     fn has_columns(&self, table: &Name, columns: &Places) -> bool
         ensures { (history : History) → StandsFor self.now history
             → result ≡ table_passes history (has_columns columns.now) table.now }
@@ -146,7 +146,7 @@ impl State {
         }
     }
 
-    // Whether the purpose and recipient that a grant or a rule names are there.
+    // Whether the purpose and the recipient that a grant or a rule names exist.
     fn has_named_pair(&self, act: &Act) -> bool
         ensures { (history : History) → StandsFor self.now history
             → result ≡ named_pair_exists history act.now }
@@ -176,7 +176,7 @@ impl State {
         }
     }
 
-    // Whether a rule's pair, table and columns are there.
+    // Whether a rule's purpose, recipient, table and columns exist.
     fn may_rule(&self, rule: &Act, table: &Name, columns: &Places) -> bool
         ensures { (history : History) → StandsFor self.now history → result
             ≡ (named_pair_exists history rule.now
@@ -185,7 +185,7 @@ impl State {
         self.has_named_pair(rule) && self.has_columns(table, columns)
     }
 
-    // Whether a rule's item, where it has one, is there and suits the table.
+    // Whether a rule's item, if it has one, exists and suits the table.
     fn item_fits(&self, table: &Name, item: &Option<Name>) -> bool
         ensures { (history : History) → StandsFor self.now history
             → result ≡ item_fits history table.now item.now }
@@ -206,7 +206,7 @@ impl State {
         matches!(word, Authorization::Yes)
     }
 
-    // Whether a text means a query.
+    // Whether the text has a meaning, that is, a query.
     fn has_meaning(&self, alloc: Global, text: &Txt) -> Result<bool, Memory>
         ensures { (history : History) → StandsFor self.now history
             → IfOk result (λ means. means ≡ is_some (meaning history text.now)) }
@@ -277,7 +277,7 @@ impl State {
         number > self.count && number - self.count == 1
     }
 
-    // Whether a moment is no earlier than that of the last entry.
+    // Whether a moment is not earlier than that of the last entry.
     fn keeps_order(&self, moment: &Moment) -> bool
         ensures { (history : History) → StandsFor self.now history
             → result ≡ keeps_order history moment.now }
@@ -285,9 +285,9 @@ impl State {
         self.last.seconds() <= moment.seconds()
     }
 
-    /// Whether an entry that can be kept may come next: its number is the next one, its moment no
-    /// earlier than that of the last entry, and its act acceptable. The only error is want of
-    /// memory.
+    /// Whether a storable entry may come next. It may if its number is the next one, its moment is
+    /// not earlier than that of the last entry, and its act is acceptable. The only error is
+    /// running out of memory.
     pub fn accepts(&self, alloc: Global, entry: &Entry) -> Result<bool, Memory>
         requires keepable { is_keepable entry.now ≡ true }
         ensures { (history : History) → StandsFor self.now history

@@ -1,5 +1,5 @@
-//! The state of a history: loaded from its keeper, or the place where the kept entries are damaged;
-//! and entries that are recorded behind the others.
+//! The state of a history: loading it from its keeper, or finding the place where the stored
+//! entries are damaged; and recording entries after the others.
 #![tactic(auto)]
 
 mod acceptance;

@@ -1,4 +1,4 @@
-//! Loading a kept history from its keeper, piece by piece.
+//! Loading a stored history from its keeper, piece by piece.
 ghost use Rattle.std.specs.Prelude.{◌≡◌, true, false, [], IfOk};
 ghost use Rattle.hippo_keeper.specs.Keeping.{RisesAbove, IsReady};
 ghost use Rattle.hippo_replay.specs.Standing.{StandsFor, IsSound};
@@ -11,7 +11,7 @@ use hippo_keeper::{Keeper, KeeperFault, Steps};
 use std::alloc::Global;
 use std::sync::ledger::Ledger;
 
-// How many entries are read at once.
+// How many entries are read at a time.
 const PIECE: u64 = 1000;
 
 fn fault_of(fault: KeeperFault) -> LoadFault
@@ -23,7 +23,7 @@ fn fault_of(fault: KeeperFault) -> LoadFault
     }
 }
 
-// Reads the next entries and takes them in; whether there were any.
+// Reads the next entries and takes them in. Returns whether there were any.
 fn read_on<P: Keeper, L: Ledger>(
     keeper: &mut P,
     alloc: Global,
@@ -69,18 +69,22 @@ fn read_all<P: Keeper, L: Ledger>(
     }
 }
 
-/// Starts a keeper, which must be neither started nor spent nor closed, and loads the history that
-/// it keeps under this name.
+/// Starts a keeper and loads the history that it stores under this name. The keeper must be neither
+/// started nor spent nor closed.
 ///
-/// Ok gives the state of a valid history, which is the kept one where the keeper tells what it
-/// keeps, and the keeper is then started. `Damaged` gives the place, counted from 1, of the first
-/// entry up to which the kept entries are those of no valid history. `Keeper` comes only where the
-/// keeper's count of faults rose; it is then spent. Once the keeper has started, the kept entries
-/// stay as they were found, whatever the answer. A load that answers Ok takes as many steps as
-/// there are versions in the history.
+/// - `Ok` gives the state of a valid history, and the keeper is then started. If the store's
+///   contents are known, the history is the stored one. The load takes as many steps as there are
+///   versions in the history.
+/// - `Damaged` gives the place, counted from 1, of the first entry for which the stored entries up
+///   to and including it are those of no valid history.
+/// - `Keeper` is returned only if the keeper's count of faults rose. The keeper is then spent.
+/// - `Memory` means that the load ran out of memory.
+///
+/// Once the keeper has started, the stored entries stay as they were found, whatever the load
+/// returns.
 ///
 /// ```text
-/// nothing is kept                                          Ok: the state of the empty history
+/// nothing is stored                                        Ok: the state of the empty history
 /// CREATE PURPOSE treatment                                 Ok: a state with one entry
 /// CREATE PURPOSE treatment, CREATE PURPOSE treatment       Damaged(2)
 /// ```

@@ -1,4 +1,4 @@
-//! Recording: an entry is taken in to the state, and kept behind the others.
+//! Recording an entry: the state takes it in, and the keeper stores it after the others.
 ghost use Rattle.std.specs.Prelude.{◌≡◌, true, false, [], ◌∷◌, ◌++◌, OnOk};
 ghost use Rattle.hippo_model.specs.Terms.{History};
 ghost use Rattle.hippo_model.specs.Validity.{may_follow};
@@ -15,7 +15,7 @@ use hippo_model::{Act, Entry};
 use hippo_values::Memory;
 use std::alloc::Global;
 
-// Whether the state takes in an act without more memory.
+// Whether the state takes in an act without allocating memory.
 fn takes_no_memory(act: &Act) -> bool
     ensures { result ≡ takes_no_memory act.now }
 {
@@ -26,7 +26,7 @@ fn takes_no_memory(act: &Act) -> bool
     }
 }
 
-// Keeps an entry in its stored form.
+// Stores an entry in its stored form.
 fn append<P: Keeper>(alloc: Global, keeper: &mut P, entry: &Entry) -> Result<(), KeeperFault>
     requires may { MayAppend entry.now (P.state keeper.old) }
     ensures keeps { (state : StateOf) → MayFollow state entry.now
@@ -39,9 +39,9 @@ fn append<P: Keeper>(alloc: Global, keeper: &mut P, entry: &Entry) -> Result<(),
 }
 
 impl State {
-    /// Keeps an entry behind the others, which may come next: nothing of it is tested. `Memory` is
-    /// want of memory: the keeper then keeps what it kept. `Failed` comes only where the keeper
-    /// failed: the entry is then kept or not.
+    /// Stores an entry after the others. The entry must be one that may come next; this is not
+    /// checked. On `Memory`, which means out of memory, what is stored is unchanged. `Failed` is
+    /// returned only when the keeper failed; the entry may or may not be stored then.
     pub fn keep<P: Keeper>(
         &self,
         alloc: Global,
@@ -55,7 +55,7 @@ impl State {
         append(alloc, keeper, entry)
     }
 
-    // Takes in the next entry, which takes no memory.
+    // Takes in the next entry, which allocates no memory.
     fn add_at_once(&mut self, alloc: Global, entry: &Entry)
         requires next { IsNext self.old entry.now }
         requires room { takes_no_memory entry.now.act ≡ true }
@@ -66,7 +66,7 @@ impl State {
         self.add(alloc, entry).unwrap();
     }
 
-    // Keeps the entry that was taken in last, which is taken back where memory is short.
+    // Stores the entry that was taken in last. Takes it back when out of memory.
     fn keep_last<P: Keeper>(
         &mut self,
         alloc: Global,
@@ -91,9 +91,10 @@ impl State {
         }
     }
 
-    /// Takes in the entry that comes next and keeps it: nothing of it is tested. `Memory` is want
-    /// of memory: state and keeper then say what they said. After `Failed`, which comes only where
-    /// the keeper failed, the entry is kept or not, and the state is of no use.
+    /// Takes in an entry and stores it. The entry must be one that comes next; this is not checked.
+    /// On `Memory`, which means out of memory, the state and the store are unchanged. `Failed` is
+    /// returned only when the keeper failed; the entry may or may not be stored then, and the state
+    /// is no longer of use.
     pub fn record<P: Keeper>(
         &mut self,
         alloc: Global,

@@ -1,4 +1,4 @@
-//! Whether the schema of a table is well formed, and a rule suits it.
+//! Whether a table's schema is well formed, and whether a rule suits it.
 ghost use Rattle.std.specs.Prelude.{◌≡◌, true, bytes_eq, nat_eq, nat_lt};
 ghost use Rattle.std.specs.Option.{option_map_or};
 ghost use Rattle.std.specs.List.{list_any, list_all};
@@ -40,7 +40,7 @@ fn has_place(places: &[usize], place: usize) -> bool
     places.iter().any(|other| place == *other)
 }
 
-// Whether no place stands twice.
+// Whether no place occurs twice.
 fn places_differ(places: &[usize]) -> bool
     ensures { result ≡ all_differ nat_eq places.now }
 {
@@ -103,7 +103,7 @@ fn all_below(places: &[usize], count: usize) -> bool
     places.iter().all(|place| *place < count)
 }
 
-/// Whether these are at least one place of a table's columns, and none stands twice.
+/// Whether these are places of the table's columns, at least one, and none occurs twice.
 pub fn has_columns(places: &Places, schema: &Schema) -> bool
     ensures { result ≡ has_columns places.now schema.now }
 {
@@ -112,7 +112,7 @@ pub fn has_columns(places: &Places, schema: &Schema) -> bool
     places.len() > 0 && places_differ(places) && all_below(places, count)
 }
 
-/// Whether a rule may last so long.
+/// Whether a rule may last this many days.
 pub fn days_fit(days: Option<u32>) -> bool
     ensures { result ≡ days_fit days }
 {

@@ -16,7 +16,8 @@ use hippo_typing_catalog::Catalog;
 use hippo_values::{Memory, Moment};
 use std::alloc::Global;
 
-/// What a valid history says: its names, rules and rows, and how far it goes.
+/// The contents of a valid history: its names, rules and rows, the number of its entries, and its
+/// latest moments.
 #[derive(Drop)]
 pub struct State {
     pub catalog: Catalog,
@@ -24,9 +25,9 @@ pub struct State {
     pub tables: Tables,
     /// The number of entries.
     pub count: u64,
-    /// The moment of the last entry, the least moment where there is none.
+    /// The moment of the last entry, or the earliest moment if there is none.
     pub last: Moment,
-    /// The moment of the last entry but one, the least moment where there is none.
+    /// The moment of the last entry but one, or the earliest moment if there is none.
     pub earlier: Moment,
 }
 
@@ -36,7 +37,7 @@ fn least_moment() -> Moment
     Moment::new(Moment::FIRST).unwrap()
 }
 
-// Book and tables take in an entry, both of them or none.
+// The book and the tables both take in an entry, or neither does.
 fn add_to_both(
     book: &mut PolicyBook,
     tables: &mut Tables,
@@ -61,7 +62,7 @@ fn add_to_both(
 }
 
 impl State {
-    /// The state of the empty history; takes no memory.
+    /// The state of the empty history. Allocates nothing.
     pub fn new(alloc: Global) -> State
         ensures { StandsFor result [] }
     {
@@ -79,8 +80,9 @@ impl State {
         }
     }
 
-    /// Has the tables of a query keep, from now on, orders of their rows by the columns that it
-    /// compares with `=`, so that it finds rows by halves; the state stays what it is.
+    /// From now on, the tables of a query keep their rows sorted by the columns that the query
+    /// compares with `=`. The query can then find rows by binary search. The history that the state
+    /// stands for is unchanged.
     pub fn order_for(&mut self, alloc: Global, query: &Query)
         ensures stands { (history : History) → StandsFor self.old history
             → StandsFor self.new history }
@@ -92,7 +94,7 @@ impl State {
         self.tables.order_for(alloc, query);
     }
 
-    // Catalog, book and tables take in an entry, all of them or none.
+    // The catalog, the book and the tables all take in an entry, or none does.
     fn add_to_parts(&mut self, alloc: Global, entry: &Entry) -> Result<(), Memory>
         requires next { IsNext self.old entry.now }
         ensures ok { OnOk result (PartsAdd self.old self.new entry.now) }
@@ -111,9 +113,9 @@ impl State {
         }
     }
 
-    /// Takes in the entry that comes next: the state then stands for the history with the entry
-    /// behind. It stands for what it stood for where memory is short, which it never is for a
-    /// Delete or a question.
+    /// Takes in the entry that comes next. The state then stands for the history with this entry at
+    /// its end. When out of memory, the state stands for the same history as before; a Delete or a
+    /// question never runs out of memory.
     pub fn add(&mut self, alloc: Global, entry: &Entry) -> Result<(), Memory>
         requires next { IsNext self.old entry.now }
         ensures stands { OnOk result ((history : History) → StandsFor self.old history
@@ -134,8 +136,8 @@ impl State {
         Ok(())
     }
 
-    /// Takes back the entry that was added last, which must be no Delete: the state then stands for
-    /// the history before it. Takes no memory.
+    /// Takes back the entry that was added last, which must not be a Delete. The state then stands
+    /// for the history before that entry. Allocates nothing.
     pub fn take_back(&mut self)
         ensures { (history : History) (entry : HistoryEntry) → Remembers self.old history entry
             → StandsFor self.new history }
@@ -147,8 +149,8 @@ impl State {
         self.last = self.earlier;
     }
 
-    /// Lets go of all that it holds. Who is given a state ends with this: that its parts are let go
-    /// is then proved here alone.
+    /// Drops the state and all its parts. Every function that owns a state ends with this call, so
+    /// that the proof about dropping its parts is made only here.
     pub fn close(self) {
         drop(self);
     }

@@ -1,4 +1,4 @@
-//! Stored entries, taken in one after the other.
+//! Taking in stored entries, one after another.
 ghost use Rattle.std.specs.Prelude.{◌≡◌, ◌<◌, ◌+◌, true, [], ◌∷◌, OnOk};
 ghost use Rattle.hippo_model.specs.Keepable.{is_keepable};
 ghost use Rattle.hippo_keeper.specs.Keeping.{RisesAbove};
@@ -14,8 +14,8 @@ use hippo_values::Memory;
 use std::alloc::Global;
 
 impl State {
-    // The place of the damage, where the next entry, whose number is above that of the last one,
-    // may not follow.
+    // The place of the damage when the next entry may not follow; its number is above that of the
+    // last entry.
     fn damage(&self, _number: u64) -> LoadFault
         requires room { self.now.count < _number }
         ensures { result ≡ Damaged (self.now.count + 1) }
@@ -23,7 +23,7 @@ impl State {
         LoadFault::Damaged(self.count + 1)
     }
 
-    // Takes in an entry that can be kept, if it may come next.
+    // Takes in a storable entry, if it may come next.
     fn follow(&mut self, alloc: Global, entry: &Entry) -> Result<(), LoadFault>
         requires sound { IsSound self.old }
         requires keepable { is_keepable entry.now ≡ true }
@@ -41,7 +41,7 @@ impl State {
         }
     }
 
-    // Takes in the entry that has a stored form, if there is one and it may come next.
+    // Takes in the entry that has this stored form, if there is one and it may come next.
     fn take_in(&mut self, alloc: Global, kept: &StoredEntry) -> Result<(), LoadFault>
         requires sound { IsSound self.old }
         requires room { self.old.count < kept.now.seq }
@@ -60,7 +60,7 @@ impl State {
         }
     }
 
-    /// Takes in stored entries, one after the other, up to the first that is damaged.
+    /// Takes in stored entries, one after another, up to the first damaged one.
     pub(crate) fn take_in_all(
         &mut self,
         alloc: Global,

@@ -1,4 +1,4 @@
--- What follows from the call that words ask for.
+-- What follows from the call that the words ask for.
 use Rattle.std.proofs.Common.{◌≡◌, ◌≢◌, ℕ, List, [], Option, Some, inl, inr, arith, ap, sym, subst, ◌∙◌}
 use Rattle.std.specs.Prelude.{option_map}
 use Rattle.std.specs.Option.{option_map_or}
@@ -34,7 +34,7 @@ module _ (words : List Txt) (call : Call) (asked : call_of words ≡ Some call) 
   store_is : store ≡ store_of words
   store_is = named ∙ sym (ap (λ (c : Option Call). option_map_or (λ (d : Call). d.store) c []) asked)
 
-  -- what a check came to
+  -- the result of a check
   pub check_as_asked : (ending : Ending) (status : ℕ) → status ≡ status_of ending → (unwritten : Type 0) (before after : Outside) → CheckEnds ending unwritten store before after
       → EndsAs (λ one. CheckEnds one unwritten (store_of words) before after) status
   check_as_asked ending status is unwritten before after ends =
@@ -44,7 +44,7 @@ module _ (words : List Txt) (call : Call) (asked : call_of words ≡ Some call) 
   pub idle_as_asked : (before after : KeeperState) → IsIdle store before after → IsIdle (store_of words) before after
   idle_as_asked before after idle = subst (λ (name : Txt). IsIdle name before after) store_is idle
 
--- what a drill says, where the job is one
+-- what a drill reports, if the job is a drill
 summary_in : Option Job → Txt
 summary_in (Some (Drill size number)) = summary size number
 summary_in job = []
@@ -56,7 +56,7 @@ unfolding summary_in
 summary_as_asked words call asked size number size' number' is job =
     ap summary_in (sym (ap (λ (one : Option Call). option_map (λ (c : Call). c.job) one) asked ∙ ap Some is) ∙ job)
 
--- of a line that was to be said, all is written at status 0, and a front at 5
+-- a line that was to be written is written whole at status 0, and a prefix of it at status 5
 module _ (line : Txt) (ending : Ending) (before after : Option Txt) (faults faults' : ℕ)
     (says : ending ≢ NoMemory → Says Served line WriteFault ending before after faults faults') where
   pub said_whole : status_of ending ≡ 0 → Appends before after line

@@ -13,11 +13,11 @@ use Rattle.hippo_program_args.specs.declared.endings.Ending.TheVariants.{Served,
 abbrev pub job_of : List Txt → Option Job
 job_of words = option_map (λ call. call.job) (call_of words)
 
--- the name of its store; the empty name is that of a store in memory
+-- the name of the call's store; the empty name is a store in memory
 abbrev pub store_of : List Txt → Txt
 store_of words = option_map_or (λ call. call.store) (call_of words) []
 
--- what a job that serves lines begins with: a run or a load
+-- the setting with which a job that serves lines, a run or a load, begins
 abbrev pub setting_of : Job → Option Setting
 setting_of (Run setting) = Some setting
 setting_of (Load setting table moment) = Some setting
@@ -28,7 +28,7 @@ pub record AskToServe (words : List Txt) (job : Job) (setting : Setting) : Type 
   pub asked : job_of words ≡ Some job
   pub serves : setting_of job ≡ Some setting
 
--- of the ending that has the call's status this holds
+-- this holds of the ending that has the call's status
 abbrev pub EndsAs : (Ending → Type 0) → ℕ → Type 0
 EndsAs ends status =
     (status ≡ 0 → ends Served) × (status ≡ 2 → ends Refused) × (status ≡ 3 → ends KeeperFault)

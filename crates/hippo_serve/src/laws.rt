@@ -1,4 +1,4 @@
-//! Laws on runs, as contracts of calls that do nothing.
+//! Laws about runs, written as the contracts of functions that do nothing.
 ghost use Rattle.std.specs.Prelude.{ℕ, List};
 ghost use Rattle.hippo_model.specs.Terms.{History};
 ghost use Rattle.hippo_keeper.specs.MemoryKeeping.{memory_keeper_state};
@@ -6,8 +6,8 @@ ghost use Rattle.hippo_serve_jobs.specs.Keeping.{KeepsHistory, KeepsEither, Find
 
 use hippo_keeper::{Keeper, MemoryKeeper};
 
-/// The next run begins with the history that the last one left, where a start finds only what
-/// survives a stop; with one of two, where the keeper failed.
+/// The next run begins with the history that the last run left, if a start finds only what survives
+/// a stop. If the keeper failed, it begins with one of two histories.
 pub fn next_run<P: Keeper, Q: Keeper>(_last: &P, _next: &Q, _store: &str)
     ensures goes_on { FindsWhatSurvives _store.now (P.state _last.now) (Q.state _next.now)
         → (history : History) →
@@ -19,7 +19,7 @@ pub fn next_run<P: Keeper, Q: Keeper>(_last: &P, _next: &Q, _store: &str)
         FindsEither _store.now history longer (Q.state _next.now) }
 {}
 
-/// A keeper in memory that is started again finds just that, whatever the store's name.
+/// A keeper in memory that is started again finds exactly that history, whatever the store's name.
 pub fn next_run_in_memory(keeper: MemoryKeeper) -> MemoryKeeper
     ensures goes_on { (store : List ℕ) (history : History) →
         KeepsHistory history (memory_keeper_state keeper)

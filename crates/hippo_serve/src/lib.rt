@@ -1,4 +1,5 @@
-//! The database as a service of lines: the top call, which does what its words ask for.
+//! The database as a service that answers lines: the top function, which does what the command's
+//! words ask for.
 #![tactic(auto)]
 
 mod laws;

@@ -1,4 +1,4 @@
-//! The top call: what the words ask for is done over a keeper, and the call has its exit status.
+//! The top function: it does what the words ask for, over a keeper, and returns the exit status.
 ghost use Rattle.std.specs.Prelude.{◌≡◌, ◌≢◌, ◌⊎◌, ℕ, List, Some, None, true, false, Any};
 ghost use Rattle.hippo_io.specs.Faults.{HasRisen};
 ghost use Rattle.hippo_io.specs.Told.{Appends, AppendsFront};
@@ -25,31 +25,31 @@ use hippo_values::Txt;
 use std::alloc::Global;
 use std::sync::ledger::Ledger;
 
-/// Runs the program: `words` are those behind its name, `source` is its input, `sink` its output,
-/// and `keeper`, which must be neither started nor spent nor closed, keeps its history in the store
-/// that the words name, or in memory. Answers the exit status.
+/// Runs the program and returns its exit status. `words` are the words after the program's name,
+/// `source` is its input, and `sink` its output. `keeper` stores the history, in the store that the
+/// words name or in memory; it must be neither started nor spent nor closed.
 ///
-/// - 0: for `run` the input was read to its end, and every line has its reply; for `load` so has
-///   the line that sets the clock, and then for each line of the input the one that loads its text
-///   as a record; for `check` the line `entries N` is written, with N the number of kept entries;
-///   for `drill` five lines say what the replies to its script come to.
-/// - 2: the words are not those of a call (see [`call_of`]); the usage line is written, and nothing
-///   is read. Such words end with 2, or with 5 or 7 where that line could not be written.
-/// - 3: the keeper failed; the lines before have their replies, and the next one's entry is kept or
-///   not.
-/// - 4: the source failed; just the lines that were read whole have their replies, and in a load
-///   that which sets the clock.
-/// - 5: the sink failed; what was written is a front of what was to be written.
-/// - 6: the kept entries are those of no valid history; the line `damaged PLACE` is written, with
-///   the place, counted from 1, of the first entry up to which they are not. Nothing is read. Over
-///   a keeper that does not tell what it keeps a line may find such an entry too, and `damaged
-///   NUMBER` is written behind the replies of the lines before.
-/// - 7: memory was short before the first byte was read, or in a drill; nothing was read or
-///   written.
-/// - 8: more than 2^40 bytes were read; just the lines that end among the first 2^40 have their
-///   replies, and in a load that which sets the clock.
+/// - 0: the job is done. For `run`, the input was read to its end, and every line has its reply.
+///   For `load`, the line that sets the clock has its reply, and so has, for each line of the
+///   input, the line that loads its text as a record. For `check`, the line `entries N` is written;
+///   N is the number of stored entries. For `drill`, five lines report the results of the script.
+/// - 2: the words are not those of a call (see [`call_of`]). The usage line is written, and nothing
+///   is read. If the usage line cannot be written, the status is 5 or 7 instead.
+/// - 3: the keeper failed. The lines before have their replies; the next line's entry may or may
+///   not be stored.
+/// - 4: the source failed. Exactly the lines that were read whole have their replies, and in a load
+///   the line that sets the clock.
+/// - 5: the sink failed. What was written is a prefix of what was to be written.
+/// - 6: the stored entries are those of no valid history. The line `damaged PLACE` is written.
+///   PLACE, counted from 1, is that of the first entry for which the entries up to and including it
+///   are those of no valid history. Nothing is read. In a store whose contents are not known, a
+///   line may also come upon such an entry; `damaged NUMBER` is then written after the replies to
+///   the lines before.
+/// - 7: memory ran out before the first byte was read, or in a drill. Nothing was read or written.
+/// - 8: more than 2^40 bytes were read. Exactly the lines that end within the first 2^40 bytes have
+///   their replies, and in a load the line that sets the clock.
 ///
-/// Over a store in which nothing is kept:
+/// Over an empty store:
 ///
 /// ```text
 /// words    run --store clinic.db
@@ -71,7 +71,7 @@ pub fn hippo_top<S: Source, K: Sink, P: Keeper, L: Ledger>(
 ) -> u8
     requires ready { IsReady false (P.state keeper.old) }
 
-    // Words that ask for nothing are refused, and nothing is read or kept.
+    // Words that ask for nothing are refused, and nothing is read or stored.
     ensures refused { call_of words.now ≡ None → ((result ≡ 2) ⊎ (result ≡ 5) ⊎ (result ≡ 7))
         × (source.new ≡ source.old) × (keeper.new ≡ keeper.old) × (steps.new ≡ steps.old) }
     ensures accepted { call_of words.now ≢ None → result ≢ 2 }
@@ -79,21 +79,22 @@ pub fn hippo_top<S: Source, K: Sink, P: Keeper, L: Ledger>(
     ensures usage_cut { call_of words.now ≡ None → result ≡ 5 →
         AppendsFront (K.written sink.old) (K.written sink.new) usage }
 
-    // What a run or a load comes to by its status, where the keeper tells, from what a start may
-    // find; of an input and an output that are told, which lines were read, and what is written.
+    // For a run or a load, when the store's contents are known: what each status means, starting
+    // from what a start may find. When the input and the output are known too, this includes which
+    // lines were read and what is written.
     ensures served { (job : Job) (setting : Setting) → AskToServe words.now job setting →
         (P.state keeper.new).tells → EndsAs (λ ending. RunEnds ending
         (source.new ≡ source.old) (sink.new ≡ sink.old) setting job (store_of words.now)
         (outside (S.left source.old) (K.written sink.old) (P.state keeper.old) steps.old)
         (outside (S.left source.new) (K.written sink.new) (P.state keeper.new) steps.new)) result }
 
-    // Of an input that is told, a run or a load takes all where it ends with 0, and more than are
-    // read just where it ends with 8, whatever the keeper.
+    // When the input is known: a run or a load that ends with 0 has taken all of it, and it ends
+    // with 8 exactly when it has taken more bytes than the limit. This holds for any keeper.
     ensures taken { (job : Job) (setting : Setting) → AskToServe words.now job setting
         → (input : List ℕ) →
         S.left source.old ≡ Some input → HasTakenBytes result input (S.left source.new) }
 
-    // A check reads nothing and keeps what it finds.
+    // A check reads nothing, and stores what it finds unchanged.
     ensures counted { job_of words.now ≡ Some Check → (P.state keeper.new).tells →
         EndsAs (λ ending. CheckEnds ending (sink.new ≡ sink.old) (store_of words.now)
         (outside (S.left source.old) (K.written sink.old) (P.state keeper.old) steps.old)
@@ -103,7 +104,8 @@ pub fn hippo_top<S: Source, K: Sink, P: Keeper, L: Ledger>(
     ensures same { job_of words.now ≡ Some Check → (P.state keeper.new).tells
         → IsIdle (store_of words.now) (P.state keeper.old) (P.state keeper.new) }
 
-    // A drill writes what the rules make of its script, and neither reads nor keeps anything.
+    // A drill writes the results of its script under the rules. It reads nothing and stores
+    // nothing.
     ensures drilled { (size number : ℕ) → job_of words.now ≡ Some (Drill size number) → result ≡ 0 →
         Appends (K.written sink.old) (K.written sink.new) (summary size number) }
     ensures drill_cut { (size number : ℕ) → job_of words.now ≡ Some (Drill size number)
@@ -113,7 +115,8 @@ pub fn hippo_top<S: Source, K: Sink, P: Keeper, L: Ledger>(
         ((result ≡ 0) ⊎ (result ≡ 5) ⊎ (result ≡ 7))
         × (source.new ≡ source.old) × (keeper.new ≡ keeper.old) × (steps.new ≡ steps.old) }
 
-    // Any finds damage, where the keeper tells, or no memory, before it reads.
+    // Any job finds damage, if the store's contents are known, or runs out of memory, before it
+    // reads.
     ensures damaged { result ≡ 6 → (P.state keeper.new).tells →
         (source.new ≡ source.old)
         × SaysDamaged (store_of words.now) (P.state keeper.old) (P.state keeper.new)
@@ -122,7 +125,7 @@ pub fn hippo_top<S: Source, K: Sink, P: Keeper, L: Ledger>(
         × ((P.state keeper.new).tells
         → IsIdle (store_of words.now) (P.state keeper.old) (P.state keeper.new)) }
 
-    // A fault comes where its object's count rose, and only there.
+    // A status for a fault is returned only when the count of the object that failed rose.
     ensures keeper_fault { result ≡ 3 → HasRisen (P.state keeper.old).faults
         (P.state keeper.new).faults
         × ((P.state keeper.new).spent ≡ true) }
@@ -134,7 +137,7 @@ pub fn hippo_top<S: Source, K: Sink, P: Keeper, L: Ledger>(
     ensures unfailed_read { result ≢ 4 → S.faults source.new ≡ S.faults source.old }
     ensures unfailed_write { result ≢ 5 → K.faults sink.new ≡ K.faults sink.old }
 
-    // There is no other status.
+    // These are all the statuses.
     ensures status { Any (λ status. result ≡ status) statuses }
 {
     let Ok(asked) = call_of(alloc, words) else {

@@ -11,7 +11,7 @@ use Rattle.hippo_serve_args.specs.declared.calls.Setting.{Setting}
 use Rattle.hippo_serve_args.specs.declared.calls.Job.{Job}
 use Rattle.hippo_serve_args.specs.declared.calls.Job.TheVariants.{Run, Load, Check, Drill}
 
--- the command, as clap is told of it
+-- the command, as clap is given it
 abbrev pub command_line : App
 command_line = command_with (codes "hippo")
     (word (codes "job") ∷ text_option (codes "store") ∷ entry_option (codes "history")
@@ -19,12 +19,12 @@ command_line = command_with (codes "hippo")
     ∷ text_option (codes "format")
     ∷ text_option (codes "table") ∷ text_option (codes "moment") ∷ [])
 
--- what a run begins with, in a format
+-- the setting with which a run begins, with a format
 abbrev pub setting_with : List Row → Format → Setting
 setting_with rows format =
     record { limit = number_or 4000000 (first_of (codes "history") rows); format = format }
 
--- a load wants a table's name and a moment
+-- a load needs a table's name and a moment
 abbrev pub load_with : List Row → Format → Option Job
 load_with rows format =
     option_and_then (λ table. option_and_then
@@ -32,7 +32,7 @@ load_with rows format =
     (option_and_then moment_in (first_of (codes "moment") rows)))
     (option_and_then name_of (first_of (codes "table") rows))
 
--- the job with a name; of what is written it has what it uses
+-- the job with this name, with the given values that it uses
 abbrev pub job_named : List Row → Format → Txt → Option Job
 job_named rows format name =
     if bytes_eq name (codes "run") then Some (Run (setting_with rows format))
@@ -49,7 +49,7 @@ job_in rows =
     (first_of (codes "job") rows))
     (format_in rows)
 
--- what is asked for by words that the command takes; the store without a name is one in memory
+-- what is asked for by words that the command takes; the store with the empty name is one in memory
 abbrev pub call_in : List Row → Option Call
 call_in rows =
     option_and_then (λ job. Some (record

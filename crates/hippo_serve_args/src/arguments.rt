@@ -1,4 +1,4 @@
-//! The command's arguments, and what is found behind them.
+//! The command's arguments, and the values given for them.
 ghost use Rattle.std.specs.Prelude.{◌≡◌, IfOk};
 ghost use Rattle.clap.specs.Words.{rows_of, found_of, first_of};
 ghost use Rattle.hippo_program_args.specs.Arguments.{number_or};
@@ -7,7 +7,7 @@ use clap::ArgMatches;
 use hippo_program_args::{Argument, number_or};
 use hippo_values::Memory;
 
-/// The arguments that the command has.
+/// The arguments that the command takes.
 pub(crate) const ARGUMENTS: [Argument<'static>; 8] = [
     Argument::Word("job"),
     Argument::Text("store"),
@@ -19,8 +19,8 @@ pub(crate) const ARGUMENTS: [Argument<'static>; 8] = [
     Argument::Text("moment"),
 ];
 
-/// The number that is written behind a name, or another one where none is. One of more than 32 bits
-/// has been refused before.
+/// The number given after this name, or `otherwise` if there is none. A number of more than 32 bits
+/// has already been refused.
 pub(crate) fn short_or(matches: &ArgMatches<'_>, name: &str, otherwise: u32) -> Result<u32, Memory>
     ensures { IfOk result (λ number.
         number ≡ number_or otherwise (first_of name.now (rows_of (found_of matches.now)))) }

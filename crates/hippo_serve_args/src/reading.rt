@@ -16,7 +16,7 @@ use hippo_values::{Memory, Moment, Name, Txt};
 use hippo_values_text::read_moment;
 use std::alloc::Global;
 
-// What the command finds in words: nothing exactly where it does not take them.
+// What the command finds in the words. `None` exactly when the command does not take them.
 fn found_in<'w>(alloc: Global, words: &'w [&'w str]) -> Result<Option<ArgMatches<'w>>, Memory>
     ensures { IfOk result (FindsMatches command_line (map (λ word. word.now) words.now)) }
 {
@@ -142,11 +142,13 @@ fn call_in(alloc: Global, words: &[&str]) -> Result<Option<Call>, Memory>
     }
 }
 
-/// What the words of a call ask for: the job, in front of, between or behind the options, `--NAME
-/// VALUE` or `--NAME=VALUE`. Nothing where they are not those of a job: where a word is unknown or
-/// an option stands twice, a number is out of its bounds, a format is none of the three, or a load
-/// lacks its table or its moment. An option that the job does not use has no effect. Or want of
-/// memory.
+/// Returns what the words of a call ask for. The job may come before, between or after the options,
+/// which are written `--NAME VALUE` or `--NAME=VALUE`. An option that the job does not use has no
+/// effect.
+///
+/// Returns `None` if the words are not those of a job: a word is unknown, an option occurs twice, a
+/// number is out of its bounds, a format is not one of the three, or a load lacks its table or its
+/// moment. The only error is running out of memory.
 ///
 /// ```text
 /// run --store clinic.db --format json

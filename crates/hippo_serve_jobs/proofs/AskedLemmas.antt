@@ -1,4 +1,4 @@
--- The lines that a job asks for, one line more; what it counts of an input's lines.
+-- The lines that a job asks for, with one more line; what it counts of an input's lines.
 use Rattle.std.proofs.Common.{◌≡◌, ◌≤◌, ℕ, ◌-◌, Bool, true, false, cond, List, [], ◌∷◌, ◌++◌, length, take, drop, map, Option, refl, ap, sym, subst, ◌∙◌, arith, append_assoc}
 use Rattle.std.proofs.lemmas.Bool.{le-ltb, ltb-false}
 use Rattle.std.proofs.lemmas.List.{map-append, length-take}
@@ -16,7 +16,7 @@ use Rattle.hippo_serve_jobs.specs.Loads.{at_line, record_line, asked_line, asked
 use Rattle.hippo_serve_jobs.specs.Outside.{Told}
 use Rattle.hippo_serve_jobs.specs.Runs.{ForInput}
 
--- of one line more a job asks for one line more
+-- for one more line, a job asks for one more line
 pub asked-last : (job : Job) (read : List LineText) (line : LineText) → asked_lines job (read ++ line ∷ []) ≡ asked_lines job read ++ asked_line job line ∷ []
 asked-last (Load setting table moment) read line = ap (λ (rest : List LineText). text_line (at_line moment) ∷ rest) (map-append (record_line table) read (line ∷ []))
 asked-last (Run setting) read line = refl
@@ -70,7 +70,7 @@ counted-line (Run setting) line limited = refl
 counted-line Check line limited = refl
 counted-line (Drill size number) line limited = refl
 
--- a line that was handed out is counted as it is
+-- a line that was read is counted as it is
 pub handed_counted : (job : Job) (before : Told) (handed : List LineText) (line : LineText) (reader : Position) (left : Option Txt)
     → ForInput before (λ input. HasHandedOut input (handed ++ line ∷ []) reader left)
     → ForInput before (λ input. HasHandedOut input (handed ++ counted_line job line ∷ []) reader left)

@@ -1,4 +1,4 @@
--- A drill, one line more.
+-- A drill with one more line.
 use Rattle.std.proofs.Common.{◌≡◌, ◌≢◌, ℕ, List, [], ◌∷◌, ◌++◌, map, true, inl, inr, Result, Ok, Err, OnOk, refl, ap, sym, subst, ◌∙◌, append_assoc}
 use Rattle.hippo_values.specs.declared.moments.Moment.{Moment}
 use Rattle.hippo_values.specs.Texts.{Txt}
@@ -30,7 +30,7 @@ use Rattle.hippo_serve_jobs.specs.declared.drilling.Drilling.{Drilling}
 use Rattle.hippo_serve_jobs.specs.Drilling.{drill_limit, effects_of, drill_effects, replies_of, HasDone, HasDrilled}
 use Rattle.hippo_engine_rules.proofs.RunLemmas.{history_after-append}
 
--- what stands in the place of what is done, where memory is short, has the reply that says so
+-- when memory runs out, the effect's reply says so
 short_reply : (history : History) (world : World) (reply : Txt) (judgement : Checked Deed) (effect : Effect)
     → IsShort history world reply judgement effect → effect.reply ≡ reply
 short_reply history world reply (Ok deeds.do_nothing) effect short = ap (λ (e : Effect). e.reply) short
@@ -52,7 +52,7 @@ short_reply history world reply (Ok (deeds.begin_audit number audit)) effect sho
 short_reply history world reply (Ok (deeds.watch number audit)) effect short = ap (λ (e : Effect). e.reply) short
 short_reply history world reply (Err refusal) effect short = ap (λ (e : Effect). e.reply) short
 
--- where the reply does not say that memory was short, the effect is what the rules make
+-- if the reply does not say that memory ran out, the effect is the one under the rules
 ample : (history : History) (world : World) (command : Command) (effect : Effect)
     → IsEffect history world command effect → ((who : Speaker) → effect.reply ≢ refusal_line who Memory)
     → effect ≡ effect_of history world command
@@ -85,7 +85,7 @@ map-last : {A B : Type 0} (f : A → B) (front : List A) (last : A) → map f (f
 map-last f [] last = refl
 map-last f (first ∷ front) last = ap (λ rest. f first ∷ rest) (map-last f front last)
 
--- no line had its effect yet
+-- no line has had its effect yet
 pub drilled_none : (size number : ℕ) (drilling : Drilling) → drilling.left ≡ script size number
     → world_of drilling.engine.world ≡ opening (latest_moment []) drill_limit Text
     → StandsFor drilling.engine.state [] → drilling.keeper.kept ≡ [] → drilling.counts ≡ counts_of [] → HasDrilled size number drilling

@@ -1,4 +1,4 @@
--- What a load begins with: a line that sets the clock neither reads what is kept nor adds to it.
+-- The first line of a load: a line that sets the clock neither reads what is stored nor adds to it.
 use Rattle.std.proofs.Common.{◌≡◌, ◌<◌, ℕ, Bool, true, false, List, [], ◌∷◌, ◌++◌, length, inl, inr, Option, Some, None, MatchOption, Ok, Err, codes, refl, sym, subst, arith}
 use Rattle.std.proofs.lemmas.Bool.{lt-ltb}
 use Rattle.std.specs.Bool.{then_some}
@@ -35,7 +35,7 @@ use Rattle.hippo_serve_jobs.specs.Runs.{ForInput, HasReadFront, LinesEnd, HasRep
 use Rattle.hippo_serve_jobs.proofs.RunLemmas.{replied_more, unwritten, undamaged}
 use Rattle.hippo_serve_jobs.proofs.TurnLemmas.{by_turn, at_work_carried}
 
--- the form of `at` with a text behind it
+-- the form of `at` followed by a text
 form_at : (text : Txt) (found : Bool) → found ≡ true → option_and_then (λ (first, remaining). form_by first remaining) (then_some found (codes "at", text)) ≡ at_of text
 form_at text true is = refl
 form_at text false is = absurd cc
@@ -46,7 +46,7 @@ at_form text = form_at text (nat_lt 2 (length (codes "at " ++ text))) (lt-ltb 2 
     longer : 2 < length (codes "at " ++ text)
     longer = omega arith
 
--- of what sets the clock, or is refused since it writes no moment
+-- a command that sets the clock, or is refused since it names no moment
 clock_quiet : (moment : Option Moment) → reads_kept (clock_command moment) ≡ false
 clock_quiet (Some moment) = refl
 clock_quiet None = refl
@@ -64,7 +64,7 @@ module _ (Q : Command → Type 0) (clock : (moment : Option Moment) → Q (clock
   by_word None = unread
   by_word (Some moment) = clock _
 
-  -- what holds of each command that sets the clock holds of a load's first one
+  -- what holds of every command that sets the clock holds of a load's first one
   by_clock : (moment : Moment) → Q (command_of (text_line (at_line moment)))
   by_clock moment = subst (λ (form : Option Form). Q (command_by form)) (sym (at_form (moment_text moment))) (by_word (only (words_of (moment_text moment))))
 
@@ -85,7 +85,7 @@ module _ (job : Job) (moment : Moment) (first : asked_lines job [] ≡ text_line
   abbrev line : LineText
   line = text_line (at_line moment)
 
-  -- the keeper cannot fail at it
+  -- the keeper cannot fail at this line
   unbroken : (history : History) → BreaksOff history (command_of line) engine keeper keeper' → ⊥
   unbroken history breaks = elim breaks [
     | inl adding ↦ none_one _ adding.entry (first_adds history _ moment) adding.adds

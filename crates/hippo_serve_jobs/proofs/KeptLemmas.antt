@@ -1,4 +1,4 @@
--- What is kept after a line.
+-- What is stored after a line.
 use Rattle.std.proofs.Common.{◌≡◌, ◌∙◌, sym, ap, subst, true, [], ◌∷◌, ◌++◌, map, inl, inr, append-nil}
 use mathlib.Core.Logic.{∥∥₁_map}
 use Rattle.std.proofs.lemmas.Bool.{and_from}
@@ -15,13 +15,13 @@ use Rattle.hippo_replay.specs.Loading.{KeepsFound}
 use Rattle.hippo_replay.specs.Recording.{HasKept}
 use Rattle.hippo_serve_jobs.specs.Keeping.{KeepsHistory, KeepsEither}
 
--- the stored forms of a history with what was added are kept
+-- the stored forms of a history with the added entries are stored
 kept_forms : (history added : History) (before after : KeeperState) → map stored history ≡ before.kept → HasKept added before after → map stored (history ++ added) ≡ after.kept
 kept_forms history [] before after forms kept = ap (map stored) (append-nil history) ∙ forms ∙ sym kept.same
 kept_forms history (entry ∷ added) before after forms kept =
     map-append stored history (entry ∷ added) ∙ ap (λ (front : Store). front ++ map stored (entry ∷ added)) forms ∙ sym kept.0
 
--- the same history, whatever its list is called
+-- the same history under another name
 store_of : (history other : History) (store : Store) → other ≡ history → IsStoreOf meaning store history → IsStoreOf meaning store other
 store_of history other store same is = subst (λ (h : History). IsStoreOf meaning store h) (sym same) is
 
@@ -45,7 +45,7 @@ KeepsHistory-after history (entry ∷ added) before after valid keeps kept =
       survives_stop = ∣ kept.1.survives_stop ∣₁;
     }
 
--- what is kept is the same
+-- what is stored is the same
 pub KeepsHistory-same : (history : History) (before after : KeeperState) → KeepsHistory history before → KeepsSame before after → KeepsHistory history after
 KeepsHistory-same history before after keeps same = subst (λ (h : History). KeepsHistory h after) (append-nil history)
     (KeepsHistory-after history [] before after (ap (λ (h : History). is_valid meaning h) (append-nil history) ∙ keeps.kept.valid) keeps same)
@@ -71,7 +71,7 @@ KeepsEither-after history entry before after follows keeps may =
       some = may.some;
     }
 
--- what was found is the stored form of a history, and alone survives a stop
+-- what was found is the stored form of a history, and only that survives a stop
 pub KeepsHistory-found : (finds : Survivors) (keeper : KeeperState) (history : History) → KeepsFound finds keeper → IsStoreOf meaning keeper.kept history → KeepsHistory history keeper
 KeepsHistory-found finds keeper history found is = record {
   kept = is;

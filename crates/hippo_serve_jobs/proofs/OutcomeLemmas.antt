@@ -1,4 +1,4 @@
--- What a load, and what follows it, come to.
+-- The results of a load and of what follows it.
 use Rattle.std.proofs.Common.{◌≡◌, ◌≢◌, ◌&&◌, not, inl, inr, Bool, true, false, ℕ, ◌+◌, Option, refl, sym, ap, subst, ◌∙◌}
 use Rattle.hippo_values.specs.Texts.{Txt}
 use Rattle.hippo_model.specs.Terms.{History}
@@ -29,7 +29,7 @@ module _ (name : Txt) (state : State) (left written : Option Txt) (before loaded
   abbrev first : Outside
   first = outside left written before start
 
-  -- what was loaded is kept by a keeper that has begun
+  -- what was loaded is stored by a started keeper
   pub backed : IsBacked state loaded
   backed =
       let here : IsLoaded state loaded start steps = loads.ok in
@@ -54,7 +54,7 @@ module _ (name : Txt) (state : State) (left written : Option Txt) (before loaded
     abbrev store : IsStoreOf meaning loaded.kept is_loaded.history
     store = record { forms = is_loaded.told tells; valid = is_loaded.stands.valid }
 
-    -- what holds of the history that was loaded, holds of each one that was found
+    -- what holds of the history that was loaded holds of every history that was found
     pub from_found : (holds : History → Told → Outside → Type 0) (after : Outside)
         → ((history : History) → StandsFor state history → KeepsHistory history loaded → steps ≡ start + versions history → holds history first.told after) → FromFound name holds first after
     from_found holds after give = record {
@@ -68,7 +68,7 @@ module _ (name : Txt) (state : State) (left written : Option Txt) (before loaded
       };
     }
 
-    -- what was loaded is no damaged list
+    -- what was loaded is not a damaged list
     pub undamaged : (setting : Setting) (job : Job) (after : Outside) → ((history : History) → StandsFor state history → KeepsHistory history loaded → steps ≡ start + versions history → LinesEnd Damaged setting job history first.told after) → ⊥
     undamaged setting job after ends = ends is_loaded.history is_loaded.stands (KeepsHistory-found (before.finds name) loaded is_loaded.history found store) is_loaded.steps
 

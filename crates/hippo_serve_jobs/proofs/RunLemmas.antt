@@ -1,4 +1,4 @@
--- A run, one line more.
+-- A run with one more line.
 use Rattle.std.proofs.Common.{◌≡◌, inl, inr, ℕ, ◌+◌, ◌*◌, ◌<◌, ◌≤◌, ◌↔◌, List, [], ◌∷◌, ◌++◌, flat_map, length, drop, take, true, cond, Option, Some, Result, Ok, Err, refl, ap, sym, subst, ◌∙◌, append_assoc, append-nil, arith, length-drop}
 use Rattle.std.proofs.lemmas.List.Sums.{sum_by-cons, sum_by-append}
 use Rattle.hippo_values.specs.Limits.{job_limit}
@@ -50,7 +50,7 @@ IsRun-append history world (text ∷ replied) (first ∷ effects) line effect ru
       (subst (λ (h : History). IsEffect h (world_after first.world effects) (command_of line) effect) (sym (append_assoc history first.added (flat_map (λ (e : Effect). e.added) effects))) is),
 )
 
--- the audits of the lines before the last, and of that one
+-- the audits of the lines before the last, and of the last
 audits_in-append : (replied : List LineText) (line : LineText) → audits_in (replied ++ line ∷ []) ≡ audits_in replied + audits_of (command_of line)
 audits_in-append replied line =
     let count : LineText → ℕ = λ text. audits_of (command_of text) in
@@ -60,7 +60,7 @@ audits_in-append replied line =
 versions-more : (history added : History) → versions history ≤ versions (history ++ added)
 versions-more history added = omega (arith, sum_by-append (λ (entry : Entry). cond (is_version entry.act) 1 0) history added)
 
--- a line is answered where no more bytes were taken than are read
+-- a line is read only if no more bytes were taken than the limit
 pub within_limit : (line : Line) (taken : ℕ) → (◌≡◌ {A = Result Line LineFault} (Ok line) (Err TooMuch) ↔ (input_limit < taken)) → taken ≤ input_limit
 within_limit line taken same = not_above (λ more. differ (same.1 more))
   where
@@ -70,7 +70,7 @@ within_limit line taken same = not_above (λ more. differ (same.1 more))
     not_above : (input_limit < taken → ⊥) → taken ≤ input_limit
     not_above no_more = omega arith
 
--- no line was handed out yet
+-- no line was read yet
 pub reading_none : (input : Txt) (reader : Position) (left : Option Txt) → left ≡ Some input → HasHandedOut input [] reader (Some input) → IsHandingOut input reader left
 reading_none input reader left is handing = record { handed = []; handing = subst (λ (told : Option Txt). HasHandedOut input [] reader told) (sym is) handing }
 
@@ -90,7 +90,7 @@ replied_none setting history left written engine keeper start steps holds world 
   written = λ bytes is. is ∙ ap Some (sym (append-nil bytes));
 }
 
--- no line was handed out yet, and what a job asks for first has its reply
+-- no line was read yet, and the first line that the job asks for has its reply
 pub served_none : (setting : Setting) (job : Job) (history : History) (before : Told) (reader : Position) (engine : Engine) (now : Outside)
     → ((input : Txt) → HasHandedOut input [] reader (Some input)) → now.told.left ≡ before.left
     → HasReplied setting history (asked_lines job []) before engine now → HasServed setting job history before reader engine now
@@ -100,7 +100,7 @@ served_none setting job history before reader engine now handing same replied = 
   replied = replied;
 }
 
--- a line that was carried out leaves a keeper that keeps what the engine holds
+-- after a line that was carried out, the keeper stores what the engine holds
 pub held_after : (command : Command) (old new : Engine) (before after : KeeperState) (steps steps' : ℕ) → Carries {A = Unit {0}} command (Ok tt) old new before after steps steps'
     → (before.tells → (history : History) × Holds history old before) → after.tells → (history : History) × Holds history new after
 held_after command old new before after steps steps' carries held tells =
@@ -116,13 +116,13 @@ module _ (setting : Setting) (history : History) (asked : List LineText) (before
   abbrev now : Outside
   now = outside left' written' keeper' steps'
 
-  -- so many steps as the lines so far are allowed
+  -- no more steps than the lines so far allow
   pub within_so_far : (after : Outside) → after.told.steps ≡ steps → StepsWithin history asked replied.effects before after
   within_so_far after same =
       let at_most : steps ≤ before.steps + versions here * (1 + audits_in asked) = RunSum-end before.steps steps (versions here) (audits_in asked) (tallies_of engine.world) replied.sum in
       subst (λ (n : ℕ). n ≤ before.steps + versions here * (1 + audits_in asked)) (sym same) at_most
 
-  -- nothing has changed but what is left of the input
+  -- only the rest of the input has changed
   pub ran_so_far : HasRun setting history asked replied.effects before (outside left' written keeper steps)
   ran_so_far = record { run = replied.run; kept = replied.kept; bound = within_so_far (outside left' written keeper steps) refl }
 
@@ -193,7 +193,7 @@ module _ (setting : Setting) (history : History) (asked : List LineText) (before
             (both_whole before.written written written' (replies replied.effects) (take front.0 engine'.reply) replied.written front.1);
       }
 
-    -- the keeper failed while it was to keep an entry, or while it was read
+    -- the keeper failed while storing an entry or while reading
     pub broken_at : BreaksOff here (command_of line) engine keeper keeper' → KeepsBroken setting history replied.effects line keeper'
     broken_at breaks = elim breaks [
       | inl adding ↦ inl (record {
@@ -209,7 +209,7 @@ module _ (setting : Setting) (history : History) (asked : List LineText) (before
       })
     ]
 
-    -- a keeper that tells what it keeps hands over nothing else
+    -- a keeper whose contents are known returns nothing that it does not store
     pub undamaged : (number : ℕ) → Carries {A = Unit {0}} (command_of line) (Err (Damaged number)) engine engine' keeper keeper' steps steps' → ⊥
     undamaged number carries = carries.undamaged tells here replied.holds number refl
 

@@ -1,4 +1,4 @@
--- Each status is that of one ending.
+-- Each status belongs to one ending.
 use Rattle.std.proofs.Common.{◌≡◌, ◌≢◌, ℕ, Any, arith, refl}
 use Rattle.hippo_program_args.specs.declared.endings.Ending.{Ending}
 use Rattle.hippo_program_args.specs.declared.endings.Ending.TheVariants.{Served, Refused, KeeperFault, ReadFault, WriteFault, Damaged, NoMemory, TooMuch}
@@ -16,7 +16,7 @@ status-listed Damaged status e = (5, 6, omega arith, refl, e)
 status-listed NoMemory status e = (6, 7, omega arith, refl, e)
 status-listed TooMuch status e = (7, 8, omega arith, refl, e)
 
--- an ending that is neither of two has neither's status
+-- an ending that is neither of two has neither status
 pub status-other : (ending : Ending) → ending ≢ Served → ending ≢ TooMuch → (status_of ending ≢ 0) × (status_of ending ≢ 8)
 status-other Served not_all not_more = absurd (not_all refl)
 status-other Refused not_all not_more = (λ e. omega (arith, e), λ e. omega (arith, e))
@@ -27,7 +27,7 @@ status-other Damaged not_all not_more = (λ e. omega (arith, e), λ e. omega (ar
 status-other NoMemory not_all not_more = (λ e. omega (arith, e), λ e. omega (arith, e))
 status-other TooMuch not_all not_more = absurd (not_more refl)
 
--- only want of memory has the status 7
+-- only running out of memory has the status 7
 pub status-7 : (ending : Ending) → status_of ending ≡ 7 → ending ≡ NoMemory
 status-7 Served e = absurd (omega (arith, e))
 status-7 Refused e = absurd (omega (arith, e))

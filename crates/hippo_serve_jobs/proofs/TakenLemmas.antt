@@ -28,7 +28,7 @@ none_taken status input left told not_all not_more = record {
   limit = (λ is. absurd (not_more is), λ more. omega (arith, more));
 }
 
--- a fault of reading: too much exactly where more than the limit was taken
+-- a fault of reading: too much exactly if more than the limit was taken
 pub within_read : (taken : ℕ) → (◌≡◌ {A = Result Line LineFault} (Err Read) (Err TooMuch) ↔ (input_limit < taken)) → taken ≤ input_limit
 within_read taken same = not_above (λ more. differ (same.1 more))
   where
@@ -38,7 +38,7 @@ within_read taken same = not_above (λ more. differ (same.1 more))
     not_above : (input_limit < taken → ⊥) → taken ≤ input_limit
     not_above no_more = omega arith
 
--- the reader gave up, with so many bytes taken
+-- the reader gave up after this many bytes
 module _ (input : Txt) (handed : List LineText) (reader : Position) (left : Option Txt) (up : HasGivenUp input handed reader left) where
   pub given_up : (status : ℕ) → status ≢ 0 → ((status ≡ 8) ↔ (input_limit < reader.taken)) → HasTakenBytes status input left
   given_up status not_all limit = record { taken = reader.taken; within = up.within; others = up.told; all = λ is. absurd (not_all is); limit = limit }

@@ -1,4 +1,4 @@
--- What a call with a line makes of a run.
+-- What a call with a line does to a run.
 use Rattle.std.proofs.Common.{◌≡◌, ◌≢◌, ℕ, ◌≤◌, ◌++◌, ◌∷◌, [], true, false, inl, inr, Option, Some, None, IfNone, MatchOption, Result, Ok, Err, option_map, refl, sym, ap, subst, ◌∙◌}
 use Rattle.hippo_values.specs.Texts.{Txt}
 use Rattle.hippo_io.specs.Lines.{LineText, lines}
@@ -38,7 +38,7 @@ use Rattle.hippo_serve_jobs.proofs.RunLemmas.{held_after, served_more, unwritten
 some_line : (text : LineText) → Some text ≢ None
 some_line text e = cc
 
--- an engine that begins with a state is at work where the keeper keeps what the state stands for
+-- an engine that begins with a state is at work if the keeper stores what the state stands for
 pub AtWork-begun : (state : State) (engine : Engine) (keeper : KeeperState) (limit : ℕ) (format : Format) → engine.state ≡ state
     → world_of engine.world ≡ opening state.last limit format → IsBacked state keeper → AtWork engine keeper
 AtWork-begun state engine keeper limit format same opens backed = record {
@@ -50,7 +50,7 @@ AtWork-begun state engine keeper limit format same opens backed = record {
       (loaded.history, Holds-opening loaded.history state engine keeper state.last limit format same loaded.stands loaded.forms opens);
 }
 
--- the keeper handed over what it did not keep, and that is said
+-- the keeper returned an entry that it did not store, and that is reported
 pub turn_damaged : (number : ℕ) (command : Command) (old new : Engine) (before after : KeeperState) (written mid written' : Option Txt) (steps steps' faults faults' : ℕ) (ending : Ending)
     → Carries {A = Unit {0}} command (Err (DamagedAt number)) old new before after steps steps' → Says Damaged (damaged_line number) WriteFault ending mid written' faults faults'
     → Turn (Some ending) command old new before after written written' steps steps'
@@ -59,7 +59,7 @@ turn_damaged number command old new before after written mid written' steps step
   | inr front ↦ subst (λ (e : Ending). Turn (Some e) command old new before after written written' steps steps') (sym front.0) (inr (number, carries))
 ]
 
--- what a call with a line came to, by the five ways in which it may end
+-- the result of a call with a line, in each of the five ways in which it may end
 module _ (engine engine' : Engine) (keeper keeper' : KeeperState) (output output' : Option Txt) (steps steps' : ℕ) where
   abbrev Carrying : Command → Result (Unit {0}) EngineFault → Type 0
   Carrying command answer = Carries {A = Unit {0}} command answer engine engine' keeper keeper' steps steps'
@@ -93,14 +93,14 @@ module _ (job : Job) (line asked : Option LineText) (result : Option Ending) (en
     (turn : asked ≢ None → Turn result (input_command asked) engine engine' keeper keeper' output output' steps steps')
     (end : asked ≡ None → (result ≡ Some Served) × (engine' ≡ engine) × (output' ≡ output) × (steps' ≡ steps))
     (same : asked ≡ None → keeper' ≡ keeper) where
-  -- the command of what a job asks for where it reads a line
+  -- the command that the job asks for when it reads a line
   abbrev asks : LineText → Command
   asks text = command_of (asked_line job (counted_line job text))
 
   abbrev Carried : Command → Result (Unit {0}) EngineFault → Type 0
   Carried command answer = Carries {A = Unit {0}} command answer engine engine' keeper keeper' steps steps'
 
-  -- a job asks for a line just where it reads one
+  -- a job asks for a line exactly when it reads one
   asked_at : (l : Option LineText) → line ≡ l → asked ≡ option_map (asked_line job) (option_map (counted_line job) l)
   asked_at l is = asks_for ∙ ap (λ (o : Option LineText). option_map (asked_line job) (option_map (counted_line job) o)) is
 
@@ -169,7 +169,7 @@ module _ (job : Job) (line asked : Option LineText) (result : Option Ending) (en
         (subst (λ (n : ℕ). IsServed setting job history before (outside left' output keeper n)) (sym counted)
         (all_served setting job history before reader reader' engine engine' left left' output output' keeper keeper' steps steps' served handed limit)))
 
-    -- a line counts as it is
+    -- the line is counted as it is
     counts : (text : LineText) → Handed (Some text) → Handed (Some (counted_line job text))
     counts text handed = handed_counted job before served.handed text reader' left' handed
 

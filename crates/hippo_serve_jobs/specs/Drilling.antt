@@ -1,5 +1,5 @@
--- A drill: the lines of a script, each with the effect that the rules make of it, and what is said
--- of the replies.
+-- A drill: the lines of a script, the effect of each under the rules, and the summary of the
+-- replies.
 use Rattle.std.specs.Prelude.{◌≡◌, ℕ, List, [], ◌∷◌, ◌++◌, length, map}
 use Rattle.hippo_values.specs.Texts.{Txt}
 use Rattle.hippo_drill.specs.Script.{script}
@@ -20,14 +20,14 @@ use Rattle.hippo_engine_rules.specs.Effects.{Effect, effect_of}
 use Rattle.hippo_engine_rules.specs.Runs.{history_after}
 use Rattle.hippo_serve_jobs.specs.declared.drilling.Drilling.{Drilling}
 
--- each line's effect by the rules, on the history and the world that the line before it left
+-- the effect of each line under the rules, on the history and the world after the line before it
 abbrev pub effects_of : History → World → List LineText → List Effect
 effects_of history world [] = []
 effects_of history world (line ∷ lines) =
     let effect : Effect = effect_of history world (command_of line) in
     effect ∷ effects_of (history ++ effect.added) effect.world lines
 
--- how many entries the history of a drill may have
+-- the highest number of entries in a drill's history
 abbrev pub drill_limit : ℕ
 drill_limit = 4000000
 
@@ -45,15 +45,15 @@ summary size number =
     let effects : List Effect = drill_effects size number in
     summary_of (replies_of effects) (length (history_after [] effects))
 
--- an engine shows an effect after a history, and it and its keeper hold the history with what was
--- added
+-- an engine has carried out an effect after a history, and it and its keeper hold the history with
+-- the added entries
 pub record HasDone (history : History) (effect : Effect) (engine : Engine) (keeper : KeeperState)
     : Type 0 where
   pub reply : engine.reply ≡ effect.reply
   pub world : world_of engine.world ≡ effect.world
   pub holds : Holds (history ++ effect.added) engine keeper
 
--- some of a script's lines have had their effects, the others are left, and the replies are counted
+-- some of a script's lines have had their effects, the others remain, and the replies are counted
 pub record HasDrilled (size number : ℕ) (drilling : Drilling) : Type 0 where
   pub effects : List Effect
   pub order : drill_effects size number

@@ -1,4 +1,4 @@
--- What the jobs come to, over what a start may find.
+-- The results of the jobs, over what a start may find.
 use Rattle.std.specs.Prelude.{◌≡◌, ◌⊎◌, ◌+◌, length}
 use Rattle.hippo_values.specs.Texts.{Txt}
 use Rattle.hippo_io.specs.Told.{Appends, AppendsFront}
@@ -15,8 +15,8 @@ use Rattle.hippo_serve_jobs.specs.Keeping.{KeepsHistory}
 use Rattle.hippo_serve_jobs.specs.Outside.{Told, Outside}
 use Rattle.hippo_serve_jobs.specs.Runs.{IsServed, IsReadCut, HasTooMuch, IsUnwritten, IsBrokenOff}
 
--- a start with a name may find stored forms of a valid history, and this holds of each history of
--- which they are
+-- a start with this name may find the stored forms of a valid history, and this holds of each
+-- history with these stored forms
 pub record FromFound (name : Txt) (holds : History → Told → Outside → Type 0)
     (before after : Outside)
     : Type 0 where
@@ -24,7 +24,7 @@ pub record FromFound (name : Txt) (holds : History → Told → Outside → Type
   pub found : before.keeper.finds name store
   pub held : HoldsOfStored store (λ history. holds history before.told after)
 
--- how a run or a load ends; unread and unwritten say that source and sink are as before
+-- how a run or a load ends; `unread` and `unwritten` say that the source and the sink are unchanged
 abbrev pub RunEnds : Ending → Type 0 → Type 0 → Setting → Job → Txt → Outside → Outside → Type 0
 RunEnds Served unread unwritten setting job name before after =
     FromFound name (IsServed setting job) before after
@@ -45,17 +45,17 @@ RunEnds NoMemory unread unwritten setting job name before after =
 RunEnds TooMuch unread unwritten setting job name before after =
     FromFound name (HasTooMuch setting job) before after
 
--- a history is kept, and survives a stop; there was one step for each version in it
+-- a history is stored and survives a stop, and one step was taken for each version in it
 pub record WasLoaded (history : History) (before : Told) (after : Outside) : Type 0 where
   pub kept : KeepsHistory history after.keeper
   pub steps : after.told.steps ≡ before.steps + versions history
 
--- the number of its entries is written
+-- the number of the history's entries is written
 pub record IsCounted (history : History) (before : Told) (after : Outside) : Type 0 where
   pub loaded : WasLoaded history before after
   pub written : Appends before.written after.told.written (entries_line (length history))
 
--- a front of it is
+-- a prefix of the line with that number is written
 pub record BeginsCount (history : History) (before : Told) (after : Outside) : Type 0 where
   pub loaded : WasLoaded history before after
   pub written : AppendsFront before.written after.told.written (entries_line (length history))

@@ -1,16 +1,16 @@
--- What clauses see of all that is outside the program.
+-- Everything outside the program, as contracts see it.
 use Rattle.std.specs.Prelude.{ℕ, Option}
 use Rattle.hippo_values.specs.Texts.{Txt}
 use Rattle.hippo_keeper.specs.Keeping.{KeeperState}
 
--- the bytes that the source has left and those that the sink has written, where they tell them, and
--- the steps so far
+-- the bytes that remain in the source and those written to the sink, if these are known, and the
+-- number of steps so far
 pub record Told : Type 0 where
   pub left : Option Txt
   pub written : Option Txt
   pub steps : ℕ
 
--- the same, and the keeper
+-- the same, with the keeper
 pub record Outside : Type 1 where
   pub told : Told
   pub keeper : KeeperState

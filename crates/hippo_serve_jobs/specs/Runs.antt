@@ -1,4 +1,4 @@
--- A run or a load over the lines of an input, from a history on, and how it ends.
+-- A run or a load over the lines of an input, starting from a history, and how it ends.
 use Rattle.std.specs.Prelude.{◌≡◌, ◌⊎◌, ℕ, ◌+◌, ◌*◌, ◌<◌, ◌≤◌, ◌↔◌, min, true, false, List, [], ◌∷◌, ◌++◌, length, take, drop, Option, Some, None, Ok, Err}
 use Rattle.hippo_values.specs.Texts.{Txt}
 use Rattle.hippo_io.specs.Lines.{LineText, lines}
@@ -33,19 +33,19 @@ use Rattle.hippo_serve_jobs.specs.Outside.{Told, Outside}
 abbrev pub opening_after : Setting → History → World
 opening_after setting history = opening (latest_moment history) setting.limit setting.format
 
--- what holds of whatever input was told
+-- this holds of the input, if it is known
 abbrev pub ForInput : Told → (Txt → Type 0) → Type 0
 ForInput before holds = (input : Txt) → before.left ≡ Some input → holds input
 
--- what is kept was read once by loading, and at most once for each audit that was asked for: a step
--- is one version that was read
+-- loading read what is stored once, and each audit that was asked for read it at most once; each
+-- version that is read is one step
 abbrev pub StepsWithin : History → List LineText → List Effect → Told → Outside → Type 0
 StepsWithin history asked effects before after =
     after.told.steps ≤ before.steps + versions (history_after history effects)
     * (1 + audits_in asked)
 
--- so many bytes of the input were taken, and the others are left: all at status 0, and more than
--- are read just at 8
+-- this many bytes of the input were taken, and the rest remains; status 0 means all bytes, and the
+-- status is 8 exactly when more bytes were taken than the limit
 pub record HasTakenBytes (status : ℕ) (input : Txt) (left : Option Txt) : Type 0 where
   pub taken : ℕ
   pub within : taken ≤ length input
@@ -53,13 +53,13 @@ pub record HasTakenBytes (status : ℕ) (input : Txt) (left : Option Txt) : Type
   pub all : status ≡ 0 → taken ≡ length input
   pub limit : (status ≡ 8) ↔ (input_limit < taken)
 
--- some lines of the input were handed out so far
+-- some lines of the input were read so far
 pub record IsHandingOut (input : Txt) (reader : Position) (left : Option Txt) : Type 0 where
   pub handed : List LineText
   pub handing : HasHandedOut input handed reader left
 
--- lines have had their effects from a history on, and what the last one left is kept, and survives
--- a stop
+-- the lines have had their effects, starting from a history; the history after the last one is
+-- stored, and survives a stop
 pub record HasRun (setting : Setting) (history : History) (asked : List LineText)
     (effects : List Effect)
     (before : Told) (after : Outside) : Type 0 where
@@ -67,7 +67,7 @@ pub record HasRun (setting : Setting) (history : History) (asked : List LineText
   pub kept : KeepsHistory (history_after history effects) after.keeper
   pub bound : StepsWithin history asked effects before after
 
--- these are all lines of the input, and nothing of it is left
+-- these are all lines of the input, and nothing of it remains
 pub record HasReadAll (replied : List LineText) (input : Txt) (left : Option Txt) : Type 0 where
   pub all : replied ≡ lines input
   pub nothing : left ≡ Some []
@@ -83,8 +83,8 @@ pub record IsServed (setting : Setting) (job : Job) (history : History) (before 
   pub read : ForInput before (λ input. HasReadAll replied input after.told.left)
   pub written : Appends before.written after.told.written (replies effects)
 
--- so many bytes of the input were taken, and these are just the lines whose line feeds are among
--- them, up to the limit
+-- this many bytes of the input were taken; these lines are exactly those whose line feeds are among
+-- these bytes, up to the limit
 pub record HasReadWhole (amount : ℕ → Type 0) (replied : List LineText) (input : Txt)
     (left : Option Txt)
     : Type 0 where
@@ -94,7 +94,7 @@ pub record HasReadWhole (amount : ℕ → Type 0) (replied : List LineText) (inp
   pub others : left ≡ Some (drop taken input)
   pub whole : replied ≡ whole_lines input (min taken input_limit)
 
--- just the lines that were read whole have their replies
+-- exactly the lines that were read whole have their replies
 pub record IsCutOff (amount : ℕ → Type 0) (setting : Setting) (job : Job) (history : History)
     (before : Told)
     (after : Outside) : Type 0 where
@@ -109,13 +109,13 @@ abbrev pub IsReadCut : Setting → Job → History → Told → Outside → Type
 IsReadCut setting job history before after =
     IsCutOff (λ taken. taken ≤ input_limit) setting job history before after
 
--- more bytes were taken than are read
+-- more bytes were taken than the limit
 abbrev pub HasTooMuch : Setting → Job → History → Told → Outside → Type 0
 HasTooMuch setting job history before after =
     IsCutOff (λ taken. input_limit < taken) setting job history before after
 
 -- these are the first lines of the input; some of its bytes were taken, within the limit, and the
--- others are left
+-- rest remains
 pub record HasReadFront (first : List LineText) (input : Txt) (left : Option Txt) : Type 0 where
   pub following : List LineText
   pub order : lines input ≡ first ++ following
@@ -124,9 +124,9 @@ pub record HasReadFront (first : List LineText) (input : Txt) (left : Option Txt
   pub others : left ≡ Some (drop taken input)
   pub limit : taken ≤ input_limit
 
--- the lines have their replies but the last, of whose reply a front is written; it has had its
--- effect all the same. Of a load that may be the line that sets the clock, where no other one was
--- read
+-- all lines but the last have their replies; a prefix of the last reply is written, and the last
+-- line has had its effect all the same; in a load the last line may be the one that sets the clock,
+-- if no other line was read
 pub record IsUnwritten (setting : Setting) (job : Job) (history : History) (before : Told)
     (after : Outside)
     : Type 0 where
@@ -138,36 +138,36 @@ pub record IsUnwritten (setting : Setting) (job : Job) (history : History) (befo
   pub read : ForInput before (λ input. HasReadFront replied input after.told.left)
   pub written : Appends before.written after.told.written (replies effects ++ take front last.reply)
 
--- what the rules add for a line behind some effects
+-- what the rules add for the line that follows some effects
 abbrev pub added_next : Setting → History → List Effect → LineText → History
 added_next setting history effects line =
     let world : World = world_after (opening_after setting history) effects in
     (effect_of (history_after history effects) world (command_of line)).added
 
--- a history is kept, or that with the one entry that the rules add to it
+-- the history is stored, either as it was or with the one entry that the rules add to it
 pub record KeepsOrAdds (history added : History) (keeper : KeeperState) : Type 0 where
   pub entry : Entry
   pub adds : added ≡ entry ∷ []
   pub follows : may_follow meaning history entry ≡ true
   pub kept : KeepsEither history (history ++ entry ∷ []) keeper
 
--- the rules add nothing to a history for a line that reads it, and it is kept
+-- the line reads the history, the rules add nothing for it, and the history is stored
 pub record KeepsRead (history added : History) (line : LineText) (keeper : KeeperState)
     : Type 0 where
   pub reads : reads_kept (command_of line) ≡ true
   pub adds : added ≡ []
   pub kept : KeepsHistory history keeper
 
--- the keeper failed at a line behind some effects: while it was to keep the entry that the rules
--- add for the line, or while it was read
+-- the keeper failed at the line that follows some effects: while storing the entry that the rules
+-- add for the line, or while reading
 abbrev pub KeepsBroken : Setting → History → List Effect → LineText → KeeperState → Type 0
 KeepsBroken setting history effects line keeper =
     let here : History = history_after history effects in
     let added : History = added_next setting history effects line in
     KeepsOrAdds here added keeper ⊎ KeepsRead here added line keeper
 
--- the lines have their replies, and nothing is written of the next one's; what they left is kept,
--- or that with the one entry that the rules add for the next line
+-- the lines have their replies, and nothing of the next line's reply is written; the history after
+-- them is stored, either as it was or with the one entry that the rules add for the next line
 pub record IsBrokenOff (setting : Setting) (job : Job) (history : History) (before : Told)
     (after : Outside)
     : Type 0 where
@@ -190,7 +190,8 @@ LinesEnd WriteFault setting job history before after = IsUnwritten setting job h
 LinesEnd TooMuch setting job history before after = HasTooMuch setting job history before after
 LinesEnd ending setting job history before after = ⊥
 
--- so far these lines have their replies, and the engine and its keeper hold what the last one left
+-- so far these lines have their replies, and the engine and its keeper hold the history after the
+-- last one
 pub record HasReplied (setting : Setting) (history : History) (asked : List LineText)
     (before : Told)
     (engine : Engine) (now : Outside) : Type 0 where
@@ -204,7 +205,7 @@ pub record HasReplied (setting : Setting) (history : History) (asked : List Line
       (tallies_of engine.world)
   pub written : Appends before.written now.told.written (replies effects)
 
--- so far the lines that were handed out have their replies, as the job asks for them
+-- so far the lines that were read have their replies, as the job asks for them
 pub record HasServed (setting : Setting) (job : Job) (history : History) (before : Told)
     (reader : Position)
     (engine : Engine) (now : Outside) : Type 0 where
@@ -212,9 +213,9 @@ pub record HasServed (setting : Setting) (job : Job) (history : History) (before
   pub handing : ForInput before (λ input. HasHandedOut input handed reader now.told.left)
   pub replied : HasReplied setting history (asked_lines job handed) before engine now
 
--- what a call with a line did: the line was carried out and replied to, or the keeper failed, or
--- the sink did; or the keeper handed over what it did not keep, and that was said, or the sink
--- failed then
+-- what a call with a line did: the line was carried out and replied to; or the keeper failed; or
+-- the sink failed; or the keeper returned an entry that it did not store, and either that was
+-- reported or the sink failed
 abbrev pub Turn : Option Ending → Command → Engine → Engine → KeeperState → KeeperState → Option Txt
     → Option Txt
     → ℕ → ℕ → Type 0

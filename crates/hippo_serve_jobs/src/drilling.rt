@@ -1,4 +1,4 @@
-//! The drill: a script is run over a keeper in memory, and its replies are counted.
+//! The drill: runs a script over a keeper in memory, and counts its replies.
 ghost use Rattle.std.specs.Prelude.{◌≡◌, ◌≢◌, ℕ, ◌<◌, [], true, false, Ok, length, string_bytes, IfOk, OnOk};
 ghost use Rattle.hippo_io.specs.Lines.{text_line};
 ghost use Rattle.hippo_model.specs.Terms.{History};
@@ -31,14 +31,14 @@ use std::alloc::Global;
 use std::marker::Brand;
 use std::sync::ledger::{Blank, Ledger};
 
-// How many entries the history of a drill may have.
+// The highest number of entries in a drill's history.
 const ENTRY_LIMIT: u32 = 4_000_000;
 
-// The end of each reply that says that memory was short.
+// The end of every reply that reports that memory ran out.
 const SHORT_REPLY: &str = " no 90 Memory\n";
 
-/// A drill on its way: the lines that are left, an engine over a keeper in memory, and the counts
-/// of the replies so far.
+/// A drill in progress: the remaining lines, an engine over a keeper in memory, and the counts of
+/// the replies so far.
 #[derive(Drop)]
 pub struct Drilling {
     pub left: Drill,
@@ -47,7 +47,7 @@ pub struct Drilling {
     pub counts: Counts,
 }
 
-// A keeper in memory on which no call is to fail, started.
+// A started keeper in memory. None of its calls is to fail.
 fn start(alloc: Global) -> Result<MemoryKeeper, Memory>
     ensures empty { IfOk result (λ keeper. keeper.kept ≡ []) }
     ensures ready { IfOk result (λ keeper. IsReady true (memory_keeper_state keeper)) }
@@ -68,7 +68,7 @@ fn open(alloc: Global) -> Result<Engine, Memory>
     Engine::new(alloc, State::new(alloc), ENTRY_LIMIT, Format::Text)
 }
 
-// Refuses a reply that says that memory was short.
+// Refuses a reply that reports that memory ran out.
 fn accept(reply: &str) -> Result<(), Memory>
     ensures { OnOk result ((who : Speaker) → reply.now ≢ refusal_line who WantsMemory) }
 {
@@ -78,8 +78,8 @@ fn accept(reply: &str) -> Result<(), Memory>
     Ok(())
 }
 
-// Makes the reply to a line. A keeper in memory on which no call is to fail fails at most for want
-// of memory.
+// Makes the reply to a line. A keeper in memory that is to fail at no call can only run out of
+// memory.
 fn answer<L: Ledger>(
     alloc: Global,
     line: &str,
@@ -102,7 +102,7 @@ fn answer<L: Ledger>(
 }
 
 impl Drilling {
-    // All lines of a script are left.
+    // A drill with all lines of a script remaining.
     fn begin(alloc: Global, size: u32, number: u32) -> Result<Drilling, Memory>
         ensures drilled { IfOk result (λ drilling. HasDrilled size number drilling) }
         ensures at_work { IfOk result (λ drilling. AtWork drilling.engine
@@ -118,7 +118,7 @@ impl Drilling {
         })
     }
 
-    // Makes the reply to the next line and counts it; false where no line is left.
+    // Makes the reply to the next line and counts it. Returns false if no line remains.
     fn go_on<L: Ledger>(&mut self, alloc: Global, steps: &mut Steps<L>) -> Result<bool, Memory>
         requires at_work { AtWork self.old.engine (memory_keeper_state self.old.keeper) }
         ensures at_work { OnOk result (AtWork self.new.engine
@@ -143,7 +143,7 @@ impl Drilling {
         Ok(true)
     }
 
-    // Goes on to the end.
+    // Runs all remaining lines.
     fn finish<L: Ledger>(&mut self, alloc: Global, steps: &mut Steps<L>) -> Result<(), Memory>
         requires at_work { AtWork self.old.engine (memory_keeper_state self.old.keeper) }
         ensures drilled { OnOk result ((size number : ℕ) → HasDrilled size number self.old
@@ -159,7 +159,7 @@ impl Drilling {
         }
     }
 
-    // What is said at the end.
+    // The summary that the drill writes at the end.
     fn summary(&self, alloc: Global) -> Result<String, Memory>
         requires end { self.now.left ≡ [] }
         ensures { IfOk result (λ text. (size number : ℕ) → HasDrilled size number self.now
@@ -168,7 +168,7 @@ impl Drilling {
         Ok(self.counts.summary(alloc, self.engine.state.count)?)
     }
 
-    // Goes on to the end, and says what there was.
+    // Runs all remaining lines, and returns the summary.
     fn say_all<L: Ledger>(&mut self, alloc: Global, steps: &mut Steps<L>) -> Result<String, Memory>
         requires at_work { AtWork self.old.engine (memory_keeper_state self.old.keeper) }
         ensures { IfOk result (λ text. (size number : ℕ) → HasDrilled size number self.old
@@ -179,7 +179,7 @@ impl Drilling {
     }
 }
 
-// The summary of a script's replies; their steps are counted on a ledger of their own.
+// The summary of a script's replies. Its steps are counted on a ledger of their own.
 fn run_script<L: Ledger>(
     alloc: Global,
     size: u32,
@@ -203,9 +203,9 @@ fn run_script<L: Ledger>(
     }
 }
 
-/// Runs the script of a size and a number over a keeper in memory of its own, line by line, and
-/// writes how many lines, entries, rows, flags and refusals there were. Nothing is written where
-/// memory was short for a line or its reply.
+/// Runs the script of this size and number, line by line, over a keeper in memory of its own.
+/// Writes how many lines, entries, rows, flags and refusals there were. If memory runs out for a
+/// line or its reply, nothing is written.
 pub fn drill<K: Sink>(alloc: Global, size: u32, number: u32, sink: &mut K) -> Ending
     ensures says { result ≢ NoMemory → Says Served (summary size number) WriteFault result
         (K.written sink.old) (K.written sink.new) (K.faults sink.old) (K.faults sink.new) }

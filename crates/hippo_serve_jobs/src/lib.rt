@@ -1,5 +1,5 @@
-//! What the program does once its words are read: each line of the input has its reply before the
-//! next is read; what is kept is checked; or a drill runs over a keeper in memory.
+//! What the program does once its words are parsed. It replies to each line of the input before it
+//! reads the next, or it checks the stored entries, or it runs a drill over a keeper in memory.
 #![tactic(auto)]
 
 mod drilling;

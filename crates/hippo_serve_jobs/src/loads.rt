@@ -1,4 +1,4 @@
-//! The texts of the lines that a load asks for.
+//! The lines that a load makes.
 ghost use Rattle.std.specs.Prelude.{◌≡◌, ◌+◌, ◌≤◌, ◌++◌, length};
 ghost use Rattle.hippo_values.specs.Limits.{line_limit};
 ghost use Rattle.hippo_serve_jobs.specs.Loads.{made_room, load_text, at_line};
@@ -6,13 +6,13 @@ ghost use Rattle.hippo_serve_jobs.specs.Loads.{made_room, load_text, at_line};
 use hippo_values::{Memory, Moment, Name, RoomyTxt};
 use hippo_values_text::moment_text;
 
-// The most bytes of a line that a load asks for: `0 load TABLE RECORD`.
+// The highest number of bytes in a line that a load makes: `0 load TABLE RECORD`.
 const MADE_ROOM: usize = 65_607;
 
-/// The text of a line that a load asks for. Its memory is there before the first line is read.
+/// The text of a line that a load makes. Its memory is allocated before the first line is read.
 pub type MadeText = RoomyTxt<MADE_ROOM>;
 
-// Adds a text for which there is room.
+// Appends a text that fits the allocated memory.
 fn add(text: &str, made: &mut MadeText)
     requires room { length made.old + length text.now ≤ made_room }
     ensures { made.new ≡ made.old ++ text.now }
@@ -23,7 +23,7 @@ fn add(text: &str, made: &mut MadeText)
     }
 }
 
-/// Makes the text that loads a record of a table.
+/// Writes the line that loads a record of a table into `made`.
 pub fn make_load(table: &Name, fields: &str, made: &mut MadeText)
     requires short { length fields.now ≤ line_limit }
     ensures { made.new ≡ load_text table.now fields.now }
@@ -35,7 +35,7 @@ pub fn make_load(table: &Name, fields: &str, made: &mut MadeText)
     add(fields, made);
 }
 
-/// Makes the text that sets the clock.
+/// Writes the line that sets the clock into `made`.
 pub fn make_clock(moment: Moment, made: &mut MadeText)
     ensures { made.new ≡ at_line moment }
 {

@@ -1,4 +1,4 @@
-//! The lines that the program writes of its own.
+//! The lines that the program writes besides its replies.
 ghost use Rattle.hippo_program_args.specs.Saying.{Says};
 ghost use Rattle.hippo_program_args.specs.declared.endings.Ending.TheVariants.{Served, Refused, WriteFault};
 ghost use Rattle.hippo_serve_jobs.specs.Saying.{usage, entries_line};

@@ -1,4 +1,4 @@
-//! A run over a keeper, and a check of what it keeps: what a store keeps is loaded first.
+//! A run over a keeper, and a check of what it stores. Both load the stored history first.
 ghost use Rattle.std.specs.Prelude.{◌≡◌, ◌≢◌, ℕ, List, Option, Some, false};
 ghost use Rattle.hippo_io.specs.Faults.{HasRisen};
 ghost use Rattle.hippo_keeper.specs.Keeping.{IsReady, IsAfterCall};
@@ -20,7 +20,7 @@ use hippo_values::Memory;
 use std::alloc::Global;
 use std::sync::ledger::Ledger;
 
-// Lets a state go, and answers how many entries it has.
+// Drops a state, and returns the number of its entries.
 fn count_of(state: State) -> u64
     ensures { result ≡ state.count }
 {
@@ -29,8 +29,9 @@ fn count_of(state: State) -> u64
     count
 }
 
-/// Loads what a store keeps, and serves all lines that a job asks for. The keeper must be neither
-/// started nor spent nor closed. Want of memory comes before anything is read or written.
+/// Loads the stored history, and serves all lines that a job asks for. The keeper must be neither
+/// started nor spent nor closed. Running out of memory can only happen before anything is read or
+/// written.
 pub fn run<S: Source, K: Sink, P: Keeper, L: Ledger>(
     alloc: Global,
     store: &str,
@@ -73,9 +74,9 @@ pub fn run<S: Source, K: Sink, P: Keeper, L: Ledger>(
     }
 }
 
-/// Loads what a store keeps, and says how many entries there are. The keeper must be neither
-/// started nor spent nor closed, and keeps what it kept. The source is not handed over, and stays
-/// as it is.
+/// Loads the stored history, and writes how many entries there are. The keeper must be neither
+/// started nor spent nor closed; what it stores is unchanged. The source is not passed, so nothing
+/// is read.
 pub fn check<K: Sink, P: Keeper, L: Ledger>(
     alloc: Global,
     store: &str,

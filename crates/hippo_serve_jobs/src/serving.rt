@@ -1,4 +1,4 @@
-//! The lines of the input, one after the other, each with its reply.
+//! Serves the lines of the input, one after another, each with its reply.
 ghost use Rattle.std.specs.Prelude.{◌≡◌, ◌≢◌, ℕ, ◌+◌, ◌<◌, ◌≤◌, List, [], Some, None, option_map, IfNone, IfOk, MatchOption, true, false};
 ghost use Rattle.hippo_io.specs.Faults.{HasRisen};
 ghost use Rattle.hippo_io.specs.HandingOut.{at_beginning, bytes_handed_out, input_limit, HasHandedOut};
@@ -32,7 +32,7 @@ use hippo_values::{LINE_LIMIT, Memory};
 use std::alloc::Global;
 use std::sync::ledger::Ledger;
 
-// Carries out a line and writes its reply; answers how the run ends, where it does.
+// Carries out a line and writes its reply. Returns how the run ends, if it ends here.
 fn carry_out<K: Sink, P: Keeper, L: Ledger>(
     alloc: Global,
     engine: &mut Engine,
@@ -66,8 +66,8 @@ fn carry_out<K: Sink, P: Keeper, L: Ledger>(
     }
 }
 
-// The line that a job asks for where it reads this one. A text that is longer than a line may be is
-// no record.
+// The line that a job asks for when it reads this one. A text that is longer than a line may be is
+// not a record.
 fn asked<'t>(job: &Job, line: Line<'t>, made: &'t mut MadeText) -> Line<'t>
     ensures { line_text result ≡ option_map (asked_line job.now)
         (option_map (counted_line job.now) (line_text line.entry)) }
@@ -93,8 +93,8 @@ fn open(alloc: Global, setting: Setting, state: State) -> Result<Engine, Memory>
     Engine::new(alloc, state, setting.limit, setting.format)
 }
 
-/// A job on its way: an engine, what reads the lines of the input, and the text of the line that
-/// the job makes of one.
+/// A job in progress: an engine, the reader of the input's lines, and the text of the line that the
+/// job makes from one of them.
 #[derive(Drop)]
 pub struct Serving {
     pub alloc: Global,
@@ -104,7 +104,7 @@ pub struct Serving {
 }
 
 impl Serving {
-    /// Begins over a state that was loaded. Nothing is read yet.
+    /// Begins a job over a state that was loaded. Reads nothing yet.
     pub fn begin(alloc: Global, setting: Setting, state: State) -> Result<Serving, Memory>
         ensures state { IfOk result (λ serving. serving.engine.state ≡ state) }
         ensures world { IfOk result (λ serving. world_of serving.engine.world
@@ -130,14 +130,14 @@ impl Serving {
         })
     }
 
-    /// Lets go of all that it holds.
+    /// Drops everything that it holds.
     pub fn close(self) {
         let Serving { engine, .. } = self;
         engine.close();
     }
 
-    // Sets the clock where a job begins with that; answers how the run ends, where it does. Nothing
-    // is read.
+    // Sets the clock if the job begins with that. Returns how the run ends, if it ends here. Reads
+    // nothing.
     fn serve_first<K: Sink, P: Keeper, L: Ledger>(
         &mut self,
         job: &Job,
@@ -180,8 +180,8 @@ impl Serving {
         }
     }
 
-    // Reads the next line and carries out what a job asks for there; answers how the run ends,
-    // where it does.
+    // Reads the next line and carries out what the job asks for. Returns how the run ends, if it
+    // ends here.
     fn serve_line<S: Source, K: Sink, P: Keeper, L: Ledger>(
         &mut self,
         job: &Job,
@@ -233,7 +233,7 @@ impl Serving {
         }
     }
 
-    /// Serves the line that a job begins with, where there is one, and then those that it reads,
+    /// Serves the line with which the job begins, if there is one, and then the lines of the input,
     /// until the input ends or a fault stops it.
     pub fn serve_all<S: Source, K: Sink, P: Keeper, L: Ledger>(
         &mut self,

@@ -1,4 +1,4 @@
--- What the statements do to what a connection tells.
+-- What each statement does to the known contents of a connection.
 use Rattle.std.proofs.Common.{◌≡◌, inl, inr, ℕ, ◌<◌, ◌^◌, List, [], map, false, cond, Ok, Err, Result, IfOk, IsTrue, refl, sym, ap, subst, ◌∙◌, arith}
 use mathlib.Core.Logic.{∥∥₁_map}
 use Rattle.sqlite_value.specs.Order.{Row}
@@ -58,7 +58,7 @@ module _ {S : Type 0} (g : store.Ghosts S)
   abbrev was : Contents
   was = connection_contents g old old opened
 
-  -- it rests, where it is open and tells
+  -- the connection is at rest, if it is open and its contents are known
   abbrev RestsIf : State → Type 0
   RestsIf s = HasCleanDisk s → IsTrue s.is_open → StartsWell (state g opened).now → Rests s
 
@@ -79,7 +79,7 @@ module _ {S : Type 0} (g : store.Ghosts S)
     some = ∣ (entries_of after.committed.schema after.committed.trees, (only_kept is_open rests).survives_stop) ∣₁;
   }
 
-  -- where a read failed, what was told before it is told
+  -- after a read that failed, what was known before is still known
   same_as_told : IsTrue before.is_open → HasCleanDisk after → Rests before → ((trees : Trees) → after.may_leave trees → before.may_leave trees) → IsSame was (connection_contents g new old opened)
   same_as_told was_open clean rests crash = record {
     kept = refl;
@@ -111,7 +111,7 @@ module _ {S : Type 0} (g : store.Ghosts S)
           memory = λ short. absurd cc;
         }
 
-    -- what a stop leaves of an append that failed has some entries
+    -- a stop during an append that failed leaves some list of entries
     left_by_stop : HasCleanDisk after × IsTrue before.is_open × StartsWell (state g opened).now → (trees : Trees) → after.may_leave trees
         → (entries : Store) × (connection_contents g new old opened).survives entries
     left_by_stop t trees leaves =
@@ -227,7 +227,7 @@ pub ok_weaker : {A E : Type 0} (result : Result A E) (P Q : A → Type 0) → ((
 ok_weaker (Ok value) P Q weaker it = weaker value it
 ok_weaker (Err e) P Q weaker it = tt
 
--- ---- the same for what last told
+-- ---- the same, from the last state that is known
 
 module _ {S : Type 0} (g : store.Ghosts S)
     (settled : (s : S) (trees : Trees) → IsTrue (g.view s).is_open → g.recovers s trees → trees ≡ (g.view s).committed)
@@ -251,7 +251,7 @@ module _ {S : Type 0} (g : store.Ghosts S)
       subst (λ t. LooksAtStore result (connection_contents g old t opened) (connection_contents g new told opened)) (sym rests.0)
       (looks_at g settled stays something old new opened text params rests.1 plain survives looked result told (is ∙ ap (λ t. cond (has_failed result) t new) rests.0))
 
-  -- where the store is not asked at all
+  -- the store is not queried at all
   pub look_away : {A : Type 0} (value : A) → LooksAtStore (ok_of value) (connection_contents g old told_before opened) (connection_contents g old told_before opened)
   look_away value = record {
     on = record { told = λ t. t; rests = λ _. rests };
@@ -261,7 +261,7 @@ module _ {S : Type 0} (g : store.Ghosts S)
         record { kept = refl; stop = λ entries it. it; some = ∣ ((connection_contents g old old opened).kept, only.survives_stop) ∣₁ };
   }
 
-  -- the history that is read is the one that is told
+  -- the history that is read is the one that is known
   pub told_history : (connection_contents g old told_before opened).tells → (has : HasHistory (state g old).now) × ((connection_contents g old told_before opened).kept ≡ entries_in (map stored_row has.rows))
   told_history t =
       let open_now = subst (λ (h : Held S). IsTrue (state g h).is_open) rests.0 t.1 in

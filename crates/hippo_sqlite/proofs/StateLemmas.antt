@@ -1,4 +1,4 @@
--- What the statements leave of a connection.
+-- The state in which each statement leaves a connection.
 use Rattle.std.proofs.Common.{◌≡◌, ◌⊎◌, inl, inr, ℕ, ◌+◌, ◌<◌, ◌^◌, pos, List, [], ◌∷◌, ◌++◌, map, false, cond, Option, Some, None, Ok, Err, Result, IsTrue, refl, sym, ap, subst, ◌∙◌, Less, int_cmp, arith}
 use Rattle.std.proofs.lemmas.Bool.{cases_Bool}
 use Rattle.std.proofs.lemmas.Bool.Decides.{nat_tests}
@@ -113,7 +113,7 @@ unfolding FailsToQuery
 query_left sql params old new e (inl h) = not_run_left old new sql params e h
 query_left sql params old new e (inr h) = show_left old new sql h.0 _ e h.0.returning h.2
 
--- ---- what rests goes on resting
+-- ---- a connection at rest stays at rest
 
 rests_with : (old new : State) → Rests old → new.in_transaction ≡ false → new.now ≡ old.committed → new.committed ≡ old.committed → Rests new
 rests_with old new rests autocommit now committed = record {
@@ -139,7 +139,7 @@ no_entries trees = refl
 pub kept_is : (db : Database) (has : HasHistory db) → entries_of db.schema db.trees ≡ entries_in (map stored_row has.rows)
 kept_is db has = ap (λ schema. entries_of schema db.trees) has.schema ∙ entries_at db.trees ∙ ap entries_in has.are
 
--- trees list one schema's tables
+-- two rows that list the same tree describe the same table
 same_table : (row : Row) (a b : Table) → IsTableRow row a → IsTableRow row b → a ≡ b
 same_table row a b is too =
     let trees : a.tree ≡ b.tree = (let ids = sym is.described.id ∙ too.described.id in let ends : a.tree + 1 ≡ b.tree + 1 = cc in omega arith) in
@@ -165,7 +165,7 @@ same_entries a b trees is too =
 abbrev pub insert_command : Command
 insert_command = Insert 0 (Values given 6)
 
--- what can be appended: the next entry
+-- the entry that may be appended: the next one
 pub record IsNext (entry : StoredEntry) (db : Database) : Type 0 where
   pub number : entry.seq ≡ next_number (entries_of db.schema db.trees)
   pub low : entry.seq < 2 ^ 63
@@ -199,7 +199,7 @@ appends old new count entry rests next ran =
       ap (λ (db : Database). entries_of db.schema db.trees) committed ∙ more.1,
     )
 
--- what the statement may commit, if it fails: a database with the entry behind those before
+-- what a failing statement may still commit: a database with the entry after the earlier ones
 pub may_commit : (old : State) (trees : Trees) (entry : StoredEntry) → Rests old → IsNext entry old.committed
     → CommitsBy insert_sql (values_of (row_of entry)) old trees
     → (schema : Schema) × IsSound schema trees × (entries_of schema trees ≡ entries_of old.committed.schema old.committed.trees ++ entry ∷ [])
@@ -218,7 +218,7 @@ may_commit old trees entry rests next commits =
           (write.2.schema, subst (IsSound write.2.schema) (sym write.5) write.4, ap (entries_of write.2.schema) write.5 ∙ more.1)
     ]
 
--- so the entries of what it commits are these
+-- so what it commits has these entries
 pub may_append : (old : State) (trees : Trees) (entry : StoredEntry) (entries : Store) → Rests old → IsNext entry old.committed
     → CommitsBy insert_sql (values_of (row_of entry)) old trees → IsKeptIn trees entries → entries ≡ entries_of old.committed.schema old.committed.trees ++ entry ∷ []
 may_append old trees entry entries rests next commits kept =

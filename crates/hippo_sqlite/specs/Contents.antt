@@ -1,4 +1,4 @@
--- What a keeper tells of the store that it is connected to, and what its calls do to that.
+-- What a connection holds as contracts see it, and what a keeper's calls do to it.
 use Rattle.std.specs.Prelude.{◌≡◌, ◌⊎◌, ◌≤◌, ℕ, Bool, true, false, List, [], ◌∷◌, ◌++◌, codes, find, length, map, Result, OnOk, IfOk, IsTrue, ⊤}
 use Rattle.std.specs.Option.{option_map_or}
 use Rattle.sqlite_trees.specs.declared.store.Store as store
@@ -16,7 +16,7 @@ use Rattle.hippo_keeper.specs.Selecting.{handed_over}
 use Rattle.hippo_keeper.specs.declared.faults.KeeperFault.{KeeperFault}
 use Rattle.hippo_sqlite_table.specs.Tables.{HistoryRow, stored_row, entries_in, AreInOrder, history_schema, empty_schema}
 
--- the entries in a database: those of its table `history`, or none where it has no such table
+-- the entries in a database: those of its table `history`, or none if it has no such table
 abbrev pub entries_of : Schema → Trees → Store
 entries_of schema trees =
     option_map_or (λ table. entries_in (trees table.tree))
@@ -27,34 +27,34 @@ abbrev pub IsKeptIn : Trees → Store → Type 0
 IsKeptIn trees entries =
     (schema : Schema) × IsSound schema trees × (entries ≡ entries_of schema trees)
 
--- the database has the table of the history alone, with rows of its types in the order of their
--- numbers
+-- the database has exactly one table, that of the history; its rows have the table's types and are
+-- ordered by number
 pub record HasHistory (db : Database) : Type 0 where
   pub schema : db.schema ≡ history_schema
   pub rows : List HistoryRow
   pub are : db.trees 0 ≡ map stored_row rows
   pub order : AreInOrder rows
 
--- it has no table, or that of the history alone
+-- the database has no table, or only that of the history
 abbrev pub StartsWell : Database → Type 0
 StartsWell db = (db.schema ≡ empty_schema) ⊎ HasHistory db
 
--- between calls no transaction is begun, and what was committed has the history
+-- between calls: no transaction is open, and what was committed has the history
 pub record Rests (s : State) : Type 0 where
   pub autocommit : s.in_transaction ≡ false
   pub settled : s.now ≡ s.committed
   pub sound : IsDatabase s.committed
   pub history : HasHistory s.committed
 
--- what clauses see of a connection
+-- a connection as contracts see it
 pub record Contents : Type 1 where
   pub tells : Type 0
   pub kept : Store
   pub survives : Survivors
   pub rests : Type 0
 
--- of a connection as it is, as it last told, which is before a call that failed, and as it was
--- opened
+-- the contents of a connection, from three of its states: now, after the last call that did not
+-- fail, and as it was opened
 abbrev pub connection_contents : {S : Type 0} → store.Ghosts S → Held S → Held S → Held S → Contents
 connection_contents g now told opened = record {
   tells = HasCleanDisk (state g now) × IsTrue (state g told).is_open
@@ -66,28 +66,30 @@ connection_contents g now told opened = record {
       → Rests (state g now));
 }
 
--- where there is no connection, nothing is kept
+-- without a connection, nothing is stored
 abbrev pub no_contents : Contents
 no_contents = record { tells = ⊤; kept = []; survives = λ entries. entries ≡ []; rests = ⊤ }
 
--- a stop now leaves just what is kept
+-- exactly the stored list survives a stop now
 pub record OnlyKept (it : Contents) : Type 0 where
   pub survives_stop : it.survives it.kept
   pub alone : (entries : Store) → it.survives entries → entries ≡ it.kept
 
--- the same is kept, no other list survives a stop, and one does
+-- the same list is stored; only lists that survived a stop before may survive one now, and at least
+-- one does
 pub record IsSame (old new : Contents) : Type 0 where
   pub kept : new.kept ≡ old.kept
   pub stop : (entries : Store) → new.survives entries → old.survives entries
   pub some : ∥ ((entries : Store) × new.survives entries) ∥₁
 
--- after any call, unless it failed, the connection rests
+-- after any call: the contents are known only if they were known before, and unless the call
+-- failed, the connection is at rest
 pub record GoesOn {A : Type 0} (result : Result A KeeperFault) (old new : Contents) : Type 0 where
   pub told : new.tells → old.tells
   pub rests : has_failed result ≡ false → new.rests
 
--- an append puts one entry behind what is kept; where it fails, a stop leaves it or not, and where
--- memory is short it does nothing
+-- an append adds one entry after those that are stored; if it fails, the entry may or may not
+-- survive a stop; if it runs out of memory, it does nothing
 pub record AppendsTo {A : Type 0} (entry : StoredEntry) (result : Result A KeeperFault)
     (old new : Contents) : Type 0 where
   pub on : GoesOn result old new
@@ -100,13 +102,13 @@ pub record AppendsTo {A : Type 0} (entry : StoredEntry) (result : Result A Keepe
       → ∥ ((entries : Store) × new.survives entries) ∥₁
   pub memory : wants_memory result ≡ true → new.tells → IsSame old new
 
--- a read changes nothing that is kept
+-- a read changes nothing that is stored
 pub record LooksAtStore {A : Type 0} (result : Result A KeeperFault) (old new : Contents)
     : Type 0 where
   pub on : GoesOn result old new
   pub same : new.tells → IsSame old new
 
--- a read answers what it asks for, and changes nothing that is kept
+-- a read answers what was asked for, and changes nothing that is stored
 pub record HasRead (test : StoredEntry → Bool) (after max : ℕ) (result : Result Store KeeperFault)
     (old new : Contents) : Type 0 where
   pub few : IfOk result (λ list. length list ≤ max)

@@ -1,4 +1,4 @@
--- What a keeper's link tells.
+-- What a keeper's link holds, as contracts see it.
 use Rattle.std.specs.Prelude.{◌≡◌, true, false, [], ⊤}
 use Rattle.sqlite_trees.specs.declared.store.Store.{Ghosts}
 use Rattle.hippo_keeper.specs.MemoryKeeping.{MemoryStore, SurvivesInMemory}
@@ -10,7 +10,8 @@ use Rattle.hippo_sqlite.specs.Contents.{Contents, connection_contents, no_conten
 abbrev pub linked_contents : {S : Type 0} → Ghosts S → Linked S → Contents
 linked_contents g it = connection_contents g it.connection it.told.value it.opened.value
 
--- a keeper in memory tells all, and is at work while no call of it is to fail
+-- the contents of a keeper in memory are known, and it is at rest while none of its calls is to
+-- fail
 abbrev pub memory_contents : MemoryStore → Contents
 memory_contents it = record {
   tells = ⊤;

@@ -1,4 +1,4 @@
--- What a statement did, as a keeper answers it.
+-- What a statement did, as the keeper answers it.
 use Rattle.std.specs.Prelude.{◌≡◌, ◌⊎◌, ℕ, List, [], Result, Ok, Err}
 use Rattle.sqlite_value.specs.Order.{Row}
 use Rattle.sqlite.specs.declared.error.Error.{Error}
@@ -13,7 +13,7 @@ abbrev pub append_result : Result ℕ Error → Result (Unit {0}) KeeperFault
 append_result (Ok count) = Ok tt
 append_result (Err e) = Err (fault_named e)
 
--- a statement was run, and its outcome is answered so
+-- a statement was run, and the result answers its outcome
 pub record HasExecuted (text : List ℕ) (params : Row) (result : Result (Unit {0}) KeeperFault)
     (old new : State) : Type 0 where
   pub ran : HasCleanDisk new
@@ -21,13 +21,14 @@ pub record HasExecuted (text : List ℕ) (params : Row) (result : Result (Unit {
       × (result ≡ append_result outcome)
   pub survives : Survives old new (CommitsBy text params old)
 
--- a query showed rows, or failed
+-- a query returned rows, or failed
 abbrev pub HasLooked : List ℕ → Row → State → State → Type 0
 HasLooked text params old new =
     ((rows : List Row) × Shown text params old new rows)
     ⊎ ((e : Error) × FailsToQuery text params old new e)
 
--- a connection that was opened so has the table of the history, and keeps what was found
+-- a connection opened in this state has the table of the history, and what is stored is what was
+-- found
 pub record IsLinked (opened : State) (it : Contents) : Type 0 where
   pub rests : it.rests
   pub clean : it.tells → HasCleanDisk opened

@@ -1,4 +1,4 @@
--- What a start finds, and what clauses see of a keeper.
+-- What a start finds, and a keeper as contracts see it.
 use Rattle.std.specs.Prelude.{◌≡◌, ℕ, Bool, false, List, [], ◌∷◌}
 use Rattle.sqlite_trees.specs.Tree.{Trees}
 use Rattle.sqlite.specs.declared.error.Error.{Error}
@@ -10,18 +10,19 @@ use Rattle.hippo_keeper.specs.declared.faults.KeeperFault.TheVariants.{Failed, M
 use Rattle.hippo_keeper.specs.declared.standing.Standing.{Standing}
 use Rattle.hippo_sqlite.specs.Contents.{Contents, IsKeptIn, OnlyKept}
 
--- want of memory, and each other refusal of `sqlite`
+-- out of memory is `Memory`, and every other error of `sqlite` is `Failed`
 abbrev pub fault_named : Error → KeeperFault
 fault_named (SqliteFailure code.OutOfMemory) = Memory
 fault_named _ = Failed
 
--- what a start with a name may find: for the empty name a new store, and else what an opener finds
+-- what a start with this name may find: an empty store for the empty name, otherwise what an opener
+-- finds
 abbrev pub finds_by : (List ℕ → Trees → Type 0) → List ℕ → Survivors
 finds_by Finds [] entries = entries ≡ []
 finds_by Finds (byte ∷ name) entries =
     (trees : Trees) × Finds (byte ∷ name) trees × IsKeptIn trees entries
 
--- what clauses see of a keeper whose opener was used or not
+-- a keeper as contracts see it, whose opener was used or not
 abbrev pub sqlite_keeper_state : Standing → Bool → (List ℕ → Survivors) → Contents → KeeperState
 sqlite_keeper_state standing used finds contents = record {
   tells = contents.tells;
@@ -37,8 +38,8 @@ sqlite_keeper_state standing used finds contents = record {
       × (standing.spent ≡ false → contents.rests);
 }
 
--- what is over a store that was found so: where it tells, it keeps what was found, and only that
--- survives
+-- the contents after a start that may find these lists: if they are known, the stored list is one
+-- of these, and only that list survives a stop
 pub record IsStarted (Found : Survivors) (it : Contents) : Type 0 where
   pub rests : it.rests
   pub found : it.tells → Found it.kept

@@ -1,11 +1,11 @@
-//! Why a keeper does not do what `sqlite` refuses.
+//! How an error of `sqlite` becomes a keeper's fault.
 ghost use Rattle.std.specs.Prelude.{◌≡◌};
 ghost use Rattle.hippo_sqlite.specs.Standings.{fault_named};
 
 use hippo_keeper::KeeperFault;
 use sqlite::{Error, ErrorCode};
 
-/// Want of memory, or else a failure.
+/// `Memory` if `sqlite` ran out of memory, `Failed` for every other error.
 pub(crate) fn fault_of(error: Error) -> KeeperFault
     ensures { result ≡ fault_named error }
 {

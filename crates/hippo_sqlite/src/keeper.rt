@@ -12,9 +12,9 @@ use hippo_values::Moment;
 use std::alloc::Global;
 use std::sync::ledger::Ledger;
 
-/// A keeper over the store that its opener connects to, where entries stand in the table `history`;
-/// or, where the store has no name, in memory. Each refusal of `sqlite` but for memory is a counted
-/// failure.
+/// A keeper over the store that its opener connects to, with the entries in the table `history`. If
+/// the store has no name, the keeper is in memory. Every error of `sqlite`, except running out of
+/// memory, is counted as a failure.
 #[derive(Drop)]
 pub struct SqliteKeeper<O: Opener> {
     opener: O,
@@ -23,7 +23,7 @@ pub struct SqliteKeeper<O: Opener> {
 }
 
 impl<O: Opener> SqliteKeeper<O> {
-    /// A keeper that is not started.
+    /// A keeper that has not been started.
     pub fn new(opener: O) -> SqliteKeeper<O>
         requires { O.used opener ≡ false }
         ensures ready { IsReady false (⟦<SqliteKeeper<O> as Keeper>⟧.state result) }
@@ -38,7 +38,7 @@ impl<O: Opener> SqliteKeeper<O> {
         }
     }
 
-    // Connects to the store with a name.
+    // Connects to the store with this name.
     fn connect(&mut self, alloc: Global, name: &str) -> Result<Link<O::Base>, KeeperFault>
         requires { O.used self.old.opener ≡ false }
         ensures standing { self.new.standing ≡ self.old.standing }
@@ -54,7 +54,7 @@ impl<O: Opener> SqliteKeeper<O> {
         Link::opened(connection)
     }
 
-    // Connects to the store with a name, and keeps the connection.
+    // Connects to the store with this name, and stores the connection.
     fn join(&mut self, alloc: Global, name: &str) -> Result<(), KeeperFault>
         requires { O.used self.old.opener ≡ false }
         ensures standing { self.new.standing ≡ self.old.standing }

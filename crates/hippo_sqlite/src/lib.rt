@@ -1,4 +1,5 @@
-//! The history in a SQLite store: a keeper over a file or over memory, and what opens its store.
+//! The history in a SQLite store: a keeper over a file or over memory, and the openers that connect
+//! it to its store.
 #![tactic(auto)]
 
 mod faults;

@@ -26,20 +26,20 @@ use std::alloc::Global;
 use std::snapshot::Snapshot;
 use std::sync::ledger::Ledger;
 
-// No number of an entry is this one or above it.
+// Every entry's number is below this one.
 const NUMBERS: u64 = 1 << 63;
 
-/// A connection to a store that has the table of the history.
+/// A connection to a store that has the table `history`.
 #[derive(Drop)]
 pub(crate) struct Linked<S: Alter + Drop> {
     connection: Connection<S>,
-    // As the last call left it that did not fail.
+    // The connection after the last call that did not fail.
     told: Snapshot<Connection<S>>,
-    // As it was opened.
+    // The connection as it was opened.
     opened: Snapshot<Connection<S>>,
 }
 
-/// Where the entries are: in memory, or in a store that an opener found.
+/// Where the entries are: in memory, or in a store that an opener connected to.
 #[derive(Drop)]
 pub(crate) enum Link<S: Alter + Drop> {
     Absent,
@@ -47,7 +47,7 @@ pub(crate) enum Link<S: Alter + Drop> {
     Opened(Linked<S>),
 }
 
-// Keeps one more entry.
+// Stores one more entry.
 fn keep<S: Alter>(connection: &mut Connection<S>, entry: &StoredEntry) -> Result<(), KeeperFault>
     requires { entry.now.seq < 2 ^ 63 }
     ensures executed { HasExecuted insert_sql (values_of (row_of entry.now)) result
@@ -60,7 +60,7 @@ fn keep<S: Alter>(connection: &mut Connection<S>, entry: &StoredEntry) -> Result
     }
 }
 
-// The kept entries that are sought.
+// The stored entries that the read query asks for.
 fn find<S: Alter>(
     connection: &mut Connection<S>,
     alloc: Global,
@@ -94,8 +94,8 @@ fn find<S: Alter>(
     }
 }
 
-// Whether a database is another program's: it has tables or views, and no table with the name of
-// the history's.
+// Whether the database belongs to another program: it has tables or views, and no table named
+// `history`.
 fn is_foreign(schema: &Schema) -> bool
     ensures { result ≡ is_foreign schema.now }
 {
@@ -104,8 +104,8 @@ fn is_foreign(schema: &Schema) -> bool
 }
 
 impl<S: Alter + Drop> Linked<S> {
-    /// The store of a new connection, where the table of the history is made if there is none. The
-    /// database of another program is refused, and nothing is written to it.
+    /// The store of a new connection. Creates the table `history` if there is none. Refuses the
+    /// database of another program, and writes nothing to it.
     fn new(mut connection: Connection<S>) -> Result<Linked<S>, KeeperFault>
         requires { HasCleanDisk (state S.Store connection)
             → Opens (state S.Store connection) × IsLive (state S.Store connection) }
@@ -129,7 +129,7 @@ impl<S: Alter + Drop> Linked<S> {
         }
     }
 
-    // Notes how the connection is, unless the call failed.
+    // Records the state of the connection, unless the call failed.
     fn note<T>(&mut self, answer: &Result<T, KeeperFault>)
         ensures connection { self.new.connection ≡ self.old.connection }
         ensures told { self.new.told.value
@@ -142,7 +142,7 @@ impl<S: Alter + Drop> Linked<S> {
         self.told = Snapshot::of(&self.connection);
     }
 
-    /// Keeps one more entry.
+    /// Stores one more entry.
     fn append(&mut self, entry: &StoredEntry) -> Result<(), KeeperFault>
         requires number { entry.now.seq < 2 ^ 63 }
         requires rests { (linked_contents S.Store self.old).rests }
@@ -156,7 +156,7 @@ impl<S: Alter + Drop> Linked<S> {
         answer
     }
 
-    /// The kept entries that are sought.
+    /// Returns the stored entries that the read query asks for.
     fn read(&mut self, alloc: Global, read_query: &ReadQuery<'_>) -> ReadResult
         requires limit { read_query.now.max ≤ 1000 }
         requires rests { (linked_contents S.Store self.old).rests }
@@ -188,8 +188,8 @@ impl<S: Alter + Drop> Link<S> {
         }
     }
 
-    /// The store of a connection, where the table of the history is made if there is none. The
-    /// database of another program is refused.
+    /// The store of a connection. Creates the table `history` if there is none. Refuses the
+    /// database of another program.
     pub(crate) fn opened(connection: Connection<S>) -> Result<Link<S>, KeeperFault>
         requires { HasCleanDisk (state S.Store connection)
             → Opens (state S.Store connection) × IsLive (state S.Store connection) }
@@ -206,7 +206,7 @@ impl<S: Alter + Drop> Link<S> {
         }
     }
 
-    /// Keeps one more entry.
+    /// Stores one more entry.
     pub(crate) fn append(&mut self, alloc: Global, entry: StoredEntry) -> Result<(), KeeperFault>
         requires number { entry.seq < 2 ^ 63 }
         requires rests { (link_contents S.Store self.old).rests }
@@ -222,7 +222,8 @@ impl<S: Alter + Drop> Link<S> {
         }
     }
 
-    /// The kept entries that are sought; each version among them is a step.
+    /// Returns the stored entries that the read query asks for. Each version among them counts as
+    /// one step.
     pub(crate) fn read<L: Ledger>(
         &mut self,
         alloc: Global,
@@ -242,7 +243,8 @@ impl<S: Alter + Drop> Link<S> {
         }
     }
 
-    /// The first kept questions of a period above a number.
+    /// Returns the first `max` questions with a number above `after` that were asked between `from`
+    /// and `to`, both included.
     pub(crate) fn read_asked(
         &mut self,
         alloc: Global,

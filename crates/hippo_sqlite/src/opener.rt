@@ -1,4 +1,4 @@
-//! What connects a keeper to its store.
+//! The openers, which connect a keeper to its store.
 ghost use Rattle.std.specs.Prelude.{◌≡◌, ℕ, List, Bool, true, false, not, is_some, IfOk, IfSome};
 ghost use Rattle.sqlite_trees.specs.Tree.{Trees};
 ghost use Rattle.sqlite_wal.specs.Files.{image_at};
@@ -14,17 +14,18 @@ use sqlite_disk::Disk;
 use std::alloc::Global;
 use std::rt::HostRuntime;
 
-/// What connects a keeper to a store, once.
+/// Connects a keeper to a store, once.
 pub trait Opener {
     type Base: Alter + Drop;
 
-    // Whether it was asked for a connection.
+    // Whether `connect` was called.
     ghost used: { Self → Bool };
 
-    // Which trees it may find in the store with a name.
+    // The trees that it may find in the store with this name.
     ghost finds: { Self → List ℕ → Trees → Type 0 };
 
-    /// A connection to the store with a name. Each refusal of `sqlite` but for memory is a failure.
+    /// Returns a connection to the store with this name. Every error of `sqlite`, except running
+    /// out of memory, is answered as `Failed`.
     fn connect(&mut self, alloc: Global, name: &str) -> Result<Connection<Self::Base>, KeeperFault>
         requires { used self.old ≡ false }
         ensures used { used self.new ≡ true }
@@ -34,9 +35,9 @@ pub trait Opener {
             → finds self.old name.now (state Self.Base.Store c).committed.trees) };
 }
 
-/// Opens the file with a name, or makes it. Of a disk it is supposed that a write which a power cut
-/// breaks off leaves each byte of its range old or new, and all others as they were; so most
-/// commits sync once.
+/// Opens the file with this name, or creates it. We assume that when a power cut interrupts a
+/// write, the disk leaves each byte of the written range either old or new, and all other bytes
+/// unchanged. Most commits therefore sync once.
 #[derive(Drop)]
 pub struct FileOpener {
     runtime: HostRuntime,
@@ -44,7 +45,7 @@ pub struct FileOpener {
 }
 
 impl FileOpener {
-    /// An opener of files.
+    /// An opener of files that has not been used.
     pub fn new(runtime: HostRuntime) -> FileOpener
         ensures { result.used ≡ false }
     {
@@ -75,7 +76,8 @@ impl Opener for FileOpener {
     }
 }
 
-/// Opens the database that two disks hold, a log and a file, whatever the name is.
+/// Opens the database that two disks hold, one for the log and one for the file. It ignores the
+/// name.
 #[derive(Drop)]
 pub struct DisksOpener<F> {
     files: Option<F>,

@@ -14,15 +14,15 @@ use std::alloc::Global;
 use std::rt::HostRuntime;
 use std::sync::ledger::Ledger;
 
-/// A keeper over the SQLite file with the name of its start, which is made where there is none; or
-/// over a store in memory, where that name is empty.
+/// A keeper over the SQLite file whose name is given to `start`. The file is created if there is
+/// none. If the name is empty, the store is in memory.
 #[derive(Drop)]
 pub struct FileKeeper {
     keeper: SqliteKeeper<FileOpener>,
 }
 
 impl FileKeeper {
-    /// A keeper that is not started. Its start finds what the file with that name and its log
+    /// A keeper that has not been started. Its start finds what the file with that name and its log
     /// recover to.
     pub fn new(runtime: HostRuntime) -> FileKeeper
         ensures ready { IsReady false (⟦<FileKeeper as Keeper>⟧.state result) }
@@ -36,7 +36,7 @@ impl FileKeeper {
         }
     }
 
-    /// Lets go of its files.
+    /// Closes the files.
     pub fn close(self) {
         drop(self);
     }

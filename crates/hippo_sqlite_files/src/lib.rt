@@ -1,5 +1,5 @@
-//! The keeper of the programs: what keeps the history in files, as one type without parameters, so
-//! that its calls are made of their generic ones once, and not in each program.
+//! The keeper that the programs use: it stores the history in files. It is one type without
+//! parameters, so that its calls are compiled once, and not again in each program.
 #![tactic(auto)]
 
 mod file_keeper;

@@ -1,4 +1,4 @@
--- What the statements that write make of the table.
+-- What the statements that write do to the table.
 use Rattle.std.proofs.Common.{◌≡◌, ◌⊎◌, inl, inr, ℕ, ℤ, List, [], ◌∷◌, ◌++◌, map, Bool, true, false, cond, Option, None, Ok, Err, Result, refl, sym, ap, subst, ◌∙◌, Less, int_cmp}
 use Rattle.std.specs.List.{AllByRecursion}
 use Rattle.sqlite_value.specs.declared.value.Value.{Value}
@@ -38,12 +38,12 @@ cast_int n = either _ (Int n)
 cast_stored : (row : HistoryRow) → cast_row history_table (stored_row row) ≡ stored_row row
 cast_stored row = λ i. cast_int row.number i ∷ cast_null i ∷ cast_int row.moment i ∷ cast_int row.kind i ∷ Text row.table ∷ Blob row.body ∷ []
 
--- a row above all others is put behind them
+-- a row above all others is added after them
 put_last : (new : HistoryRow) (rows : List HistoryRow) → AllByRecursion (λ row. int_cmp row.number new.number ≡ Less) rows → put_row (stored_row new) (map stored_row rows) ≡ map stored_row (rows ++ new ∷ [])
 put_last new [] low = refl
 put_last new (row ∷ rows) low = rw (value_cmp-Int row.number new.number, low.0) (ap (λ rest. stored_row row ∷ rest) (put_last new rows low.1))
 
--- a part that gave a value did not stop on the way
+-- a part that gave a value did not stop early
 went : {B E R : Type 0} {b : B} {Stops : E → Type 0} → ((stop : E) × Stops stop × (Ok b ≡ Err stop)) ⊎ R → R
 went (inl stopped) = absurd (let e = stopped.2 in cc)
 went (inr on) = on
@@ -51,7 +51,7 @@ went (inr on) = on
 same_value : {B E : Type 0} {a b : B} → ◌≡◌ {A = Result B E} (Ok a) (Ok b) → a ≡ b
 same_value e = cc
 
--- what INSERT makes of rows that are below the new one
+-- what INSERT does to rows that are below the new one
 pub inserts : (limit : Option ℕ) (mode : Mode) (old after : Database) (text : List ℕ) (tally : Tally) (rows : List HistoryRow) (new : HistoryRow)
     → old.schema ≡ history_schema → old.trees 0 ≡ map stored_row rows → AllByRecursion (λ row. int_cmp row.number new.number ≡ Less) rows
     → Does limit mode (values_of new) old text None (Insert 0 (Values given 6)) (Ok (tally, after))
@@ -74,7 +74,7 @@ inserts limit mode old after text tally rows new has are low does =
     ∙ put_last new rows low in
     (ap (λ (d : Database). d.schema) now, ap (λ (d : Database). d.trees 0) now ∙ ap (λ (t : Trees). t 0) trees ∙ put ∙ edit)
 
--- what CREATE TABLE makes of an empty store
+-- what CREATE TABLE does to an empty store
 pub creates : (limit : Option ℕ) (mode : Mode) (params : Row) (old after : Database) (tally : Tally)
     → old.schema ≡ empty_schema → Does limit mode params old create_sql None CreateTable (Ok (tally, after))
     → (after.schema ≡ history_schema) × (after.trees 0 ≡ [])

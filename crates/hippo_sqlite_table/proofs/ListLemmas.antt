@@ -1,4 +1,4 @@
--- One more entry behind those so far.
+-- Adding one more entry after the ones so far.
 use Rattle.std.proofs.Common.{◌≡◌, ◌∙◌, ℕ, zero, suc, ◌+◌, ◌<◌, ◌≤◌, pos, List, [], ◌∷◌, ◌++◌, length, map, take, drop, get_or, refl, sym, ap, ap₂, subst, arith, add-one, Less, int_cmp}
 use Rattle.std.proofs.Math.Seq.{take-length}
 use Rattle.std.proofs.lemmas.List.{length-map, length-take, map-append}
@@ -16,7 +16,7 @@ pub last_of_more : (number : ℕ) (list : List StoredEntry) (entry : StoredEntry
 last_of_more number [] entry = refl
 last_of_more number (first ∷ rest) entry = last_of_more first.seq rest entry
 
--- an entry above the last one can stand behind them
+-- an entry above the last one may be added after it
 pub rises_with : (after last number : ℕ) (list longer : List StoredEntry) (entry : StoredEntry) → RisesAbove after list → last ≡ last_number after list → last < number → entry.seq ≡ number → longer ≡ list ++ entry ∷ []
     → RisesAbove after longer × (number ≡ last_number after longer)
 rises_with after last number list longer entry rises is above seq more =
@@ -28,13 +28,13 @@ entry_of row = entry_in (stored_row row)
 abbrev pub IsTold : ℕ → ℕ → List Row → List StoredEntry → Type 0
 IsTold after max rows list = (written : List HistoryRow) → rows ≡ map shown_row written → AreAbove (pos after) written → length written ≤ max → list ≡ map entry_of written
 
--- the entries of the rows so far, where these are rows of the table
+-- the entries of the rows so far, if these are rows of the table
 abbrev pub IsSoFar : ℕ → ℕ → List Row → List StoredEntry → ℕ → ℕ → Type 0
 IsSoFar after max rows list last place =
     (written : List HistoryRow) → rows ≡ map shown_row written → AreAbove (pos after) written → length written ≤ max
     → (list ≡ map entry_of (take place written)) × AreAbove (pos last) (drop place written)
 
--- the row at a place, between those before it and those behind it
+-- the row at an index, between the rows before it and after it
 record AtRow (written : List HistoryRow) (row : Row) (place : ℕ) : Type 0 where
   w : HistoryRow
   is : row ≡ shown_row w
@@ -66,7 +66,7 @@ one_more_row after max place last number rows row list longer entry inside is so
     let next : AreAbove (pos number) (drop (suc place) written) = record { rise = here.rise.1; high = subst (λ n. AllByRecursion (λ (other : HistoryRow). int_cmp n other.number ≡ Less) (drop (suc place) written)) (sym same) here.rise.0 } in
     rw add-one (more ∙ ap₂ (λ front last. front ++ last ∷ []) was.0 (read it.w it.is number_is) ∙ sym (map-append entry_of (take place written) (it.w ∷ [])) ∙ ap (map entry_of) (sym it.taken), next)
 
--- no more are taken, so there are no more
+-- no more rows are taken because there are no more
 pub full_is_told : (after max place last : ℕ) (rows : List Row) (list : List StoredEntry) → place < length rows → length list ≡ max → IsSoFar after max rows list last place → IsTold after max rows list
 full_is_told after max place last rows list inside full so_far written are above few =
     let was = so_far written are above few in

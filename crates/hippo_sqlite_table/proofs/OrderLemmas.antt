@@ -87,7 +87,7 @@ starts_case true row rows is above rising rises =
     (some, rises_from (number_in (Int row.number)) rows (subst (λ n. Above n rows) (sym (positive row.number some)) above) rising)
 starts_case false row rows is above rising rises = rises
 
--- the entries of rows in order rise from above 0
+-- the numbers of the entries of ordered rows rise from above 0
 pub entries_rise : (rows : List HistoryRow) → Rising rows → RisesAbove 0 (entries_in (map stored_row rows))
 entries_rise [] rising = tt
 entries_rise (row ∷ rows) rising = starts_case (nat_lt 0 (number_in (Int row.number))) row rows refl rising.0 rising.1 (entries_rise rows rising.1)
@@ -97,7 +97,7 @@ pub next_above : (rows : List HistoryRow) (number : ℕ) → Rising rows → num
 next_above rows number rising is =
     subst (λ n. Below (pos n) rows) (sym is) (rows_below rows _ (omega arith) (at_most_last 0 (entries_in (map stored_row rows)) (entries_rise rows rising)))
 
--- ---- one row more
+-- ---- one more row
 
 all_more : (number : ℤ) (rows : List HistoryRow) (new : HistoryRow) → Below number rows → int_cmp new.number number ≡ Less → Below number (rows ++ new ∷ [])
 all_more number [] new below less = (less, tt)
@@ -114,7 +114,7 @@ rising_more (row ∷ rows) new rising below = (above_more row.number rows new ri
 pub in_order_more : (rows : List HistoryRow) (new : HistoryRow) → AreInOrder rows → Below new.number rows → int_cmp new.number (pos (2 ^ 63)) ≡ Less → AreInOrder (rows ++ new ∷ [])
 in_order_more rows new order below low = record { rise = rising_more rows new order.rise below; low = all_more (pos (2 ^ 63)) rows new order.low low }
 
--- the entry that was written is read again
+-- the entry that was written is the one that is read back
 pub read_again : (entry : StoredEntry) → entry.kind < 256 → entry_in (stored_row (row_of entry)) ≡ entry
 read_again entry fits = λ i. record { seq = entry.seq; moment = entry.moment; kind = again i; table = entry.table; body = entry.body }
   where
@@ -130,7 +130,7 @@ pub entries_more : (rows : List HistoryRow) (entry : StoredEntry) → entry.kind
 entries_more [] entry fits some = rw (is_above 0 entry.seq some) (ap (λ e. e ∷ []) (read_again entry fits))
 entries_more (row ∷ rows) entry fits some = entries_case (nat_lt 0 (number_in (Int row.number))) (entry_in (stored_row row)) entry _ _ (entries_more rows entry fits some)
 
--- ---- what is handed over
+-- ---- what is returned
 
 filter_both : {A : Type 0} (first second : A → Bool) (xs : List A) → filter second (filter first xs) ≡ filter (λ x. first x && second x) xs
 filter_both first second [] = refl

@@ -1,4 +1,4 @@
--- What a query shows is what a read asks for.
+-- A query returns what a read asks for.
 use Rattle.std.proofs.Common.{◌≡◌, ◌∙◌, ℕ, zero, suc, ◌≤◌, ℤ, pos, negsuc, List, [], ◌∷◌, map, filter, take, length, Bool, true, false, cond, nat_lt, ◌&&◌, refl, sym, Less, int_cmp, arith}
 use Rattle.std.proofs.lemmas.Bool.Decides.{nat_tests}
 use Rattle.std.proofs.lemmas.List.{take-map, length-take}
@@ -27,7 +27,7 @@ shown_is selection old new after max rows found schema are order shown =
     let read = reads_as (read_sql selection) params old new history_schema schema (select (query (terms_of selection) (limit_of selection))) (read_is selection) (read_plain selection) (no_listing selection) found shown in
     shows (terms_of selection) (limit_of selection) params old.now.trees max (passes selection after) rows found are order.rise (passes_terms selection after max) (limit_is selection after max) (read.answer Null)
 
--- ---- the rows that are shown are above the number, in order
+-- ---- the rows that are returned are above the number, in order
 
 above_number : (n : ℤ) (after : ℕ) → nat_lt after (number_in (Int n)) ≡ true → int_cmp (pos after) n ≡ Less
 above_number (pos n) after test = grind (arith, nat_tests)
@@ -59,7 +59,7 @@ rising_taken zero rows rising = tt
 rising_taken (suc max) [] rising = tt
 rising_taken (suc max) (row ∷ rows) rising = (all_taken (λ other. int_cmp row.number other.number ≡ Less) max rows rising.0, rising_taken max rows rising.1)
 
--- the entries of what is shown are those that are asked for
+-- the entries of the returned rows are those that were asked for
 pub told_by : (selection : Selection) (old new : State) (after max : ℕ) (rows : List HistoryRow) (found : List Row) (list : List StoredEntry) → old.now.schema ≡ history_schema → old.now.trees 0 ≡ map stored_row rows → AreInOrder rows
     → Shown (read_sql selection) (params_of selection after max) old new found
     → ((written : List HistoryRow) → found ≡ map shown_row written → AreAbove (pos after) written → length written ≤ max → list ≡ map (λ row. entry_in (stored_row row)) written)

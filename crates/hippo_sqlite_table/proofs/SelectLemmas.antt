@@ -1,4 +1,4 @@
--- What the queries show of the table.
+-- What the queries return from the table.
 use Rattle.std.proofs.Common.{◌≡◌, ◌∙◌, ℕ, pos, List, [], ◌∷◌, ◌++◌, map, filter, take, flat_map, Bool, true, false, cond, refl, ap, subst, Less, int_cmp, IsPermutation}
 use Rattle.std.specs.List.{list_all}
 use Rattle.sqlite_value.specs.declared.value.Value.TheVariants.{Int}
@@ -33,7 +33,7 @@ matched terms params test (row ∷ rows) tests = one _ (test row) params row (fi
 above : (terms : List Term) (limit : Term) (a b : HistoryRow) → int_cmp a.number b.number ≡ Less → output_cmp (query terms limit) (out a) (out b) ≡ Less
 above terms limit a b less = then-Equal _ ∙ value_cmp-Int a.number b.number ∙ less
 
--- the rows that pass, in the order of their numbers, as many as are asked for
+-- the rows that pass, ordered by number, up to the limit
 pub shows : (terms : List Term) (limit : Term) (params : Row) (trees : Trees) (max : ℕ) (test : HistoryRow → Bool) (rows : List HistoryRow) (found : List Row)
     → trees 0 ≡ map stored_row rows → IsAscending (λ a b. int_cmp a.number b.number ≡ Less) rows
     → ((row : HistoryRow) → list_all (holds (env_of params row)) terms ≡ test row)

@@ -1,4 +1,4 @@
--- The conditions of the queries say of a row what the tests say of its entry.
+-- The conditions of the queries on a row agree with the tests on its entry.
 use Rattle.std.proofs.Common.{◌≡◌, ◌∙◌, ℕ, ℤ, pos, negsuc, List, [], ◌∷◌, nat_lt, ◌==◌, int_le, bytes_eq, Bool, true, false, ◌&&◌, ◌||◌, refl, ap, int_cmp, arith}
 use Rattle.std.proofs.lemmas.Bool.Decides.{nat_tests}
 use Rattle.std.proofs.lemmas.Map.Text.{is_eq-slice_cmp}
@@ -85,7 +85,7 @@ moved true false c false = refl
 moved false b c true = refl
 moved false b c false = refl
 
--- the rows that a read is about
+-- the rows that a read selects
 abbrev pub passes : Selection → ℕ → HistoryRow → Bool
 passes selection after row = nat_lt after (entry_in (stored_row row)).seq && is_selected selection (entry_in (stored_row row))
 
@@ -99,7 +99,7 @@ passes_terms (AskedIn from to) after max row =
     (λ i. (compare_int Eq row.kind (pos 13) ∙ is_question row.kind) i && ((compare_int Ge row.moment from ∙ reaches row.moment from) i && ((compare_int Le row.moment to ∙ within row.moment to) i && ((compare_int Gt row.number (pos after) ∙ is_above row.number after) i && true))))
     ∙ moved (kind_in (Int row.kind) == 13) (int_le from row.moment) (int_le row.moment to) (nat_lt after (number_in (Int row.number)))
 
--- how many rows it may show
+-- how many rows it may return
 pub limit_is : (selection : Selection) (after max : ℕ) → eval (limit_of selection) (params_of selection after max ∷ []) ≡ Int (pos max)
 limit_is All after max = refl
 limit_is (VersionsOf table) after max = refl

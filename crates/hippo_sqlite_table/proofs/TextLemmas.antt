@@ -56,7 +56,7 @@ pub insert_is : command_of (understood history_schema insert_sql) ≡ Insert 0 (
 unfolding understood everything
 insert_is = refl
 
--- what a read filters by, and which parameter says how many rows it may show
+-- the terms by which a read filters, and the parameter that limits its rows
 abbrev pub terms_of : Selection → List Term
 terms_of All = compared (Compare Gt Binary) 0 0 ∷ []
 terms_of (VersionsOf table) =

@@ -1,4 +1,4 @@
--- The statements of the keeper, and what its reads ask for.
+-- The keeper's SQL statements, and what its reads ask for.
 use Rattle.std.specs.Prelude.{ℕ, ℤ, pos, List, [], ◌∷◌, codes, Result, IfOk, IfErr, Vec}
 use Rattle.std.specs.declared.alloc.Global.{Global}
 use Rattle.sqlite_value.specs.declared.value.Value.TheVariants.{Int, Text}
@@ -27,13 +27,14 @@ abbrev pub questions_sql : List ℕ
 questions_sql =
     codes "SELECT seq, moment, kind, tbl, body FROM history WHERE kind = 13 AND moment >= ?1 AND moment <= ?2 AND seq > ?3 ORDER BY seq LIMIT ?4"
 
--- the statement of a read
+-- the SQL text of a read
 abbrev pub read_sql : Selection → List ℕ
 read_sql All = all_sql
 read_sql (VersionsOf table) = versions_sql
 read_sql (AskedIn from to) = questions_sql
 
--- the parameters of a read of versions, and of questions, for so many rows above a number
+-- the parameters of a read of versions, and then of questions, for up to `max` rows with a number
+-- above `after`
 abbrev pub versions_params : List ℕ → ℕ → ℕ → Row
 versions_params table after max = Text table ∷ Int (pos after) ∷ Int (pos max) ∷ []
 
@@ -45,7 +46,7 @@ params_of All after max = Int (pos after) ∷ Int (pos max) ∷ []
 params_of (VersionsOf table) after max = versions_params table.now after max
 params_of (AskedIn from to) after max = asked_params from to after max
 
--- what a query did: it showed rows or failed, and a stop may leave what it may commit
+-- what a query did: it returned rows or failed, and a stop leaves only what the query may commit
 pub record HasQueried (text : List ℕ) (params : Row) (result : Result (Vec Row Global) Error)
     (old new : State) : Type 0 where
   pub ok : HasCleanDisk new → IfOk result (λ rows. Shown text params old new rows.items)

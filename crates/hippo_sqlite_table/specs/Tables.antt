@@ -22,7 +22,7 @@ use Rattle.sqlite_schema.specs.declared.schema.Kind.TheVariants.{Integer, Text, 
 abbrev pub needed_column : List ℕ → Kind → Column
 needed_column name kind = record (plain name kind) { not_null = true }
 
--- the table that the keeper makes in a store with no other
+-- the table that the keeper creates in an empty store
 abbrev pub history_table : Table
 history_table = record {
   name = codes "history";
@@ -47,8 +47,8 @@ history_schema = record { tables = history_table ∷ []; indexes = []; views = [
 abbrev pub empty_schema : Schema
 empty_schema = record { tables = []; indexes = []; views = [] }
 
--- the database of another program: it has tables, or what `sqlite` lists as views, and no table
--- with the history's name
+-- the database of another program: it has tables, or views as `sqlite` lists them, and no table
+-- named `history`
 abbrev pub is_foreign : Schema → Bool
 is_foreign schema =
     not (length schema.tables == 0 && length schema.views == 0)
@@ -62,16 +62,16 @@ pub record HistoryRow : Type 0 where
   pub table : List ℕ
   pub body : List ℕ
 
--- as a query shows it
+-- the row as a query returns it
 abbrev pub shown_row : HistoryRow → Row
 shown_row row =
     Int row.number ∷ Int row.moment ∷ Int row.kind ∷ Words row.table ∷ Bytes row.body ∷ []
 
--- as a statement is given it
+-- the row as a statement takes it
 abbrev pub values_of : HistoryRow → Row
 values_of row = shown_row row
 
--- as the table has it: first its rowid, for which the first column stands
+-- the row as the table stores it: its rowid comes first and is the value of the first column
 abbrev pub stored_row : HistoryRow → Row
 stored_row row =
     Int row.number ∷ Null ∷ Int row.moment ∷ Int row.kind ∷ Words row.table ∷ Bytes row.body ∷ []
@@ -86,7 +86,7 @@ row_of entry = record {
   body = entry.body;
 }
 
--- a kind is from 0 to 255, and any other number is read as 0
+-- a kind is from 0 to 255; any other number is read as 0
 abbrev pub kind_in : Value → ℕ
 kind_in value = if nat_lt (number_in value) 256 then number_in value else 0
 
@@ -99,16 +99,16 @@ entry_in row = record {
   body = bytes (column row 5);
 }
 
--- the entries of the rows whose number is above 0
+-- the entries of the rows, if their number is above 0
 abbrev pub entries_in : List Row → Store
 entries_in rows = filter (λ entry. nat_lt 0 entry.seq) (map entry_in rows)
 
--- rows of the table's types, in the order of their numbers, which have 64 bits
+-- rows of the table's types, ordered by number; every number is below 2 ^ 63
 pub record AreInOrder (rows : List HistoryRow) : Type 0 where
   pub rise : IsAscending (λ a b. int_cmp a.number b.number ≡ Less) rows
   pub low : AllByRecursion (λ row. int_cmp row.number (pos (2 ^ 63)) ≡ Less) rows
 
--- rows in the order of their numbers, which are above this one
+-- rows ordered by number, all above this number
 pub record AreAbove (number : ℤ) (rows : List HistoryRow) : Type 0 where
   pub rise : IsAscending (λ a b. int_cmp a.number b.number ≡ Less) rows
   pub high : AllByRecursion (λ row. int_cmp number row.number ≡ Less) rows

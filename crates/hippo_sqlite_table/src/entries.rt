@@ -1,4 +1,4 @@
-//! The entries that rows of the table stand for.
+//! The entries that the rows of the table hold.
 ghost use Rattle.std.specs.Prelude.{◌≡◌, ℕ, ◌≤◌, ◌<◌, ℤ, pos, List, length, map, Some, option_copied, IfOk, IfSome};
 ghost use Rattle.std.specs.declared.cmp.Ordering.TheVariants.{Less};
 ghost use Rattle.std.specs.Ordering.{int_cmp};
@@ -32,7 +32,7 @@ impl From<Memory> for RowFault {
 }
 
 impl RowFault {
-    /// What a keeper answers for it: a failure, or want of memory.
+    /// The keeper's answer: `Failed` if the text is not UTF-8, `Memory` when out of memory.
     pub fn fault(self) -> KeeperFault
         ensures text { self ≡ faults.NotText → result ≡ KeeperFault.Failed }
         ensures memory { self ≡ faults.Memory → result ≡ KeeperFault.Memory }
@@ -73,7 +73,7 @@ fn bytes_at(row: &Row, place: usize) -> Option<&[u8]>
     }
 }
 
-// The number of a row above another number.
+// The number of a row, if it is above `last`.
 fn number_above(row: &Row, last: u64) -> Option<u64>
     ensures above { IfSome result (λ number. last < number) }
     ensures told { (written : HistoryRow) → row.now ≡ shown_row written
@@ -84,7 +84,7 @@ fn number_above(row: &Row, last: u64) -> Option<u64>
     if number > last { Some(number) } else { None }
 }
 
-// The kind of an entry, or 0 where the number is none.
+// The kind of an entry, or 0 if the number is not a kind.
 fn kind_of(kind: i64) -> u8
     ensures { result ≡ kind_in (Int kind) }
 {
@@ -94,7 +94,7 @@ fn kind_of(kind: i64) -> u8
     }
 }
 
-// The entry of a row with a number; none where the row has another shape.
+// The entry in a row, with this number. `None` if the row has another shape.
 fn entry_of(alloc: Global, number: u64, row: &Row) -> Result<Option<StoredEntry>, RowFault>
     ensures numbered { IfOk result (λ found. IfSome found (λ entry. entry.seq ≡ number)) }
     ensures told { IfOk result (λ found. (written : HistoryRow) → row.now ≡ shown_row written
@@ -119,8 +119,9 @@ fn entry_of(alloc: Global, number: u64, row: &Row) -> Result<Option<StoredEntry>
     }))
 }
 
-/// The entries of the first so many rows, up to the first that is bad: whose values are not three
-/// integers, a text and a blob, or whose number is not above this one and those before it.
+/// Returns the entries of up to `max` rows, and stops before the first bad row. A row is bad if its
+/// values are not three integers, a text and a blob, or if its number is not above `after` and
+/// above all earlier numbers.
 pub fn entries_of(alloc: Global, rows: &[Row], after: u64, max: u64) -> Result<StoredList, RowFault>
     ensures few { IfOk result (λ list. length list ≤ max) }
     ensures order { IfOk result (RisesAbove after) }

@@ -1,5 +1,5 @@
-//! The table of the history in a SQLite store: the statements that make it, add to it and read it,
-//! what they do, and the entries that its rows stand for.
+//! The table of the history in a SQLite store: the statements that create it, add to it and read
+//! it, what each statement does, and the entries that the rows hold.
 #![tactic(auto)]
 
 mod entries;

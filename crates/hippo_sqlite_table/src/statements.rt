@@ -1,4 +1,4 @@
-//! What the keeper asks of `sqlite`, one statement a function, over any store.
+//! The keeper's SQL statements, one function for each, over any store.
 ghost use Rattle.std.specs.Prelude.{◌≡◌, [], ◌^◌, ◌<◌};
 ghost use Rattle.sqlite.specs.State.{HasCleanDisk, Survives, Executes, CommitsBy};
 ghost use Rattle.sqlite.specs.Held.{state};
@@ -11,7 +11,7 @@ use hippo_model::StoredEntry;
 use sqlite::types::ValueRef;
 use sqlite::{Alter, Connection, Error, Row, params};
 
-/// Makes the table of the history where there is none.
+/// Creates the table of the history if there is none.
 pub fn create_history<S: Alter>(connection: &mut Connection<S>) -> Result<usize, Error>
     ensures runs { HasCleanDisk (state S.Store connection.new)
         → Executes create_sql [] (state S.Store connection.old) (state S.Store connection.new)
@@ -25,7 +25,7 @@ pub fn create_history<S: Alter>(connection: &mut Connection<S>) -> Result<usize,
     )
 }
 
-/// Keeps one more entry.
+/// Stores one more entry.
 pub fn insert<S: Alter>(connection: &mut Connection<S>, entry: &StoredEntry) -> Result<usize, Error>
     requires { entry.now.seq < 2 ^ 63 }
     ensures runs { HasCleanDisk (state S.Store connection.new)
@@ -47,7 +47,7 @@ pub fn insert<S: Alter>(connection: &mut Connection<S>, entry: &StoredEntry) -> 
     )
 }
 
-// The statement of a read.
+// The SQL text of a read.
 fn statement_of(selection: &Selection<'_>) -> &'static str
     ensures { result.now ≡ read_sql selection.now }
 {
@@ -75,7 +75,7 @@ fn query<S: Alter>(
     connection.query_all(text, params)
 }
 
-/// The rows that a read seeks.
+/// Returns the rows that a read asks for.
 pub fn select<S: Alter>(
     connection: &mut Connection<S>,
     read_query: &ReadQuery<'_>,

@@ -1,5 +1,5 @@
-//! A program that begins and ends as the others do: it writes each word that it is called with on a
-//! line, and ends with the number of the words as its status, or with 255 where a write fails.
+//! A program that begins and ends as the others do. It writes each of its words on a line. Its exit
+//! status is the number of the words, or 255 if a write fails.
 #![tactic(auto)]
 
 ghost use Rattle.std.specs.Prelude.{◌≡◌, ◌⊎◌, IfOk, length, min};
@@ -9,7 +9,7 @@ use hippo_program_start::{Ended, Host, Program, start};
 use hippo_values::Txt;
 use std::sync::ledger::Ledger;
 
-// Writes each word on a line, and answers how many there are.
+// Writes each word on a line, and returns how many there are.
 fn say_words<K: Sink>(words: &[Txt], sink: &mut K) -> Result<u8, Failed>
     ensures count { IfOk result (λ count. count ≡ min 255 (length words.now)) }
 {

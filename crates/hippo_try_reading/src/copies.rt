@@ -1,4 +1,4 @@
-//! Shows that ample memory suffices to copy what is long.
+//! Shows that large values can be copied when there is ample memory.
 
 use hippo_entry_hex::first_word;
 use hippo_model::{
@@ -111,7 +111,7 @@ fn answer(alloc: Global, count: usize) -> Result<Answer, Memory> {
     Ok(answer)
 }
 
-// Copies what was made. That the copy equals its source is proved.
+// Copies a value that was made. The proofs show that the copy equals its source.
 fn copied<T: Duplicate + Drop>(alloc: Global, made: Result<T, Memory>) -> Result<(), Memory> {
     let made = made?;
     made.copy(alloc)?;
@@ -127,8 +127,9 @@ fn copied_of_kind(alloc: Global, kind: &str, count: usize) -> Result<(), Memory>
     }
 }
 
-/// Whether a value of so many parts can be made and copied: a `query` or an `audit` with a
-/// condition of them, a `flag` with so many rows in common, or an `answer` of so many rows.
+/// Shows whether a value of a given size can be made and copied: a `query` or an `audit` whose
+/// condition has this many parts, a `flag` with this many rows in common, or an `answer` with this
+/// many rows.
 pub fn shown_copy(alloc: Global, text: &str) -> Result<String, AllocError> {
     let (kind, count) = first_word(text);
     let copied = copied_of_kind(alloc, kind, count.parse().unwrap_or(0));

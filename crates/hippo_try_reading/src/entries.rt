@@ -1,4 +1,4 @@
-//! Shows which entry has a stored form.
+//! Shows which entry a stored form belongs to.
 
 use crate::unless_short;
 use hippo_entry::decode;
@@ -12,7 +12,7 @@ fn shown_as(alloc: Global, entry: &Entry) -> Result<String, Memory> {
     Ok(format!(in alloc; "{seq} {} {act:?}", moment.seconds())?)
 }
 
-// A copy of the entry, as it is shown.
+// A copy of the entry, in the form in which it is shown.
 fn copy_shown(alloc: Global, entry: &Entry) -> Result<String, Memory> {
     let copy = entry.copy(alloc)?;
     let shown = shown_as(alloc, &copy);
@@ -36,8 +36,8 @@ fn shown(alloc: Global, text: &str) -> Result<String, Memory> {
     found(alloc, &kept)
 }
 
-/// The entry that has the stored form that a text writes: its number, its moment and its act, or
-/// that there is none.
+/// Shows the entry whose stored form a text writes: its number, its moment and its act, or that
+/// there is none.
 pub fn shown_entry(alloc: Global, text: &str) -> Result<String, AllocError> {
     unless_short(shown(alloc, text))
 }

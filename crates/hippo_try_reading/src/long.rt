@@ -1,9 +1,9 @@
-//! Rows of long texts, written as a front, a part with the number of times that it stands there,
-//! and a back.
+//! Rows of long texts. A row gives a prefix, a part with the number of times that it is repeated,
+//! and a suffix.
 
 use std::alloc::{AllocError, Global};
 
-// What stands in front of the next mark of a row, and behind it.
+// The text before the next mark of a row, and the text after it.
 fn up_to_mark(row: &str) -> (&str, &str) {
     row.split_once('~').unwrap_or((row, ""))
 }
@@ -16,8 +16,9 @@ fn repeated(alloc: Global, front: &str, part: &str, count: usize) -> Result<Stri
     Ok(text)
 }
 
-/// The text that a row writes, and the part of its reading that is to be counted: between marks
-/// stand a front, a part, how often it stands there, a back, and the part of the reading.
+/// Returns the text that a row writes, and the part of its reading that is to be counted. The row
+/// has, separated by marks: a prefix, a part, how often it is repeated, a suffix, and the part of
+/// the reading.
 pub fn long_text(alloc: Global, row: &str) -> Result<(String, &str), AllocError> {
     let (front, rest) = up_to_mark(row);
     let (part, rest) = up_to_mark(rest);
@@ -28,7 +29,7 @@ pub fn long_text(alloc: Global, row: &str) -> Result<(String, &str), AllocError>
     Ok((text, counted))
 }
 
-// How often a part stands at the front of a text one after the other, and what is behind.
+// How often a part is repeated at the beginning of a text, and the text after the repetitions.
 fn at_front<'a>(text: &'a str, part: &str) -> (usize, &'a str) {
     let mut rest = text;
     for count in 0..text.len() {
@@ -40,8 +41,8 @@ fn at_front<'a>(text: &'a str, part: &str) -> (usize, &'a str) {
     (text.len(), rest)
 }
 
-/// A reading where the first part of this form, and those that follow it at once, are written as in
-/// a row.
+/// Shortens a reading: the first occurrence of `part`, and the occurrences that directly follow it,
+/// are written as in a row.
 pub fn short_reading(alloc: Global, reading: &str, part: &str) -> Result<String, AllocError> {
     if part.is_empty() {
         return String::from_str(alloc, reading);

@@ -1,9 +1,9 @@
 //! Shows how texts are read, what sources and sinks over std's readers and writers answer
 //! (`streams.rt`), and that ample memory suffices for calls at their largest use (`copies.rt`,
-//! `products.rt`, `rooms.rt`). Each line of standard input is the word of a rule, a space and a
-//! text; what the text is by that rule, why it is nothing, or what comes of it, is written as one
-//! line. Behind the word `long` the text is written in parts (`long.rt`), and what is shown is
-//! written in parts too, behind the number of the text's bytes.
+//! `products.rt`, `rooms.rt`). Each line of standard input has the word of a rule, a space and a
+//! text. For each line, one line is written: what the text is by that rule, why it is nothing, or
+//! what comes of it. After the word `long`, the text is given in parts (`long.rt`); the output is
+//! then also given in parts, after the number of the text's bytes.
 #![tactic(auto)]
 
 mod copies;
@@ -26,7 +26,7 @@ use std::fmt::Debug;
 use std::fs::Files;
 use std::io;
 
-/// What is shown, where memory suffices.
+/// What is shown, or an error when out of memory.
 pub fn unless_short(shown: Result<String, Memory>) -> Result<String, AllocError> {
     match shown {
         Ok(shown) => Ok(shown),
@@ -34,7 +34,7 @@ pub fn unless_short(shown: Result<String, Memory>) -> Result<String, AllocError>
     }
 }
 
-// A reading as it is, or why there is none.
+// A reading in its Debug form, or the fault if there is none.
 fn shown<T: Debug + Drop>(
     alloc: Global,
     read: Result<T, SyntaxFault>,
@@ -45,7 +45,7 @@ fn shown<T: Debug + Drop>(
     }
 }
 
-// What the tokens are by the rule of this name, once their words are checked.
+// What the tokens are by the rule with this name, once their words are checked.
 fn by_rule(alloc: Global, rule: &str, tokens: &Tokens) -> Result<String, AllocError> {
     if let Err(fault) = check_words(tokens) {
         return format!(in alloc; "{fault:?}");
@@ -83,7 +83,8 @@ fn reading(alloc: Global, rule: &str, text: &str) -> Result<String, AllocError> 
     }
 }
 
-// What a text that is written in parts is read as, in short, behind how many bytes it has.
+// The reading of a text that is given in parts: the number of its bytes, and then the reading in
+// short form.
 fn long_reading(alloc: Global, rule: &str, row: &str) -> Result<String, AllocError> {
     let (text, counted) = long::long_text(alloc, row)?;
     let reading = reading(alloc, rule, text.as_str())?;

@@ -1,4 +1,4 @@
-//! Shows up to how many rows a query answers.
+//! Shows how many rows a query can answer.
 
 use hippo_entry_hex::first_word;
 use hippo_eval::{EvalFault, evaluate};
@@ -7,7 +7,7 @@ use hippo_tables_rows::{RowSet, Sets};
 use hippo_values::{Memory, Moment, Name, Sequence, Value};
 use std::alloc::{AllocError, Global};
 
-// Nobody has a choice.
+// No patient has made a choice.
 #[derive(Drop)]
 struct NoChoices;
 
@@ -21,7 +21,7 @@ impl ChoiceView for NoChoices {
     }
 }
 
-// A table of one column, with the numbers from 0.
+// A table with one column, which holds the numbers from 0.
 fn numbers(alloc: Global, count: i64) -> Result<RowSet, Memory> {
     let mut key = Sequence::new(alloc);
     key.push(0)?;
@@ -35,7 +35,7 @@ fn numbers(alloc: Global, count: i64) -> Result<RowSet, Memory> {
     Ok(set)
 }
 
-// Both numbers of each combination of two tables.
+// The numbers of both tables, for each combination of their rows.
 fn pairs(alloc: Global) -> Result<Exprs, Memory> {
     let mut items = Sequence::new(alloc);
     for table in 0..2 {
@@ -70,8 +70,8 @@ fn count(alloc: Global, first: i64, second: i64) -> Result<usize, EvalFault> {
     count_over(alloc, &first, &second)
 }
 
-/// How many rows the product of two tables answers, each of which has as many rows as its number
-/// says, or why it has no answer.
+/// Shows how many rows the product of two tables has, or why it has no answer. The text gives the
+/// number of rows of each table.
 pub fn product(alloc: Global, text: &str) -> Result<String, AllocError> {
     let (first, second) = first_word(text);
     let (first, second) = (first.parse().unwrap_or(0), second.parse().unwrap_or(0));

@@ -1,4 +1,4 @@
-//! Shows what fits into the room for the longest line, and a row's record of CSV.
+//! Shows what fits in the memory for the longest line, and the CSV record of a row.
 
 use crate::unless_short;
 use hippo_csv::extract_line;
@@ -10,7 +10,7 @@ use std::alloc::{AllocError, Global};
 // The longest line, in bytes.
 const LONGEST: usize = 65_536;
 
-// Adds a character as often as this.
+// Appends a character this many times.
 fn fill(room: &mut RoomyTxt<LONGEST>, character: char, count: usize) -> Result<(), Memory> {
     for _ in 0..count {
         room.push(character)?;
@@ -18,7 +18,7 @@ fn fill(room: &mut RoomyTxt<LONGEST>, character: char, count: usize) -> Result<(
     Ok(())
 }
 
-// How many bytes there were each time.
+// The number of bytes after each of two fillings.
 fn filled(alloc: Global, character: char, count: usize) -> Result<[usize; 2], Memory> {
     let mut room = RoomyTxt::with_room(alloc)?;
     let mut lengths = [0; 2];
@@ -30,8 +30,8 @@ fn filled(alloc: Global, character: char, count: usize) -> Result<[usize; 2], Me
     Ok(lengths)
 }
 
-/// How many bytes a room for the longest line has after so many of a character were added to it,
-/// and after the same was done again with the room that was emptied.
+/// Shows how many bytes the memory for the longest line holds after a character was appended to it
+/// this many times, and again after it was emptied and filled once more.
 pub fn filled_twice(alloc: Global, text: &str) -> Result<String, AllocError> {
     let (character, count) = first_word(text);
     let character = character.chars().next().unwrap_or(' ');
@@ -39,8 +39,8 @@ pub fn filled_twice(alloc: Global, text: &str) -> Result<String, AllocError> {
     format!(in alloc; "{lengths:?}")
 }
 
-// The cell that a word writes: a number, or `!` and the number of the rule that denies it; any
-// other word is NULL.
+// The cell that a word writes: a number, or `!` followed by the number of the rule that denies it.
+// Any other word is NULL.
 fn cell(word: &str) -> Cell {
     if let Some(rule) = word.strip_prefix('!') {
         return Cell::Denied(rule.parse().unwrap_or(0));
@@ -66,7 +66,8 @@ fn record(alloc: Global, text: &str) -> Result<String, Memory> {
     Ok(format!(in alloc; "{:?}", out.as_str())?)
 }
 
-/// The record of a row of numbers and denied cells, as session 1 gets it behind its first line.
+/// Shows the record of a row of numbers and denied cells, as session 1 receives it after its first
+/// line.
 pub fn shown_record(alloc: Global, text: &str) -> Result<String, AllocError> {
     unless_short(record(alloc, text))
 }

@@ -1,5 +1,5 @@
-//! Shows what is read from readers that give pieces and err, what writers take that falter, and
-//! what a file gives back.
+//! Shows what is read from readers that return pieces and errors, what writers accept that take
+//! only part of a write or fail, and what a file gives back.
 
 use hippo_entry_hex::first_word;
 use hippo_io::{Failed, Line, LineReader, Sink, Source, StdSink, StdSource, write_whole};
@@ -9,25 +9,25 @@ use std::fmt::Debug;
 use std::fs::{self, Files};
 use std::io::{self, ErrorKind, Read, Write};
 
-// The most answers of a reader that are shown.
+// The highest number of a reader's answers that are shown.
 const MOST: usize = 100;
 
-// The file that is written and read back, in the folder that the program is run in.
+// The file that is written and read back, in the working directory.
 const FILE: &str = "hippo_read_file";
 
-// A text with the ends of lines that it writes as `\r` and `\n`.
+// A text in which `\r` and `\n` are replaced by the line endings that they stand for.
 fn with_ends(alloc: Global, text: &str) -> Result<String, AllocError> {
     let text = text.replace(alloc, "\\r", "\r")?;
     text.replace(alloc, "\\n", "\n")
 }
 
-// What stands in front of the first bar, and behind it.
+// The text before the first bar, and the text after it.
 fn up_to_bar(text: &str) -> (&str, &str) {
     text.split_once('|').unwrap_or((text, ""))
 }
 
-// Gives at each call the next of the pieces between bars, of which what finds no room is lost, and
-// errs where that is `!`.
+// A reader that returns the next of the pieces between bars at each call, and an error if that
+// piece is `!`. The part of a piece that does not fit the buffer is lost.
 #[derive(Drop)]
 struct Pieces<'a> {
     left: &'a str,
@@ -50,7 +50,7 @@ fn add<T: Debug>(alloc: Global, shown: &mut String, answer: &T) -> Result<(), Al
     shown.push_str(format!(in alloc; "{answer:?};")?.as_str())
 }
 
-// What a reader answers, up to the second answer after its lines.
+// The answers of a reader, up to the second answer after its lines.
 fn answers<S: Source>(
     alloc: Global,
     reader: &mut LineReader,
@@ -77,15 +77,16 @@ fn lines_of<S: Source>(alloc: Global, source: &mut S) -> Result<String, AllocErr
     }
 }
 
-/// The lines of a reader that gives the pieces between bars one after the other, and errs at `!`;
-/// behind them what is answered at their end, twice.
+/// Shows the lines of a reader that returns the pieces between bars one after another, with an
+/// error at `!`; and then the answers at the end of the lines, twice.
 pub fn lines(alloc: Global, text: &str) -> Result<String, AllocError> {
     let text = with_ends(alloc, text)?;
     let left = text.as_str();
     lines_of(alloc, &mut StdSource::new(Pieces { left }))
 }
 
-// Takes at each call as many bytes as the next word says, and errs where that is `!`.
+// A writer that takes as many bytes at each call as the next word says, and returns an error if
+// that word is `!`.
 #[derive(Drop)]
 struct Calls<'a> {
     left: &'a str,
@@ -108,7 +109,7 @@ impl Write for Calls<'_> {
     }
 }
 
-// What a sink answers to the texts between bars, each of which is to be written whole.
+// A sink's answers to the texts between bars; each text is to be written whole.
 fn answers_to<K: Sink>(alloc: Global, sink: &mut K, texts: &str) -> Result<String, AllocError> {
     let mut shown = String::new(alloc);
     for text in texts.split('|') {
@@ -117,7 +118,7 @@ fn answers_to<K: Sink>(alloc: Global, sink: &mut K, texts: &str) -> Result<Strin
     Ok(shown)
 }
 
-// The answers, and behind them what a writer has taken.
+// The answers, followed by what a writer has taken.
 fn with_taken(
     alloc: Global,
     answers: Result<String, AllocError>,
@@ -148,9 +149,9 @@ fn written_by_calls(alloc: Global, calls: &str, texts: &str) -> Result<String, A
     with_taken(alloc, answers, writer.taken.as_slice())
 }
 
-/// What a sink answers to texts, and what its writer has taken in the end. In front of the first
-/// bar stands the writer: `vec`, `slice` and its length, or how many bytes it takes at each call,
-/// where `!` is an error; behind it the texts, with bars between them.
+/// Shows a sink's answers to texts, and what its writer has taken in the end. The writer is given
+/// before the first bar: `vec`; `slice` and its length; or how many bytes it takes at each call,
+/// where `!` is an error. The texts follow, separated by bars.
 pub fn written(alloc: Global, text: &str) -> Result<String, AllocError> {
     let (writer, texts) = up_to_bar(text);
     match first_word(writer) {
@@ -174,7 +175,7 @@ fn lines_in_file<R: Files>(files: &R, alloc: Global) -> io::Result<String> {
     Ok(lines_of(alloc, &mut StdSource::new(file))?)
 }
 
-/// The lines of a file that a sink has written, and what is answered at their end.
+/// Shows the lines of a file that a sink has written, and the answer at their end.
 pub fn file_lines<R: Files>(files: &R, alloc: Global, text: &str) -> io::Result<String> {
     put_in_file(files, alloc, text)?;
     let lines = lines_in_file(files, alloc);

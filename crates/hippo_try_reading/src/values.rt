@@ -1,4 +1,4 @@
-//! Shows what texts are as names, days, moments, values and truths, and how values compare.
+//! Shows what texts are as names, days, moments, values and truth values, and how values compare.
 
 use hippo_entry_hex::first_word;
 use hippo_lexer::TokenKind;
@@ -21,7 +21,7 @@ const OPERATORS: [CompareOp; 6] = [
     CompareOp::Ge,
 ];
 
-// A name as it is kept.
+// A name as it is stored.
 fn name(alloc: Global, text: &str) -> Result<String, AllocError> {
     match Name::from_word(alloc, text) {
         Ok(Some(name)) => String::from_str(alloc, name.as_str()),
@@ -30,7 +30,7 @@ fn name(alloc: Global, text: &str) -> Result<String, AllocError> {
     }
 }
 
-// A day's number, and its text again.
+// The number of a day, and the day as text.
 fn day(alloc: Global, text: &str) -> Result<String, AllocError> {
     let Some(day) = read_day(text) else {
         return String::from_str(alloc, "none");
@@ -39,7 +39,7 @@ fn day(alloc: Global, text: &str) -> Result<String, AllocError> {
     format!(in alloc; "{} {}", day.day(), str::from_utf8(&printed).unwrap_or(""))
 }
 
-// A moment's second, and its text again.
+// The second of a moment, and the moment as text.
 fn moment(alloc: Global, text: &str) -> Result<String, AllocError> {
     let Some(moment) = read_moment(text) else {
         return String::from_str(alloc, "none");
@@ -52,7 +52,7 @@ fn moment(alloc: Global, text: &str) -> Result<String, AllocError> {
     )
 }
 
-// The value that a token writes; any other token is NULL.
+// The value that a token writes. Any other token is NULL.
 fn value_of(alloc: Global, kind: &TokenKind) -> Result<Value, Memory> {
     match kind {
         TokenKind::Number(number) => Ok(Value::Int(*number)),
@@ -84,7 +84,7 @@ fn printed(alloc: Global, values: &[Value]) -> Result<Txt, Memory> {
     Ok(printed)
 }
 
-// The truths of the six comparisons of two values, and their order.
+// The truth values of the six comparisons of two values, and their order.
 fn comparisons(alloc: Global, left: &Value, right: &Value) -> Result<String, AllocError> {
     let mut shown = String::new(alloc);
     for operator in OPERATORS {
@@ -104,7 +104,7 @@ fn truth_named(word: &str) -> Truth {
     }
 }
 
-// AND, OR and NOT of truths by their words.
+// AND, OR and NOT of truth values given by their words.
 fn truths(alloc: Global, text: &str) -> Result<String, AllocError> {
     let (left, right) = first_word(text);
     let (left, right) = (truth_named(left), truth_named(right));
@@ -128,8 +128,8 @@ fn of_values(alloc: Global, rule: &str, text: &str) -> Result<String, AllocError
     }
 }
 
-/// What a text is by the rule of this name: a name, a day, a moment, values, their comparisons, or
-/// truths.
+/// Shows what a text is by the rule with this name: a name, a day, a moment, values, their
+/// comparisons, or truth values.
 pub fn shown_value(alloc: Global, rule: &str, text: &str) -> Result<String, AllocError> {
     match rule {
         "name" => name(alloc, text),

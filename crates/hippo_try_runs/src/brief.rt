@@ -1,4 +1,4 @@
-//! Long outputs in few lines.
+//! Shortens long outputs.
 
 use hippo_entry_hex::first_word;
 use hippo_values::Memory;
@@ -12,7 +12,8 @@ fn begin_alike(left: &str, right: &str) -> bool {
     left == right && first_word(left_rest).0 == first_word(right_rest).0
 }
 
-// A line for a group: how many lines it has, and the last of them, or how many bytes that has.
+// Appends a line for a group: how many lines it has, and the last of them or that line's number of
+// bytes.
 fn add_group(alloc: Global, text: &mut String, count: u64, last: &str) -> Result<(), Memory> {
     if count == 0 {
         return Ok(());
@@ -26,8 +27,9 @@ fn add_group(alloc: Global, text: &mut String, count: u64, last: &str) -> Result
     Ok(())
 }
 
-/// A line for each group of lines one after the other that begin with the same two words: how many
-/// they are, and the last of them, or the number of its bytes where they are more than 200.
+/// Returns a line for each group of consecutive lines that begin with the same two words: how many
+/// lines it has, and the last of them, or the number of that line's bytes if there are more than
+/// 200.
 pub fn brief(alloc: Global, output: &str) -> Result<String, Memory> {
     let mut text = String::new(alloc);
     let mut last = "";

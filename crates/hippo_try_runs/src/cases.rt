@@ -1,4 +1,4 @@
-//! The words and the input of a call, and what is to fail around it.
+//! A case: the words and the input of a call, and which calls fail around it.
 
 use hippo_entry_hex::first_word;
 use hippo_io::{MemorySink, MemorySource};
@@ -7,10 +7,10 @@ use hippo_values::{Bytes, Calls, Memory, Sequence, Txt};
 use std::alloc::Global;
 use std::mem;
 
-// The most bytes that a case may write, where it does not say.
+// The highest number of bytes that a case may write, unless it says otherwise.
 const ROOM: usize = 1_000_000;
 
-// The clinic of most cases: seven entries, and one session.
+// The clinic of most cases: seven entries and one session.
 const CLINIC: [&str; 9] = [
     "at 2024-01-02T08:00:00Z",
     "0 CREATE TABLE patient (pid INTEGER, name TEXT, phone TEXT, zip INTEGER, PRIMARY KEY (pid), SUBJECT pid)",
@@ -27,8 +27,8 @@ fn number(word: &str) -> u64 {
     word.parse().unwrap_or(0)
 }
 
-/// A call of the program: its words and its input; the calls of the source, of the sink and of the
-/// keeper that fail, and the sink's room; and whether its lines are to be counted.
+/// A call of the program: its words and its input; which calls of the source, of the sink and of
+/// the keeper fail; how many bytes the sink takes; and whether the output is shortened.
 #[derive(Drop)]
 pub struct Case {
     pub words: Sequence<Txt>,
@@ -53,14 +53,14 @@ impl Case {
         }
     }
 
-    /// The source that it asks for, which takes its input.
+    /// Returns the source that the case asks for. The source takes the case's input.
     pub fn take_source(&mut self, alloc: Global) -> MemorySource {
         let input = mem::replace(&mut self.input, Vec::new(alloc));
         let failing = mem::replace(&mut self.failing_reads, Calls::new(alloc));
         MemorySource::new(Bytes::from_vec(input), failing)
     }
 
-    /// The sink that it asks for, or want of memory.
+    /// Returns the sink that the case asks for, or an error when out of memory.
     pub fn take_sink(&mut self, alloc: Global) -> Result<MemorySink, Memory> {
         let failing = mem::replace(&mut self.failing_writes, Calls::new(alloc));
         MemorySink::new(alloc, self.room, failing)
@@ -113,7 +113,8 @@ impl Case {
         self.failing.push(KeeperFail { call, keeps })
     }
 
-    // Takes in an order about what is outside the program, or answers that it is none.
+    // Carries out an order about what is outside the program. Returns false if it is not such an
+    // order.
     fn take_outside(&mut self, word: &str, text: &str) -> Result<bool, Memory> {
         match word {
             "reads" => self.failing_reads.push(number(text))?,
@@ -127,7 +128,7 @@ impl Case {
         Ok(true)
     }
 
-    /// Takes in an order about the call, or answers that it is none.
+    /// Carries out an order about the case. Returns false if it is not one.
     pub fn take(&mut self, alloc: Global, word: &str, text: &str) -> Result<bool, Memory> {
         match word {
             "word" => self.words.push(Txt::from_str(alloc, text)?)?,

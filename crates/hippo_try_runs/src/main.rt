@@ -1,14 +1,19 @@
-//! Runs worked rows through the top call. Standard input holds cases: `word W` adds a word to the
-//! command, `line TEXT` a line to the input, `part TEXT` the text alone, `times N TEXT` the text N
-//! times, `numbered N TEXT` the line N times with the numbers from 0 at its `#`, `bytes N ..` bytes
-//! by their numbers, and `clinic` the lines of a small clinic; `call` calls the program over an
-//! empty store, `again` over what the last call left. What it wrote is written, and `status N`;
-//! behind `brief`, of lines in a row that begin with the same two words only their number and the
-//! last one (`brief.rt`). `reads N` and `writes N` make that call of the source or the sink fail,
-//! `fails N` and `keeps N` that of the keeper, which keeps its entry nevertheless behind `keeps`;
-//! `room N` is how many bytes the sink takes. Between calls `remove N` takes the entry at place N
-//! out of what is kept, `put N ENTRY` puts one more there (`store.rt`), and `kept` writes all.
-//! Lines that begin with `# ` say what a case shows; any other line ends the program with a fault.
+//! Runs worked examples through the top function. Standard input holds cases, one order a line:
+//!
+//! - `word W` adds a word to the command.
+//! - `line TEXT` adds a line to the input, `part TEXT` the text alone, and `times N TEXT` the text
+//!   N times. `numbered N TEXT` adds the line N times, with the numbers from 0 in place of its `#`.
+//!   `bytes N ..` adds bytes by their numbers, and `clinic` the lines of a small clinic.
+//! - `reads N` and `writes N` make that call of the source or the sink fail. `fails N` and `keeps
+//!   N` make that call of the keeper fail; with `keeps`, it stores its entry nevertheless. `room N`
+//!   is how many bytes the sink takes.
+//! - `call` calls the program over an empty store, `again` over what the last call left. The output
+//!   is written, and then `status N`. With `brief`, consecutive lines that begin with the same two
+//!   words are shortened to their number and the last one (`brief.rt`).
+//! - Between calls, `remove N` removes the entry at place N from what is stored, `put N ENTRY`
+//!   inserts one there (`store.rt`), and `kept` writes all entries.
+//! - A line that begins with `# ` says what a case shows. Any other line ends the program with a
+//!   fault.
 #![tactic(auto)]
 
 ghost use Rattle.std.specs.Prelude.{◌≡◌, ◌<◌, false};
@@ -34,7 +39,7 @@ use std::marker::Brand;
 use std::mem;
 use std::sync::ledger::{Blank, Ledger};
 
-// Calls the program, counting on a ledger that nobody uses.
+// Calls the program, with its steps counted on a ledger that nothing else uses.
 fn counted<L: Ledger>(
     alloc: Global,
     words: &[Txt],
@@ -64,7 +69,7 @@ fn called(
     counted::<Brand>(alloc, words, source, sink, keeper, Blank::new(1))
 }
 
-// What the program wrote, as the case wants it, and its exit status.
+// The program's output, in the form that the case asks for, and its exit status.
 fn said(alloc: Global, output: &[u8], is_brief: bool, status: u8) -> Result<String, Memory> {
     let output = str::from_utf8(output).unwrap_or("");
     if is_brief {
@@ -74,7 +79,8 @@ fn said(alloc: Global, output: &[u8], is_brief: bool, status: u8) -> Result<Stri
     Ok(format!(in alloc; "{output}status {status}\n")?)
 }
 
-// What the program writes over these, as a case wants it, and its status.
+// What the program writes with this source, sink and keeper, in the form that the case asks for,
+// and its exit status.
 fn said_over(
     alloc: Global,
     case: &Case,
@@ -88,7 +94,7 @@ fn said_over(
     said(alloc, sink.bytes(), case.is_brief, status)
 }
 
-// What a case comes to over a keeper.
+// The result of a case over a keeper.
 fn outcome(alloc: Global, case: &mut Case, keeper: &mut MemoryKeeper) -> Result<String, Memory>
     requires ready { IsReady false (memory_keeper_state keeper.old) }
 {
@@ -102,7 +108,7 @@ fn left(alloc: Global, keeper: MemoryKeeper) -> Result<StoredList, Memory> {
     keeper.restart().kept(alloc)
 }
 
-// The case that is being written, and the entries that the last call left.
+// The case that is being built, and the entries that the last call left.
 #[derive(Drop)]
 struct Rows {
     case: Case,
@@ -117,7 +123,7 @@ impl Rows {
         }
     }
 
-    // Calls the program over these entries; no text where their numbers do not rise.
+    // Calls the program over these entries. `None` if their numbers do not rise.
     fn call(&mut self, alloc: Global, kept: StoredList) -> Result<Option<String>, Memory> {
         let failing = mem::replace(&mut self.case.failing, KeeperFails::new(alloc));
         let Some(mut keeper) = keeper_of(alloc, &kept, failing)? else {
@@ -134,7 +140,7 @@ impl Rows {
         self.call(alloc, kept)
     }
 
-    // Changes what is kept or the case; no text where the order is none.
+    // Changes what is stored, or the case. `None` if there is no such order.
     fn change(&mut self, alloc: Global, word: &str, text: &str) -> Result<Option<String>, Memory> {
         match word {
             "put" => self.kept = with(alloc, self.kept.as_slice(), text)?,
@@ -148,8 +154,8 @@ impl Rows {
         Ok(Some(String::new(alloc)))
     }
 
-    // Does what a line asks for: the text that is written then, or none where it asks for nothing
-    // that there is.
+    // Does what a line asks for, and returns the text to write. `None` if the line asks for nothing
+    // that exists.
     fn carry_out(&mut self, alloc: Global, line: &str) -> Result<Option<String>, Memory> {
         let (word, text) = first_word(line);
         match word {
@@ -161,7 +167,7 @@ impl Rows {
     }
 }
 
-// Does what a line asks for, and gives the text that is written then.
+// Does what a line asks for, and returns the text to write.
 fn written(alloc: Global, rows: &mut Rows, line: &str) -> io::Result<String> {
     let written = rows
         .carry_out(alloc, line)

@@ -1,4 +1,4 @@
-//! The entries that a call left, which rows may change before the next one.
+//! The entries that a call left, which orders may change before the next call.
 ghost use Rattle.std.specs.Prelude.{false, IsTrue, IfSome, IfOk};
 ghost use Rattle.hippo_keeper.specs.Keeping.{IsReady, RisesAbove};
 ghost use Rattle.hippo_keeper.specs.MemoryKeeping.{memory_keeper_state};
@@ -9,7 +9,7 @@ use hippo_model::{StoredEntry, StoredList};
 use hippo_values::{Duplicate, Memory};
 use std::alloc::Global;
 
-/// All entries, each in a line as a row writes it.
+/// Returns all entries, each on a line in the form that orders use.
 pub fn all_written(alloc: Global, entries: &[StoredEntry]) -> Result<String, Memory> {
     let mut text = String::new(alloc);
     for entry in entries {
@@ -29,13 +29,13 @@ fn push_copies(
     Ok(())
 }
 
-// The entries before a place, counted from 1, and those from there on.
+// The entries before a place, counted from 1, and the entries from that place on.
 fn at_place<'a>(entries: &'a [StoredEntry], place: &str) -> (&'a [StoredEntry], &'a [StoredEntry]) {
     let before = place.parse::<usize>().unwrap_or(0).saturating_sub(1);
     entries.split_at(before.min(entries.len()))
 }
 
-/// The entries without the one at the place that a row names.
+/// Returns the entries without the one at the place that an order names.
 pub fn without(alloc: Global, entries: &[StoredEntry], place: &str) -> Result<StoredList, Memory> {
     let (front, back) = at_place(entries, place);
     let mut list = StoredList::new(alloc);
@@ -46,7 +46,7 @@ pub fn without(alloc: Global, entries: &[StoredEntry], place: &str) -> Result<St
     Ok(list)
 }
 
-/// The entries with one more, which a row writes behind its place.
+/// Returns the entries with one more, which an order writes after its place.
 pub fn with(alloc: Global, entries: &[StoredEntry], row: &str) -> Result<StoredList, Memory> {
     let (place, text) = first_word(row);
     let (front, back) = at_place(entries, place);
@@ -71,7 +71,7 @@ fn is_rising(entries: &[StoredEntry]) -> bool
     true
 }
 
-/// A keeper of these entries, if their numbers begin above 0 and rise.
+/// Returns a keeper with these entries, if their numbers are above 0 and rise.
 pub fn keeper_of(
     alloc: Global,
     list: &StoredList,

@@ -1,4 +1,4 @@
--- The ledger of the run is the blank one that it is given.
+-- The ledger of the run is the new one that it is given.
 use Rattle.hippo_program_start.proofs.start.Given as goal
 
 abbrev pub ghosts-run : goal.ghosts-run

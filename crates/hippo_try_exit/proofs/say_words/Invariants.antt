@@ -1,4 +1,4 @@
--- So many words are written so far, at most 255.
+-- The number of words written so far is counted, up to 255.
 use Rattle.std.proofs.Common.{◌≡◌, min}
 use Rattle.hippo_try_exit.proofs.say_words.Given as goal
 

@@ -1,4 +1,4 @@
--- The ledger of a call is the blank one that it is given.
+-- The ledger of a call is the new one that it is given.
 use Rattle.hippo_try_runs.proofs.called.Given as goal
 
 abbrev pub ghosts-counted : goal.ghosts-counted

@@ -1,4 +1,4 @@
--- The text so far and then the members that are left are all, and the old text stands in front.
+-- The text so far and the remaining members make up the whole, and it begins with the old text.
 use Rattle.std.proofs.Common.{◌≡◌, ◌++◌, flat_map, drop}
 use Rattle.hippo_values_text.specs.Printing.{KeepsFront}
 use Rattle.hippo_history_statements.proofs.joining.append_later.Given as goal

@@ -1,4 +1,4 @@
--- The text so far and then the columns that are left are all, and the old text stands in front.
+-- The text so far and the remaining columns make up the whole, and it begins with the old text.
 use Rattle.std.proofs.Common.{◌≡◌, ◌++◌, flat_map, length, drop}
 use Rattle.std.specs.List.{zip}
 use Rattle.hippo_values_text.specs.Printing.{KeepsFront}

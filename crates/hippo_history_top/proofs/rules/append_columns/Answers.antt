@@ -1,4 +1,4 @@
--- One column more.
+-- One more column.
 use Rattle.std.proofs.Common.{◌-◌, ◌+◌, ◌++◌, length, take, arith}
 use Rattle.std.specs.List.{range_with_len}
 use Rattle.hippo_typing_catalog.proofs.ListLemmas.{range_at}

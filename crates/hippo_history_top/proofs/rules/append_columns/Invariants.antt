@@ -1,4 +1,4 @@
--- The text so far and then the columns that are left are all.
+-- The text so far and the remaining columns make up the whole.
 use Rattle.std.proofs.Common.{◌≡◌, ◌++◌, ◌-◌, flat_map, take, length}
 use Rattle.std.specs.List.{range_with_len}
 use Rattle.hippo_model.specs.Terms.{History}

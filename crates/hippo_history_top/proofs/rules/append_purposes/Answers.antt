@@ -1,4 +1,4 @@
--- One purpose more, and none.
+-- One more purpose, and none.
 use Rattle.std.proofs.Common.{◌++◌, take, arith}
 use Rattle.hippo_values.specs.Texts.{Txt}
 use Rattle.hippo_values.specs.declared.names.Name.{Name}

@@ -1,4 +1,4 @@
--- The text so far and then the purposes that are left are all.
+-- The text so far and the remaining purposes make up the whole.
 use Rattle.std.proofs.Common.{◌≡◌, ◌++◌, flat_map, drop, take}
 use Rattle.hippo_model.specs.Terms.{History}
 use Rattle.hippo_policy.specs.Books.{BookStandsFor}

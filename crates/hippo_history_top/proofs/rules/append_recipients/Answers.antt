@@ -1,4 +1,4 @@
--- One recipient more, and none.
+-- One more recipient, and none.
 use Rattle.std.proofs.Common.{◌++◌, flat_map, take, arith}
 use Rattle.hippo_values.specs.Texts.{Txt}
 use Rattle.hippo_values.specs.declared.names.Name.{Name}

@@ -1,4 +1,4 @@
--- One table more, and none.
+-- One more table, and none.
 use Rattle.std.proofs.Common.{◌++◌, take, drop, arith}
 use Rattle.std.proofs.lemmas.List.{drop_all}
 use Rattle.hippo_values.specs.Texts.{Txt}

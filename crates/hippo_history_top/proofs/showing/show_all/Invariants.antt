@@ -1,4 +1,4 @@
--- A front of what is kept is read and shown; each piece brings a higher number.
+-- The first part of the stored list is read and shown; each piece brings a higher number.
 use Rattle.std.proofs.Common.{◌-◌, ◌^◌}
 use Rattle.hippo_history_top.specs.Progress.{IsShowing}
 use Rattle.hippo_history_top.proofs.showing.show_all.Given as goal

@@ -1,4 +1,4 @@
--- The entry is asked for and shown, or is not asked for, or memory was short.
+-- The entry is asked for and shown, or is not asked for, or memory ran out.
 use Rattle.std.proofs.Common.{◌∙◌, sym}
 use Rattle.hippo_history_top.proofs.EntryLemmas.{unasked, unwritten, asked}
 use Rattle.hippo_history_top.proofs.showing.show_entry.Goals as goal

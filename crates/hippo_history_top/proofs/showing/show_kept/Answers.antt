@@ -1,4 +1,4 @@
--- The entry that has the form is shown; or none has it, and that is said; or memory was short.
+-- The entry that has the form is shown; or none has it, and that is reported; or memory ran out.
 use Rattle.std.proofs.Common.{[], ◌∷◌}
 use Rattle.hippo_program_args.specs.Lines.{damaged_line}
 use Rattle.hippo_history_top.proofs.EntryLemmas.{of_entry, of_none}

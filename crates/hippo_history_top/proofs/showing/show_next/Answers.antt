@@ -1,4 +1,4 @@
--- Nothing was left, or a piece was shown, or the keeper did not answer.
+-- Nothing remained, or a piece was shown, or a call on the keeper failed.
 use Rattle.std.proofs.Common.{arith, ap, not}
 use Rattle.hippo_replay.proofs.ReadingLemmas.{none_by, some_by}
 use Rattle.hippo_history_top.proofs.ReadingLemmas.{ShowsNext-end, ShowsNext-piece, ShowsNext-fault}

@@ -1,4 +1,4 @@
--- One entry after the other, up to one that ends the program.
+-- One entry after another, up to one that ends the program.
 use Rattle.std.proofs.Common.{◌≡◌, subst, refl, None, take}
 use Rattle.std.proofs.lemmas.List.{take_all}
 use Rattle.hippo_keeper.specs.Keeping.{Store, last_number}

@@ -1,4 +1,4 @@
--- What was loaded is shown, or why it was not loaded is said.
+-- What was loaded is shown, or the reason why it was not loaded is reported.
 use Rattle.std.proofs.Common.{refl}
 use Rattle.hippo_replay.specs.declared.faults.LoadFault.{LoadFault}
 use Rattle.hippo_replay.proofs.LoadingLemmas.{Loads-ready}

@@ -1,4 +1,4 @@
--- One head is looked at.
+-- One head is examined.
 use Rattle.std.proofs.Common.{◌∙◌, ◌<◌, [], length, get_or, ap, arith}
 use Rattle.std.proofs.lemmas.List.{get_or_default}
 use Rattle.hippo_keeper.proofs.PageLemmas.{AreWithin-next, table_within, end_within, page_entries-next}

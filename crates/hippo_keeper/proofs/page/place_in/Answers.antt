@@ -1,4 +1,4 @@
--- The name stands where it is found, and else at the end.
+-- The name is at the index where it is found, or otherwise at the end.
 use Rattle.std.proofs.Common.{◌≡◌, [], ◌∷◌, ◌++◌, length, position, bytes_eq, Some}
 use Rattle.hippo_keeper.proofs.PageLemmas.{stands_at, stands_after}
 use Rattle.hippo_keeper.proofs.page.place_in.Goals as goal

@@ -1,4 +1,4 @@
--- The pages are parted by their last numbers.
+-- The pages are partitioned by their last numbers.
 use Rattle.std.proofs.Common.{◌∙◌, leb, ap, filter, nat_lt, rules}
 use Rattle.std.proofs.lemmas.List.{take_rest}
 use Rattle.std.proofs.lemmas.List.Sorted.{IsPartitionedBy-leb, IsPartitionPoint-from_clause}

@@ -1,4 +1,4 @@
--- One page more is looked at.
+-- One more page is examined.
 use Rattle.std.proofs.Common.{arith}
 use Rattle.hippo_keeper.proofs.PickLemmas.{with_picked-next}
 use Rattle.hippo_keeper.proofs.PagesLemmas.{paged-next}

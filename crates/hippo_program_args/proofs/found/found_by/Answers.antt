@@ -10,7 +10,7 @@ first_of_both : (one other : Bool) → (one && other) ≡ true → one ≡ true
 first_of_both true other both = refl
 first_of_both false other both = absurd cc
 
--- an error that is no want of memory is of a kind among the faults, so there are some
+-- an error other than out of memory has a kind among the faults, so there are some
 has_faults : (faults : Kinds) (error : Error) → HasKind faults error → kind_of error ≢ OutOfMemory → faults ≢ []
 has_faults [] error (inl short) other none = other short
 has_faults [] error (inr among) other none = absurd among

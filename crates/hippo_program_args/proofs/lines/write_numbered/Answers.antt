@@ -1,4 +1,4 @@
--- Three writes, one after the other.
+-- Three writes, one after another.
 use Rattle.std.proofs.Common.{◌++◌, ◌∙◌, codes, decimal}
 use Rattle.hippo_program_args.proofs.WriteLemmas.{front_of_more, whole_and_front, err_so, three_written}
 use Rattle.hippo_program_args.proofs.lines.write_numbered.Goals as goal

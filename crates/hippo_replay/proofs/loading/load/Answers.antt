@@ -1,4 +1,4 @@
--- What the start and the reads come to.
+-- The results of the start and of the reads.
 use Rattle.std.proofs.Common.{refl}
 use Rattle.hippo_keeper.specs.declared.faults.KeeperFault.{KeeperFault}
 use Rattle.hippo_keeper.proofs.Results.{well}

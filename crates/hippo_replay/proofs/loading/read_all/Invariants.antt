@@ -1,4 +1,4 @@
--- A front of what is kept is read and taken in; each piece makes the state longer.
+-- The first part of the stored list is read and taken in; each piece makes the state longer.
 use Rattle.std.proofs.Common.{◌-◌, ◌^◌}
 use Rattle.hippo_replay.specs.Reading.{IsReading}
 use Rattle.hippo_replay.proofs.loading.read_all.Given as goal

@@ -1,4 +1,4 @@
--- The entry's form was handed over, or there was no memory for it.
+-- The entry's form was given to the keeper, or there was no memory for it.
 use Rattle.std.proofs.Common.{◌∙◌, ap, arith}
 use Rattle.hippo_model.specs.declared.stored.StoredEntry.{StoredEntry}
 use Rattle.hippo_replay.proofs.RecordingLemmas.{KeepsEntry-AppendsEntry, KeepsEntry-short}

@@ -1,4 +1,4 @@
--- The columns that are left.
+-- The columns that remain.
 use Rattle.std.proofs.Common.{◌≡◌, Bool, drop, bytes_eq}
 use Rattle.hippo_model.specs.declared.schema.Column.{Column}
 use Rattle.hippo_model.specs.Validity.{all_differ}

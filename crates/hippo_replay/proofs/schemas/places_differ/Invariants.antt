@@ -1,4 +1,4 @@
--- The places that are left.
+-- The places that remain.
 use Rattle.std.proofs.Common.{◌≡◌, drop, nat_eq}
 use Rattle.hippo_model.specs.Validity.{all_differ}
 use Rattle.hippo_replay.proofs.schemas.places_differ.Given as goal

@@ -1,4 +1,5 @@
--- Each status is listed; what a check came to is by its status, over the store that the words name.
+-- Each status is listed; the result of a check follows from its status, over the store that the
+-- words name.
 use Rattle.std.proofs.Common.{rules, refl, sym, subst, ◌∙◌}
 use Rattle.hippo_values.specs.Texts.{Txt}
 use Rattle.hippo_io.specs.Told.{Appends, AppendsFront}

@@ -1,4 +1,4 @@
--- A reply that says that memory was short ends with just these words.
+-- A reply that reports that memory ran out ends with exactly these words.
 use Rattle.hippo_report.specs.Refusals.{said_of}
 use Rattle.hippo_report.specs.Speakers.{who_text}
 use Rattle.hippo_serve_jobs.proofs.drilling.accept.Goals as goal

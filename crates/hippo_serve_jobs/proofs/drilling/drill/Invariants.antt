@@ -1,4 +1,4 @@
--- The ledger of a drill is a blank one.
+-- The ledger of a drill is a new one.
 use Rattle.hippo_serve_jobs.proofs.drilling.drill.Given as goal
 
 abbrev pub ghosts-run_script : goal.ghosts-run_script

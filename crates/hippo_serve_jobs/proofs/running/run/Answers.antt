@@ -1,4 +1,4 @@
--- What was loaded is served, or why it was not loaded is said.
+-- What was loaded is served, or the reason why it was not loaded is reported.
 use Rattle.std.proofs.Common.{◌∙◌, ap, arith, refl}
 use Rattle.hippo_values.specs.declared.moments.Moment.{Moment}
 use Rattle.hippo_engine_sessions.specs.Worlds.{opening}

@@ -1,4 +1,4 @@
--- The rows that the query shows are the entries that are asked for.
+-- The rows that the query returns are the entries that were asked for.
 use Rattle.std.proofs.Common.{◌∙◌}
 use Rattle.sqlite.specs.Held.{state}
 use Rattle.hippo_sqlite_table.proofs.ReadLemmas.{told_by}

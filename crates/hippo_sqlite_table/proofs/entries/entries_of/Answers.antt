@@ -1,4 +1,4 @@
--- The entry of one more row, whose number is above the last one.
+-- The entry of one more row, with a number above the last one.
 use Rattle.std.proofs.Common.{◌≡◌, ◌<◌, ◌++◌, ◌∷◌, [], length, ap, length-append, arith}
 use Rattle.sqlite_value.specs.declared.value.Value.TheVariants.{Int}
 use Rattle.sqlite_trees.specs.Objects.{number_in}

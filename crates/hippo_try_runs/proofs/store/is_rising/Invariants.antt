@@ -1,4 +1,4 @@
--- What is left rises from above the last number only where the whole rises.
+-- The rest rises from above the last number only if the whole list rises.
 use Rattle.std.proofs.Common.{drop}
 use Rattle.hippo_keeper.specs.Keeping.{RisesAbove}
 use Rattle.hippo_try_runs.proofs.store.is_rising.Given as goal

@@ -1,4 +1,4 @@
--- All entries have numbers above 0, and no list is as long as there are numbers.
+-- All entries have numbers above 0, and no list has as many members as the limit.
 use Rattle.std.proofs.Common.{◌∙◌, ◌<◌, length, ap, arith}
 use Rattle.hippo_keeper.specs.MemoryKeeping.{MemoryStore}
 use Rattle.hippo_keeper.proofs.PagesLemmas.{all_handed_over}

@@ -1,4 +1,4 @@
--- The last head is that of the last entry.
+-- The last head belongs to the last entry.
 use Rattle.std.proofs.Common.{◌≡◌, ◌∙◌, ◌-◌, suc, length, slice_get, Some, ap, sym, arith}
 use Rattle.std.proofs.lemmas.Option.{get_or_from_slice_get, slice_get_within}
 use Rattle.hippo_keeper.specs.Keeping.{last_number}

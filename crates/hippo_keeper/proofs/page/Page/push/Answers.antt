@@ -1,4 +1,4 @@
--- A name more changes nothing; a head and a body more are an entry.
+-- One more name changes no entry; one more head and body add one entry.
 use Rattle.std.proofs.Common.{◌≡◌, ◌∙◌, ◌+◌, [], ◌∷◌, ◌++◌, length, slice_get, Some}
 use Rattle.hippo_keeper.specs.Paging.{page_entries}
 use Rattle.hippo_keeper.proofs.PageLemmas.{front_length, AreWithin-named, page_entries-named, page_entries-push, AreWithin-push}

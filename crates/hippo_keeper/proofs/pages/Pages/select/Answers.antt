@@ -1,4 +1,4 @@
--- What is picked of the pages above the number, and then of the last entries, is picked of all.
+-- Picking from the pages above the number and then from the last entries picks from all entries.
 use Rattle.std.proofs.Common.{◌∙◌, ap, sym, subst}
 use Rattle.hippo_keeper.specs.Keeping.{RisesAbove}
 use Rattle.hippo_keeper.specs.Selecting.{is_selected, handed_over}

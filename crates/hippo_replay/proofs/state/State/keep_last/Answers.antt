@@ -1,4 +1,4 @@
--- The entry is kept, or taken back.
+-- The entry is stored, or taken back.
 use Rattle.hippo_replay.proofs.state.State.keep_last.Goals as goal
 
 pub returns-in-Ok-clause-keeps : goal.returns-in-Ok-clause-keeps

@@ -1,4 +1,4 @@
--- The table's schema tells, where there is one.
+-- The table's schema decides, if there is one.
 use Rattle.std.proofs.Common.{◌≡◌, ◌∙◌, sym, Some}
 use Rattle.hippo_model.specs.Histories.{schema_at}
 use Rattle.hippo_replay.proofs.AcceptanceLemmas.{both_are, delete_is}

@@ -1,4 +1,4 @@
--- The tables are as before, and nothing else is touched.
+-- The tables have the same value as before, and nothing else changes.
 use Rattle.hippo_replay.proofs.StateLemmas.{StandsFor-with_tables, Remembers-with_tables}
 use Rattle.hippo_replay.proofs.state.State.order_for.Goals as goal
 

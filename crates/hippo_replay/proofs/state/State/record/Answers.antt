@@ -1,4 +1,4 @@
--- Kept first, or taken in first.
+-- Stored first, or taken in first.
 use Rattle.std.proofs.Common.{◌∙◌, sym}
 use Rattle.hippo_replay.proofs.RecordingLemmas.{is_delete-room, IsNext-sound, IsSound-after, MayAppend-kept, Records-added, Records-unkept, Records-kept, Records-short, short}
 use Rattle.hippo_keeper.specs.declared.faults.KeeperFault.{KeeperFault}

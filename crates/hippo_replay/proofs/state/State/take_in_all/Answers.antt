@@ -1,4 +1,4 @@
--- One more is taken in, or is damaged.
+-- One more entry is taken in, or is damaged.
 use Rattle.std.proofs.Common.{◌≡◌, ◌+◌, ◌++◌, sym, subst, take, drop}
 use Rattle.std.proofs.lemmas.List.{append-nil, take_all}
 use Rattle.hippo_model.specs.Stores.{IsDamagedAt}

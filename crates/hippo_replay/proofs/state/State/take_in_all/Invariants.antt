@@ -1,4 +1,4 @@
--- The entries so far are taken in; the numbers of those that are left rise from above the last one.
+-- The entries so far are taken in; the numbers of the remaining ones rise from above the last one.
 use Rattle.std.proofs.Common.{◌++◌, take, drop}
 use Rattle.hippo_keeper.specs.Keeping.{Store, RisesAbove}
 use Rattle.hippo_replay.specs.Standing.{IsSound}

@@ -1,4 +1,4 @@
--- What a job asks for first has its reply, and then the lines of the input have theirs.
+-- The first line that the job asks for has its reply, and then the lines of the input have theirs.
 use Rattle.std.proofs.Common.{◌≤◌, ◌∙◌, [], Some, false, refl, sym, ap, subst, arith}
 use Rattle.hippo_io.specs.HandingOut.{HasHandedOut, input_limit}
 use Rattle.hippo_io.specs.Position.{Position}

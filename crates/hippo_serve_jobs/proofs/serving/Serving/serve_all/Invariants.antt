@@ -1,4 +1,4 @@
--- Whatever input is read, the lines handed out so far have their replies; each line takes at least one byte.
+-- For any input, the lines read so far have their replies; each line takes at least one byte.
 use Rattle.std.proofs.Common.{◌≡◌, ◌-◌, ◌≤◌, None, true, false}
 use Rattle.hippo_values.specs.Texts.{Txt}
 use Rattle.hippo_io.specs.HandingOut.{bytes_handed_out, input_limit}

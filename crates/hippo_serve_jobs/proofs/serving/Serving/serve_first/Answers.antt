@@ -1,4 +1,4 @@
--- What the line that sets the clock makes of the run.
+-- What the line that sets the clock does to the run.
 use Rattle.std.proofs.Common.{[], ◌∙◌, ap}
 use Rattle.hippo_serve_args.specs.declared.calls.Job.{Job}
 use Rattle.hippo_serve_jobs.specs.Loads.{asked_lines}

@@ -1,4 +1,4 @@
--- What a line's call makes of the run.
+-- What a call with a line does to the run.
 use Rattle.std.proofs.Common.{◌<◌, ◌≤◌, refl, ap}
 use Rattle.hippo_io.specs.HandingOut.{input_limit}
 use Rattle.hippo_io.specs.LineTexts.{line_text}

@@ -1,4 +1,4 @@
--- What was opened under a name is found.
+-- A start finds what was opened under its name.
 use Rattle.std.proofs.Common.{◌≡◌, ◌∙◌, sym, true, false}
 use Rattle.sqlite.specs.Held.{state}
 use Rattle.hippo_sqlite.specs.Links.{link_contents}

@@ -1,4 +1,4 @@
--- From what the statement did to what is told.
+-- From what the statement did to the contents that are known.
 use Rattle.std.proofs.Common.{sym, subst₂}
 use Rattle.hippo_sqlite.specs.Contents.{AppendsTo, connection_contents}
 use Rattle.hippo_sqlite.specs.Links.{linked_contents}

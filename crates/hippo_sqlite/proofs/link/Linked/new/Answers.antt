@@ -1,4 +1,4 @@
--- The table is made in what was opened, or is there.
+-- The table is created in the store that was opened, or already there.
 use Rattle.std.proofs.Common.{sym, subst₂}
 use Rattle.sqlite.specs.Held.{state}
 use Rattle.hippo_sqlite.specs.Contents.{connection_contents}

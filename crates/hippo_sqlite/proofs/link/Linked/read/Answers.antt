@@ -1,4 +1,4 @@
--- What the query did changes nothing that is told, and its entries are those of the history.
+-- The query changes nothing that is known, and its entries are those of the history.
 use Rattle.std.proofs.Common.{◌∙◌, sym, ap, subst₂, arith, rules}
 use Rattle.hippo_keeper.specs.Selecting.{handed_over, is_selected}
 use Rattle.hippo_sqlite.specs.Contents.{LooksAtStore, connection_contents}

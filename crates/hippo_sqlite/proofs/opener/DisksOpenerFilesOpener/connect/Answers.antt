@@ -1,4 +1,4 @@
--- What the disks held is found.
+-- The opener finds what the disks held.
 use Rattle.std.proofs.Common.{IfSome, subst}
 use Rattle.sqlite.specs.Files.{image_of, file_state}
 use Rattle.hippo_sqlite.specs.Openings.{IsFoundIn}

@@ -1,4 +1,4 @@
--- What the file held is found.
+-- The opener finds what the file held.
 use Rattle.sqlite.specs.Files.{file_state}
 use Rattle.hippo_sqlite.proofs.KeeperLemmas.{found_in_image}
 use Rattle.hippo_sqlite.proofs.opener.FileOpenerOpener.connect.Goals as goal
